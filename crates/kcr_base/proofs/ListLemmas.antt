@@ -7,7 +7,7 @@ use Rattle.std.proofs.lemmas.Bool.Decides.{nat_tests}
 use Rattle.std.specs.List.Sorted.{IsPermutation}
 use Rattle.std.proofs.lemmas.List.Elements.{All-from_recursion, recursion_from_All}
 use Rattle.std.proofs.lemmas.List.Sorted.{All-permutation, list_any-IsPermutation}
-use Rattle.kcr_base.specs.Rows.{or_else}
+use Rattle.kcr_base.specs.Rows.{option_or}
 
 -- WHETHER SOME OR ALL PASS
 
@@ -43,7 +43,7 @@ pub none-find : {X : Type 0} (test : X → Bool) (xs : List X) → find test xs 
 none-find test [] h = refl
 none-find test (x ∷ xs) h = grind (arith, none-find test xs)
 
--- one passes where the first that does is found
+-- one passes if the first that does is found
 pub any-find : {X : Type 0} (test : X → Bool) (xs : List X) → list_any test xs ≡ is_some (find test xs)
 any-find test [] = refl
 any-find test (x ∷ xs) = grind (arith, any-find test xs)
@@ -63,7 +63,7 @@ first-is test P y (x ∷ xs) a h = elim (find-cases (test x) x y (find test xs) 
   | inr (p, e) ↦ first-is test P y xs a.1 e
 ]
 
--- the value, where the test holds
+-- the value, if the test holds
 abbrev pub some_if : {X : Type 0} → Bool → X → Option X
 some_if true x = Some x
 some_if false x = None
@@ -106,7 +106,7 @@ pub there : {X : Type 0} (o : Option X) → is_none o ≡ false → is_some o �
 there o h = grind arith
 
 -- what was there is there whatever is said further
-pub still : {X : Type 0} (o p : Option X) → is_some p ≡ true → is_some (or_else o p) ≡ true
+pub still : {X : Type 0} (o p : Option X) → is_some p ≡ true → is_some (option_or o p) ≡ true
 still o p h = grind arith
 
 pub none-there : {X : Type 0} (o : Option X) → is_some o ≡ false → o ≡ None

@@ -76,7 +76,7 @@ Implies {X} p q = (x : X) → p x ≡ true → q x ≡ true
 pub none-in : {X : Type 0} (test : X → Bool) (x : X) (xs : List X) → list_any test xs ≡ false → IsIn x xs → test x ≡ false
 none-in test x xs h i = false_from_ne_true (test x) (λ e. true≢false (sym (in-any test x xs i e) ∙ h))
 
--- and where nothing passes it, it finds nothing
+-- and if nothing passes it, it finds nothing
 pub none-passes : {X : Type 0} (test : X → Bool) (xs : List X) → ((x : X) → IsIn x xs → test x ≡ false) → list_any test xs ≡ false
 none-passes test xs h = false_from_ne_true (list_any test xs) (λ e. let a = any-in test xs e in true≢false (sym a.2 ∙ h a.0 a.1))
 

@@ -87,7 +87,7 @@ pub filter-apart : {X : Type 0} (same : X → X → Bool) (test : X → Bool) (x
 filter-apart same test [] a = tt
 filter-apart same test (x ∷ xs) a = grind (arith, any-kept (same x) test xs a.0, filter-apart same test xs a.1)
 
--- nor do rows that are made of them, where their keys are the same as before
+-- nor do rows that are made of them, if their keys are the same as before
 pub map-apart : {X Y : Type 0} (f : X → Y) (same : X → X → Bool) (also : Y → Y → Bool) → ((x y : X) → also (f x) (f y) ≡ same x y) → (xs : List X)
     → Apart same xs → Apart also (map f xs)
 map-apart f same also h [] a = tt

@@ -11,5 +11,5 @@ abbrev pub failures_of : {T : Type 0} → Counted T → ℕ
 failures_of c = c.failed.count
 
 -- how many of its reads have given a byte
-abbrev pub gifts_of : {T : Type 0} → Counted T → ℕ
-gifts_of c = c.given.count
+abbrev pub nonempty_reads_of : {T : Type 0} → Counted T → ℕ
+nonempty_reads_of c = c.nonempty_reads.count

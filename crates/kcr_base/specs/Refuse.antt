@@ -5,7 +5,7 @@ use Rattle.kcr_base.specs.declared.refusal.Refusal.{Refusal}
 use Rattle.kcr_base.specs.declared.refusal.Refusal.TheVariants.{Unknown, Late, Memory}
 use Rattle.kcr_base.specs.declared.refusal.Thing.TheVariants as Things
 
--- the refusal, where its condition holds
+-- the refusal, if its condition holds
 abbrev pub when : Bool → Refusal → Option Refusal
 when true refusal = Some refusal
 when false refusal = None
@@ -26,36 +26,36 @@ abbrev pub unless : {X : Type 0} → Option Refusal → X → Result X Refusal
 unless (Some refusal) value = Err refusal
 unless None value = Ok value
 
--- a test passes where it has no refusal, and else answers the refusal
-abbrev pub Tests : {X : Type 0} → Option Refusal → Result X Refusal → Type 0
-Tests refusal result = MatchResult result (λ _. refusal ≡ None) (λ r. refusal ≡ Some r)
+-- a test passes if it has no refusal, and else answers the refusal
+abbrev pub IsTestResult : {X : Type 0} → Option Refusal → Result X Refusal → Type 0
+IsTestResult refusal result = MatchResult result (λ _. refusal ≡ None) (λ r. refusal ≡ Some r)
 
--- the same of a call that may want memory instead: it answers the value, or the refusal
-abbrev pub Decides : {X : Type 0} → Option Refusal → X → Result X Refusal → Type 0
-Decides refusal value result =
+-- the same for a call that may run out of memory: it returns the value, or the refusal
+abbrev pub IsValueOrRefusal : {X : Type 0} → Option Refusal → X → Result X Refusal → Type 0
+IsValueOrRefusal refusal value result =
     MatchResult result (λ x. (refusal ≡ None) × (x ≡ value)) (λ r. r ≢ Memory → refusal ≡ Some r)
 
 -- WHAT ACTS OF SEVERAL KINDS TEST
 
 -- there is no such person
-abbrev pub no_person : Bool → List ℕ → Option Refusal
-no_person is_known who = when (not is_known) (Unknown (Things.Person who))
+abbrev pub unknown_person_refusal : Bool → List ℕ → Option Refusal
+unknown_person_refusal is_known who = when (not is_known) (Unknown (Things.Person who))
 
 -- the first of the people who is none
-abbrev pub no_people : (List ℕ → Bool) → List (List ℕ) → Option Refusal
-no_people is_known people =
+abbrev pub unknown_people_refusal : (List ℕ → Bool) → List (List ℕ) → Option Refusal
+unknown_people_refusal is_known people =
     option_map (λ who. Unknown (Things.Person who)) (find (λ who. not (is_known who)) people)
 
 -- there is no such ceremony
-abbrev pub no_ceremony : Bool → ℕ → Option Refusal
-no_ceremony is_known ceremony = when (not is_known) (Unknown (Things.Ceremony ceremony))
+abbrev pub unknown_ceremony_refusal : Bool → ℕ → Option Refusal
+unknown_ceremony_refusal is_known ceremony = when (not is_known) (Unknown (Things.Ceremony ceremony))
 
 -- the moment is before the mark
-abbrev pub is_late : ℕ → Option ℕ → Option Refusal
-is_late at None = None
-is_late at (Some mark) = when (nat_lt at mark) (Late mark)
+abbrev pub before_mark_refusal : ℕ → Option ℕ → Option Refusal
+before_mark_refusal at None = None
+before_mark_refusal at (Some mark) = when (nat_lt at mark) (Late mark)
 
 -- the moment is not later than the mark
-abbrev pub is_not_later : ℕ → Option ℕ → Option Refusal
-is_not_later at None = None
-is_not_later at (Some mark) = when (nat_le at mark) (Late mark)
+abbrev pub not_after_mark_refusal : ℕ → Option ℕ → Option Refusal
+not_after_mark_refusal at None = None
+not_after_mark_refusal at (Some mark) = when (nat_le at mark) (Late mark)

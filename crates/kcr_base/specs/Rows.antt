@@ -17,6 +17,6 @@ put_all same [] rows = rows
 put_all same (row ∷ changes) rows = put_all same changes (put same row rows)
 
 -- the first, or else the second
-abbrev pub or_else : {X : Type 0} → Option X → Option X → Option X
-or_else (Some x) other = Some x
-or_else None other = other
+abbrev pub option_or : {X : Type 0} → Option X → Option X → Option X
+option_or (Some x) other = Some x
+option_or None other = other

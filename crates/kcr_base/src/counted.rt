@@ -14,22 +14,22 @@ use std::io::{Read, Write};
 pub struct Counted<T> {
     inner: T,
     failed: Tally,
-    given: Tally,
+    nonempty_reads: Tally,
 }
 
 impl<T> Counted<T> {
-    ghost use Rattle.kcr_base.specs.Counted.{inner_of, failures_of, gifts_of};
+    ghost use Rattle.kcr_base.specs.Counted.{inner_of, failures_of, nonempty_reads_of};
 
     /// The reader or writer, with no calls counted.
     pub fn new(inner: T) -> Counted<T>
         ensures inner { inner_of result ≡ inner }
         ensures failed { failures_of result ≡ 0 }
-        ensures given { gifts_of result ≡ 0 }
+        ensures given { nonempty_reads_of result ≡ 0 }
     {
         Counted {
             inner,
             failed: Tally::new(),
-            given: Tally::new(),
+            nonempty_reads: Tally::new(),
         }
     }
 
@@ -40,15 +40,15 @@ impl<T> Counted<T> {
         let Counted {
             inner,
             failed: _,
-            given: _,
+            nonempty_reads: _,
         } = self;
         inner
     }
 }
 
 impl<R: Read> Read for Counted<R> {
-    ghost use Rattle.kcr_base.specs.Counted.{inner_of, failures_of, gifts_of};
-    ghost use Rattle.kcr_base.specs.Counts.{has_failed, has_given};
+    ghost use Rattle.kcr_base.specs.Counted.{inner_of, failures_of, nonempty_reads_of};
+    ghost use Rattle.kcr_base.specs.Counts.{failure_count, nonempty_read_count};
 
     ghost remaining = { λ c. R.remaining c.inner };
 
@@ -56,13 +56,13 @@ impl<R: Read> Read for Counted<R> {
         ensures bound { ReadsAtMost result buf.new }
         ensures bytes { ReadConsumes (R.remaining (inner_of self.old))
             (R.remaining (inner_of self.new)) result buf.new }
-        ensures failed { failures_of self.new ≡ failures_of self.old + has_failed result }
-        ensures given { gifts_of self.new ≡ gifts_of self.old + has_given result }
+        ensures failed { failures_of self.new ≡ failures_of self.old + failure_count result }
+        ensures given { nonempty_reads_of self.new ≡ nonempty_reads_of self.old + nonempty_read_count result }
     {
         let result = self.inner.read(buf);
         match &result {
             Ok(0) => {}
-            Ok(_) => self.given = Tally::after(&self.given),
+            Ok(_) => self.nonempty_reads = Tally::after(&self.nonempty_reads),
             Err(_) => self.failed = Tally::after(&self.failed),
         }
         result
@@ -70,8 +70,8 @@ impl<R: Read> Read for Counted<R> {
 }
 
 impl<W: Write> Write for Counted<W> {
-    ghost use Rattle.kcr_base.specs.Counted.{inner_of, failures_of, gifts_of};
-    ghost use Rattle.kcr_base.specs.Counts.{has_stopped, has_failed};
+    ghost use Rattle.kcr_base.specs.Counted.{inner_of, failures_of, nonempty_reads_of};
+    ghost use Rattle.kcr_base.specs.Counts.{write_failure_count, failure_count};
 
     ghost contents = { λ c. W.contents c.inner };
 
@@ -79,8 +79,8 @@ impl<W: Write> Write for Counted<W> {
     fn write(&mut self, buf: &[u8]) -> io::Result<usize>
         ensures bound { WritesAtMost result buf.now }
         ensures bytes { WriteAppends (W.contents (inner_of self.old)) (W.contents (inner_of self.new)) result buf.now }
-        ensures failed { failures_of self.new ≡ failures_of self.old + has_stopped (length buf.now) result }
-        ensures given { gifts_of self.new ≡ gifts_of self.old }
+        ensures failed { failures_of self.new ≡ failures_of self.old + write_failure_count (length buf.now) result }
+        ensures given { nonempty_reads_of self.new ≡ nonempty_reads_of self.old }
     {
         let result = self.inner.write(buf);
         match &result {
@@ -97,8 +97,8 @@ impl<W: Write> Write for Counted<W> {
 
     fn flush(&mut self) -> io::Result<()>
         ensures bytes { Keeps (W.contents (inner_of self.old)) (W.contents (inner_of self.new)) }
-        ensures failed { failures_of self.new ≡ failures_of self.old + has_failed result }
-        ensures given { gifts_of self.new ≡ gifts_of self.old }
+        ensures failed { failures_of self.new ≡ failures_of self.old + failure_count result }
+        ensures given { nonempty_reads_of self.new ≡ nonempty_reads_of self.old }
     {
         let result = self.inner.flush();
         if result.is_err() {

@@ -1,6 +1,6 @@
 //! Days of the calendar.
 ghost use Rattle.std.specs.Prelude.{◌≡◌, All, ℕ, ◌≤◌, ◌<◌, Some, IfSome, IsTrue, ◌↔◌, SomeIff};
-ghost use Rattle.kcr_base.specs.Reads.{Found, Only};
+ghost use Rattle.kcr_base.specs.Reads.{HasText, ReadsText};
 ghost use Rattle.kcr_base.specs.Day.{IsDayOf, IsDay, date_text, day_text, year_of, month_of, day_of_month};
 
 use crate::code::Code;
@@ -17,7 +17,7 @@ pub struct Day {
 
 impl Model for Day {
     ghost use Rattle.std.specs.Prelude.{ℕ};
-    ghost use Rattle.kcr_base.specs.Reads.{Found, Only};
+    ghost use Rattle.kcr_base.specs.Reads.{HasText, ReadsText};
     ghost use Rattle.kcr_base.specs.Day.{IsDay};
 
     ghost Value = { ℕ };
@@ -30,7 +30,7 @@ impl Model for Day {
 }
 
 impl Day {
-    /// The day with this number, counted from 1970-01-01, or None where that is not of the years 2000 to 2099.
+    /// The day with this number, counted from 1970-01-01, or `None` if that is not of the years 2000 to 2099.
     pub fn from_number(number: u16) -> Option<Day>
         ensures { SomeIff result (IsDay number) number }
     {
@@ -49,7 +49,7 @@ impl Day {
         self.number
     }
 
-    /// The day of this date, or None where there is no such date or its year is not 2000 to 2099.
+    /// The day of this date, or `None` if there is no such date or its year is not 2000 to 2099.
     pub fn from_date(year: u16, month: u8, day: u8) -> Option<Day>
         requires month { month < 100 }
         requires day { day < 100 }
@@ -67,10 +67,10 @@ impl Day {
         }
     }
 
-    /// The day with this text, `YYYY-MM-DD` (ISO 8601), or None where there is none.
+    /// The day with this text, `YYYY-MM-DD` (ISO 8601), or `None` if there is none.
     pub fn read(bytes: &[u8]) -> Option<Day>
-        ensures found { Found IsDay day_text bytes.now result }
-        ensures only { Only IsDay day_text bytes.now result }
+        ensures found { HasText IsDay day_text bytes.now result }
+        ensures only { ReadsText IsDay day_text bytes.now result }
     {
         let (year, month, day) = read_date(bytes)?;
         Day::from_date(year, month, day)

@@ -25,7 +25,7 @@ impl Model for Initials {
 }
 
 impl Initials {
-    /// The initials that these bytes are, or None where they are none.
+    /// The initials that these bytes are, or `None` if they are none.
     pub fn read(bytes: &[u8]) -> Option<Initials>
         ensures { SomeIff result (IsInitials bytes.now) bytes.now }
     {

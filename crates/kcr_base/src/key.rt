@@ -25,7 +25,7 @@ impl Model for Key {
 }
 
 impl Key {
-    /// The key that these bytes are, or None where they are none.
+    /// The key that these bytes are, or `None` if they are none.
     pub fn read(bytes: &[u8]) -> Option<Key>
         ensures { SomeIff result (IsKey bytes.now) bytes.now }
     {

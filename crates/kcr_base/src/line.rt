@@ -35,7 +35,7 @@ impl<const LIMIT: usize> Model for Line<LIMIT> {
 }
 
 impl<const LIMIT: usize> Line<LIMIT> {
-    /// The line that these bytes are, or None where they are none. The error is out of memory.
+    /// The line that these bytes are, or `None` if they are none. The error is out of memory.
     pub fn read(alloc: Global, bytes: &[u8]) -> Result<Option<Self>, AllocError>
         ensures { IfOk result (λ found. SomeIff found (IsLine LIMIT bytes.now) bytes.now) }
     {

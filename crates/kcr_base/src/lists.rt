@@ -13,13 +13,13 @@ use std::alloc::AllocError;
 use std::marker::Model;
 
 /// People in an order: 1 to 32, none of them twice.
-pub type People = Listed<Initials>;
+pub type People = DistinctList<Initials>;
 
 /// Items in an order: 1 to 64, none of them twice.
-pub type Items = Listed<ItemCode>;
+pub type Items = DistinctList<ItemCode>;
 
 /// What a command names in a list, by its text.
-pub trait Named: Copy + PartialEq {
+pub trait ListElement: Copy + PartialEq {
     /// The text of one.
     ghost text: { Self → List ℕ };
 
@@ -27,29 +27,29 @@ pub trait Named: Copy + PartialEq {
     ghost texts: { List Self → List (List ℕ) };
 
     /// The greatest number of them in a list.
-    ghost MOST: { ℕ };
+    ghost MAX_LEN: { ℕ };
 
     /// The greatest number of them in a list.
-    const MOST: usize;
+    const MAX_LEN: usize;
 
     // Several have the text of each.
     ghost each: { (all : List Self) → texts all ≡ map text all };
 
-    // They are equal where their texts are.
+    // They are equal if their texts are.
     ghost same: { (one other : Self) → Self.PartialEq.eq one other ≡ same_text (text one) (text other) };
 
     // A clone is what it is a clone of.
     ghost exact: { (one other : Self) → Self.Clone.is_clone one other → other ≡ one };
 }
 
-impl Named for Initials {
+impl ListElement for Initials {
     ghost text = { λ who. who };
 
     ghost texts = { λ people. people };
 
-    ghost MOST = { 32 };
+    ghost MAX_LEN = { 32 };
 
-    const MOST: usize = 32;
+    const MAX_LEN: usize = 32;
 
     ghost each = { λ people. sym (map-id people) };
 
@@ -58,14 +58,14 @@ impl Named for Initials {
     ghost exact = { Prim.search rules };
 }
 
-impl Named for ItemCode {
+impl ListElement for ItemCode {
     ghost text = { λ item. item };
 
     ghost texts = { λ items. items };
 
-    ghost MOST = { 64 };
+    ghost MAX_LEN = { 64 };
 
-    const MOST: usize = 64;
+    const MAX_LEN: usize = 64;
 
     ghost each = { λ items. sym (map-id items) };
 
@@ -76,11 +76,11 @@ impl Named for ItemCode {
 
 /// What a command names, in an order: at least one, at most as many as may be in a list, none of them twice.
 #[derive(Drop)]
-pub struct Listed<T: Named> {
+pub struct DistinctList<T: ListElement> {
     list: Vec<T>,
 }
 
-impl<T: Named> Model for Listed<T> {
+impl<T: ListElement> Model for DistinctList<T> {
     ghost use Rattle.std.specs.Prelude.{List};
     ghost use Rattle.kcr_base.specs.Lists.{IsListed};
 
@@ -88,48 +88,48 @@ impl<T: Named> Model for Listed<T> {
 
     ghost view = { λ s. s.list.items };
 
-    ghost invariant = { λ s. IsListed T.MOST (T.texts s.list.items) };
+    ghost invariant = { λ s. IsListed T.MAX_LEN (T.texts s.list.items) };
 }
 
-impl<T: Named> Listed<T> {
-    /// These in their order, or None where they are none or too many, or one of them comes twice.
+impl<T: ListElement> DistinctList<T> {
+    /// These in their order, or `None` if they are none or too many, or one of them comes twice.
     pub fn new(list: Vec<T>) -> Option<Self>
-        ensures { SomeIff result (IsListed T.MOST (T.texts list.items)) list.items }
+        ensures { SomeIff result (IsListed T.MAX_LEN (T.texts list.items)) list.items }
     {
-        if list.is_empty() || list.len() > T::MOST || !are_apart(&list) {
+        if list.is_empty() || list.len() > T::MAX_LEN || !are_apart(&list) {
             return None;
         }
-        Some(Listed { list })
+        Some(DistinctList { list })
     }
 
     /// Those in the list, in their order.
     pub fn as_slice(&self) -> &[T]
         ensures value { result.now ≡ self.now }
-        ensures form { IsListed T.MOST (T.texts self.now) }
+        ensures form { IsListed T.MAX_LEN (T.texts self.now) }
     {
         self.list.as_slice()
     }
 }
 
-impl<T: Named> Clone for Listed<T> {
+impl<T: ListElement> Clone for DistinctList<T> {
     ghost is_clone = { λ a b. b ≡ a };
 
     fn clone(&self) -> Result<Self, AllocError> {
-        Ok(Listed {
+        Ok(DistinctList {
             list: self.list.clone()?,
         })
     }
 }
 
 /// Whether this one is among those.
-pub fn is_among<T: Named>(those: &[T], one: T) -> bool
+pub fn is_among<T: ListElement>(those: &[T], one: T) -> bool
     ensures { result ≡ Lists.is_among (T.texts those.now) (T.text one) }
 {
     those.contains(&one)
 }
 
 /// Whether each of them comes once.
-fn are_apart<T: Named>(list: &[T]) -> bool
+fn are_apart<T: ListElement>(list: &[T]) -> bool
     ensures { result ≡ Lists.are_apart (T.texts list.now) }
 {
     for (index, one) in list.iter().enumerate() {

@@ -1,6 +1,6 @@
 //! Moments, to the second.
 ghost use Rattle.std.specs.Prelude.{◌≡◌, All, ℕ, ◌+◌, ◌*◌, ◌/◌, ◌%◌, ◌≤◌, ◌<◌, Some, IfSome, SomeIff};
-ghost use Rattle.kcr_base.specs.Reads.{Found, Only};
+ghost use Rattle.kcr_base.specs.Reads.{HasText, ReadsText};
 ghost use Rattle.kcr_base.specs.Day.{IsDay};
 ghost use Rattle.kcr_base.specs.Days.{day_of};
 ghost use Rattle.kcr_base.specs.Moment.{IsMoment, clock_text, moment_text};
@@ -31,7 +31,7 @@ impl Model for Moment {
 }
 
 impl Moment {
-    /// The moment with this number, in seconds from 1970-01-01T00:00:00Z, or None where that is not of the years
+    /// The moment with this number, in seconds from 1970-01-01T00:00:00Z, or `None` if that is not of the years
     /// 2000 to 2099.
     pub fn from_number(number: u64) -> Option<Moment>
         ensures { SomeIff result (IsMoment number) number }
@@ -71,10 +71,10 @@ impl Moment {
         }
     }
 
-    /// The moment with this text, `YYYY-MM-DDTHH:MM:SSZ` (RFC 3339), or None where there is none.
+    /// The moment with this text, `YYYY-MM-DDTHH:MM:SSZ` (RFC 3339), or `None` if there is none.
     pub fn read(bytes: &[u8]) -> Option<Moment>
-        ensures found { Found IsMoment moment_text bytes.now result }
-        ensures only { Only IsMoment moment_text bytes.now result }
+        ensures found { HasText IsMoment moment_text bytes.now result }
+        ensures only { ReadsText IsMoment moment_text bytes.now result }
     {
         if bytes.len() != 20 {
             return None;

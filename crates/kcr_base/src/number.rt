@@ -92,7 +92,7 @@ impl<K: Numbered> Model for Number<K> {
 }
 
 impl<K: Numbered> Number<K> {
-    /// The number, or None where it is not of 1 to the greatest.
+    /// The number, or `None` if it is not of 1 to the greatest.
     pub fn new(number: u32) -> Option<Self>
         ensures { SomeIff result (IsNumber K.limit number) number }
     {
@@ -106,7 +106,7 @@ impl<K: Numbered> Number<K> {
         }
     }
 
-    /// The number that these bytes are in decimal, without sign or leading zeros, or None where they are none.
+    /// The number that these bytes are in decimal, without sign or leading zeros, or `None` if they are none.
     pub fn read(bytes: &[u8]) -> Option<Self>
         ensures found { IfSome result (IsNumberText K.limit bytes.now) }
         ensures only { (n : ℕ) → IsNumberText K.limit bytes.now n → result ≡ Some n }
@@ -139,7 +139,7 @@ fn is_decimal(bytes: &[u8], number: u32) -> bool
     bytes == text.as_bytes()
 }
 
-/// The number below 2^32 that the bytes are in decimal, without sign or leading zeros, or None where they are none.
+/// The number below 2^32 that the bytes are in decimal, without sign or leading zeros, or `None` if they are none.
 fn read_number(bytes: &[u8]) -> Option<u32>
     ensures found { IfSome result (λ n. decimal n ≡ bytes.now) }
     ensures only { (n : ℕ) → n < 2 ^ 32 → decimal n ≡ bytes.now → result ≡ Some n }

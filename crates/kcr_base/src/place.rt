@@ -4,7 +4,7 @@ ghost use Rattle.std.specs.Prelude.{MatchOption};
 ghost use Rattle.kcr_base.specs.Facility.{facility_text};
 ghost use Rattle.kcr_base.specs.Role.{role_text};
 ghost use Rattle.kcr_base.specs.Place.{IsPlaceNumber, IsPlace, place_text};
-ghost use Rattle.kcr_base.specs.Reads.{Found, Only};
+ghost use Rattle.kcr_base.specs.Reads.{HasText, ReadsText};
 
 use crate::code::Code;
 use std::marker::Model;
@@ -55,8 +55,8 @@ pub enum Place {
     Rksh(PlaceNumber),
 }
 
-/// What stands behind `front`, where the bytes begin with it, else None.
-pub fn after<'a>(bytes: &'a [u8], front: &[u8]) -> Option<&'a [u8]>
+/// What stands behind `front`, if the bytes begin with it, else None.
+pub fn strip_prefix<'a>(bytes: &'a [u8], front: &[u8]) -> Option<&'a [u8]>
     ensures { MatchOption result
         ((rest : List ℕ) → bytes.now ≢ front.now ++ rest) (λ rest. bytes.now ≡ front.now ++ rest.now) }
 {
@@ -64,7 +64,7 @@ pub fn after<'a>(bytes: &'a [u8], front: &[u8]) -> Option<&'a [u8]>
 }
 
 impl PlaceNumber {
-    /// The number, where it is 1 to 7, else None.
+    /// The number, if it is 1 to 7, else None.
     pub fn new(number: u8) -> Option<PlaceNumber>
         ensures { SomeIff result (IsPlaceNumber number) number }
     {
@@ -75,10 +75,10 @@ impl PlaceNumber {
         }
     }
 
-    /// The number with this one digit, or None where the bytes are no digit of 1 to 7.
+    /// The number with this one digit, or `None` if the bytes are no digit of 1 to 7.
     pub fn read(bytes: &[u8]) -> Option<PlaceNumber>
-        ensures found { Found IsPlaceNumber (λ n. (48 + n) ∷ []) bytes.now result }
-        ensures only { Only IsPlaceNumber (λ n. (48 + n) ∷ []) bytes.now result }
+        ensures found { HasText IsPlaceNumber (λ n. (48 + n) ∷ []) bytes.now result }
+        ensures only { ReadsText IsPlaceNumber (λ n. (48 + n) ∷ []) bytes.now result }
     {
         match bytes {
             [b @ b'1'..=b'7'] => Some(PlaceNumber { number: *b - b'0' }),
@@ -96,10 +96,10 @@ impl PlaceNumber {
 }
 
 impl Facility {
-    /// The facility with this text, or None where there is none.
+    /// The facility with this text, or `None` if there is none.
     pub fn read(bytes: &[u8]) -> Option<Facility>
-        ensures found { Found (λ _. ⊤) facility_text bytes.now result }
-        ensures only { Only (λ _. ⊤) facility_text bytes.now result }
+        ensures found { HasText (λ _. ⊤) facility_text bytes.now result }
+        ensures only { ReadsText (λ _. ⊤) facility_text bytes.now result }
     {
         match bytes {
             b"EAST" => Some(Facility::East),
@@ -120,10 +120,10 @@ impl Facility {
 }
 
 impl Role {
-    /// The role with this text, or None where there is none.
+    /// The role with this text, or `None` if there is none.
     pub fn read(bytes: &[u8]) -> Option<Role>
-        ensures found { Found (λ _. ⊤) role_text bytes.now result }
-        ensures only { Only (λ _. ⊤) role_text bytes.now result }
+        ensures found { HasText (λ _. ⊤) role_text bytes.now result }
+        ensures only { ReadsText (λ _. ⊤) role_text bytes.now result }
     {
         match bytes {
             b"CA" => Some(Role::Ca),
@@ -154,18 +154,18 @@ impl Role {
 }
 
 impl Place {
-    /// The place with this text, or None where there is none.
+    /// The place with this text, or `None` if there is none.
     pub fn read(bytes: &[u8]) -> Option<Place>
-        ensures found { Found IsPlace place_text bytes.now result }
-        ensures only { Only IsPlace place_text bytes.now result }
+        ensures found { HasText IsPlace place_text bytes.now result }
+        ensures only { ReadsText IsPlace place_text bytes.now result }
     {
-        if let Some(rest) = after(bytes, b"CO-EAST-") {
+        if let Some(rest) = strip_prefix(bytes, b"CO-EAST-") {
             return Some(Place::Co(Facility::East, PlaceNumber::read(rest)?));
         }
-        if let Some(rest) = after(bytes, b"CO-WEST-") {
+        if let Some(rest) = strip_prefix(bytes, b"CO-WEST-") {
             return Some(Place::Co(Facility::West, PlaceNumber::read(rest)?));
         }
-        if let Some(rest) = after(bytes, b"RKSH-") {
+        if let Some(rest) = strip_prefix(bytes, b"RKSH-") {
             return Some(Place::Rksh(PlaceNumber::read(rest)?));
         }
         None

@@ -27,7 +27,7 @@ impl Model for Positions {
 }
 
 impl Positions {
-    /// The positions, where they are rising numbers of 1 to 16, else None.
+    /// The positions, if they are rising numbers of 1 to 16, else None.
     pub fn new(positions: &[u8]) -> Option<Positions>
         ensures { SomeIff result (IsPositions positions.now) positions.now }
     {

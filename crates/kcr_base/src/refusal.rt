@@ -126,7 +126,7 @@ pub enum Refusal {
     Lone { moment: Moment },
     /// A limit of the register is reached.
     Full,
-    /// The safe is so already, or it is shut where the command needs it open.
+    /// The safe is so already, or it is shut if the command needs it open.
     Safe,
     /// The item or the bag is not where it has to be.
     Elsewhere,
@@ -138,7 +138,7 @@ pub enum Refusal {
     Short { seats: Positions },
     /// Memory could not be had. Nothing changed.
     Memory,
-    /// The database told a fault of its device, or gave rows that no register stores. The register is broken.
+    /// The database told an I/O error, or gave invalid rows. The register is broken.
     Disk,
     /// The register is broken since an earlier fault of its device, until it is opened anew.
     Broken,

@@ -25,7 +25,7 @@ pub fn is_before(who: Initials, other: Initials) -> bool
 }
 
 /// Whether the first day is earlier than the second.
-pub fn before(day: Day, other: Day) -> bool
+pub fn is_earlier(day: Day, other: Day) -> bool
     ensures { result ≡ nat_lt day other }
 {
     day < other

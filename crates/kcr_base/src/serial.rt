@@ -40,7 +40,7 @@ impl<K> Model for Tag<K> {
 }
 
 impl<K> Tag<K> {
-    /// The tag that these bytes are, or None where they are none.
+    /// The tag that these bytes are, or `None` if they are none.
     pub fn read(bytes: &[u8]) -> Option<Self>
         ensures { SomeIff result (IsSerial bytes.now) bytes.now }
     {

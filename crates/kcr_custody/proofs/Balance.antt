@@ -6,7 +6,7 @@ use Rattle.kcr_base.proofs.ListLemmas.{all-more, there}
 use Rattle.kcr_base.proofs.SameLemmas.{same-itself, same-turned}
 use Rattle.kcr_base.specs.Same.{same_text}
 use Rattle.kcr_base.specs.declared.place.Facility.{Facility}
-use Rattle.kcr_custody.specs.declared.Scene.{Scene}
+use Rattle.kcr_custody.specs.declared.CeremonyStatus.{CeremonyStatus}
 use Rattle.kcr_custody.specs.declared.SafeRow.{SafeRow}
 use Rattle.kcr_custody.specs.declared.BoxRow.{BoxRow}
 use Rattle.kcr_custody.specs.declared.Spot.{Spot}
@@ -15,9 +15,9 @@ use Rattle.kcr_custody.specs.declared.Rest.{Rest}
 use Rattle.kcr_custody.specs.declared.Rest.TheVariants.{Loose, Within}
 use Rattle.kcr_custody.specs.declared.Bag.{Bag}
 use Rattle.kcr_custody.specs.declared.Item.{Item}
-use Rattle.kcr_custody.specs.declared.Store.{Store}
-use Rattle.kcr_custody.specs.declared.Store.TheVariants.{SafeOne, Boxed}
-use Rattle.kcr_custody.specs.Custody.{is_box, place_of_box_by, spot_by, rest_by, spot_of_store, is_within, lies_in, loose, within, loosened, packed, no_item}
+use Rattle.kcr_custody.specs.declared.Destination.{Destination}
+use Rattle.kcr_custody.specs.declared.Destination.TheVariants.{SafeOne, DepositBox}
+use Rattle.kcr_custody.specs.Custody.{is_box, place_of_box_by, spot_by, rest_by, spot_of_destination, is_within, lies_in, loose_item, sealed_item, loose_items, sealed_items, unknown_item_refusal}
 use Rattle.kcr_custody.specs.Custody.{add_box_refusal, put_refusal, seal_refusal}
 use Rattle.kcr_base.specs.Rows.{put, put_all}
 use Rattle.kcr_custody.specs.Balance.{same_box, same_bag, same_item, holds_items, is_kept, has_its_box, IsBalanced}
@@ -60,12 +60,12 @@ pub take_keeps : (facility : Facility) (boxes : List BoxRow) (bags : List Bag) (
     → IsBalanced boxes bags items → IsBalanced boxes (put same_bag (record { serial = serial; spot = Table facility }) bags) items
 take_keeps facility boxes bags items serial h = moved boxes bags items (record { serial = serial; spot = Table facility }) refl refl h
 
-pub put_keeps : (scene : Scene) (safes : List SafeRow) (boxes : List BoxRow) (bags : List Bag) (items : List Item) (serial : List ℕ) (to : Store)
+pub put_keeps : (scene : CeremonyStatus) (safes : List SafeRow) (boxes : List BoxRow) (bags : List Bag) (items : List Item) (serial : List ℕ) (to : Destination)
     (has_holder : Bool)
     → IsBalanced boxes bags items → put_refusal scene safes boxes bags serial to has_holder ≡ None
-    → IsBalanced boxes (put same_bag (record { serial = serial; spot = spot_of_store scene.facility to }) bags) items
+    → IsBalanced boxes (put same_bag (record { serial = serial; spot = spot_of_destination scene.facility to }) bags) items
 put_keeps scene safes boxes bags items serial SafeOne has_holder h n = moved boxes bags items _ refl refl h
-put_keeps scene safes boxes bags items serial (Boxed number) has_holder h n =
+put_keeps scene safes boxes bags items serial (DepositBox number) has_holder h n =
     let known : is_none (place_of_box_by boxes scene.facility number) ≡ false = grind arith in
     moved boxes bags items _ refl (there (place_of_box_by boxes scene.facility number) known) h
 
@@ -107,57 +107,57 @@ is_changed changes row = list_any (λ c. same_item c row) changes
 
 -- items sealed into a bag on the table are kept
 packed_kept : (bags : List Bag) (serial : List ℕ) → holds_items (spot_by bags serial) ≡ true → (codes : List (List ℕ))
-    → list_all (is_safe bags) (packed serial codes) ≡ true
+    → list_all (is_safe bags) (sealed_items serial codes) ≡ true
 packed_kept bags serial u [] = refl
 packed_kept bags serial u (code ∷ codes) = rw u (packed_kept bags serial u codes)
 
 pub seal_keeps : (facility : Facility) (boxes : List BoxRow) (bags : List Bag) (items : List Item) (serial : List ℕ) (codes : List (List ℕ))
     → IsBalanced boxes bags items
-    → IsBalanced boxes (put same_bag (record { serial = serial; spot = Table facility }) bags) (put_all same_item (packed serial codes) items)
+    → IsBalanced boxes (put same_bag (record { serial = serial; spot = Table facility }) bags) (put_all same_item (sealed_items serial codes) items)
 seal_keeps facility boxes bags items serial codes h =
     let bag : Bag = record { serial = serial; spot = Table facility } in
     let here : holds_items (spot_by (put same_bag bag bags) serial) ≡ true = rw (spot_put bag bags serial, same-itself serial) in
     let m = moved boxes bags items bag refl refl h in
     record {
-      items_once = differ_put_all (λ row. row.code) (packed serial codes) items h.items_once;
+      items_once = differ_put_all (λ row. row.code) (sealed_items serial codes) items h.items_once;
       bags_once = m.bags_once;
-      kept = all_put_all same_item (is_safe (put same_bag bag bags)) (packed serial codes) items (packed_kept (put same_bag bag bags) serial here codes)
+      kept = all_put_all same_item (is_safe (put same_bag bag bags)) (sealed_items serial codes) items (packed_kept (put same_bag bag bags) serial here codes)
           (all-more (is_safe (put same_bag bag bags)) _ items (λ row k. rw k) m.kept);
       boxed = m.boxed;
     }
 
 -- loose items are kept
-loose_kept : (bags : List Bag) (facility : Facility) (rows : List Item) → list_all (is_safe bags) (map (loose facility) rows) ≡ true
+loose_kept : (bags : List Bag) (facility : Facility) (rows : List Item) → list_all (is_safe bags) (map (loose_item facility) rows) ≡ true
 loose_kept bags facility [] = refl
 loose_kept bags facility (row ∷ rows) = loose_kept bags facility rows
 
 -- each item of the bag is among the loosened
 all_loosened : (serial : List ℕ) (facility : Facility) (items : List Item)
-    → list_all (λ old. not (lies_in serial old) || is_changed (loosened items serial facility) old) items ≡ true
+    → list_all (λ old. not (lies_in serial old) || is_changed (loose_items items serial facility) old) items ≡ true
 all_loosened serial facility [] = refl
 all_loosened serial facility (row ∷ rows) = grind (arith, nat_tests, same-itself row.code, all_loosened serial facility rows, all-more _ _ rows weaker)
   where
-    weaker : (old : Item) → (not (lies_in serial old) || is_changed (loosened rows serial facility) old) ≡ true
-        → (not (lies_in serial old) || (same_text old.code row.code || is_changed (loosened rows serial facility) old)) ≡ true
+    weaker : (old : Item) → (not (lies_in serial old) || is_changed (loose_items rows serial facility) old) ≡ true
+        → (not (lies_in serial old) || (same_text old.code row.code || is_changed (loose_items rows serial facility) old)) ≡ true
     weaker old g = grind (arith, nat_tests, g)
 
 pub cut_keeps : (facility : Facility) (boxes : List BoxRow) (bags : List Bag) (items : List Item) (serial : List ℕ)
     → IsBalanced boxes bags items
-    → IsBalanced boxes (put same_bag (record { serial = serial; spot = Spent }) bags) (put_all same_item (loosened items serial facility) items)
+    → IsBalanced boxes (put same_bag (record { serial = serial; spot = Spent }) bags) (put_all same_item (loose_items items serial facility) items)
 cut_keeps facility boxes bags items serial h =
     let bag : Bag = record { serial = serial; spot = Spent } in
     record {
-      items_once = differ_put_all (λ row. row.code) (loosened items serial facility) items h.items_once;
+      items_once = differ_put_all (λ row. row.code) (loose_items items serial facility) items h.items_once;
       bags_once = differ_put (λ row. row.serial) bag bags h.bags_once;
-      kept = all_put_all same_item (is_safe (put same_bag bag bags)) (loosened items serial facility) items
+      kept = all_put_all same_item (is_safe (put same_bag bag bags)) (loose_items items serial facility) items
           (loose_kept (put same_bag bag bags) facility (filter (lies_in serial) items))
-          (all_both (is_safe bags) _ (λ row. is_safe (put same_bag bag bags) row || is_changed (loosened items serial facility) row) one items h.kept
+          (all_both (is_safe bags) _ (λ row. is_safe (put same_bag bag bags) row || is_changed (loose_items items serial facility) row) one items h.kept
           (all_loosened serial facility items));
       boxed = all_put_kept same_bag (λ row. has_its_box boxes row.spot) bag bags refl h.boxed;
     }
   where
-    one : (row : Item) → is_safe bags row ≡ true → (not (lies_in serial row) || is_changed (loosened items serial facility) row) ≡ true
-        → (is_safe (put same_bag (record { serial = serial; spot = Spent }) bags) row || is_changed (loosened items serial facility) row) ≡ true
+    one : (row : Item) → is_safe bags row ≡ true → (not (lies_in serial row) || is_changed (loose_items items serial facility) row) ≡ true
+        → (is_safe (put same_bag (record { serial = serial; spot = Spent }) bags) row || is_changed (loose_items items serial facility) row) ≡ true
     one row k g = grind (arith, nat_tests, g, kept_spent serial bags row.rest k)
 
 -- NO ITEM IS LOST
@@ -165,30 +165,30 @@ cut_keeps facility boxes bags items serial h =
 abbrev is_there : List Item → Item → Bool
 is_there items c = list_any (same_text c.code) (map (λ row. row.code) items)
 
-packed_there : (items : List Item) (serial : List ℕ) (codes : List (List ℕ)) → no_item (rest_by items) codes ≡ None
-    → list_all (is_there items) (packed serial codes) ≡ true
+packed_there : (items : List Item) (serial : List ℕ) (codes : List (List ℕ)) → unknown_item_refusal (rest_by items) codes ≡ None
+    → list_all (is_there items) (sealed_items serial codes) ≡ true
 packed_there items serial [] h = refl
 packed_there items serial (code ∷ codes) h =
-    let found : is_none (rest_by items code) ≡ false → is_there items (within serial code) ≡ true = found_any (λ row. row.code) (λ row. row.rest) code items in
+    let found : is_none (rest_by items code) ≡ false → is_there items (sealed_item serial code) ≡ true = found_any (λ row. row.code) (λ row. row.rest) code items in
     grind (arith, nat_tests, h, found, packed_there items serial codes)
 
 -- the items of a seal are the items that there were
-pub seal_stays : (scene : Scene) (bags : List Bag) (items : List Item) (serial : List ℕ) (codes : List (List ℕ))
+pub seal_stays : (scene : CeremonyStatus) (bags : List Bag) (items : List Item) (serial : List ℕ) (codes : List (List ℕ))
     → seal_refusal scene bags items serial codes ≡ None
-    → map (λ row. row.code) (put_all same_item (packed serial codes) items) ≡ map (λ row. row.code) items
+    → map (λ row. row.code) (put_all same_item (sealed_items serial codes) items) ≡ map (λ row. row.code) items
 seal_stays scene bags items serial codes n =
-    keys_stay_all (λ row. row.code) (packed serial codes) items
+    keys_stay_all (λ row. row.code) (sealed_items serial codes) items
     (packed_there items serial codes (grind arith))
 
-loosened_there : (serial : List ℕ) (facility : Facility) (items : List Item) → list_all (is_there items) (loosened items serial facility) ≡ true
+loosened_there : (serial : List ℕ) (facility : Facility) (items : List Item) → list_all (is_there items) (loose_items items serial facility) ≡ true
 loosened_there serial facility [] = refl
 loosened_there serial facility (row ∷ rows) =
-    grind (arith, nat_tests, same-itself row.code, all-more _ _ (loosened rows serial facility) weaker (loosened_there serial facility rows))
+    grind (arith, nat_tests, same-itself row.code, all-more _ _ (loose_items rows serial facility) weaker (loosened_there serial facility rows))
   where
     weaker : (c : Item) → is_there rows c ≡ true → is_there (row ∷ rows) c ≡ true
     weaker c g = grind (arith, nat_tests, g)
 
 -- the items after a cut are the items that there were
 pub cut_stays : (serial : List ℕ) (facility : Facility) (items : List Item)
-    → map (λ row. row.code) (put_all same_item (loosened items serial facility) items) ≡ map (λ row. row.code) items
-cut_stays serial facility items = keys_stay_all (λ row. row.code) (loosened items serial facility) items (loosened_there serial facility items)
+    → map (λ row. row.code) (put_all same_item (loose_items items serial facility) items) ≡ map (λ row. row.code) items
+cut_stays serial facility items = keys_stay_all (λ row. row.code) (loose_items items serial facility) items (loosened_there serial facility items)

@@ -24,7 +24,7 @@ all_put {X} same Q row rows q h =
     without [] n g = refl
     without (old ∷ olds) n g = grind (arith, nat_tests, n, g, without olds)
 
--- the same where the old rows pass the test
+-- the same if the old rows pass the test
 pub all_put_kept : {X : Type 0} (same : X → X → Bool) (Q : X → Bool) (row : X) (rows : List X) → Q row ≡ true → list_all Q rows ≡ true
     → list_all Q (put same row rows) ≡ true
 all_put_kept same Q row rows q h = all_put same Q row rows q (all-more Q (λ old. Q old || same row old) rows (λ old g. rw g) h)

@@ -3,7 +3,7 @@ use Rattle.std.specs.Prelude.{ℕ, Bool, true, false, not, ◌&&◌, ◌||◌, n
 use Rattle.std.specs.Prelude.{Option, Some, None, option_map, option_and_then, is_some, is_none, if◌then◌else◌}
 use Rattle.std.specs.List.{list_any, list_all}
 use Rattle.kcr_base.specs.Same.{same_text, same_facility, same_place}
-use Rattle.kcr_base.specs.Refuse.{when, first_of, no_person, no_ceremony, is_late}
+use Rattle.kcr_base.specs.Refuse.{when, first_of, unknown_person_refusal, unknown_ceremony_refusal, before_mark_refusal}
 use Rattle.kcr_base.specs.declared.place.Facility.{Facility}
 use Rattle.kcr_base.specs.declared.place.Place.{Place}
 use Rattle.kcr_base.specs.declared.place.Place.TheVariants.{Co, Rksh}
@@ -14,8 +14,8 @@ use Rattle.kcr_base.specs.declared.refusal.Refusal.TheVariants.{Absent}
 use Rattle.kcr_base.specs.declared.refusal.Thing.TheVariants as Things
 use Rattle.kcr_base.specs.declared.refusal.Absentee.TheVariants as Absentees
 use Rattle.kcr_base.specs.declared.place.Role.TheVariants.{Ca}
-use Rattle.kcr_custody.specs.declared.Scene.{Scene}
-use Rattle.kcr_custody.specs.declared.Keeper.{Keeper}
+use Rattle.kcr_custody.specs.declared.CeremonyStatus.{CeremonyStatus}
+use Rattle.kcr_custody.specs.declared.SafeOperator.{SafeOperator}
 use Rattle.kcr_custody.specs.declared.SafeNumber.{SafeNumber}
 use Rattle.kcr_custody.specs.declared.SafeNumber.TheVariants.{One, Two}
 use Rattle.kcr_custody.specs.declared.SafeRow.{SafeRow}
@@ -26,8 +26,8 @@ use Rattle.kcr_custody.specs.declared.Rest.{Rest}
 use Rattle.kcr_custody.specs.declared.Rest.TheVariants.{Loose, Within}
 use Rattle.kcr_custody.specs.declared.Bag.{Bag}
 use Rattle.kcr_custody.specs.declared.Item.{Item}
-use Rattle.kcr_custody.specs.declared.Store.{Store}
-use Rattle.kcr_custody.specs.declared.Store.TheVariants.{SafeOne, Boxed}
+use Rattle.kcr_custody.specs.declared.Destination.{Destination}
+use Rattle.kcr_custody.specs.declared.Destination.TheVariants.{SafeOne, DepositBox}
 
 -- WHAT THE ROWS SAY
 
@@ -39,11 +39,11 @@ abbrev pub same_safe : SafeNumber → SafeNumber → Bool
 same_safe a b = nat_eq (safe_number a) (safe_number b)
 
 -- the row of an open safe
-abbrev pub opens : Facility → SafeNumber → SafeRow → Bool
-opens facility safe row = same_facility row.facility facility && same_safe row.safe safe && row.is_open
+abbrev pub is_open_row : Facility → SafeNumber → SafeRow → Bool
+is_open_row facility safe row = same_facility row.facility facility && same_safe row.safe safe && row.is_open
 
 abbrev pub is_open_by : List SafeRow → Facility → SafeNumber → Bool
-is_open_by safes facility safe = list_any (opens facility safe) safes
+is_open_by safes facility safe = list_any (is_open_row facility safe) safes
 
 -- the row of the box
 abbrev pub is_box : Facility → ℕ → BoxRow → Bool
@@ -53,11 +53,11 @@ is_box facility number row = same_facility row.facility facility && nat_eq row.n
 abbrev pub place_of_box_by : List BoxRow → Facility → ℕ → Option Place
 place_of_box_by boxes facility number = option_map (λ row. row.place) (find (is_box facility number) boxes)
 
--- where the bag is, None where no such bag was sealed
+-- where the bag is, `None` if no such bag was sealed
 abbrev pub spot_by : List Bag → List ℕ → Option Spot
 spot_by bags serial = option_map (λ row. row.spot) (find (λ row. same_text row.serial serial) bags)
 
--- where the item is, None where it was never added
+-- where the item is, `None` if it was never added
 abbrev pub rest_by : List Item → List ℕ → Option Rest
 rest_by items code = option_map (λ row. row.rest) (find (λ row. same_text row.code code) items)
 
@@ -75,25 +75,25 @@ safe_of facility (Some (Equipment f)) = if same_facility f facility then Some On
 safe_of facility (Some (InBox f number)) = if same_facility f facility then Some Two else None
 safe_of facility other = None
 
-abbrev pub safe_of_store : Store → SafeNumber
-safe_of_store SafeOne = One
-safe_of_store (Boxed number) = Two
+abbrev pub safe_of_destination : Destination → SafeNumber
+safe_of_destination SafeOne = One
+safe_of_destination (DepositBox number) = Two
 
 -- the box in which the bag is
 abbrev pub box_of : Option Spot → Option ℕ
 box_of (Some (InBox facility number)) = Some number
 box_of other = None
 
-abbrev pub box_of_store : Store → Option ℕ
-box_of_store SafeOne = None
-box_of_store (Boxed number) = Some number
+abbrev pub box_of_destination : Destination → Option ℕ
+box_of_destination SafeOne = None
+box_of_destination (DepositBox number) = Some number
 
 -- the spot in a facility
-abbrev pub spot_of_store : Facility → Store → Spot
-spot_of_store facility SafeOne = Equipment facility
-spot_of_store facility (Boxed number) = InBox facility number
+abbrev pub spot_of_destination : Facility → Destination → Spot
+spot_of_destination facility SafeOne = Equipment facility
+spot_of_destination facility (DepositBox number) = InBox facility number
 
--- the place of a box of the facility, where there is one
+-- the place of a box of the facility, if there is one
 abbrev pub place_of : List BoxRow → Facility → Option ℕ → Option Place
 place_of boxes facility box = option_and_then (place_of_box_by boxes facility) box
 
@@ -109,55 +109,55 @@ is_within serial (Loose f) = false
 abbrev pub lies_in : List ℕ → Item → Bool
 lies_in serial row = is_within serial row.rest
 
-abbrev pub loose : Facility → Item → Item
-loose facility row = record { code = row.code; rest = Loose facility }
+abbrev pub loose_item : Facility → Item → Item
+loose_item facility row = record { code = row.code; rest = Loose facility }
 
-abbrev pub within : List ℕ → List ℕ → Item
-within serial code = record { code = code; rest = Within serial }
+abbrev pub sealed_item : List ℕ → List ℕ → Item
+sealed_item serial code = record { code = code; rest = Within serial }
 
 -- the items of the bag, loose at the facility
-abbrev pub loosened : List Item → List ℕ → Facility → List Item
-loosened items serial facility = map (loose facility) (filter (lies_in serial) items)
+abbrev pub loose_items : List Item → List ℕ → Facility → List Item
+loose_items items serial facility = map (loose_item facility) (filter (lies_in serial) items)
 
 -- the items in the bag
-abbrev pub packed : List ℕ → List (List ℕ) → List Item
-packed serial codes = map (within serial) codes
+abbrev pub sealed_items : List ℕ → List (List ℕ) → List Item
+sealed_items serial codes = map (sealed_item serial) codes
 
 -- WHAT SEVERAL ACTS TEST
 
 -- the ceremony is not open, the moment is before its mark, or the register is full
-abbrev pub not_ready : Scene → Option Refusal
-not_ready scene =
+abbrev pub not_ready_refusal : CeremonyStatus → Option Refusal
+not_ready_refusal scene =
     first_of
     (when (not scene.is_open) State
-    ∷ is_late scene.at scene.mark
+    ∷ before_mark_refusal scene.at scene.mark
     ∷ when scene.is_full Full
     ∷ [])
 
-abbrev pub no_ca : Scene → Option Refusal
-no_ca scene = when (not scene.has_ca) (Absent (Absentees.Role Ca))
+abbrev pub no_ca_refusal : CeremonyStatus → Option Refusal
+no_ca_refusal scene = when (not scene.has_ca) (Absent (Absentees.Role Ca))
 
-abbrev pub no_bag : Option Spot → List ℕ → Option Refusal
-no_bag spot serial = when (is_none spot) (Unknown (Things.Bag serial))
+abbrev pub unknown_bag_refusal : Option Spot → List ℕ → Option Refusal
+unknown_bag_refusal spot serial = when (is_none spot) (Unknown (Things.Bag serial))
 
 -- the first of the items that was never added
-abbrev pub no_item : (List ℕ → Option Rest) → List (List ℕ) → Option Refusal
-no_item rest codes = option_map (λ code. Unknown (Things.Item code)) (find (λ code. is_none (rest code)) codes)
+abbrev pub unknown_item_refusal : (List ℕ → Option Rest) → List (List ℕ) → Option Refusal
+unknown_item_refusal rest codes = option_map (λ code. Unknown (Things.Item code)) (find (λ code. is_none (rest code)) codes)
 
 -- the box, where the bag is to be put in one
-abbrev pub no_box : (ℕ → Option Place) → Option ℕ → Option Refusal
-no_box place None = None
-no_box place (Some number) = when (is_none (place number)) (Unknown (Things.Box number))
+abbrev pub unknown_box_refusal : (ℕ → Option Place) → Option ℕ → Option Refusal
+unknown_box_refusal place None = None
+unknown_box_refusal place (Some number) = when (is_none (place number)) (Unknown (Things.Box number))
 
 -- the safe is shut
-abbrev pub shut : (SafeNumber → Bool) → Option SafeNumber → Option Refusal
-shut is_open None = None
-shut is_open (Some safe) = when (not (is_open safe)) Refusals.Safe
+abbrev pub shut_refusal : (SafeNumber → Bool) → Option SafeNumber → Option Refusal
+shut_refusal is_open None = None
+shut_refusal is_open (Some safe) = when (not (is_open safe)) Refusals.Safe
 
 -- the box's place has no holder on the day, or one who is not in the room
-abbrev pub no_holder : (Place → Bool) → Option Place → Option Refusal
-no_holder has_holder None = None
-no_holder has_holder (Some place) = when (not (has_holder place)) (Absent (Absentees.Place place))
+abbrev pub no_holder_refusal : (Place → Bool) → Option Place → Option Refusal
+no_holder_refusal has_holder None = None
+no_holder_refusal has_holder (Some place) = when (not (has_holder place)) (Absent (Absentees.Place place))
 
 -- THE CONDITIONS OF EACH ACT in the order of the refusals, over what is asked: the scene; the place of a box and
 -- whether a safe is open at its facility; where a bag or an item is; whether a place has its holder in the room
@@ -169,12 +169,12 @@ add_box_conditions has_box has_place is_full row =
     ∷ when is_full Full
     ∷ []
 
-abbrev pub add_item_conditions : Scene → Option Rest → List (Option Refusal)
+abbrev pub add_item_conditions : CeremonyStatus → Option Rest → List (Option Refusal)
 add_item_conditions scene rest =
-    no_ceremony scene.is_known scene.ceremony
+    unknown_ceremony_refusal scene.is_known scene.ceremony
     ∷ when (is_some rest) Taken
-    ∷ not_ready scene
-    ∷ no_ca scene
+    ∷ not_ready_refusal scene
+    ∷ no_ca_refusal scene
     ∷ []
 
 abbrev pub same_truth : Bool → Bool → Bool
@@ -182,61 +182,61 @@ same_truth true b = b
 same_truth false b = not b
 
 -- in the room, and trained as SSC1 for safe 1 or as SSC2 for safe 2
-abbrev pub may_turn : SafeNumber → Keeper → Bool
-may_turn One by = by.is_inside && by.has_ssc1
-may_turn Two by = by.is_inside && by.has_ssc2
+abbrev pub may_operate : SafeNumber → SafeOperator → Bool
+may_operate One by = by.is_present && by.has_ssc1
+may_operate Two by = by.is_present && by.has_ssc2
 
-abbrev pub turn_conditions : Scene → (SafeNumber → Bool) → SafeNumber → Bool → Keeper → List (Option Refusal)
-turn_conditions scene is_open safe state by =
-    no_ceremony scene.is_known scene.ceremony
-    ∷ no_person by.is_known by.who
-    ∷ not_ready scene
+abbrev pub safe_conditions : CeremonyStatus → (SafeNumber → Bool) → SafeNumber → Bool → SafeOperator → List (Option Refusal)
+safe_conditions scene is_open safe state by =
+    unknown_ceremony_refusal scene.is_known scene.ceremony
+    ∷ unknown_person_refusal by.is_known by.who
+    ∷ not_ready_refusal scene
     ∷ when (same_truth (is_open safe) state) Refusals.Safe
-    ∷ when (not (may_turn safe by)) (Absent (Absentees.Person by.who))
+    ∷ when (not (may_operate safe by)) (Absent (Absentees.Person by.who))
     ∷ []
 
-abbrev pub seal_conditions : Scene → Option Spot → (List ℕ → Option Rest) → List (List ℕ) → List (Option Refusal)
+abbrev pub seal_conditions : CeremonyStatus → Option Spot → (List ℕ → Option Rest) → List (List ℕ) → List (Option Refusal)
 seal_conditions scene spot rest codes =
-    no_ceremony scene.is_known scene.ceremony
-    ∷ no_item rest codes
+    unknown_ceremony_refusal scene.is_known scene.ceremony
+    ∷ unknown_item_refusal rest codes
     ∷ when (is_some spot) Taken
-    ∷ not_ready scene
+    ∷ not_ready_refusal scene
     ∷ when (not (list_all (λ code. is_loose_at scene.facility (rest code)) codes)) Elsewhere
-    ∷ no_ca scene
+    ∷ no_ca_refusal scene
     ∷ []
 
-abbrev pub take_conditions : Scene → (SafeNumber → Bool) → (ℕ → Option Place) → (Place → Bool) → Option Spot → List ℕ
+abbrev pub take_conditions : CeremonyStatus → (SafeNumber → Bool) → (ℕ → Option Place) → (Place → Bool) → Option Spot → List ℕ
     → List (Option Refusal)
 take_conditions scene is_open place has_holder spot serial =
-    no_ceremony scene.is_known scene.ceremony
-    ∷ no_bag spot serial
-    ∷ not_ready scene
-    ∷ shut is_open (safe_of scene.facility spot)
+    unknown_ceremony_refusal scene.is_known scene.ceremony
+    ∷ unknown_bag_refusal spot serial
+    ∷ not_ready_refusal scene
+    ∷ shut_refusal is_open (safe_of scene.facility spot)
     ∷ when (is_none (safe_of scene.facility spot)) Elsewhere
-    ∷ no_ca scene
-    ∷ no_holder has_holder (option_and_then place (box_of spot))
+    ∷ no_ca_refusal scene
+    ∷ no_holder_refusal has_holder (option_and_then place (box_of spot))
     ∷ []
 
-abbrev pub put_conditions : Scene → (SafeNumber → Bool) → (ℕ → Option Place) → (Place → Bool) → Option Spot → List ℕ
-    → Store → List (Option Refusal)
+abbrev pub put_conditions : CeremonyStatus → (SafeNumber → Bool) → (ℕ → Option Place) → (Place → Bool) → Option Spot → List ℕ
+    → Destination → List (Option Refusal)
 put_conditions scene is_open place has_holder spot serial to =
-    no_ceremony scene.is_known scene.ceremony
-    ∷ no_bag spot serial
-    ∷ no_box place (box_of_store to)
-    ∷ not_ready scene
-    ∷ shut is_open (Some (safe_of_store to))
+    unknown_ceremony_refusal scene.is_known scene.ceremony
+    ∷ unknown_bag_refusal spot serial
+    ∷ unknown_box_refusal place (box_of_destination to)
+    ∷ not_ready_refusal scene
+    ∷ shut_refusal is_open (Some (safe_of_destination to))
     ∷ when (not (is_on_table scene.facility spot)) Elsewhere
-    ∷ no_ca scene
-    ∷ no_holder has_holder (option_and_then place (box_of_store to))
+    ∷ no_ca_refusal scene
+    ∷ no_holder_refusal has_holder (option_and_then place (box_of_destination to))
     ∷ []
 
-abbrev pub cut_conditions : Scene → Option Spot → List ℕ → List (Option Refusal)
+abbrev pub cut_conditions : CeremonyStatus → Option Spot → List ℕ → List (Option Refusal)
 cut_conditions scene spot serial =
-    no_ceremony scene.is_known scene.ceremony
-    ∷ no_bag spot serial
-    ∷ not_ready scene
+    unknown_ceremony_refusal scene.is_known scene.ceremony
+    ∷ unknown_bag_refusal spot serial
+    ∷ not_ready_refusal scene
     ∷ when (not (is_on_table scene.facility spot)) Elsewhere
-    ∷ no_ca scene
+    ∷ no_ca_refusal scene
     ∷ []
 
 -- THE FIRST REFUSAL OF EACH ACT, by rows
@@ -247,28 +247,28 @@ add_box_refusal boxes is_full row =
     (add_box_conditions (list_any (is_box row.facility row.number) boxes)
     (list_any (λ old. same_place old.place row.place) boxes) is_full row)
 
-abbrev pub add_item_refusal : Scene → List Item → List ℕ → Option Refusal
+abbrev pub add_item_refusal : CeremonyStatus → List Item → List ℕ → Option Refusal
 add_item_refusal scene items code = first_of (add_item_conditions scene (rest_by items code))
 
-abbrev pub turn_refusal : Scene → List SafeRow → SafeNumber → Bool → Keeper → Option Refusal
-turn_refusal scene safes safe state by =
-    first_of (turn_conditions scene (is_open_by safes scene.facility) safe state by)
+abbrev pub safe_refusal : CeremonyStatus → List SafeRow → SafeNumber → Bool → SafeOperator → Option Refusal
+safe_refusal scene safes safe state by =
+    first_of (safe_conditions scene (is_open_by safes scene.facility) safe state by)
 
-abbrev pub seal_refusal : Scene → List Bag → List Item → List ℕ → List (List ℕ) → Option Refusal
+abbrev pub seal_refusal : CeremonyStatus → List Bag → List Item → List ℕ → List (List ℕ) → Option Refusal
 seal_refusal scene bags items serial codes =
     first_of (seal_conditions scene (spot_by bags serial) (rest_by items) codes)
 
-abbrev pub take_refusal : Scene → List SafeRow → List BoxRow → List Bag → List ℕ → Bool → Option Refusal
+abbrev pub take_refusal : CeremonyStatus → List SafeRow → List BoxRow → List Bag → List ℕ → Bool → Option Refusal
 take_refusal scene safes boxes bags serial has_holder =
     first_of
     (take_conditions scene (is_open_by safes scene.facility) (place_of_box_by boxes scene.facility)
     (λ place. has_holder) (spot_by bags serial) serial)
 
-abbrev pub put_refusal : Scene → List SafeRow → List BoxRow → List Bag → List ℕ → Store → Bool → Option Refusal
+abbrev pub put_refusal : CeremonyStatus → List SafeRow → List BoxRow → List Bag → List ℕ → Destination → Bool → Option Refusal
 put_refusal scene safes boxes bags serial to has_holder =
     first_of
     (put_conditions scene (is_open_by safes scene.facility) (place_of_box_by boxes scene.facility)
     (λ place. has_holder) (spot_by bags serial) serial to)
 
-abbrev pub cut_refusal : Scene → List Bag → List ℕ → Option Refusal
+abbrev pub cut_refusal : CeremonyStatus → List Bag → List ℕ → Option Refusal
 cut_refusal scene bags serial = first_of (cut_conditions scene (spot_by bags serial) serial)

@@ -1,12 +1,12 @@
 //! What every act keeps: public functions with no body, whose contracts are the laws.
 ghost use Rattle.std.specs.Prelude.{◌≡◌, ℕ, Bool, List, map, None};
 ghost use Rattle.kcr_base.specs.declared.place.Facility.{Facility};
-ghost use Rattle.kcr_custody.specs.declared.Scene.{Scene};
+ghost use Rattle.kcr_custody.specs.declared.CeremonyStatus.{CeremonyStatus};
 ghost use Rattle.kcr_custody.specs.declared.SafeRow.{SafeRow};
 ghost use Rattle.kcr_custody.specs.declared.BoxRow.{BoxRow};
 ghost use Rattle.kcr_custody.specs.declared.Bag.{Bag};
 ghost use Rattle.kcr_custody.specs.declared.Item.{Item};
-ghost use Rattle.kcr_custody.specs.declared.Store.{Store};
+ghost use Rattle.kcr_custody.specs.declared.Destination.{Destination};
 ghost use Rattle.kcr_custody.specs.declared.Spot.TheVariants.{Table, Spent};
 ghost use Rattle.kcr_custody.specs.declared.Rest.TheVariants.{Loose};
 ghost use Rattle.kcr_custody.specs.Custody;
@@ -36,11 +36,11 @@ pub fn take_keeps_balance()
 
 /// A bag put away keeps balance.
 pub fn put_keeps_balance()
-    ensures { (scene : Scene) (safes : List SafeRow) (boxes : List BoxRow) (bags : List Bag) (items : List Item)
-        (serial : List ℕ) (to : Store) (has_holder : Bool) →
+    ensures { (scene : CeremonyStatus) (safes : List SafeRow) (boxes : List BoxRow) (bags : List Bag) (items : List Item)
+        (serial : List ℕ) (to : Destination) (has_holder : Bool) →
         IsBalanced boxes bags items → Custody.put_refusal scene safes boxes bags serial to has_holder ≡ None →
         IsBalanced boxes
-        (put same_bag (record { serial = serial; spot = Custody.spot_of_store scene.facility to }) bags) items }
+        (put same_bag (record { serial = serial; spot = Custody.spot_of_destination scene.facility to }) bags) items }
 {}
 
 /// A seal keeps balance.
@@ -49,7 +49,7 @@ pub fn seal_keeps_balance()
         (codes : List (List ℕ)) →
         IsBalanced boxes bags items →
         IsBalanced boxes (put same_bag (record { serial = serial; spot = Table facility }) bags)
-        (put_all same_item (Custody.packed serial codes) items) }
+        (put_all same_item (Custody.sealed_items serial codes) items) }
 {}
 
 /// A cut keeps balance.
@@ -57,19 +57,19 @@ pub fn cut_keeps_balance()
     ensures { (facility : Facility) (boxes : List BoxRow) (bags : List Bag) (items : List Item) (serial : List ℕ) →
         IsBalanced boxes bags items →
         IsBalanced boxes (put same_bag (record { serial = serial; spot = Spent }) bags)
-        (put_all same_item (Custody.loosened items serial facility) items) }
+        (put_all same_item (Custody.loose_items items serial facility) items) }
 {}
 
 /// A seal neither loses nor makes an item.
 pub fn seal_leaves_items()
-    ensures { (scene : Scene) (bags : List Bag) (items : List Item) (serial : List ℕ) (codes : List (List ℕ)) →
+    ensures { (scene : CeremonyStatus) (bags : List Bag) (items : List Item) (serial : List ℕ) (codes : List (List ℕ)) →
         Custody.seal_refusal scene bags items serial codes ≡ None →
-        map (λ row. row.code) (put_all same_item (Custody.packed serial codes) items) ≡ map (λ row. row.code) items }
+        map (λ row. row.code) (put_all same_item (Custody.sealed_items serial codes) items) ≡ map (λ row. row.code) items }
 {}
 
 /// A cut neither loses nor makes an item.
 pub fn cut_leaves_items()
     ensures { (serial : List ℕ) (facility : Facility) (items : List Item) →
-        map (λ row. row.code) (put_all same_item (Custody.loosened items serial facility) items)
+        map (λ row. row.code) (put_all same_item (Custody.loose_items items serial facility) items)
         ≡ map (λ row. row.code) items }
 {}

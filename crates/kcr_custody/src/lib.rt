@@ -12,11 +12,11 @@ use std::marker::Model;
 pub mod acts;
 mod checks;
 pub mod laws;
-pub mod rows;
+pub mod queries;
 pub mod spots;
 
-pub use acts::{add_box, add_item, cut, put, seal, take, turn_safe};
-pub use rows::{place_for_put, place_for_take};
+pub use acts::{add_box, add_item, cut, open_safe, put, seal, set_safe, shut_safe, take};
+pub use queries::{place_for_put, place_for_take};
 
 /// Which safe of a facility: safe 1 holds equipment, safe 2 credentials in deposit boxes.
 #[derive(Clone, Copy, PartialEq, Eq)]
@@ -79,16 +79,16 @@ pub struct Item {
 
 /// Where a bag is put, at the ceremony's facility.
 #[derive(Clone, Copy, PartialEq, Eq)]
-pub enum Store {
+pub enum Destination {
     /// In safe 1.
     SafeOne,
     /// In the box with this number.
-    Boxed(BoxNumber),
+    DepositBox(BoxNumber),
 }
 
 /// What an act takes from elsewhere: its ceremony at its moment.
 #[derive(Clone, Copy)]
-pub struct Scene {
+pub struct CeremonyStatus {
     /// The number of the ceremony.
     pub ceremony: u32,
     /// Whether there is such a ceremony. If not, the fields of it below say nothing.
@@ -109,12 +109,12 @@ pub struct Scene {
 
 /// Who opens or shuts a safe.
 #[derive(Clone, Copy)]
-pub struct Keeper {
+pub struct SafeOperator {
     pub who: Initials,
     /// Whether the register has the person.
     pub is_known: bool,
     /// Whether the person is in the room at the moment.
-    pub is_inside: bool,
+    pub is_present: bool,
     /// Whether the person is trained as SSC1 on the day: for safe 1.
     pub has_ssc1: bool,
     /// Whether the person is trained as SSC2 on the day: for safe 2.
@@ -163,7 +163,7 @@ impl ItemRows {
 
 /// The rows that a seal or a cut changes.
 #[derive(Drop)]
-pub struct Moved {
+pub struct BagChange {
     pub bag: Bag,
     pub items: ItemRows,
 }

@@ -83,7 +83,7 @@ module _ (s : Appointment → Bool) where
   held_on_no_other rows day d l h =
       any-more (held_on d) (λ row. s row && lasts_beyond day row) rows (λ row e. (let last = earlier_end row.until day d l in grind (arith, nat_tests))) h
 
--- the first that passes is there where one passes
+-- the first that passes is there if one passes
 some-find : {X Y : Type 0} (f : X → Y) (test : X → Bool) (rows : List X) → is_some (option_map f (find test rows)) ≡ list_any test rows
 some-find f test [] = refl
 some-find f test (row ∷ rows) = grind (arith, some-find f test rows)

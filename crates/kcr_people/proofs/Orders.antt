@@ -33,7 +33,7 @@ trained_from-order ts us ws vs p q who role day =
 
 -- THE FIRST ROW THAT PASSES
 
--- where at most one row passes, the first that does is the same in any order
+-- if at most one row passes, the first that does is the same in any order
 pub find-one : {X : Type 0} (test : X → Bool) (rows others : List X) → IsPermutation rows others → AtMostOne test rows → find test others ≡ find test rows
 find-one {X} test rows others p one = find-order test rows others p first
   where

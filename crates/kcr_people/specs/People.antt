@@ -3,7 +3,7 @@ use Rattle.std.specs.Prelude.{ℕ, ◌==◌, Bool, true, false, not, ◌&&◌, �
 use Rattle.std.specs.Prelude.{filter, fold, Option, Some, None, option_map, find, is_none}
 use Rattle.std.specs.List.{list_any}
 use Rattle.kcr_base.specs.Same.{same_text, same_role, same_place}
-use Rattle.kcr_base.specs.Refuse.{when, first_of, no_person}
+use Rattle.kcr_base.specs.Refuse.{when, first_of, unknown_person_refusal}
 use Rattle.kcr_base.specs.declared.place.Role.{Role}
 use Rattle.kcr_base.specs.declared.place.Place.{Place}
 use Rattle.kcr_base.specs.declared.refusal.Refusal.{Refusal}
@@ -116,12 +116,12 @@ abbrev pub person_holds_from_by : List Appointment → List ℕ → ℕ → Bool
 person_holds_from_by rows who day = list_any (λ row. same_text row.who who && lasts_beyond day row) rows
 
 -- the appointment is to the place and has no end
-abbrev pub stands : Place → Appointment → Bool
-stands place row = same_place row.place place && is_none row.until
+abbrev pub is_open_ended : Place → Appointment → Bool
+is_open_ended place row = same_place row.place place && is_none row.until
 
 -- the appointment of the place that has no end
 abbrev pub open_row_by : List Appointment → Place → Option Appointment
-open_row_by rows place = find (stands place) rows
+open_row_by rows place = find (is_open_ended place) rows
 
 -- the open appointment of the place begins on the day or later
 abbrev pub begins_too_late : Option Appointment → ℕ → Bool
@@ -132,7 +132,7 @@ begins_too_late (Some row) day = nat_le day row.since
 abbrev pub nobody : Place → ℕ → Appointment
 nobody place day = record { place = place; who = []; since = day; until = None }
 
--- the open appointment with its end, or the other where there is none
+-- the open appointment with its end, or the other if there is none
 abbrev pub end_of : Option Appointment → ℕ → Appointment → Appointment
 end_of None day new = new
 end_of (Some row) day new = record row { until = Some day }
@@ -142,21 +142,21 @@ end_of (Some row) day new = record row { until = Some day }
 -- there; the appointments; the settled day; whether the register is full
 
 -- the day is not after the settled day
-abbrev pub settles : Option ℕ → ℕ → Option Refusal
-settles None day = None
-settles (Some last) day = when (nat_le day last) (Settled last)
+abbrev pub settled_refusal : Option ℕ → ℕ → Option Refusal
+settled_refusal None day = None
+settled_refusal (Some last) day = when (nat_le day last) (Settled last)
 
 -- the day is not after the settled day, or the register is full
-abbrev pub settled_or_full : Option ℕ → Bool → ℕ → Option Refusal
-settled_or_full settled full day = first_of (settles settled day ∷ when full Full ∷ [])
+abbrev pub settled_or_full_refusal : Option ℕ → Bool → ℕ → Option Refusal
+settled_or_full_refusal settled full day = first_of (settled_refusal settled day ∷ when full Full ∷ [])
 
 -- the appointment to the place that has no end begins on the day or later
-abbrev pub not_after_first_day : List Appointment → Place → ℕ → Option Refusal
-not_after_first_day rows place day = when (begins_too_late (open_row_by rows place) day) Range
+abbrev pub first_day_refusal : List Appointment → Place → ℕ → Option Refusal
+first_day_refusal rows place day = when (begins_too_late (open_row_by rows place) day) Range
 
 -- each appointment to the place has an end, or there is none
-abbrev pub vacant : List Appointment → Place → Option Refusal
-vacant rows place = when (is_none (open_row_by rows place)) Vacant
+abbrev pub vacant_refusal : List Appointment → Place → Option Refusal
+vacant_refusal rows place = when (is_none (open_row_by rows place)) Vacant
 
 -- on the day or a later one somebody holds the place, or the person holds a place
 abbrev pub place_or_person_holds : List Appointment → Place → List ℕ → ℕ → Bool
@@ -170,7 +170,7 @@ enter_conditions is_person full =
 
 abbrev pub train_conditions : Bool → Bool → Bool → Bool → Training → List (Option Refusal)
 train_conditions is_person is_there ever_put full row =
-    no_person is_person row.who
+    unknown_person_refusal is_person row.who
     ∷ when is_there Taken
     ∷ when (nat_lt row.until row.since) Range
     ∷ when ever_put Apart
@@ -179,39 +179,39 @@ train_conditions is_person is_there ever_put full row =
 
 abbrev pub withdraw_conditions : Bool → Bool → Option ℕ → Bool → List ℕ → ℕ → List (Option Refusal)
 withdraw_conditions is_person is_trained settled full who day =
-    no_person is_person who
+    unknown_person_refusal is_person who
     ∷ when (not is_trained) Vacant
-    ∷ settles settled day
+    ∷ settled_refusal settled day
     ∷ when full Full
     ∷ []
 
 abbrev pub appoint_conditions : Bool → Bool → List Appointment → Option ℕ → Bool → Place → List ℕ → ℕ
     → List (Option Refusal)
 appoint_conditions is_person ever_trained appointments settled full place who day =
-    no_person is_person who
+    unknown_person_refusal is_person who
     ∷ when ever_trained Apart
     ∷ when (place_or_person_holds appointments place who day) Held
-    ∷ settles settled day
+    ∷ settled_refusal settled day
     ∷ when full Full
     ∷ []
 
 abbrev pub replace_conditions : Bool → Bool → List Appointment → Option ℕ → Bool → Place → List ℕ → ℕ
     → List (Option Refusal)
 replace_conditions is_person ever_trained appointments settled full place who day =
-    no_person is_person who
-    ∷ not_after_first_day appointments place day
+    unknown_person_refusal is_person who
+    ∷ first_day_refusal appointments place day
     ∷ when ever_trained Apart
     ∷ when (person_holds_from_by appointments who day) Held
-    ∷ vacant appointments place
-    ∷ settles settled day
+    ∷ vacant_refusal appointments place
+    ∷ settled_refusal settled day
     ∷ when full Full
     ∷ []
 
 abbrev pub release_conditions : List Appointment → Option ℕ → Bool → Place → ℕ → List (Option Refusal)
 release_conditions appointments settled full place day =
-    not_after_first_day appointments place day
-    ∷ vacant appointments place
-    ∷ settles settled day
+    first_day_refusal appointments place day
+    ∷ vacant_refusal appointments place
+    ∷ settled_refusal settled day
     ∷ when full Full
     ∷ []
 

@@ -1,15 +1,15 @@
 //! What several acts test: nothing, or the refusal.
-ghost use Rattle.kcr_base.specs.Refuse.{Tests, no_person};
+ghost use Rattle.kcr_base.specs.Refuse.{IsTestResult, unknown_person_refusal};
 ghost use Rattle.kcr_people.specs.People;
 
-use crate::{Roster, rows};
+use crate::{Roster, queries};
 use kcr_base::{Day, Initials, Refusal, Thing};
 
 /// The person is in the register.
 pub(crate) fn check_person(roster: &Roster<'_>, who: Initials) -> Result<(), Refusal>
-    ensures { Tests (no_person (People.is_person_by roster.now.people.now who) who) result }
+    ensures { IsTestResult (unknown_person_refusal (People.is_person_by roster.now.people.now who) who) result }
 {
-    if !rows::is_person(roster.people, who) {
+    if !queries::is_person(roster.people, who) {
         return Err(Refusal::Unknown {
             thing: Thing::Person(who),
         });
@@ -19,7 +19,7 @@ pub(crate) fn check_person(roster: &Roster<'_>, who: Initials) -> Result<(), Ref
 
 /// The day is after the settled day, and the register takes more commands.
 pub(crate) fn check_day(roster: &Roster<'_>, day: Day) -> Result<(), Refusal>
-    ensures { Tests (People.settled_or_full roster.now.settled roster.now.is_full day) result }
+    ensures { IsTestResult (People.settled_or_full_refusal roster.now.settled roster.now.is_full day) result }
 {
     if let Some(last) = roster.settled
         && day <= last

@@ -6,7 +6,7 @@ ghost use Rattle.kcr_people.specs.declared.Appointment.{Appointment};
 ghost use Rattle.kcr_people.specs.declared.Roster.{Roster};
 
 use crate::checks::{check_day, check_person};
-use crate::{Appointment, Roster, rows};
+use crate::{Appointment, Roster, queries};
 use kcr_base::{Day, Initials, Place, Refusal};
 
 /// The row of a person who is put in a place from a day on. The first refusal that holds, of:
@@ -27,11 +27,11 @@ pub fn appoint(
 {
     let row = Appointment::new(place, who, day);
     check_person(roster, row.who)?;
-    if rows::ever_trained(roster.trainings, row.who) {
+    if queries::ever_trained(roster.trainings, row.who) {
         return Err(Refusal::Apart);
     }
-    if rows::place_held_from(roster.appointments, row.place, row.since)
-        || rows::person_holds_from(roster.appointments, row.who, row.since)
+    if queries::place_held_on_or_after(roster.appointments, row.place, row.since)
+        || queries::holds_place_on_or_after(roster.appointments, row.who, row.since)
     {
         return Err(Refusal::Held);
     }
@@ -60,14 +60,14 @@ pub fn replace(
 {
     let new = Appointment::new(place, who, day);
     check_person(roster, new.who)?;
-    let standing = rows::open_row(roster.appointments, new.place);
-    if rows::begins_too_late(&standing, new.since) {
+    let standing = queries::open_appointment(roster.appointments, new.place);
+    if queries::begins_too_late(&standing, new.since) {
         return Err(Refusal::Range);
     }
-    if rows::ever_trained(roster.trainings, new.who) {
+    if queries::ever_trained(roster.trainings, new.who) {
         return Err(Refusal::Apart);
     }
-    if rows::person_holds_from(roster.appointments, new.who, new.since) {
+    if queries::holds_place_on_or_after(roster.appointments, new.who, new.since) {
         return Err(Refusal::Held);
     }
     let Some(old) = &standing else {
@@ -90,8 +90,8 @@ pub fn release(roster: &Roster<'_>, place: Place, day: Day) -> Result<Appointmen
         (People.release_refusal by.appointments.now by.settled by.is_full place day)
         (People.end_of (People.open_row_by by.appointments.now place) day (People.nobody place day)) }
 {
-    let standing = rows::open_row(roster.appointments, place);
-    if rows::begins_too_late(&standing, day) {
+    let standing = queries::open_appointment(roster.appointments, place);
+    if queries::begins_too_late(&standing, day) {
         return Err(Refusal::Range);
     }
     let Some(old) = &standing else {

@@ -13,7 +13,7 @@ ghost use Rattle.kcr_people.specs.declared.Withdrawal.{Withdrawal};
 ghost use Rattle.kcr_people.specs.Laws.{AtMostOne, same_withdrawn};
 ghost use Rattle.kcr_people.specs.People;
 
-/// A withdrawal is refused as vacant exactly where the person is trained for the role neither on
+/// A withdrawal is refused as vacant if and only if the person is trained for the role neither on
 /// its day nor on a later one.
 pub fn trained_from_a_day()
     ensures on_some_day { (trainings : List Training) (withdrawals : List Withdrawal) →
@@ -41,7 +41,7 @@ pub fn withdrawn_from_a_day()
 {}
 
 /// Where each appointment lasts beyond its first day, a place is held from a day on, so that nobody
-/// is appointed to it then, exactly where it has a holder on the day or a later one.
+/// is appointed to it then, if and only if it has a holder on the day or a later one.
 pub fn place_held_from_a_day()
     ensures on_some_day { (rows : List Appointment) → list_all People.lasts rows ≡ true →
         (place : Place) (day : ℕ) → People.place_held_from_by rows place day ≡ true →
@@ -74,14 +74,14 @@ pub fn trained_in_any_order()
         ≡ People.trained_from_by trainings withdrawals who role day }
 {}
 
-/// Nor does the holder of a place, where at most one appointment covers the day, and the open
+/// Nor does the holder of a place, if at most one appointment covers the day, and the open
 /// appointment of a place that has at most one.
 pub fn holder_in_any_order()
     ensures day { (rows others : List Appointment) → IsPermutation rows others →
         (place : Place) (day : ℕ) → AtMostOne (People.holds place day) rows →
         People.holder_by others place day ≡ People.holder_by rows place day }
     ensures unended { (rows others : List Appointment) → IsPermutation rows others →
-        (place : Place) → AtMostOne (People.stands place) rows →
+        (place : Place) → AtMostOne (People.is_open_ended place) rows →
         People.open_row_by others place ≡ People.open_row_by rows place }
 {}
 
@@ -112,12 +112,12 @@ pub fn refusals_in_any_order()
         (rows puts : List Appointment) →
         IsPermutation people persons → IsPermutation trainings others → IsPermutation rows puts →
         (settled : Option ℕ) (full : Bool) (place : Place) (who : List ℕ) (day : ℕ) →
-        AtMostOne (People.stands place) rows →
+        AtMostOne (People.is_open_ended place) rows →
         People.replace_refusal persons others puts settled full place who day
         ≡ People.replace_refusal people trainings rows settled full place who day }
     ensures release { (rows puts : List Appointment) → IsPermutation rows puts →
         (settled : Option ℕ) (full : Bool) (place : Place) (day : ℕ) →
-        AtMostOne (People.stands place) rows →
+        AtMostOne (People.is_open_ended place) rows →
         People.release_refusal puts settled full place day
         ≡ People.release_refusal rows settled full place day }
 {}

@@ -6,13 +6,13 @@ mod checks;
 pub mod custodians;
 pub mod laws;
 pub mod people;
-pub mod rows;
+pub mod queries;
 pub mod withdrawals;
 
 pub use custodians::{appoint, release, replace};
 use kcr_base::{Day, Initials, Name, Place, Role};
 pub use people::{enter, train, withdraw};
-pub use rows::{holder, trained};
+pub use queries::{holder, trained};
 pub use withdrawals::WithdrawalRows;
 
 /// A person of the register.

@@ -1,11 +1,11 @@
 //! People and their training: the new rows, or the first refusal.
 ghost use Rattle.std.specs.Prelude.{◌≡◌, IfSome, Err};
-ghost use Rattle.kcr_base.specs.Refuse.{unless, Decides};
+ghost use Rattle.kcr_base.specs.Refuse.{unless, IsValueOrRefusal};
 ghost use Rattle.kcr_people.specs.People;
 ghost use Rattle.kcr_people.specs.declared.Roster.{Roster};
 
 use crate::checks::{check_day, check_person};
-use crate::{Person, Roster, Training, WithdrawalRows, rows};
+use crate::{Person, Roster, Training, WithdrawalRows, queries};
 use kcr_base::{Day, Initials, Refusal, Role};
 use std::alloc::Global;
 
@@ -15,7 +15,7 @@ use std::alloc::Global;
 pub fn enter(people: &[Person], full: bool, person: Person) -> Result<Person, Refusal>
     ensures { result ≡ unless (People.enter_refusal people.now full person.who) person }
 {
-    if rows::is_person(people, person.who) {
+    if queries::is_person(people, person.who) {
         return Err(Refusal::Taken);
     }
     if full {
@@ -32,13 +32,13 @@ pub fn train(roster: &Roster<'_>, row: Training) -> Result<Training, Refusal>
         (People.train_refusal by.people.now by.trainings.now by.appointments.now by.is_full row) row }
 {
     check_person(roster, row.who)?;
-    if rows::has_training(roster.trainings, row) {
+    if queries::has_training(roster.trainings, row) {
         return Err(Refusal::Taken);
     }
     if row.until < row.since {
         return Err(Refusal::Range);
     }
-    if rows::ever_put(roster.appointments, row.who) {
+    if queries::was_custodian(roster.appointments, row.who) {
         return Err(Refusal::Apart);
     }
     if roster.is_full {
@@ -49,11 +49,11 @@ pub fn train(roster: &Roster<'_>, row: Training) -> Result<Training, Refusal>
 
 /// The rows that withdraw every training of a person for a role from a day on: one for each that
 /// ends on the day or later, also for one that begins later, with the least day from which it is
-/// withdrawn; the day of an earlier withdrawal stays where it is less. Trainings that are entered
+/// withdrawn; the day of an earlier withdrawal stays if it is less. Trainings that are entered
 /// afterwards are not withdrawn. The first refusal that holds, of: `Unknown`, the person is not in
 /// the register; `Vacant`, the person is trained for the role neither on the day nor on a later
 /// one; `Settled`, the day is not after the settled day, the day of the greatest mark of all
-/// ceremonies; `Full`. `Memory` comes only where none of these holds.
+/// ceremonies; `Full`. `Memory` comes only if none of these holds.
 pub fn withdraw(
     alloc: Global,
     roster: &Roster<'_>,
@@ -61,7 +61,7 @@ pub fn withdraw(
     role: Role,
     day: Day,
 ) -> Result<WithdrawalRows, Refusal>
-    ensures decides { let by : Roster = roster.now in Decides
+    ensures decides { let by : Roster = roster.now in IsValueOrRefusal
         (People.withdraw_refusal
         by.people.now by.trainings.now by.withdrawals.now by.settled by.is_full who role day)
         (People.withdrawn_rows by.trainings.now by.withdrawals.now who role day) result }
@@ -71,10 +71,17 @@ pub fn withdraw(
         (λ refusal. result ≡ Err refusal) }
 {
     check_person(roster, who)?;
-    if !rows::trained_from(roster, who, role, day) {
+    if !queries::trained_on_or_after(roster, who, role, day) {
         return Err(Refusal::Vacant);
     }
     check_day(roster, day)?;
-    let rows = rows::withdrawn_rows(alloc, roster.trainings, roster.withdrawals, who, role, day)?;
+    let rows = queries::withdrawn_rows(
+        alloc,
+        roster.trainings,
+        roster.withdrawals,
+        who,
+        role,
+        day,
+    )?;
     Ok(WithdrawalRows::new(rows))
 }

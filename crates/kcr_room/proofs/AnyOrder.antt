@@ -9,7 +9,7 @@ use Rattle.std.proofs.lemmas.List.Elements.{filter-append}
 use Rattle.std.proofs.lemmas.List.Sums.{sum_by-append}
 use Rattle.std.proofs.lemmas.List.Sorted.{IsPermutation-map, sum_by-IsPermutation, list_any-IsPermutation}
 use Rattle.kcr_base.proofs.RowsLemmas.{filter-order}
-use Rattle.kcr_room.specs.Room.{is_enter, is_ahead, is_as_late, following, Followed, followed_rows_behind, later, last_onto, last_row_of, present_by}
+use Rattle.kcr_room.specs.Room.{is_enter, is_ahead, is_as_late, following, Followed, followed_rows_behind, later_row, last_onto, last_row_of, present_by}
 use Rattle.kcr_room.specs.Stays.{next_of, stays_of, stays_by}
 use Rattle.kcr_room.specs.Laws.{IsSheet, ShareNoMoment}
 use Rattle.kcr_room.proofs.Words.{nat_tests, same_text, SheetRow}
@@ -80,12 +80,12 @@ stays-order xs ys p h =
 pub rows-present : (xs ys : List SheetRow) → IsPermutation xs ys → ShareNoMoment xs → (c t : ℕ) → present_by ys c t ≡ present_by xs c t
 rows-present xs ys p h c t = sym (same-present ys c t) ∙ present-order (stays_by xs) (stays_by ys) (stays-order xs ys p h) c t ∙ same-present xs c t
 
--- a list of rows has one not earlier than m exactly where its last is
+-- a list of rows has one not earlier than m if and only if its last is
 reached : (m : ℕ) (rows : List SheetRow) (last : Option SheetRow)
     → last_reaches m (last_onto last rows) ≡ (last_reaches m last || list_any (λ row. nat_le m row.at) rows)
 reached m [] last = sym (or-false (last_reaches m last))
 reached m (row ∷ rows) None = reached m rows (Some row)
-reached m (row ∷ rows) (Some other) = reached m rows (later (Some other) row) ∙ both (nat_lt row.at other.at) refl
+reached m (row ∷ rows) (Some other) = reached m rows (later_row (Some other) row) ∙ both (nat_lt row.at other.at) refl
   where
     both : (b : Bool) → nat_lt row.at other.at ≡ b
         → (last_reaches m (cond b (Some other) (Some row)) || list_any (λ row. nat_le m row.at) rows)

@@ -6,10 +6,10 @@ use Rattle.std.specs.List.Sorted.{IsPartitionPoint, IsNonDecreasing}
 use Rattle.std.proofs.lemmas.List.Elements.{recursion_from_All}
 use Rattle.std.proofs.lemmas.List.Folds.{list_any-append}
 use Rattle.std.proofs.lemmas.List.Sorted.{sum_by-IsPermutation, list_any-IsPermutation, IsPermutation-append}
-use Rattle.kcr_room.specs.declared.traffic.Traffic.{Traffic}
-use Rattle.kcr_room.specs.Moments.{sooner, least}
-use Rattle.kcr_room.specs.Stays.{lasts_at, crowd_in_by, is_lone_in_by, is_crowd_in_by, comings_by, goings_by, first_lone_in_by, is_crowded_in_by}
-use Rattle.kcr_room.specs.Traffic.{crowd_of, is_crowd_of, is_lone_of, Tells}
+use Rattle.kcr_room.specs.declared.occupancy.Occupancy.{Occupancy}
+use Rattle.kcr_room.specs.Moments.{min_moment, least}
+use Rattle.kcr_room.specs.Stays.{ends_after, headcount_in_by, is_lone_in_by, is_crowd_in_by, comings_by, goings_by, first_lone_in_by, is_crowded_in_by}
+use Rattle.kcr_room.specs.Occupancy.{headcount_of, is_crowd_of, is_lone_of, HasMomentsOf}
 use Rattle.kcr_room.proofs.Words.{nat_tests, Stay}
 use Rattle.kcr_room.proofs.Lists.{any-same, count-cons}
 use Rattle.kcr_room.proofs.Firsts.{end-unique, lasts-sooner, lasts-passing}
@@ -32,10 +32,10 @@ parted-count test (m ∷ moments) (suc i) h point =
     omega (arith, k, n)
 
 -- those who have come without those who have gone are there
-pub told-crowd : (traffic : Traffic) (stays : List Stay) (c : ℕ) → Tells traffic stays c → (t : ℕ) → crowd_of traffic t ≡ crowd_in_by stays c t
+pub told-crowd : (traffic : Occupancy) (stays : List Stay) (c : ℕ) → HasMomentsOf traffic stays c → (t : ℕ) → headcount_of traffic t ≡ headcount_in_by stays c t
 told-crowd traffic stays c told t =
-    let m = sum_by-IsPermutation (λ moment. cond (nat_le moment t) 1 0) (comings_by stays c) traffic.comings.items told.0 in
-    let n = sum_by-IsPermutation (λ moment. cond (nat_le moment t) 1 0) (goings_by stays c) traffic.goings.items told.1 in
+    let m = sum_by-IsPermutation (λ moment. cond (nat_le moment t) 1 0) (comings_by stays c) traffic.arrivals.items told.0 in
+    let n = sum_by-IsPermutation (λ moment. cond (nat_le moment t) 1 0) (goings_by stays c) traffic.departures.items told.1 in
     let b = balance stays c t in
     omega (arith, m, n, b)
 
@@ -44,7 +44,7 @@ none-sooner : (test : ℕ → Bool) (t m : ℕ) (ts : List ℕ) → AllByRecursi
 none-sooner test t m [] a h = refl
 none-sooner test t m (n ∷ ts) a h = grind (arith, nat_tests, a.0, h, none-sooner test t m ts a.1)
 
-lasts-found : (test : ℕ → Bool) (t : ℕ) (ts : List ℕ) → IsNonDecreasing ts → lasts_at t (find test ts) ≡ not (list_any (λ n. test n && nat_le n t) ts)
+lasts-found : (test : ℕ → Bool) (t : ℕ) (ts : List ℕ) → IsNonDecreasing ts → ends_after t (find test ts) ≡ not (list_any (λ n. test n && nat_le n t) ts)
 lasts-found test t [] rising = refl
 lasts-found test t (m ∷ ts) rising =
     let behind = recursion_from_All (λ n. m ≤ n) ts (λ k d l. rising 0 (suc k) d (omega arith) (omega (arith, l))) in
@@ -52,24 +52,24 @@ lasts-found test t (m ∷ ts) rising =
     grind (arith, nat_tests, rest, none-sooner test t m ts behind)
 
 pub found-least : (test : ℕ → Bool) (ms ns : List ℕ) → IsNonDecreasing ms → IsNonDecreasing ns
-    → sooner (find test ms) (find test ns) ≡ least (filter test (ms ++ ns))
+    → min_moment (find test ms) (find test ns) ≡ least (filter test (ms ++ ns))
 found-least test ms ns f g = end-unique _ _ (λ t.
     lasts-sooner t (find test ms) (find test ns)
     ∙ grind (arith, nat_tests, lasts-found test t ms f, lasts-found test t ns g, list_any-append (λ n. test n && nat_le n t) ms ns)
     ∙ sym (lasts-passing test t (ms ++ ns)))
 
 -- the traffic of a room is crowded, and has its first moment with one person, as the stays have
-pub told-crowded : (traffic : Traffic) (stays : List Stay) (c : ℕ) → Tells traffic stays c
-    → list_any (is_crowd_of traffic) traffic.comings.items ≡ is_crowded_in_by stays c
+pub told-crowded : (traffic : Occupancy) (stays : List Stay) (c : ℕ) → HasMomentsOf traffic stays c
+    → list_any (is_crowd_of traffic) traffic.arrivals.items ≡ is_crowded_in_by stays c
 told-crowded traffic stays c told =
-    any-same (is_crowd_of traffic) (is_crowd_in_by stays c) traffic.comings.items (λ t. ap (nat_lt 128) (told-crowd traffic stays c told t))
-    ∙ sym (list_any-IsPermutation (is_crowd_in_by stays c) (comings_by stays c) traffic.comings.items told.0)
+    any-same (is_crowd_of traffic) (is_crowd_in_by stays c) traffic.arrivals.items (λ t. ap (nat_lt 128) (told-crowd traffic stays c told t))
+    ∙ sym (list_any-IsPermutation (is_crowd_in_by stays c) (comings_by stays c) traffic.arrivals.items told.0)
 
-pub told-lone : (traffic : Traffic) (stays : List Stay) (c : ℕ) → Tells traffic stays c
-    → least (filter (is_lone_of traffic) (traffic.comings.items ++ traffic.goings.items)) ≡ first_lone_in_by stays c
+pub told-lone : (traffic : Occupancy) (stays : List Stay) (c : ℕ) → HasMomentsOf traffic stays c
+    → least (filter (is_lone_of traffic) (traffic.arrivals.items ++ traffic.departures.items)) ≡ first_lone_in_by stays c
 told-lone traffic stays c told = end-unique _ _ (λ t.
-    lasts-passing (is_lone_of traffic) t (traffic.comings.items ++ traffic.goings.items)
-    ∙ ap not (any-same _ (λ n. is_lone_in_by stays c n && nat_le n t) (traffic.comings.items ++ traffic.goings.items)
+    lasts-passing (is_lone_of traffic) t (traffic.arrivals.items ++ traffic.departures.items)
+    ∙ ap not (any-same _ (λ n. is_lone_in_by stays c n && nat_le n t) (traffic.arrivals.items ++ traffic.departures.items)
     (λ n. ap (λ crowd. crowd == 1 && nat_le n t) (told-crowd traffic stays c told n))
     ∙ sym (list_any-IsPermutation (λ n. is_lone_in_by stays c n && nat_le n t) _ _ (IsPermutation-append _ _ _ _ told.0 told.1)))
     ∙ sym (lasts-passing (is_lone_in_by stays c) t (comings_by stays c ++ goings_by stays c)))

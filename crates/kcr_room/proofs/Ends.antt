@@ -4,58 +4,58 @@ use Rattle.std.proofs.Common.{get_or, drop, Option, None, refl, sym, ap, ◌∙�
 use Rattle.std.specs.List.{list_any, filter, AllByRecursion}
 use Rattle.std.proofs.lemmas.List.{drop_all}
 use Rattle.std.proofs.lemmas.List.Folds.{list_any-append}
-use Rattle.kcr_room.specs.declared.stays.Step.{Step}
+use Rattle.kcr_room.specs.declared.stays.SheetEvent.{SheetEvent}
 use Rattle.kcr_room.specs.Room.{is_ahead, is_as_late, following, Followed, followed_rows_behind}
-use Rattle.kcr_room.specs.Stays.{lasts_at, next_of, stays_of}
-use Rattle.kcr_room.specs.Ends.{steps_from, steps_by, stays_with}
+use Rattle.kcr_room.specs.Stays.{ends_after, next_of, stays_of}
+use Rattle.kcr_room.specs.Events.{sheet_events_from, sheet_events_by, stays_with}
 use Rattle.kcr_room.proofs.Words.{nat_tests, same_text, SheetRow}
 use Rattle.kcr_room.proofs.Lists.{any-filter}
 use Rattle.kcr_room.proofs.Firsts.{end-unique}
 use Rattle.kcr_room.proofs.Followed.{lasts-next}
 
 -- a row at a place
-abbrev step_at : ℕ → SheetRow → Step
+abbrev step_at : ℕ → SheetRow → SheetEvent
 step_at place row = record { at = row.at; place = place; who = row.who }
 
 -- the other step is of the same person and follows: at a later moment, or at the same one and listed later
-abbrev pub follows : Step → Step → Bool
+abbrev pub follows : SheetEvent → SheetEvent → Bool
 follows step other =
     same_text other.who step.who && (nat_lt step.at other.at || (step.at == other.at && nat_lt step.place other.place))
 
--- the end is later than t, or none, exactly where no step that follows is at t or before
-abbrev pub IsEnd : List Step → Step → Option ℕ → Type 0
-IsEnd steps step until = (t : ℕ) → lasts_at t until ≡ not (list_any (λ other. follows step other && nat_le other.at t) steps)
+-- the end is later than t, or none, if and only if no step that follows is at t or before
+abbrev pub IsEnd : List SheetEvent → SheetEvent → Option ℕ → Type 0
+IsEnd steps step until = (t : ℕ) → ends_after t until ≡ not (list_any (λ other. follows step other && nat_le other.at t) steps)
 
 -- of the rows listed before a row those follow that are ahead
 any-before : (t : ℕ) (row : SheetRow) (last place : ℕ) (before : List SheetRow) → place + length before ≤ last
-    → list_any (λ other. follows (step_at last row) other && nat_le other.at t) (steps_from place before)
+    → list_any (λ other. follows (step_at last row) other && nat_le other.at t) (sheet_events_from place before)
     ≡ list_any (λ other. is_ahead row other && nat_le other.at t) before
 any-before t row last place [] h = refl
 any-before t row last place (other ∷ before) h = grind (arith, nat_tests, h, any-before t row last (suc place) before (omega arith))
 
 -- of those listed behind it those that are as late
 any-behind : (t : ℕ) (row : SheetRow) (first place : ℕ) (behind : List SheetRow) → first < place
-    → list_any (λ other. follows (step_at first row) other && nat_le other.at t) (steps_from place behind)
+    → list_any (λ other. follows (step_at first row) other && nat_le other.at t) (sheet_events_from place behind)
     ≡ list_any (λ other. is_as_late row other && nat_le other.at t) behind
 any-behind t row first place [] h = refl
 any-behind t row first place (other ∷ behind) h = grind (arith, nat_tests, h, any-behind t row first (suc place) behind (omega arith))
 
-steps-append : (place : ℕ) (rows more : List SheetRow) → steps_from place (rows ++ more) ≡ steps_from place rows ++ steps_from (place + length rows) more
-steps-append place [] more = let e : place ≡ place + 0 = omega arith in ap (λ n. steps_from n more) e
+steps-append : (place : ℕ) (rows more : List SheetRow) → sheet_events_from place (rows ++ more) ≡ sheet_events_from place rows ++ sheet_events_from (place + length rows) more
+steps-append place [] more = let e : place ≡ place + 0 = omega arith in ap (λ n. sheet_events_from n more) e
 steps-append place (row ∷ rows) more =
     let e : suc place + length rows ≡ place + suc (length rows) = omega arith in
-    ap (λ rest. step_at place row ∷ rest) (steps-append (suc place) rows more ∙ ap (λ n. steps_from (suc place) rows ++ steps_from n more) e)
+    ap (λ rest. step_at place row ∷ rest) (steps-append (suc place) rows more ∙ ap (λ n. sheet_events_from (suc place) rows ++ sheet_events_from n more) e)
 
 -- the steps that follow a row's step are those of the rows that follow
 any-following : (t : ℕ) (all before behind : List SheetRow) (row : SheetRow) (place : ℕ) → all ≡ before ++ (row ∷ behind) → length before ≡ place
-    → list_any (λ other. follows (step_at place row) other && nat_le other.at t) (steps_by all)
+    → list_any (λ other. follows (step_at place row) other && nat_le other.at t) (sheet_events_by all)
     ≡ list_any (λ other. nat_le other.at t) (following before row behind)
 any-following t all before behind row place e n =
-    let test = λ (other : Step). follows (step_at place row) other && nat_le other.at t in
+    let test = λ (other : SheetEvent). follows (step_at place row) other && nat_le other.at t in
     let z : 0 + length before ≡ place = omega (arith, n) in
-    ap (λ rows. list_any test (steps_by rows)) e
-    ∙ ap (list_any test) (steps-append 0 before (row ∷ behind) ∙ ap (λ k. steps_from 0 before ++ steps_from k (row ∷ behind)) z)
-    ∙ list_any-append test (steps_from 0 before) (steps_from place (row ∷ behind))
+    ap (λ rows. list_any test (sheet_events_by rows)) e
+    ∙ ap (list_any test) (steps-append 0 before (row ∷ behind) ∙ ap (λ k. sheet_events_from 0 before ++ sheet_events_from k (row ∷ behind)) z)
+    ∙ list_any-append test (sheet_events_from 0 before) (sheet_events_from place (row ∷ behind))
     ∙ grind (
       arith,
       nat_tests,
@@ -68,7 +68,7 @@ any-following t all before behind row place e n =
 
 -- so ends told by places are the moments of the next rows
 pub ends-next : (all : List SheetRow) (full : List (Option ℕ)) (place : ℕ) (before rows : List SheetRow) → all ≡ before ++ rows → length before ≡ place
-    → place + length rows ≡ length full → AllByRecursion (λ step. IsEnd (steps_by all) step (get_or full step.place None)) (steps_from place rows)
+    → place + length rows ≡ length full → AllByRecursion (λ step. IsEnd (sheet_events_by all) step (get_or full step.place None)) (sheet_events_from place rows)
     → drop place full ≡ map next_of (followed_rows_behind before rows)
 ends-next all full place before [] e n l a = drop_all place full (omega (arith, l))
 ends-next all full place before (row ∷ rows) e n l a =

@@ -6,9 +6,9 @@ use Rattle.std.proofs.lemmas.Cmp.{nat_list_eq_equiv}
 use Rattle.std.proofs.lemmas.List.{map-append}
 use Rattle.std.proofs.lemmas.List.Elements.{filter-append}
 use Rattle.std.proofs.lemmas.List.Folds.{list_any-append}
-use Rattle.kcr_room.specs.Moments.{sooner, least}
+use Rattle.kcr_room.specs.Moments.{min_moment, least}
 use Rattle.kcr_room.specs.Room.{is_enter, is_ahead, is_as_late, following, Followed, followed_rows_behind, followed_rows}
-use Rattle.kcr_room.specs.Stays.{lasts_at, stay_from, next_of, stays_of, stays_by}
+use Rattle.kcr_room.specs.Stays.{ends_after, stay_from, next_of, stays_of, stays_by}
 use Rattle.kcr_room.proofs.Words.{nat_tests, same_text, SheetRow, Stay}
 use Rattle.kcr_room.proofs.Firsts.{end-unique, lasts-sooner, lasts-least}
 
@@ -20,8 +20,8 @@ any-at : (t : ℕ) (rows : List SheetRow) → list_any (λ n. nat_le n t) (map (
 any-at t [] = refl
 any-at t (row ∷ rows) = ap (λ b. nat_le row.at t || b) (any-at t rows)
 
--- the next row is later than t where none that follows is at t or before
-pub lasts-next : (t : ℕ) (followed : Followed) → lasts_at t (next_of followed) ≡ not (list_any (λ other. nat_le other.at t) followed.by)
+-- the next row is later than t if none that follows is at t or before
+pub lasts-next : (t : ℕ) (followed : Followed) → ends_after t (next_of followed) ≡ not (list_any (λ other. nat_le other.at t) followed.by)
 lasts-next t followed = lasts-least t (map (λ other. other.at) followed.by) ∙ ap not (any-at t followed.by)
 
 -- ONE ROW MORE
@@ -43,7 +43,7 @@ followed-more before (other ∷ rows) row =
     ∙ ap (λ rest. more row own ∷ rest) (followed-more (before ++ (other ∷ [])) rows row)
     ∙ ap (λ all. more row own ∷ (front ++ (record { row = row; by = following all row [] } ∷ []))) (append_assoc before (other ∷ []) rows)
 
-least-more : (ts : List ℕ) (t : ℕ) → least (ts ++ (t ∷ [])) ≡ sooner (Some t) (least ts)
+least-more : (ts : List ℕ) (t : ℕ) → least (ts ++ (t ∷ [])) ≡ min_moment (Some t) (least ts)
 least-more ts t = end-unique _ _ (λ u.
     lasts-least u (ts ++ (t ∷ []))
     ∙ grind (arith, nat_tests, list_any-append (λ n. nat_le n u) ts (t ∷ []), lasts-least u ts, lasts-sooner u (Some t) (least ts)))
@@ -51,9 +51,9 @@ least-more ts t = end-unique _ _ (λ u.
 -- a further row ends the stays of its person that did not begin later
 abbrev pub cut : SheetRow → Stay → Stay
 cut row stay =
-    record stay { until = cond (same_text stay.who row.who && nat_le stay.since row.at) (sooner (Some row.at) stay.until) stay.until }
+    record stay { until = cond (same_text stay.who row.who && nat_le stay.since row.at) (min_moment (Some row.at) stay.until) stay.until }
 
--- the stay that begins with the row, where it is `in`
+-- the stay that begins with the row, if it is `in`
 abbrev pub begun : SheetRow → Option ℕ → List Stay
 begun row until = cond (is_enter row.way) (stay_from row until ∷ []) []
 
@@ -66,11 +66,11 @@ next-more : (row : SheetRow) (followed : Followed)
 next-more row followed =
     ap (stay_from followed.row)
     (by_test (is_as_late followed.row row)
-    ∙ ap (λ same. cond (same && nat_le followed.row.at row.at) (sooner (Some row.at) (next_of followed)) (next_of followed))
+    ∙ ap (λ same. cond (same && nat_le followed.row.at row.at) (min_moment (Some row.at) (next_of followed)) (next_of followed))
     (nat_list_eq_equiv.symm row.who followed.row.who))
   where
     by_test : (b : Bool) → least (map (λ other. other.at) (followed.by ++ cond b (row ∷ []) []))
-        ≡ cond b (sooner (Some row.at) (next_of followed)) (next_of followed)
+        ≡ cond b (min_moment (Some row.at) (next_of followed)) (next_of followed)
     by_test true = ap least (map-append (λ other. other.at) followed.by (row ∷ [])) ∙ least-more (map (λ other. other.at) followed.by) row.at
     by_test false = ap (λ by. least (map (λ other. other.at) by)) (append-nil followed.by)
 

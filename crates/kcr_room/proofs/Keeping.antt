@@ -9,7 +9,7 @@ use Rattle.kcr_base.specs.Refuse.{when}
 use Rattle.kcr_base.specs.declared.refusal.Refusal.TheVariants.{Late}
 use Rattle.kcr_room.specs.Room.{enters, last_row, last_enters, last_row_of, is_of, in_force, ascending, put_person}
 use Rattle.kcr_room.specs.Stays.{stays_by}
-use Rattle.kcr_room.specs.Adding.{turn_refusal, sheet_refusal, is_out_of_turn, is_out_of_turn_by, new_row, rows_refusal}
+use Rattle.kcr_room.specs.Requests.{turn_refusal, sheet_refusal, is_out_of_turn, is_out_of_turn_by, new_row, rows_refusal}
 use Rattle.kcr_base.specs.Lists.{are_apart}
 use Rattle.kcr_room.specs.Laws.{in_turn_onto, TurnsKeep, PresentAreIn}
 use Rattle.kcr_base.proofs.RefuseLemmas.{none_holds}
@@ -26,7 +26,7 @@ pub taken : (rows : List SheetRow) (c mark : ℕ) (full : Bool) (way : Way) (peo
     (sheet_refusal (stays_by (rows ++ map (new_row c way at) people)) c full way ≡ None)
 taken rows c mark full way people at h = let n = none_holds (when (nat_le at mark) (Late mark) ∷ _ ∷ _ ∷ []) h in (n.1.0, n.1.1.0)
 
--- nobody's turn is missed where no first such person is found
+-- nobody's turn is missed if no first such person is found
 pub none-found : (p : List ℕ → Bool) (who : List ℕ) (rest : List (List ℕ)) → turn_refusal (find p (who ∷ rest)) ≡ None
     → (p who ≡ false) × (turn_refusal (find p rest) ≡ None)
 none-found p who rest h = (grind (arith, nat_tests, h), grind (arith, nat_tests, h))
@@ -42,7 +42,7 @@ in_turn-append before (row ∷ rows) more =
     rw (in_turn-append (before ++ (row ∷ [])) rows more, append_assoc before (row ∷ []) rows)
     (sym (and-assoc (not (is_out_of_turn_by before row.ceremony row.way row.at row.who)) _ _))
 
--- people of whom each has the turn have it still where others of them came before
+-- people of whom each has the turn have it still if others of them came before
 pub turn-others : (rows : List SheetRow) (c : ℕ) (way : Way) (at : ℕ) (first : List ℕ) (people : List (List ℕ)) → list_any (same_text first) people ≡ false
     → turn_refusal (find (is_out_of_turn_by rows c way at) people) ≡ None
     → turn_refusal (find (is_out_of_turn_by (rows ++ (new_row c way at first ∷ [])) c way at) people) ≡ None

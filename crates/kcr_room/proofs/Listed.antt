@@ -1,5 +1,5 @@
 -- The stays of a ceremony by beginning, then initials.
-use Rattle.std.proofs.Common.{◌≡◌, ℕ, Bool, true, false, cond, not, ◌==◌, List, [], ◌∷◌, refl, arith}
+use Rattle.std.proofs.Common.{◌≡◌, ℕ, Bool, true, false, cond, not, ◌==◌, List, [], ◌∷◌, ◌++◌, refl, arith}
 use Rattle.std.specs.List.{list_all, filter}
 use Rattle.std.specs.List.Sorted.{IsPermutation}
 use Rattle.std.proofs.lemmas.List.Sorted.{IsPermutation-refl, IsPermutation-cons, IsPermutation-trans, IsPermutation-middle}
@@ -55,3 +55,19 @@ order-listed (stay ∷ rest) = listed-put stay (in_order rest) (order-listed res
 
 pub attendance-listed : (stays : List Stay) (c : ℕ) → are_listed (attendance_in_by stays c) ≡ true
 attendance-listed stays c = order-listed (filter (λ stay. stay.ceremony == c) stays)
+
+-- the ceremony's stays of a list, from its last on, put among others
+abbrev pub in_order_onto : ℕ → List Stay → List Stay → List Stay
+in_order_onto c [] listed = listed
+in_order_onto c (stay ∷ rest) listed =
+    cond (stay.ceremony == c) (put_stay stay (in_order_onto c rest listed)) (in_order_onto c rest listed)
+
+pub onto-none : (c : ℕ) (stays : List Stay) → in_order_onto c stays [] ≡ attendance_in_by stays c
+onto-none c [] = refl
+onto-none c (stay ∷ rest) = grind (arith, nat_tests, onto-none c rest)
+
+-- the last stay of a list is put first
+pub onto-last : (c : ℕ) (stays listed : List Stay) (stay : Stay)
+    → in_order_onto c (stays ++ (stay ∷ [])) listed ≡ in_order_onto c stays (cond (stay.ceremony == c) (put_stay stay listed) listed)
+onto-last c [] listed stay = refl
+onto-last c (other ∷ rest) listed stay = rw (onto-last c rest listed stay)

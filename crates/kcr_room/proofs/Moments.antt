@@ -6,9 +6,9 @@ use Rattle.std.specs.List.{list_any, filter, filter_map}
 use Rattle.std.proofs.lemmas.Bool.{ltb-true, lt-ltb, eqb-true, eq-eqb, or_parts}
 use Rattle.std.proofs.lemmas.List.Folds.{list_any-append}
 use Rattle.std.proofs.lemmas.List.Sums.{sum_by-cons}
-use Rattle.kcr_room.specs.Room.{crowd_by}
-use Rattle.kcr_room.specs.Moments.{IsFirst, IsEver, count_until}
-use Rattle.kcr_room.specs.Stays.{lasts_at, holds, crowd_in_by, is_lone_in_by, is_crowd_in_by, is_held, comings_by}
+use Rattle.kcr_room.specs.Room.{headcount_by}
+use Rattle.kcr_room.specs.Moments.{IsFirstMoment, IsEver, count_until}
+use Rattle.kcr_room.specs.Stays.{ends_after, stay_covers, headcount_in_by, is_lone_in_by, is_crowd_in_by, is_held, comings_by}
 use Rattle.kcr_room.specs.Stays.{goings_by, first_lone_in_by, is_crowded_in_by}
 use Rattle.kcr_room.specs.Stays.{stays_by}
 use Rattle.kcr_room.proofs.Words.{nat_tests, SheetRow, Stay}
@@ -37,38 +37,38 @@ count-rises t (n ∷ moments) = grind (arith, nat_tests, count-first n moments t
 
 -- HOW MANY ARE THERE
 
-pub crowd-cons : (stay : Stay) (stays : List Stay) (c t : ℕ) → crowd_in_by (stay ∷ stays) c t ≡ cond (holds c t stay) 1 0 + crowd_in_by stays c t
-crowd-cons stay stays c t = sum_by-cons (λ s. cond (holds c t s) 1 0) stay stays
+pub crowd-cons : (stay : Stay) (stays : List Stay) (c t : ℕ) → headcount_in_by (stay ∷ stays) c t ≡ cond (stay_covers c t stay) 1 0 + headcount_in_by stays c t
+crowd-cons stay stays c t = sum_by-cons (λ s. cond (stay_covers c t s) 1 0) stay stays
 
--- the stays that hold, with one more of this end where b says so
+-- the stays that hold, with one more of this end if b says so
 abbrev one_more : Bool → Option ℕ → Stay → List Stay → List Stay
 one_more b until stay held = cond b (record stay { until = until } ∷ held) held
 
 -- as many have come until t as are there or have gone
-pub balance : (stays : List Stay) (c t : ℕ) → count_until (comings_by stays c) t ≡ crowd_in_by stays c t + count_until (goings_by stays c) t
+pub balance : (stays : List Stay) (c t : ℕ) → count_until (comings_by stays c) t ≡ headcount_in_by stays c t + count_until (goings_by stays c) t
 balance [] c t = refl
 balance (stay ∷ stays) c t =
     by_until (stay.ceremony == c) stay.until (balance stays c t) (count-first stay.since (comings_by stays c) t)
     ∙ ap (λ n. n + count_until (goings_by (stay ∷ stays) c) t) (sym (crowd-cons stay stays c t))
   where
-    by_until : (b : Bool) (until : Option ℕ) → count_until (comings_by stays c) t ≡ crowd_in_by stays c t + count_until (goings_by stays c) t
+    by_until : (b : Bool) (until : Option ℕ) → count_until (comings_by stays c) t ≡ headcount_in_by stays c t + count_until (goings_by stays c) t
         → count_until (stay.since ∷ comings_by stays c) t ≡ cond (nat_le stay.since t) 1 0 + count_until (comings_by stays c) t
-        → count_until (map (λ stay. stay.since) (one_more (b && lasts_at stay.since until) until stay (filter (is_held c) stays))) t
-        ≡ (cond ((b && nat_le stay.since t) && lasts_at t until) 1 0 + crowd_in_by stays c t)
-        + count_until (filter_map (λ stay. stay.until) (one_more (b && lasts_at stay.since until) until stay (filter (is_held c) stays))) t
+        → count_until (map (λ stay. stay.since) (one_more (b && ends_after stay.since until) until stay (filter (is_held c) stays))) t
+        ≡ (cond ((b && nat_le stay.since t) && ends_after t until) 1 0 + headcount_in_by stays c t)
+        + count_until (filter_map (λ stay. stay.until) (one_more (b && ends_after stay.since until) until stay (filter (is_held c) stays))) t
     by_until b None ih came = grind (arith, nat_tests, ih, came)
     by_until b (Some u) ih came = grind (arith, nat_tests, ih, came, count-first u (goings_by stays c) t)
 
--- a room is too full for the first time where somebody comes
+-- a room is too full for the first time if somebody comes
 crowd-rises : (stays : List Stay) (c : ℕ) → RisesAt (is_crowd_in_by stays c) (comings_by stays c)
 crowd-rises stays c zero h p =
-    let k = ltb-true 128 (crowd_in_by stays c 0) p in absurd (omega (arith, k, balance stays c 0, count-zero (comings_by stays c) h))
+    let k = ltb-true 128 (headcount_in_by stays c 0) p in absurd (omega (arith, k, balance stays c 0, count-zero (comings_by stays c) h))
 crowd-rises stays c (suc t) h p =
-    let k = ltb-true 128 (crowd_in_by stays c (suc t)) p in
+    let k = ltb-true 128 (headcount_in_by stays c (suc t)) p in
     let rise = count-rises t (goings_by stays c) in
-    lt-ltb 128 (crowd_in_by stays c t) (omega (arith, k, balance stays c t, balance stays c (suc t), count-kept t (comings_by stays c) h, rise))
+    lt-ltb 128 (headcount_in_by stays c t) (omega (arith, k, balance stays c t, balance stays c (suc t), count-kept t (comings_by stays c) h, rise))
 
--- and exactly one person is there for the first time where somebody comes or goes
+-- and exactly one person is there for the first time if somebody comes or goes
 lone-rises : (stays : List Stay) (c : ℕ) → RisesAt (is_lone_in_by stays c) (comings_by stays c ++ goings_by stays c)
 lone-rises stays c t h p = by_moment t (or_parts _ _ (sym (list_any-append (λ n. n == t) (comings_by stays c) (goings_by stays c)) ∙ h)) p
   where
@@ -81,21 +81,21 @@ lone-rises stays c t h p = by_moment t (or_parts _ _ (sym (list_any-append (λ n
     by_moment : (t : ℕ) → (list_any (λ n. n == t) came ≡ false) × (list_any (λ n. n == t) went ≡ false) → is_lone_in_by stays c t ≡ true
         → before (is_lone_in_by stays c) t ≡ true
     by_moment zero h p =
-        let k = eqb-true (crowd_in_by stays c 0) 1 p in absurd (omega (arith, k, balance stays c 0, count-zero came h.0))
+        let k = eqb-true (headcount_in_by stays c 0) 1 p in absurd (omega (arith, k, balance stays c 0, count-zero came h.0))
     by_moment (suc t) h p =
-        let k = eqb-true (crowd_in_by stays c (suc t)) 1 p in
-        eq-eqb (crowd_in_by stays c t) 1
+        let k = eqb-true (headcount_in_by stays c (suc t)) 1 p in
+        eq-eqb (headcount_in_by stays c t) 1
         (omega (arith, k, balance stays c t, balance stays c (suc t), count-kept t came h.0, count-kept t went h.1))
 
-pub first_lone-is_first : (stays : List Stay) (c : ℕ) → IsFirst (is_lone_in_by stays c) (first_lone_in_by stays c)
+pub first_lone-is_first : (stays : List Stay) (c : ℕ) → IsFirstMoment (is_lone_in_by stays c) (first_lone_in_by stays c)
 first_lone-is_first stays c = is_first (is_lone_in_by stays c) (comings_by stays c ++ goings_by stays c) (lone-rises stays c)
 
-pub first_lone-by_rows : (rows : List SheetRow) (c : ℕ) (o : Option ℕ) → IsFirst (is_lone_in_by (stays_by rows) c) o → IsFirst (λ t. crowd_by rows c t == 1) o
-first_lone-by_rows rows c o h = is_first-same (is_lone_in_by (stays_by rows) c) (λ t. crowd_by rows c t == 1) (λ t. ap (λ n. n == 1) (same-crowd rows c t)) o h
+pub first_lone-by_rows : (rows : List SheetRow) (c : ℕ) (o : Option ℕ) → IsFirstMoment (is_lone_in_by (stays_by rows) c) o → IsFirstMoment (λ t. headcount_by rows c t == 1) o
+first_lone-by_rows rows c o h = is_first-same (is_lone_in_by (stays_by rows) c) (λ t. headcount_by rows c t == 1) (λ t. ap (λ n. n == 1) (same-crowd rows c t)) o h
 
 pub crowded-is_ever : (stays : List Stay) (c : ℕ) → IsEver (is_crowd_in_by stays c) (is_crowded_in_by stays c)
 crowded-is_ever stays c = is_ever (is_crowd_in_by stays c) (comings_by stays c) (crowd-rises stays c)
 
-pub crowded-by_rows : (rows : List SheetRow) (c : ℕ) (b : Bool) → IsEver (is_crowd_in_by (stays_by rows) c) b → IsEver (λ t. nat_lt 128 (crowd_by rows c t)) b
+pub crowded-by_rows : (rows : List SheetRow) (c : ℕ) (b : Bool) → IsEver (is_crowd_in_by (stays_by rows) c) b → IsEver (λ t. nat_lt 128 (headcount_by rows c t)) b
 crowded-by_rows rows c true h = (h.0, subst (λ n. nat_lt 128 n ≡ true) (same-crowd rows c h.0) h.1)
 crowded-by_rows rows c false h = λ t. subst (λ n. nat_lt 128 n ≡ false) (same-crowd rows c t) (h t)

@@ -9,16 +9,16 @@ use Rattle.kcr_base.proofs.RowsLemmas.{Shuffled, shuffled, filter-order}
 use Rattle.std.proofs.lemmas.List.Sorted.{IsPermutation-map, IsPermutation-append_left, sum_by-IsPermutation}
 use Rattle.std.proofs.lemmas.List.Sorted.{list_any-IsPermutation}
 use Rattle.kcr_room.specs.Room.{ascending, put_person}
-use Rattle.kcr_room.specs.Stays.{holds, crowd_in_by, present_in_by}
-use Rattle.kcr_room.specs.Adding.{reaches, is_inside, is_inside_of, is_out_of_turn_in, new_stay, closed, of_ceremony, after}
-use Rattle.kcr_room.specs.Adding.{from_moment, later, is_overfull, stays_refusal}
+use Rattle.kcr_room.specs.Stays.{stay_covers, headcount_in_by, present_in_by}
+use Rattle.kcr_room.specs.Requests.{reaches, is_inside, is_inside_of, is_out_of_turn_in, new_stay, with_end, of_ceremony, stays_after_request}
+use Rattle.kcr_room.specs.Requests.{clipped_to_moment, stays_from_moment, is_overfull, stays_refusal}
 use Rattle.kcr_room.proofs.Words.{nat_tests, is_before, Way, Enter, Leave, Stay}
 use Rattle.kcr_room.proofs.Agreement.{same-is}
 use Rattle.kcr_room.proofs.Refusals.{refused-same, find-same}
 use Rattle.kcr_room.proofs.Rising.{ranked, other-before}
 
-pub crowd-order : (xs ys : List Stay) → IsPermutation xs ys → (c t : ℕ) → crowd_in_by ys c t ≡ crowd_in_by xs c t
-crowd-order xs ys p c t = sum_by-IsPermutation (λ s. cond (holds c t s) 1 0) xs ys p
+pub crowd-order : (xs ys : List Stay) → IsPermutation xs ys → (c t : ℕ) → headcount_in_by ys c t ≡ headcount_in_by xs c t
+crowd-order xs ys p c t = sum_by-IsPermutation (λ s. cond (stay_covers c t s) 1 0) xs ys p
 
 -- WHO
 
@@ -53,32 +53,32 @@ put-last (first ∷ rest) who = ap (put_person first) (put-last rest who) ∙ pu
 -- one stay more
 pub present-more : (stays : List Stay) (i c t : ℕ) (d : Stay) → i < length stays
     → present_in_by (take (i + 1) stays) c t
-    ≡ cond (holds c t (get_or stays i d)) (put_person (get_or stays i d).who (present_in_by (take i stays) c t)) (present_in_by (take i stays) c t)
+    ≡ cond (stay_covers c t (get_or stays i d)) (put_person (get_or stays i d).who (present_in_by (take i stays) c t)) (present_in_by (take i stays) c t)
 present-more stays i c t d h =
     let stay : Stay = get_or stays i d in
-    let own = map (λ (stay : Stay). stay.who) (filter (holds c t) (take i stays)) in
+    let own = map (λ (stay : Stay). stay.who) (filter (stay_covers c t) (take i stays)) in
     ap (λ xs. present_in_by xs c t) (take_more stays i d h)
-    ∙ ap (λ xs. ascending (map (λ stay. stay.who) xs)) (filter-append (holds c t) (take i stays) (stay ∷ []))
-    ∙ ap ascending (map-append (λ stay. stay.who) (filter (holds c t) (take i stays)) (filter (holds c t) (stay ∷ [])))
+    ∙ ap (λ xs. ascending (map (λ stay. stay.who) xs)) (filter-append (stay_covers c t) (take i stays) (stay ∷ []))
+    ∙ ap ascending (map-append (λ stay. stay.who) (filter (stay_covers c t) (take i stays)) (filter (stay_covers c t) (stay ∷ [])))
     ∙ grind (arith, nat_tests, put-last own stay.who, append-nil own)
 
 pub present-order : (xs ys : List Stay) → IsPermutation xs ys → (c t : ℕ) → present_in_by ys c t ≡ present_in_by xs c t
 present-order xs ys p c t =
-    let moved = IsPermutation-map (λ stay. stay.who) (filter (holds c t) xs) (filter (holds c t) ys) (filter-order (holds c t) xs ys p) in
+    let moved = IsPermutation-map (λ stay. stay.who) (filter (stay_covers c t) xs) (filter (stay_covers c t) ys) (filter-order (stay_covers c t) xs ys p) in
     sym (same-ascending (shuffled _ _ moved))
 
 -- WHAT A REQUEST IS REFUSED FOR
 
 pub after-order : (xs ys : List Stay) → IsPermutation xs ys → (c : ℕ) (way : Way) (people : List (List ℕ)) (at : ℕ)
-    → IsPermutation (after xs c way people at) (after ys c way people at)
+    → IsPermutation (stays_after_request xs c way people at) (stays_after_request ys c way people at)
 after-order xs ys p c Enter people at = IsPermutation-append_left (map (new_stay c at) people) _ _ (filter-order (of_ceremony c) xs ys p)
-after-order xs ys p c Leave people at = IsPermutation-map (closed people at) _ _ (filter-order (of_ceremony c) xs ys p)
+after-order xs ys p c Leave people at = IsPermutation-map (with_end people at) _ _ (filter-order (of_ceremony c) xs ys p)
 
 -- as many people are there from the moment on
 pub later-order : (xs ys : List Stay) → IsPermutation xs ys → (c : ℕ) (way : Way) (people : List (List ℕ)) (at t : ℕ)
-    → crowd_in_by (later ys c way people at) c t ≡ crowd_in_by (later xs c way people at) c t
+    → headcount_in_by (stays_from_moment ys c way people at) c t ≡ headcount_in_by (stays_from_moment xs c way people at) c t
 later-order xs ys p c way people at t =
-    crowd-order _ _ (IsPermutation-map (from_moment at) _ _ (after-order xs ys p c way people at)) c t
+    crowd-order _ _ (IsPermutation-map (clipped_to_moment at) _ _ (after-order xs ys p c way people at)) c t
 
 pub turn-order : (xs ys : List Stay) → IsPermutation xs ys → (c : ℕ) (way : Way) (at : ℕ) (who : List ℕ)
     → is_out_of_turn_in ys c way at who ≡ is_out_of_turn_in xs c way at who
@@ -89,5 +89,5 @@ pub refusal-order : (xs ys : List Stay) → IsPermutation xs ys → (entered c m
     → stays_refusal ys entered c mark full way people at ≡ stays_refusal xs entered c mark full way people at
 refusal-order xs ys p entered c mark full way people at = rw (
   find-same (is_out_of_turn_in ys c way at) (is_out_of_turn_in xs c way at) (turn-order xs ys p c way at) people,
-  refused-same (later ys c way people at) (later xs c way people at) c (full || is_overfull entered way people) (later-order xs ys p c way people at),
+  refused-same (stays_from_moment ys c way people at) (stays_from_moment xs c way people at) c (full || is_overfull entered way people) (later-order xs ys p c way people at),
 )

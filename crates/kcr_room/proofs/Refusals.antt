@@ -6,10 +6,10 @@ use Rattle.std.proofs.lemmas.Bool.{both_ways}
 use Rattle.kcr_base.specs.Refuse.{when, first_of}
 use Rattle.kcr_base.specs.declared.refusal.Refusal.{Refusal}
 use Rattle.kcr_base.specs.declared.refusal.Refusal.TheVariants.{Late}
-use Rattle.kcr_room.specs.Moments.{IsFirst, IsEver}
-use Rattle.kcr_room.specs.Stays.{crowd_in_by, is_lone_in_by, is_crowd_in_by, stays_by}
-use Rattle.kcr_room.specs.Adding.{turn_refusal, later, later_refusal, sheet_refusal, is_overfull, entries, is_out_of_turn_in, is_out_of_turn_by}
-use Rattle.kcr_room.specs.Laws.{IsSettled, SameRefusal, SameStays}
+use Rattle.kcr_room.specs.Moments.{IsFirstMoment, IsEver}
+use Rattle.kcr_room.specs.Stays.{headcount_in_by, is_lone_in_by, is_crowd_in_by, stays_by}
+use Rattle.kcr_room.specs.Requests.{turn_refusal, stays_from_moment, occupancy_refusal, sheet_refusal, is_overfull, stay_count, is_out_of_turn_in, is_out_of_turn_by}
+use Rattle.kcr_room.specs.Laws.{IsNeverLoneOrCrowded, SameRefusal, SameStays}
 use Rattle.kcr_room.proofs.Words.{nat_tests, Way, Stay}
 use Rattle.kcr_room.proofs.Moments.{first_lone-is_first, crowded-is_ever}
 use Rattle.kcr_room.proofs.Keeping.{taken}
@@ -17,7 +17,7 @@ use Rattle.kcr_room.proofs.Sheets.{added, same-turns, rows-added, same-added}
 use Rattle.kcr_room.proofs.Crowds.{crowd-before, crowd-later, overfull-added}
 
 -- there is one first moment of a test
-first-unique : (p q : ℕ → Bool) → ((t : ℕ) → p t ≡ q t) → (o r : Option ℕ) → IsFirst p o → IsFirst q r → o ≡ r
+first-unique : (p q : ℕ → Bool) → ((t : ℕ) → p t ≡ q t) → (o r : Option ℕ) → IsFirstMoment p o → IsFirstMoment q r → o ≡ r
 first-unique p q same None None f g = refl
 first-unique p q same None (Some m) f g = absurd (both_ways (q m) (sym (same m) ∙ f m) g.0)
 first-unique p q same (Some m) None f g = absurd (both_ways (q m) (g m) (sym (same m) ∙ f.0))
@@ -33,38 +33,38 @@ ever-unique p q same false true f g = absurd (both_ways (q g.0) (sym (same g.0) 
 -- alone and too many at the same moments: refused alike
 tested-same : (xs ys : List Stay) (c : ℕ) (full : Bool)
     → ((t : ℕ) → is_lone_in_by xs c t ≡ is_lone_in_by ys c t) → ((t : ℕ) → is_crowd_in_by xs c t ≡ is_crowd_in_by ys c t)
-    → later_refusal xs c full ≡ later_refusal ys c full
+    → occupancy_refusal xs c full ≡ occupancy_refusal ys c full
 tested-same xs ys c full lone crowd = rw (
   first-unique (is_lone_in_by xs c) (is_lone_in_by ys c) lone _ _ (first_lone-is_first xs c) (first_lone-is_first ys c),
   ever-unique (is_crowd_in_by xs c) (is_crowd_in_by ys c) crowd _ _ (crowded-is_ever xs c) (crowded-is_ever ys c),
 )
 
--- so it is where as many people are there at each moment
-pub refused-same : (xs ys : List Stay) (c : ℕ) (full : Bool) → ((t : ℕ) → crowd_in_by xs c t ≡ crowd_in_by ys c t)
-    → later_refusal xs c full ≡ later_refusal ys c full
+-- so it is if as many people are there at each moment
+pub refused-same : (xs ys : List Stay) (c : ℕ) (full : Bool) → ((t : ℕ) → headcount_in_by xs c t ≡ headcount_in_by ys c t)
+    → occupancy_refusal xs c full ≡ occupancy_refusal ys c full
 refused-same xs ys c full same = tested-same xs ys c full (λ t. ap (λ n. n == 1) (same t)) (λ t. ap (nat_lt 128) (same t))
 
 -- a room that was allowed before is refused by the stays from the moment on for what it is refused for by all
-module _ (stays : List Stay) (c : ℕ) (way : Way) (at : ℕ) (people : List (List ℕ)) (settled : IsSettled stays c) where
+module _ (stays : List Stay) (c : ℕ) (way : Way) (at : ℕ) (people : List (List ℕ)) (settled : IsNeverLoneOrCrowded stays c) where
   -- a test of how many people are there that held never before, and does not hold of nobody
-  test-later : (test : ℕ → Bool) → test 0 ≡ false → ((t : ℕ) → test (crowd_in_by stays c t) ≡ false) → (t : ℕ)
-      → test (crowd_in_by (later stays c way people at) c t) ≡ test (crowd_in_by (added c way at people stays) c t)
+  test-later : (test : ℕ → Bool) → test 0 ≡ false → ((t : ℕ) → test (headcount_in_by stays c t) ≡ false) → (t : ℕ)
+      → test (headcount_in_by (stays_from_moment stays c way people at) c t) ≡ test (headcount_in_by (added c way at people stays) c t)
   test-later test none never t = ap test (crowd-later stays c way at t people) ∙ by_moment (nat_le at t) refl
     where
       by_moment : (b : Bool) → nat_le at t ≡ b
-          → test (cond b (crowd_in_by (added c way at people stays) c t) 0) ≡ test (crowd_in_by (added c way at people stays) c t)
+          → test (cond b (headcount_in_by (added c way at people stays) c t) 0) ≡ test (headcount_in_by (added c way at people stays) c t)
       by_moment true e = refl
       by_moment false e =
           let before : nat_lt t at ≡ true = grind (arith, nat_tests, e) in
           none ∙ sym (ap test (crowd-before stays c way at t people before) ∙ never t)
 
   settled-refusal : (full : Bool)
-      → later_refusal (later stays c way people at) c (full || is_overfull (entries stays c) way people)
+      → occupancy_refusal (stays_from_moment stays c way people at) c (full || is_overfull (stay_count stays c) way people)
       ≡ sheet_refusal (added c way at people stays) c full way
   settled-refusal full =
-      ap (λ b. later_refusal (later stays c way people at) c (full || b)) (overfull-added stays c way at people)
-      ∙ tested-same (later stays c way people at) (added c way at people stays) c _
-      (test-later (λ n. n == 1) refl (subst (IsFirst (is_lone_in_by stays c)) settled.lone (first_lone-is_first stays c)))
+      ap (λ b. occupancy_refusal (stays_from_moment stays c way people at) c (full || b)) (overfull-added stays c way at people)
+      ∙ tested-same (stays_from_moment stays c way people at) (added c way at people stays) c _
+      (test-later (λ n. n == 1) refl (subst (IsFirstMoment (is_lone_in_by stays c)) settled.lone (first_lone-is_first stays c)))
       (test-later (nat_lt 128) refl (subst (IsEver (is_crowd_in_by stays c)) settled.crowded (crowded-is_ever stays c)))
 
 pub find-same : (p q : List ℕ → Bool) → ((who : List ℕ) → p who ≡ q who) → (people : List (List ℕ)) → find p people ≡ find q people
@@ -74,7 +74,7 @@ find-same p q same (who ∷ rest) = rw (same who, find-same p q same rest)
 pub same_stays : SameStays
 same_stays rows s c mark full way people at a h = sym (same-added rows s c way at people a (taken rows c mark full way people at h).0)
 
--- the last of three matters where the second is none
+-- the last of three matters if the second is none
 third-alike : (a b c d : Option Refusal) → (b ≡ None → c ≡ d) → first_of (a ∷ b ∷ c ∷ []) ≡ first_of (a ∷ b ∷ d ∷ [])
 third-alike (Some r) b c d h = refl
 third-alike None (Some r) c d h = refl
@@ -83,7 +83,7 @@ third-alike None None c d h = rw (h refl)
 pub same_refusal : SameRefusal
 same_refusal rows s c mark full way people at a settled =
     let stays = stays_by rows in
-    let refused = later_refusal (later stays c way people at) c (full || is_overfull (entries stays c) way people) in
+    let refused = occupancy_refusal (stays_from_moment stays c way people at) c (full || is_overfull (stay_count stays c) way people) in
     ap (λ o. first_of (when (nat_le at mark) (Late mark) ∷ turn_refusal o ∷ refused ∷ []))
     (sym (find-same (is_out_of_turn_by rows c way at) (is_out_of_turn_in stays c way at) (same-turns rows s c way at) people))
     ∙ third-alike (when (nat_le at mark) (Late mark)) (turn_refusal (find (is_out_of_turn_by rows c way at) people)) _ _ (λ k.

@@ -61,7 +61,7 @@ none-like : (c : ℕ) (who : List ℕ) (rows : List SheetRow) → length (filter
 none-like c who [] h = refl
 none-like c who (row ∷ rows) h = grind (arith, nat_tests, h, same-turned who row.who, none-like c who rows)
 
--- where the list has one row of each person or none
+-- if the list has one row of each person or none
 apart-single : (c : ℕ) (rows : List SheetRow) → ((who : List ℕ) → length (filter (of_person who) rows) ≤ 1)
     → are_apart (map (λ row. row.who) (filter (enters c) rows)) ≡ true
 apart-single c [] single = refl

@@ -5,16 +5,16 @@ use Rattle.std.specs.List.{list_any, filter, find}
 use Rattle.std.proofs.lemmas.Bool.{true≢false, and_parts, and_from, or_parts, not-true}
 use Rattle.std.proofs.lemmas.List.Elements.{filter-append}
 use Rattle.std.proofs.lemmas.List.Folds.{list_any-append}
-use Rattle.kcr_room.specs.Room.{is_enter, later, last_row, last_enters, last_row_of, is_ahead}
+use Rattle.kcr_room.specs.Room.{is_enter, later_row, last_row, last_enters, last_row_of, is_ahead}
 use Rattle.kcr_room.specs.Stays.{stays_by}
 use Rattle.kcr_room.proofs.Followed.{cut, stays_next, stays-snoc}
 use Rattle.kcr_base.specs.Lists.{is_among}
-use Rattle.kcr_room.specs.Adding.{is_open, ends_from, reaches, is_inside, is_inside_of, is_out_of_turn_in, new_stay, closed, of_ceremony, after}
+use Rattle.kcr_room.specs.Requests.{has_no_end, ends_from, reaches, is_inside, is_inside_of, is_out_of_turn_in, new_stay, with_end, of_ceremony, stays_after_request}
 use Rattle.kcr_base.specs.Lists.{is_among}
-use Rattle.kcr_room.specs.Adding.{turn_refusal, is_no_turn, is_out_of_turn, is_out_of_turn_by, new_row}
+use Rattle.kcr_room.specs.Requests.{turn_refusal, is_no_turn, is_out_of_turn, is_out_of_turn_by, new_row}
 use Rattle.kcr_base.specs.Lists.{are_apart}
 use Rattle.kcr_room.specs.Laws.{in_turn_onto, IsSheet}
-use Rattle.kcr_room.specs.Moments.{sooner}
+use Rattle.kcr_room.specs.Moments.{min_moment}
 use Rattle.kcr_room.proofs.Words.{nat_tests, same_text, SheetRow, Way, Enter, Leave, Stay}
 use Rattle.kcr_room.proofs.Lists.{any-filter}
 use Rattle.kcr_room.proofs.Agreement.{same-is, same-itself, same-turned, listed, of_person, last-above, last-snoc}
@@ -25,8 +25,8 @@ cut-enter-one : (row : SheetRow) (stay : Stay) → reaches row.who row.at stay �
 cut-enter-one row stay r i = ap (λ until. record stay { until = until }) (ended stay.until r i)
   where
     ended : (until : Option ℕ) → (same_text stay.who row.who && (nat_le row.at stay.since || ends_from row.at until)) ≡ false
-        → (same_text stay.who row.who && is_open until) ≡ false
-        → cond (same_text stay.who row.who && nat_le stay.since row.at) (sooner (Some row.at) until) until ≡ until
+        → (same_text stay.who row.who && has_no_end until) ≡ false
+        → cond (same_text stay.who row.who && nat_le stay.since row.at) (min_moment (Some row.at) until) until ≡ until
     ended None r i = grind (arith, nat_tests, i)
     ended (Some u) r i = grind (arith, nat_tests, r)
 
@@ -36,21 +36,21 @@ cut-enter row [] r i = refl
 cut-enter row (stay ∷ stays) r i = grind (arith, nat_tests, r, i, cut-enter-one row stay, cut-enter row stays)
 
 -- an `out` in its turn ends the person's open stay
-cut-leave-one : (row : SheetRow) (stay : Stay) → reaches row.who row.at stay ≡ false → cut row stay ≡ closed (row.who ∷ []) row.at stay
+cut-leave-one : (row : SheetRow) (stay : Stay) → reaches row.who row.at stay ≡ false → cut row stay ≡ with_end (row.who ∷ []) row.at stay
 cut-leave-one row stay r = ap (λ until. record stay { until = until }) (ended stay.until r)
   where
     ended : (until : Option ℕ) → (same_text stay.who row.who && (nat_le row.at stay.since || ends_from row.at until)) ≡ false
-        → cond (same_text stay.who row.who && nat_le stay.since row.at) (sooner (Some row.at) until) until
-        ≡ cond ((same_text stay.who row.who || false) && is_open until) (Some row.at) until
+        → cond (same_text stay.who row.who && nat_le stay.since row.at) (min_moment (Some row.at) until) until
+        ≡ cond ((same_text stay.who row.who || false) && has_no_end until) (Some row.at) until
     ended None r = grind (arith, nat_tests, r)
     ended (Some u) r = grind (arith, nat_tests, r)
 
 cut-leave : (row : SheetRow) (stays : List Stay) → list_any (reaches row.who row.at) stays ≡ false
-    → map (cut row) stays ≡ map (closed (row.who ∷ []) row.at) stays
+    → map (cut row) stays ≡ map (with_end (row.who ∷ []) row.at) stays
 cut-leave row [] r = refl
 cut-leave row (stay ∷ stays) r = grind (arith, nat_tests, r, cut-leave-one row stay, cut-leave row stays)
 
--- where no row before is ahead there is no next one
+-- if no row before is ahead there is no next one
 none-ahead : (row : SheetRow) (before : List SheetRow) → list_any (is_ahead row) before ≡ false → filter (is_ahead row) before ≡ []
 none-ahead row [] h = refl
 none-ahead row (other ∷ before) h = grind (arith, nat_tests, h, none-ahead row before)
@@ -77,7 +77,7 @@ AllTell rows stays = (who : List ℕ) → Tells who (last_row_of rows who) stays
 abbrev pub InTurn : List SheetRow → SheetRow → Type 0
 InTurn before row = is_out_of_turn_by before row.ceremony row.way row.at row.who ≡ false
 
--- so it is a person's turn by the stays where it is by the rows
+-- so it is a person's turn by the stays if it is by the rows
 pub same-turn : (who : List ℕ) (last : Option SheetRow) (stays : List Stay) → Tells who last stays → (c : ℕ) (way : Way) (at : ℕ)
     → is_out_of_turn_in stays c way at who ≡ is_out_of_turn way c at last
 same-turn who None stays tells c Enter at = rw (tells.moments at, tells.inside)
@@ -85,7 +85,7 @@ same-turn who None stays tells c Leave at = rw (tells.moments at, tells.inside_o
 same-turn who (Some row) stays tells c Enter at = rw (tells.moments at, tells.inside)
 same-turn who (Some row) stays tells c Leave at = rw (tells.moments at, tells.inside_of c)
 
--- where it is the person's turn the last row is earlier
+-- if it is the person's turn the last row is earlier
 pub earlier-last : (way : Way) (c at : ℕ) (last : Option SheetRow) → is_out_of_turn way c at last ≡ false → last_reaches at last ≡ false
 earlier-last way c at None h = refl
 earlier-last way c at (Some row) h = (or_parts (nat_le at row.at) (is_no_turn way c row) h).0
@@ -103,7 +103,7 @@ no-ahead row before h =
 -- all stays with the rows of a request
 abbrev pub added : ℕ → Way → ℕ → List (List ℕ) → List Stay → List Stay
 added c Enter at people stays = stays ++ map (new_stay c at) people
-added c Leave at people stays = map (closed people at) stays
+added c Leave at people stays = map (with_end people at) stays
 
 -- the stays with a further row in its turn
 next-added : (before : List SheetRow) (stays : List Stay) (row : SheetRow) → Tells row.who (last_row_of before row.who) stays → InTurn before row
@@ -116,36 +116,36 @@ next-added before stays row tells h Enter w =
     rw (cut-enter row stays d.0 d.1, none-ahead row before (no-ahead row before (earlier-last row.way row.ceremony row.at last h)), w)
 next-added before stays row tells h Leave w =
     let r : list_any (reaches row.who row.at) stays ≡ false = tells.moments row.at ∙ earlier-last row.way row.ceremony row.at (last_row_of before row.who) h in
-    rw (cut-leave row stays r, w) (append-nil (map (closed (row.who ∷ []) row.at) stays))
+    rw (cut-leave row stays r, w) (append-nil (map (with_end (row.who ∷ []) row.at) stays))
 
 -- closing somebody else's stays changes no test of this person's
 closed-other : (who other : List ℕ) (at : ℕ) (test : Stay → Bool) (f : ℕ → ℕ → Option ℕ → Bool)
     → ((stay : Stay) → test stay ≡ (same_text stay.who who && f stay.ceremony stay.since stay.until)) → same_text other who ≡ false → (stays : List Stay)
-    → list_any test (map (closed (other ∷ []) at) stays) ≡ list_any test stays
+    → list_any test (map (with_end (other ∷ []) at) stays) ≡ list_any test stays
 closed-other who other at test f shape h [] = refl
 closed-other who other at test f shape h (stay ∷ stays) =
-    grind (arith, nat_tests, shape (closed (other ∷ []) at stay), shape stay, apart, closed-other who other at test f shape h stays)
+    grind (arith, nat_tests, shape (with_end (other ∷ []) at stay), shape stay, apart, closed-other who other at test f shape h stays)
   where
     apart : same_text stay.who who ≡ true → same_text stay.who other ≡ false
     apart e = ap (λ w. same_text w other) (same-is stay.who who e) ∙ same-turned who other ∙ h
 
--- an end that is set where there is none
+-- an end that is set if there is none
 ends-closed : (t at : ℕ) (b : Bool) (until : Option ℕ)
-    → ends_from t (cond (b && is_open until) (Some at) until) ≡ (ends_from t until || ((b && is_open until) && nat_le t at))
+    → ends_from t (cond (b && has_no_end until) (Some at) until) ≡ (ends_from t until || ((b && has_no_end until) && nat_le t at))
 ends-closed t at b None = grind (arith, nat_tests)
 ends-closed t at b (Some u) = grind (arith, nat_tests)
 
-open-closed : (at : ℕ) (b : Bool) (until : Option ℕ) → is_open (cond (b && is_open until) (Some at) until) ≡ (not b && is_open until)
+open-closed : (at : ℕ) (b : Bool) (until : Option ℕ) → has_no_end (cond (b && has_no_end until) (Some at) until) ≡ (not b && has_no_end until)
 open-closed at b None = grind (arith, nat_tests)
 open-closed at b (Some u) = grind (arith, nat_tests)
 
 -- closing a person's open stays: what they reach then, and that nobody is inside
 closed-reaches : (who : List ℕ) (at t : ℕ) (stays : List Stay)
-    → list_any (reaches who t) (map (closed (who ∷ []) at) stays) ≡ (list_any (reaches who t) stays || (list_any (is_inside who) stays && nat_le t at))
+    → list_any (reaches who t) (map (with_end (who ∷ []) at) stays) ≡ (list_any (reaches who t) stays || (list_any (is_inside who) stays && nat_le t at))
 closed-reaches who at t [] = refl
 closed-reaches who at t (stay ∷ stays) = grind (arith, nat_tests, ends-closed t at (same_text stay.who who || false) stay.until, closed-reaches who at t stays)
 
-closed-inside : (who : List ℕ) (at : ℕ) (stays : List Stay) → list_any (is_inside who) (map (closed (who ∷ []) at) stays) ≡ false
+closed-inside : (who : List ℕ) (at : ℕ) (stays : List Stay) → list_any (is_inside who) (map (with_end (who ∷ []) at) stays) ≡ false
 closed-inside who at [] = refl
 closed-inside who at (stay ∷ stays) = grind (arith, nat_tests, open-closed at (same_text stay.who who || false) stay.until, closed-inside who at stays)
 
@@ -153,7 +153,7 @@ reach-under : (at m : ℕ) (last : Option SheetRow) → last_reaches at last ≡
 reach-under at m None h = refl
 reach-under at m (Some row) h = grind (arith, nat_tests, h)
 
-not-later : (row : SheetRow) (last : Option SheetRow) → last_reaches row.at last ≡ false → later last row ≡ Some row
+not-later : (row : SheetRow) (last : Option SheetRow) → last_reaches row.at last ≡ false → later_row last row ≡ Some row
 not-later row None h = refl
 not-later row (Some other) h = grind (arith, nat_tests, h)
 
@@ -214,7 +214,7 @@ tells-own before stays row tells h =
           inside = ap (list_any (is_inside row.who)) all ∙ gone ∙ sym (ap is_enter w);
           inside_of = λ c.
               ap (list_any (is_inside_of c row.who)) all
-              ∙ inside-some c row.who (map (closed (row.who ∷ []) row.at) stays) gone
+              ∙ inside-some c row.who (map (with_end (row.who ∷ []) row.at) stays) gone
               ∙ ap (λ b. b && row.ceremony == c) (sym (ap is_enter w));
         }
       where
@@ -228,10 +228,10 @@ tells-other : (before : List SheetRow) (stays : List Stay) (row : SheetRow) (who
     → Tells who (last_row_of (before ++ (row ∷ [])) who) (stays_next before stays row)
 tells-other before stays row who d own h tells = rw (last-other before row who d) (record {
   moments = λ at. kept (reaches who at) (λ c since until. nat_le at since || ends_from at until) (λ stay. refl) ∙ tells.moments at;
-  inside = kept (is_inside who) (λ c since until. is_open until) (λ stay. refl) ∙ tells.inside;
+  inside = kept (is_inside who) (λ c since until. has_no_end until) (λ stay. refl) ∙ tells.inside;
   inside_of = λ c.
-      kept (is_inside_of c who) (λ d since until. is_open until && d == c)
-      (λ stay. and-assoc (same_text stay.who who) (is_open stay.until) (stay.ceremony == c)) ∙ tells.inside_of c;
+      kept (is_inside_of c who) (λ d since until. has_no_end until && d == c)
+      (λ stay. and-assoc (same_text stay.who who) (has_no_end stay.until) (stay.ceremony == c)) ∙ tells.inside_of c;
 })
   where
     kept : (test : Stay → Bool) (f : ℕ → ℕ → Option ℕ → Bool) → ((stay : Stay) → test stay ≡ (same_text stay.who who && f stay.ceremony stay.since stay.until))
@@ -289,26 +289,26 @@ pub row-added : (before : List SheetRow) (row : SheetRow) → IsSheet before →
     → stays_by (before ++ (row ∷ [])) ≡ added row.ceremony row.way row.at (row.who ∷ []) (stays_by before)
 row-added before row s h = stays-snoc before row ∙ next-added before (stays_by before) row (tells-sheet before s row.who) h row.way refl
 
--- it is somebody's turn by the stays of a sheet where it is by its rows
+-- it is somebody's turn by the stays of a sheet if it is by its rows
 pub same-turns : (rows : List SheetRow) → IsSheet rows → (c : ℕ) (way : Way) (at : ℕ) (who : List ℕ)
     → is_out_of_turn_by rows c way at who ≡ is_out_of_turn_in (stays_by rows) c way at who
 same-turns rows s c way at who = sym (same-turn who (last_row_of rows who) (stays_by rows) (tells-sheet rows s who) c way at)
 
-closed-none : (at : ℕ) (stays : List Stay) → map (closed [] at) stays ≡ stays
+closed-none : (at : ℕ) (stays : List Stay) → map (with_end [] at) stays ≡ stays
 closed-none at [] = refl
 closed-none at (stay ∷ stays) = ap (λ rest. stay ∷ rest) (closed-none at stays)
 
 closed-more : (who : List ℕ) (rest : List (List ℕ)) (at : ℕ) (stays : List Stay)
-    → map (closed rest at) (map (closed (who ∷ []) at) stays) ≡ map (closed (who ∷ rest) at) stays
+    → map (with_end rest at) (map (with_end (who ∷ []) at) stays) ≡ map (with_end (who ∷ rest) at) stays
 closed-more who rest at [] = refl
 closed-more who rest at (stay ∷ stays) =
-    ap (λ until. record stay { until = until } ∷ map (closed rest at) (map (closed (who ∷ []) at) stays))
+    ap (λ until. record stay { until = until } ∷ map (with_end rest at) (map (with_end (who ∷ []) at) stays))
     (by_until (same_text stay.who who) (is_among rest stay.who) stay.until)
-    ∙ ap (λ more. closed (who ∷ rest) at stay ∷ more) (closed-more who rest at stays)
+    ∙ ap (λ more. with_end (who ∷ rest) at stay ∷ more) (closed-more who rest at stays)
   where
     by_until : (a m : Bool) (until : Option ℕ)
-        → cond (m && is_open (cond ((a || false) && is_open until) (Some at) until)) (Some at) (cond ((a || false) && is_open until) (Some at) until)
-        ≡ cond ((a || m) && is_open until) (Some at) until
+        → cond (m && has_no_end (cond ((a || false) && has_no_end until) (Some at) until)) (Some at) (cond ((a || false) && has_no_end until) (Some at) until)
+        ≡ cond ((a || m) && has_no_end until) (Some at) until
     by_until a m None = grind (arith, nat_tests)
     by_until a m (Some u) = grind (arith, nat_tests)
 
@@ -341,13 +341,13 @@ filter-new c at [] = refl
 filter-new c at (who ∷ rest) = grind (arith, nat_tests, filter-new c at rest)
 
 filter-closed : (c at : ℕ) (people : List (List ℕ)) (stays : List Stay)
-    → filter (of_ceremony c) (map (closed people at) stays) ≡ map (closed people at) (filter (of_ceremony c) stays)
+    → filter (of_ceremony c) (map (with_end people at) stays) ≡ map (with_end people at) (filter (of_ceremony c) stays)
 filter-closed c at people [] = refl
 filter-closed c at people (stay ∷ stays) = grind (arith, nat_tests, filter-closed c at people stays)
 
 -- of all stays with the rows of a request those of the ceremony are its stays with them
 pub after-added : (stays : List Stay) (c : ℕ) (way : Way) (at : ℕ) (people : List (List ℕ))
-    → filter (of_ceremony c) (added c way at people stays) ≡ after stays c way people at
+    → filter (of_ceremony c) (added c way at people stays) ≡ stays_after_request stays c way people at
 after-added stays c Enter at people =
     filter-append (of_ceremony c) stays (map (new_stay c at) people) ∙ ap (λ more. filter (of_ceremony c) stays ++ more) (filter-new c at people)
 after-added stays c Leave at people = filter-closed c at people stays
@@ -355,6 +355,6 @@ after-added stays c Leave at people = filter-closed c at people stays
 -- rows added to a sheet in their turn give the ceremony's stays as they are changed
 pub same-added : (rows : List SheetRow) → IsSheet rows → (c : ℕ) (way : Way) (at : ℕ) (people : List (List ℕ)) → are_apart people ≡ true
     → turn_refusal (find (is_out_of_turn_by rows c way at) people) ≡ None
-    → filter (of_ceremony c) (stays_by (rows ++ map (new_row c way at) people)) ≡ after (stays_by rows) c way people at
+    → filter (of_ceremony c) (stays_by (rows ++ map (new_row c way at) people)) ≡ stays_after_request (stays_by rows) c way people at
 same-added rows s c way at people a h =
     ap (filter (of_ceremony c)) (rows-added c way at people rows s a h) ∙ after-added (stays_by rows) c way at people

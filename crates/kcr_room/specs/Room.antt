@@ -20,9 +20,9 @@ abbrev pub enters : ℕ → SheetRow → Bool
 enters ceremony row = is_enter row.way && row.ceremony == ceremony
 
 -- the later of two rows; of two with one moment the later listed
-abbrev pub later : Option SheetRow → SheetRow → Option SheetRow
-later None row = Some row
-later (Some other) row = if nat_lt row.at other.at then Some other else Some row
+abbrev pub later_row : Option SheetRow → SheetRow → Option SheetRow
+later_row None row = Some row
+later_row (Some other) row = if nat_lt row.at other.at then Some other else Some row
 
 -- the row is not earlier than the last one so far
 abbrev pub is_overtaken : Option SheetRow → SheetRow → Bool
@@ -32,7 +32,7 @@ is_overtaken (Some other) row = nat_le other.at row.at
 -- the later of a row and the last of a list
 abbrev pub last_onto : Option SheetRow → List SheetRow → Option SheetRow
 last_onto last [] = last
-last_onto last (row ∷ rows) = last_onto (later last row) rows
+last_onto last (row ∷ rows) = last_onto (later_row last row) rows
 
 -- the row with the greatest moment; of two with one moment the later listed
 abbrev pub last_row : List SheetRow → Option SheetRow
@@ -101,12 +101,12 @@ abbrev pub present_by : List SheetRow → ℕ → ℕ → List (List ℕ)
 present_by rows ceremony t = ascending (map (λ row. row.who) (filter (enters ceremony) (in_force t rows)))
 
 -- how many people are in the room at t
-abbrev pub crowd_by : List SheetRow → ℕ → ℕ → ℕ
-crowd_by rows ceremony t = length (present_by rows ceremony t)
+abbrev pub headcount_by : List SheetRow → ℕ → ℕ → ℕ
+headcount_by rows ceremony t = length (present_by rows ceremony t)
 
 -- how many `in` rows the ceremony has
-abbrev pub entries_by : List SheetRow → ℕ → ℕ
-entries_by rows ceremony = count_by (enters ceremony) rows
+abbrev pub in_row_count_by : List SheetRow → ℕ → ℕ
+in_row_count_by rows ceremony = count_by (enters ceremony) rows
 
 -- the person's last row
 abbrev pub last_row_of : List SheetRow → List ℕ → Option SheetRow

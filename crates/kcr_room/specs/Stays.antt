@@ -9,22 +9,22 @@ use Rattle.kcr_room.specs.Room.{is_enter, Followed, followed_rows, ascending}
 use Rattle.kcr_room.specs.Moments.{least}
 
 -- the end is none or later than t
-abbrev pub lasts_at : ℕ → Option ℕ → Bool
-lasts_at t None = true
-lasts_at t (Some until) = nat_lt t until
+abbrev pub ends_after : ℕ → Option ℕ → Bool
+ends_after t None = true
+ends_after t (Some until) = nat_lt t until
 
 -- the end is none, or t or later
-abbrev pub lasts_to : ℕ → Option ℕ → Bool
-lasts_to t None = true
-lasts_to t (Some until) = nat_le t until
+abbrev pub ends_at_or_after : ℕ → Option ℕ → Bool
+ends_at_or_after t None = true
+ends_at_or_after t (Some until) = nat_le t until
 
 -- the stay is of the ceremony, and its end is none, or t or later
-abbrev pub is_lasting : ℕ → ℕ → Stay → Bool
-is_lasting ceremony t stay = stay.ceremony == ceremony && lasts_to t stay.until
+abbrev pub stay_reaches : ℕ → ℕ → Stay → Bool
+stay_reaches ceremony t stay = stay.ceremony == ceremony && ends_at_or_after t stay.until
 
 -- somebody is in the room of the ceremony at t by this stay
-abbrev pub holds : ℕ → ℕ → Stay → Bool
-holds ceremony t stay = stay.ceremony == ceremony && nat_le stay.since t && lasts_at t stay.until
+abbrev pub stay_covers : ℕ → ℕ → Stay → Bool
+stay_covers ceremony t stay = stay.ceremony == ceremony && nat_le stay.since t && ends_after t stay.until
 
 -- a stay that begins with the row
 abbrev pub stay_from : SheetRow → Option ℕ → Stay
@@ -45,23 +45,23 @@ stays_by rows = stays_of (followed_rows rows)
 
 -- those in the room at t, in byte order
 abbrev pub present_in_by : List Stay → ℕ → ℕ → List (List ℕ)
-present_in_by stays ceremony t = ascending (map (λ stay. stay.who) (filter (holds ceremony t) stays))
+present_in_by stays ceremony t = ascending (map (λ stay. stay.who) (filter (stay_covers ceremony t) stays))
 
 -- how many people are in the room at t
-abbrev pub crowd_in_by : List Stay → ℕ → ℕ → ℕ
-crowd_in_by stays ceremony t = count_by (holds ceremony t) stays
+abbrev pub headcount_in_by : List Stay → ℕ → ℕ → ℕ
+headcount_in_by stays ceremony t = count_by (stay_covers ceremony t) stays
 
 -- exactly one person is in the room at t
 abbrev pub is_lone_in_by : List Stay → ℕ → ℕ → Bool
-is_lone_in_by stays ceremony t = crowd_in_by stays ceremony t == 1
+is_lone_in_by stays ceremony t = headcount_in_by stays ceremony t == 1
 
 -- more than 128 people are in the room at t
 abbrev pub is_crowd_in_by : List Stay → ℕ → ℕ → Bool
-is_crowd_in_by stays ceremony t = nat_lt 128 (crowd_in_by stays ceremony t)
+is_crowd_in_by stays ceremony t = nat_lt 128 (headcount_in_by stays ceremony t)
 
 -- the stay is of the ceremony and holds at some moment
 abbrev pub is_held : ℕ → Stay → Bool
-is_held ceremony stay = stay.ceremony == ceremony && lasts_at stay.since stay.until
+is_held ceremony stay = stay.ceremony == ceremony && ends_after stay.since stay.until
 
 -- the moments at which somebody comes
 abbrev pub comings_by : List Stay → ℕ → List ℕ

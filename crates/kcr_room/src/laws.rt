@@ -2,7 +2,7 @@
 ghost use Rattle.std.specs.Prelude.{◌≡◌, true, ℕ, List};
 ghost use Rattle.std.specs.List.{filter};
 ghost use Rattle.std.specs.List.Sorted.{IsPermutation};
-ghost use Rattle.kcr_room.specs.Adding.{of_ceremony};
+ghost use Rattle.kcr_room.specs.Requests.{of_ceremony};
 ghost use Rattle.kcr_room.specs.Laws;
 ghost use Rattle.kcr_room.specs.Room;
 ghost use Rattle.kcr_room.specs.Stays;

@@ -2,19 +2,21 @@
 //! room at a moment, and what a request of the sheet adds, or the first reason why it is refused.
 #![tactic(auto)]
 
-pub mod adding;
 pub mod laws;
+mod occupancy;
 pub mod presence;
+pub mod requests;
+pub mod sheet;
 pub mod stays;
-mod traffic;
 
 ghost use Rattle.std.specs.Prelude.{⊤, codes, ◌≡◌};
-ghost use Rattle.kcr_base.specs.Reads.{Found, Only};
+ghost use Rattle.kcr_base.specs.Reads.{HasText, ReadsText};
 ghost use Rattle.kcr_room.specs.Room.{way_text};
 
-pub use adding::add_stays;
 use kcr_base::{Initials, Moment};
-pub use presence::{first_lone, holds, is_crowded, is_lasting, lasts_at, present_in};
+pub use presence::{ends_after, first_lone, is_crowded, present_in, stay_covers, stay_reaches};
+pub use requests::add_stays;
+pub use sheet::{add_rows, attendance, present};
 pub use stays::stays_of;
 
 /// Whether people come into a room or go out of it.
@@ -27,10 +29,10 @@ pub enum Way {
 }
 
 impl Way {
-    /// The way with this text, or None where there is none.
+    /// The way with this text, or `None` if there is none.
     pub fn read(bytes: &[u8]) -> Option<Way>
-        ensures found { Found (λ _. ⊤) way_text bytes.now result }
-        ensures only { Only (λ _. ⊤) way_text bytes.now result }
+        ensures found { HasText (λ _. ⊤) way_text bytes.now result }
+        ensures only { ReadsText (λ _. ⊤) way_text bytes.now result }
     {
         match bytes {
             b"in" => Some(Way::Enter),
@@ -74,7 +76,7 @@ pub struct Stay {
 /// A request of the sheet: these people come into the room of a ceremony, or go out of it, at a
 /// moment.
 #[derive(Drop)]
-pub struct Request<'a> {
+pub struct SheetRequest<'a> {
     /// The ceremony's number.
     pub ceremony: u32,
     pub way: Way,

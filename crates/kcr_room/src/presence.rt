@@ -5,14 +5,14 @@ ghost use Rattle.kcr_room.specs.Moments;
 ghost use Rattle.kcr_room.specs.Room;
 ghost use Rattle.kcr_room.specs.Stays;
 
-use crate::traffic::crowding_of;
+use crate::occupancy::check_occupancy;
 use crate::{SheetRow, Stay, stays_of};
 use kcr_base::{Initials, Moment, is_before};
 use std::alloc::{AllocError, Global};
 
 /// Whether an end is none, or later than the moment.
-pub fn lasts_at(at: Moment, until: Option<Moment>) -> bool
-    ensures { result ≡ Stays.lasts_at at until }
+pub fn ends_after(at: Moment, until: Option<Moment>) -> bool
+    ensures { result ≡ Stays.ends_after at until }
 {
     match until {
         None => true,
@@ -21,8 +21,8 @@ pub fn lasts_at(at: Moment, until: Option<Moment>) -> bool
 }
 
 /// Whether an end is none, or the moment itself, or later.
-fn lasts_to(at: Moment, until: Option<Moment>) -> bool
-    ensures { result ≡ Stays.lasts_to at until }
+fn ends_at_or_after(at: Moment, until: Option<Moment>) -> bool
+    ensures { result ≡ Stays.ends_at_or_after at until }
 {
     match until {
         None => true,
@@ -31,17 +31,17 @@ fn lasts_to(at: Moment, until: Option<Moment>) -> bool
 }
 
 /// Whether the stay is of the ceremony and has no end, or ends at the moment or later.
-pub fn is_lasting(ceremony: u32, at: Moment, stay: &Stay) -> bool
-    ensures { result ≡ Stays.is_lasting ceremony at stay.now }
+pub fn stay_reaches(ceremony: u32, at: Moment, stay: &Stay) -> bool
+    ensures { result ≡ Stays.stay_reaches ceremony at stay.now }
 {
-    stay.ceremony == ceremony && lasts_to(at, stay.until)
+    stay.ceremony == ceremony && ends_at_or_after(at, stay.until)
 }
 
 /// Whether the stay is of the ceremony, begins at the moment or before, and ends, if at all, later.
-pub fn holds(ceremony: u32, at: Moment, stay: Stay) -> bool
-    ensures { result ≡ Stays.holds ceremony at stay }
+pub fn stay_covers(ceremony: u32, at: Moment, stay: Stay) -> bool
+    ensures { result ≡ Stays.stay_covers ceremony at stay }
 {
-    stay.ceremony == ceremony && stay.since <= at && lasts_at(at, stay.until)
+    stay.ceremony == ceremony && stay.since <= at && ends_after(at, stay.until)
 }
 
 // The place of a person in a list in byte order: behind all that are before it.
@@ -69,7 +69,7 @@ pub fn present_in(
 {
     let mut people = Vec::new(alloc);
     for stay in stays {
-        if holds(ceremony, at, *stay) {
+        if stay_covers(ceremony, at, *stay) {
             let index = place_of(stay.who, &people);
             people.insert(index, stay.who)?;
         }
@@ -77,25 +77,25 @@ pub fn present_in(
     Ok(people)
 }
 
-/// The first of all moments at which exactly one person is in the room of the ceremony, or None where
+/// The first of all moments at which exactly one person is in the room of the ceremony, or `None` if
 /// there is none; exact for any rows, whether or not a request could have made them.
 pub fn first_lone(
     alloc: Global,
     rows: &[SheetRow],
     ceremony: u32,
 ) -> Result<Option<Moment>, AllocError>
-    ensures { IfOk result (Moments.IsFirst (λ t. Room.crowd_by rows.now ceremony t == 1)) }
+    ensures { IfOk result (Moments.IsFirstMoment (λ t. Room.headcount_by rows.now ceremony t == 1)) }
 {
     let stays = stays_of(alloc, rows)?;
-    let crowding = crowding_of(alloc, &stays, ceremony)?;
+    let crowding = check_occupancy(alloc, &stays, ceremony)?;
     Ok(crowding.first_lone)
 }
 
 /// Whether at any moment more than 128 people are in the room of the ceremony; exact for any rows.
 pub fn is_crowded(alloc: Global, rows: &[SheetRow], ceremony: u32) -> Result<bool, AllocError>
-    ensures { IfOk result (Moments.IsEver (λ t. nat_lt 128 (Room.crowd_by rows.now ceremony t))) }
+    ensures { IfOk result (Moments.IsEver (λ t. nat_lt 128 (Room.headcount_by rows.now ceremony t))) }
 {
     let stays = stays_of(alloc, rows)?;
-    let crowding = crowding_of(alloc, &stays, ceremony)?;
+    let crowding = check_occupancy(alloc, &stays, ceremony)?;
     Ok(crowding.is_crowded)
 }

@@ -1,6 +1,6 @@
 //! The stays of a sheet: one for each `in` row.
 ghost use Rattle.std.specs.Prelude.{◌≡◌, IfOk, length, map};
-ghost use Rattle.kcr_room.specs.Ends;
+ghost use Rattle.kcr_room.specs.Events;
 ghost use Rattle.kcr_room.specs.Room;
 ghost use Rattle.kcr_room.specs.Stays;
 
@@ -19,21 +19,21 @@ pub(crate) fn is_enter(way: Way) -> bool
 }
 
 /// A row of a sheet by its moment, its place among the rows, and its person. In this order each
-/// person's rows come one after another, also where two are at one moment.
+/// person's rows come one after another, also if two are at one moment.
 #[derive(Clone, Copy, PartialEq, Eq, PartialOrd, Ord)]
-struct Step {
+struct SheetEvent {
     at: Moment,
     place: usize,
     who: Initials,
 }
 
 // The steps of the rows, the first of them first.
-fn steps_of(alloc: Global, rows: &[SheetRow]) -> Result<Vec<Step>, AllocError>
-    ensures { IfOk result (λ steps. steps.items ≡ Ends.steps_by rows.now) }
+fn sheet_events(alloc: Global, rows: &[SheetRow]) -> Result<Vec<SheetEvent>, AllocError>
+    ensures { IfOk result (λ steps. steps.items ≡ Events.sheet_events_by rows.now) }
 {
     let mut steps = Vec::new(alloc);
     for (place, row) in rows.iter().enumerate() {
-        steps.push(Step {
+        steps.push(SheetEvent {
             at: row.at,
             place,
             who: row.who,
@@ -47,7 +47,7 @@ fn steps_of(alloc: Global, rows: &[SheetRow]) -> Result<Vec<Step>, AllocError>
 fn ends_of(alloc: Global, rows: &[SheetRow]) -> Result<Vec<Option<Moment>>, AllocError>
     ensures { IfOk result (λ ends. ends.items ≡ map Stays.next_of (Room.followed_rows rows.now)) }
 {
-    let mut steps = steps_of(alloc, rows)?;
+    let mut steps = sheet_events(alloc, rows)?;
     steps.sort_unstable();
     let mut ends = vec![in alloc; None; rows.len()]?;
     let mut next = HashMap::new(alloc);
@@ -58,7 +58,7 @@ fn ends_of(alloc: Global, rows: &[SheetRow]) -> Result<Vec<Option<Moment>>, Allo
 }
 
 /// The stays of a sheet, of all ceremonies: one for each `in` row, in the order of the rows, its end
-/// the moment of the person's next row, or None where there is none. The rows may come in any order
+/// the moment of the person's next row, or `None` if there is none. The rows may come in any order
 /// of moments; of two rows of one person at one moment the one that is listed later counts as the
 /// later one. Any rows are taken, also such as do not alternate. Time is in the order of n log n.
 pub fn stays_of(alloc: Global, rows: &[SheetRow]) -> Result<Vec<Stay>, AllocError>
@@ -75,7 +75,7 @@ fn stays_with(
     ends: &[Option<Moment>],
 ) -> Result<Vec<Stay>, AllocError>
     requires { length ends.now ≡ length rows.now }
-    ensures { IfOk result (λ stays. stays.items ≡ Ends.stays_with rows.now ends.now) }
+    ensures { IfOk result (λ stays. stays.items ≡ Events.stays_with rows.now ends.now) }
 {
     let mut stays = Vec::new(alloc);
     for (index, row) in rows.iter().enumerate() {

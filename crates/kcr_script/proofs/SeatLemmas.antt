@@ -134,7 +134,7 @@ same_replicate item seat count e =
     let t : ◌≡◌ {A = Seat × ℕ} (item.seat, item.count) (seat, count) = cc in
     ap (λ (p : Seat × ℕ). replicate p.1 p.0) t
 
--- the text is cut behind its front, where a rest is left
+-- the text is cut behind its front, if a rest is left
 abbrev IsCut : List ℕ → List ℕ → Option (Bor (List ℕ)) → Type 0
 IsCut text front rest = MatchOption rest (text ≡ front) (λ r. text ≡ front ++ 59 ∷ r.now)
 

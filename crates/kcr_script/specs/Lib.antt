@@ -3,6 +3,6 @@ pub mod Seats
 pub mod Script
 pub mod Reading
 pub mod Fault
-pub mod RowsFault
+pub mod CsvFault
 pub mod Steps
 pub mod Examples

@@ -41,7 +41,7 @@ item_of text = find (λ item. same_text (item_text item) text) all_items
 abbrev pub between_semicolons : List ℕ → List (List ℕ)
 between_semicolons text = slice_split (λ b. b == 59) text
 
--- the seats of an item before those of the others, where each is an item
+-- the seats of an item before those of the others, if each is an item
 abbrev pub join_items : Option Item → Option (List Seat) → Option (List Seat)
 join_items None others = None
 join_items (Some item) others = option_map (λ seats. item_seats item ++ seats) others
@@ -51,7 +51,7 @@ abbrev pub seats_of_items : List (List ℕ) → Option (List Seat)
 seats_of_items [] = Some []
 seats_of_items (text ∷ texts) = join_items (item_of text) (seats_of_items texts)
 
--- the seats, where they are at most 16
+-- the seats, if they are at most 16
 abbrev pub at_most_sixteen : List Seat → Option (List Seat)
 at_most_sixteen seats = if nat_le (length seats) 16 then Some seats else None
 
@@ -67,7 +67,7 @@ is_printing b = nat_le 32 b && not (b == 127)
 abbrev pub is_activity : List ℕ → Bool
 is_activity text = nat_le 1 (length text) && nat_le (length text) 500 && is_utf8 text && list_all is_printing text
 
--- the step of row k + 1, where the row is that of step k
+-- the step of row k + 1, if the row is that of step k
 abbrev pub step_of : ℕ → Fields → Option Step
 step_of k (number ∷ activity ∷ seat_text ∷ []) =
     if same_text number (decimal k) && is_activity activity

@@ -30,7 +30,7 @@ pub fn seats_are_read()
     ensures { (text : List ℕ) (seats : List Seat) → (seats_of text ≡ Some seats) ↔ StandsFor text seats }
 {}
 
-/// What is read as the steps of a text are those of which it is the script; where it is the script of none, the first
+/// What is read as the steps of a text are those of which it is the script; if it is the script of none, the first
 /// row that breaks a rule is named.
 pub fn scripts_are_read()
     ensures script { (text : List ℕ) (steps : List Step) → (script_of text ≡ Ok steps) ↔ IsScript text steps }

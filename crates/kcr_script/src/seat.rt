@@ -1,10 +1,10 @@
 //! The seats of a step.
 ghost use Rattle.std.specs.Prelude.{⊤, ◌≡◌, ◌≢◌, ℕ, ◌+◌, ◌≤◌, List, [], ◌∷◌, ◌++◌, length, IsTrue, ◌↔◌, Some, true};
 ghost use Rattle.std.specs.Prelude.{IfOk};
-ghost use Rattle.kcr_base.specs.Reads.{Found, Only};
+ghost use Rattle.kcr_base.specs.Reads.{HasText, ReadsText};
 ghost use Rattle.kcr_script.specs.Seat.{seat_text, IsSeat, can_repeat};
 
-use kcr_base::{PlaceNumber, Role, after};
+use kcr_base::{PlaceNumber, Role, strip_prefix};
 
 /// A seat of a step: what one person in the room has to be, so that the step may be signed.
 #[derive(Clone, Copy, PartialEq, Eq)]
@@ -25,13 +25,13 @@ impl Seat {
     /// The seat with this text: a role, `CO`, `RKSH`, `CO/n` or `RKSH/n` with n from 1 to 7; None for every other
     /// text.
     pub fn read(bytes: &[u8]) -> Option<Seat>
-        ensures found { Found IsSeat seat_text bytes.now result }
-        ensures only { Only IsSeat seat_text bytes.now result }
+        ensures found { HasText IsSeat seat_text bytes.now result }
+        ensures only { ReadsText IsSeat seat_text bytes.now result }
     {
-        if let Some(rest) = after(bytes, b"CO/") {
+        if let Some(rest) = strip_prefix(bytes, b"CO/") {
             return Some(Seat::Co(PlaceNumber::read(rest)?.get()));
         }
-        if let Some(rest) = after(bytes, b"RKSH/") {
+        if let Some(rest) = strip_prefix(bytes, b"RKSH/") {
             return Some(Seat::Rksh(PlaceNumber::read(rest)?.get()));
         }
         match bytes {
@@ -41,7 +41,7 @@ impl Seat {
         }
     }
 
-    /// Whether `*m` may follow it in a seat text: it may where the seat has no number.
+    /// Whether `*m` may follow it in a seat text: it may if the seat has no number.
     pub fn can_repeat(self) -> bool
         ensures { result ≡ can_repeat self }
     {

@@ -81,7 +81,7 @@ fn read_item(bytes: &[u8]) -> Option<(Seat, u8)>
 }
 
 /// What stands before the first semicolon, and what after it.
-fn cut(bytes: &[u8]) -> (&[u8], Option<&[u8]>)
+fn split_item(bytes: &[u8]) -> (&[u8], Option<&[u8]>)
     ensures free { All (λ b. b ≢ 59) result.0.now }
     ensures whole { MatchOption result.1
         (bytes.now ≡ result.0.now) (λ rest. bytes.now ≡ result.0.now ++ 59 ∷ rest.now) }
@@ -99,7 +99,7 @@ fn next_item(text: &[u8]) -> Option<(Seat, u8, Option<&[u8]>)>
     ensures { MatchOption result ((all : List Seat) → Spells text.now all → ⊥)
         (λ p. MatchOption p.2 (IsLast text.now p.0 p.1) (λ rest. Leads text.now p.0 p.1 rest.now)) }
 {
-    let (front, rest) = cut(text);
+    let (front, rest) = split_item(text);
     let (seat, count) = read_item(front)?;
     Some((seat, count, rest))
 }

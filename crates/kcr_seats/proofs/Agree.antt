@@ -1,11 +1,11 @@
 -- Relations that agree on the seats and people there are have the same answers.
 use Rattle.std.proofs.Common.{◌≡◌, ℕ, ◌<◌, ◌≤◌, Bool, List, get_or, arith, sym, ◌∙◌}
-use Rattle.kcr_seats.specs.declared.Outcome.{Outcome}
-use Rattle.kcr_seats.specs.declared.Outcome.TheVariants.{Seated, Short}
-use Rattle.kcr_seats.specs.declared.table.Table.{Table}
-use Rattle.kcr_seats.specs.Outcome.{IsOutcome}
+use Rattle.kcr_seats.specs.declared.Answer.{Answer}
+use Rattle.kcr_seats.specs.declared.Answer.TheVariants.{Seated, Short}
+use Rattle.kcr_seats.specs.declared.matrix.FitsMatrix.{FitsMatrix}
+use Rattle.kcr_seats.specs.Answer.{IsAnswer}
 use Rattle.kcr_seats.specs.Seating.{IsSeating, IsShort, can_take, count_below}
-use Rattle.kcr_seats.specs.Table.{IsTakenFrom, fits_of, people_of, seats_of}
+use Rattle.kcr_seats.specs.Matrix.{IsMatrixOf, fits_of, people_of, seats_of}
 use Rattle.kcr_seats.proofs.Counting.{count_mono}
 use Rattle.kcr_seats.proofs.SearchLemmas.{can_take_at, can_take_some}
 
@@ -33,13 +33,13 @@ module _ {fits other : ℕ → ℕ → Bool} {seats people : ℕ} (agree : Agree
       can_take_some fits s p a.0 a.1 (agree.same (get_or s a.0 0) p (y.in_range a.0 a.1) h ∙ a.2)) in
       record { rising = y.rising; in_range = y.in_range; few = omega (arith, y.few) }
 
-answer_same : {fits other : ℕ → ℕ → Bool} {seats people : ℕ} → Agree fits other seats people → (a : Outcome)
-    → IsOutcome fits seats people a → IsOutcome other seats people a
+answer_same : {fits other : ℕ → ℕ → Bool} {seats people : ℕ} → Agree fits other seats people → (a : Answer)
+    → IsAnswer fits seats people a → IsAnswer other seats people a
 answer_same agree (Seated w) y =
     record { seating = seating_same agree y.seating; first = λ v k z. y.first v k (seating_same (back agree) z) }
 answer_same agree (Short s) y = record { short = short_same agree y.short; least = λ t z. y.least t (short_same (back agree) z) }
 
 -- an answer by the table is one by the relation that the table was taken from
-pub answer_taken : {fits : ℕ → ℕ → Bool} {seats people : ℕ} (table : Table) → IsTakenFrom fits seats people table → (a : Outcome)
-    → IsOutcome (fits_of table) (seats_of table) (people_of table) a → IsOutcome fits seats people a
+pub answer_taken : {fits : ℕ → ℕ → Bool} {seats people : ℕ} (table : FitsMatrix) → IsMatrixOf fits seats people table → (a : Answer)
+    → IsAnswer (fits_of table) (seats_of table) (people_of table) a → IsAnswer fits seats people a
 answer_taken table t a y = answer_same (record { same = t.same }) a (rw (t.seats_are, t.people_are) at y)

@@ -4,8 +4,8 @@ use Rattle.std.specs.Prelude.{SomeIndex}
 use Rattle.std.proofs.lemmas.Bool.{eqb-true}
 use Rattle.std.proofs.lemmas.List.{length-set}
 use Rattle.kcr_seats.specs.Seating.{can_take, count_below, IsSeating}
-use Rattle.kcr_seats.specs.Search.{IsReached, IsMarked, IsStuck, IsRefused, IsLowered, IsFirstBelow}
-use Rattle.kcr_seats.specs.Tried.{IsEnclosed}
+use Rattle.kcr_seats.specs.Search.{IsReached, IsMarked, IsStuck, IsNotReassigned, IsLowered, IsFirstBelow}
+use Rattle.kcr_seats.specs.Placement.{IsHallViolator}
 use Rattle.kcr_seats.proofs.Counting.{later, length_under, length_over, same_or_not}
 use Rattle.kcr_seats.proofs.Moves.{set_at}
 use Rattle.kcr_seats.proofs.SearchLemmas.{can_take_some, can_take_at}
@@ -25,7 +25,7 @@ outnumbered s t f g n low comes apart =
     (λ p h e. let a = can_take_at test t p e in (a.0, a.1, eqb-true (g (get_or t a.0 0)) p a.2)) in
     omega arith
 
--- no seating is like the list before `fixed`, where only people of the seats that were reached fit these
+-- no seating is like the list before `fixed`, if only people of the seats that were reached fit these
 enclosed : {fits : ℕ → ℕ → Bool} {seats people root fixed : ℕ} {w from v : List ℕ} {marked : List Bool} (order : List ℕ)
     → length w ≡ seats → IsSeating fits seats people v → ((k : ℕ) → k < fixed → get_or v k 0 ≡ get_or w k 0)
     → IsReached fits root fixed w order from → IsMarked w order marked → IsStuck fits people root fixed w order marked → ⊥
@@ -48,8 +48,8 @@ enclosed {fits} {seats} {people} {root} {fixed} {w} {from} {v} (o ∷ os) long y
 
 -- the later seats are too many
 pub refused_stuck : {fits : ℕ → ℕ → Bool} {seats people seat person root : ℕ} {w new : List ℕ} {marked : List Bool}
-    → IsSeating fits seats people w → seat < seats → new ≡ w → IsEnclosed fits people root (seat + 1) (set w seat person) marked
-    → IsRefused fits seats people seat person w new
+    → IsSeating fits seats people w → seat < seats → new ≡ w → IsHallViolator fits people root (seat + 1) (set w seat person) marked
+    → IsNotReassigned fits seats people seat person w new
 refused_stuck {fits} {seats} {people} {seat} {person} {root} {w} y lo back c = record {
   same = back;
   none = λ v z same e. enclosed c.order (length-set w seat person ∙ y.each_seat) z

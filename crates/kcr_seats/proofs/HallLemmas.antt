@@ -6,7 +6,7 @@ use Rattle.std.proofs.lemmas.List.{length-set}
 use Rattle.std.proofs.Math.ListN.{get_or-append}
 use Rattle.kcr_seats.specs.Hall.{NotBoth, SeatingOrShort}
 use Rattle.kcr_seats.specs.Seating.{IsSeating, IsShort, can_take}
-use Rattle.kcr_seats.specs.Search.{IsClosed, IsListed, IsMarked, IsReached, IsRootAlone, IsSeatedBut, IsStuck, IsWay}
+use Rattle.kcr_seats.specs.Search.{IsClosed, IsListed, IsMarked, IsReached, IsRootAlone, IsSeatedBut, IsStuck, IsAlternatingPath}
 use Rattle.kcr_seats.proofs.Counting.{length_under, same_or_not, true_or_false}
 use Rattle.kcr_seats.proofs.Least.{first_below, rising_apart, short}
 use Rattle.kcr_seats.proofs.SearchLemmas.{can_take_at, can_take_some, last_or_not, marked_more, order_short, placed, reached_more}
@@ -37,7 +37,7 @@ some_pair t n m = elim (first_below (λ i. (j : ℕ) × (j < m) × (t i j ≡ tr
       | inr none ↦ inr none
     ]
 
--- what the second test says where the first one fails
+-- what the second test says if the first one fails
 unless_yes : (m f : Bool) → cond m false f ≡ true → (m ≡ false) × (f ≡ true)
 unless_yes true f h = absurd (cc)
 unless_yes false f h = (refl, h)
@@ -46,7 +46,7 @@ unless_no : (m f : Bool) → cond m false f ≡ false → f ≡ true → m ≡ t
 unless_no true f h k = refl
 unless_no false f h k = absurd (cc)
 
--- the seats reached from the root, where no further one is
+-- the seats reached from the root, if no further one is
 record Closure (fits : ℕ → ℕ → Bool) (root : ℕ) (w : List ℕ) : Type 0 where
   pub order : List ℕ
   pub from : List ℕ
@@ -84,7 +84,7 @@ closure (suc fuel) order from marked r m room = closure_step r m (λ o f t reach
 
 -- the way from a free person back to the root
 walk : {fits : ℕ → ℕ → Bool} {people root index person : ℕ} {old w order from : List ℕ} (fuel : ℕ)
-    → IsReached fits root 0 old order from → IsWay fits people root index person w order from → length w ≡ length old → index ≤ fuel
+    → IsReached fits root 0 old order from → IsAlternatingPath fits people root index person w order from → length w ≡ length old → index ≤ fuel
     → (v : List ℕ) × IsSeating fits (length old) people v
 walk {root = root} {person = person} {w = w} zero r y long room =
     (set w root person, (placed y {fixed = 0} (omega arith) r.starts (omega arith) long (λ k l. absurd (omega arith))).seating)
@@ -163,7 +163,7 @@ module _ (fits : ℕ → ℕ → Bool) (seats people n : ℕ) (w : List ℕ) (y 
 
   -- who has no seat, and fits a seat that was reached, lets the others move
   way : (i p : ℕ) → i < length all_reached.order → p < people → sits p ≡ false → fits (get_or all_reached.order i 0) p ≡ true
-      → IsWay fits people n i p longer all_reached.order all_reached.from
+      → IsAlternatingPath fits people n i p longer all_reached.order all_reached.from
   way i p h known free fit = record {
     seated = seated;
     known = known;
@@ -176,7 +176,7 @@ module _ (fits : ℕ → ℕ → Bool) (seats people n : ℕ) (w : List ℕ) (y 
     edge = λ j a b. all_reached.reached.edge j a (omega arith);
   }
 
-  -- where everybody who fits a seat that was reached has a seat, too few people fit these
+  -- if everybody who fits a seat that was reached has a seat, too few people fit these
   stuck : ((i p : ℕ) → i < length all_reached.order → p < people → cond (sits p) false (fits (get_or all_reached.order i 0) p) ≡ false)
       → IsStuck fits people n 0 longer all_reached.order all_reached.marked
   stuck none = record {

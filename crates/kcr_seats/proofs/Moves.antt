@@ -21,7 +21,7 @@ all_but y root = record {
   distinct = λ j k l m _ _ e. y.distinct j k (rw y.each_seat at l) (rw y.each_seat at m) e;
 }
 
--- where the one who is left out is none of the list, it is a seating
+-- if the one who is left out is none of the list, it is a seating
 pub all_seated : {fits : ℕ → ℕ → Bool} {people root : ℕ} {w : List ℕ} (seats : ℕ) → length w ≡ seats → seats ≤ root
     → IsSeatedBut fits people root w → IsSeating fits seats people w
 all_seated {fits} {people} {root} {w} seats long past y = record {

@@ -6,7 +6,7 @@ use Rattle.std.proofs.lemmas.Nat.Bits.{bit_at_and, bit_at_not, bit_at-lt, bit_at
 use Rattle.std.proofs.lemmas.Bool.Decides.{nat_tests}
 use Rattle.kcr_seats.proofs.Least.{below_or_not}
 
--- a bit is set where its test says so
+-- a bit is set if its test says so
 pub one_from : (n : ℕ) → (n == 1) ≡ true → n ≡ 1
 one_from n h = grind (arith, nat_tests)
 
@@ -22,7 +22,7 @@ in_both a b i small low h =
     let y = bit_at-lt b i in
     (omega arith, omega arith)
 
--- where there is no such bit, each of the first number's is one of the second's
+-- if there is no such bit, each of the first number's is one of the second's
 pub in_neither : (a b i : ℕ) → a < 2 ^ 128 → b < 2 ^ 128 → bit_and a (bit_not w128 b) ≡ 0 → bit_at a i ≡ 1 → bit_at b i ≡ 1
 in_neither a b i small other none h = elim (below_or_not i 128) [
   | inl low ↦
@@ -34,7 +34,7 @@ in_neither a b i small other none h = elim (below_or_not i 128) [
   | inr high ↦ let z = bit_at_above a 128 i small high in absurd (omega arith)
 ]
 
--- the lowest such bit, where there is one
+-- the lowest such bit, if there is one
 pub lowest : (a b : ℕ) → a < 2 ^ 128 → b < 2 ^ 128 → bit_and a (bit_not w128 b) ≢ 0
     → let i = trailing_zeros w128 (bit_and a (bit_not w128 b)) in (bit_at a i ≡ 1) × (bit_at b i ≡ 0)
 lowest a b small other some =

@@ -8,8 +8,8 @@ use Rattle.std.proofs.lemmas.List.Folds.{list_any_at, list_any_none}
 use Rattle.std.proofs.Math.ListN.{get_or-append}
 use Rattle.std.proofs.Math.Seq.{get_or-append_seam}
 use Rattle.kcr_seats.specs.Seating.{can_take}
-use Rattle.kcr_seats.specs.Search.{IsRootAlone, IsReached, IsMarked, IsClosed, IsWay, IsRow}
-use Rattle.kcr_seats.specs.Tried.{IsPlaced}
+use Rattle.kcr_seats.specs.Search.{IsRootAlone, IsReached, IsMarked, IsClosed, IsAlternatingPath, IsRow}
+use Rattle.kcr_seats.specs.Placement.{IsPlaced}
 use Rattle.kcr_seats.proofs.Counting.{pigeonhole, true_or_false, same_or_not}
 use Rattle.kcr_seats.proofs.Moves.{all_seated, given, set_at}
 
@@ -192,11 +192,11 @@ module _ {fits : ℕ → ℕ → Bool} {root fixed next other seat : ℕ} {w ord
     | inr ne ↦ r.closed i j (omega arith) f k e
   ]
 
-module _ {fits : ℕ → ℕ → Bool} {people root index person : ℕ} {w order from : List ℕ} (y : IsWay fits people root index person w order from) where
+module _ {fits : ℕ → ℕ → Bool} {people root index person : ℕ} {w order from : List ℕ} (y : IsAlternatingPath fits people root index person w order from) where
   -- the way shortens by a seat
   pub way_back : {fixed index' person' seat : ℕ} {w0 : List ℕ} → IsReached fits root fixed w0 order from → length w ≡ length w0 → 0 < index
       → index' ≡ get_or from index 0 → seat ≡ get_or order index 0 → person' ≡ get_or w seat 0
-      → IsWay fits people root index' person' (set w seat person) order from
+      → IsAlternatingPath fits people root index' person' (set w seat person) order from
   way_back {fixed} {index'} {person'} {seat} {w0} r long some ei es ep =
       let below : index' < index = rw ei (y.before index some (omega arith)) in
       let inside : index < length order = y.inside in

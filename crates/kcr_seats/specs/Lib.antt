@@ -1,8 +1,8 @@
-pub mod Outcome
+pub mod Answer
 pub mod Count
 pub mod Hall
 pub mod People
 pub mod Seating
 pub mod Search
-pub mod Table
-pub mod Tried
+pub mod Matrix
+pub mod Placement

@@ -27,7 +27,7 @@ pub record IsReached (fits : ℕ → ℕ → Bool) (root fixed : ℕ) (w order f
   pub edge : (i : ℕ) → 0 < i → i < length order
       → IsTrue (fits (slice_index order (slice_index from i)) (slice_index w (slice_index order i)))
 
--- of so many seats the root alone is reached, and marked
+-- of N seats only the root is reached, and marked
 pub record IsRootAlone (seats root : ℕ) (order from : List ℕ) (marked : List Bool) : Type 0 where
   pub order_is : order ≡ root ∷ []
   pub from_is : from ≡ 0 ∷ []
@@ -87,7 +87,7 @@ pub record IsListed (marked : List Bool) (n : ℕ) (s : List ℕ) : Type 0 where
   pub all : (j : ℕ) → j < n → slice_index_or marked j false ≡ true → SomeIndex s (λ i. slice_index s i ≡ j)
 
 -- the way from the seat at an index of the order back to the root, open to a person who has no seat
-pub record IsWay (fits : ℕ → ℕ → Bool) (people root index person : ℕ) (w order from : List ℕ) : Type 0 where
+pub record IsAlternatingPath (fits : ℕ → ℕ → Bool) (people root index person : ℕ) (w order from : List ℕ) : Type 0 where
   pub seated : IsSeatedBut fits people root w
   pub known : person < people
   pub free : (k : ℕ) → k < length w → k ≢ root → slice_index w k ≢ person
@@ -98,13 +98,13 @@ pub record IsWay (fits : ℕ → ℕ → Bool) (people root index person : ℕ) 
       → IsTrue (fits (slice_index order (slice_index from i)) (slice_index w (slice_index order i)))
 
 -- a new seating, like the old before the seat, where the person sits now
-pub record IsGiven (fits : ℕ → ℕ → Bool) (seats people seat person : ℕ) (old new : List ℕ) : Type 0 where
+pub record IsReassigned (fits : ℕ → ℕ → Bool) (seats people seat person : ℕ) (old new : List ℕ) : Type 0 where
   pub seating : IsSeating fits seats people new
   pub same : (k : ℕ) → k < seat → slice_index new k ≡ slice_index old k
   pub here : slice_index new seat ≡ person
 
 -- the old seating, and no seating like it before the seat has the person there
-pub record IsRefused (fits : ℕ → ℕ → Bool) (seats people seat person : ℕ) (old new : List ℕ) : Type 0 where
+pub record IsNotReassigned (fits : ℕ → ℕ → Bool) (seats people seat person : ℕ) (old new : List ℕ) : Type 0 where
   pub same : new ≡ old
   pub none : (v : List ℕ) → IsSeating fits seats people v → ((k : ℕ) → k < seat → slice_index v k ≡ slice_index old k)
       → slice_index v seat ≢ person

@@ -5,22 +5,22 @@
 #![tactic(auto)]
 
 ghost use Rattle.std.specs.Prelude.{◌≡◌, ℕ, ◌+◌, ◌*◌, ◌<◌, ◌≤◌, Bool, IfOk};
-ghost use Rattle.kcr_seats.specs.Outcome.{IsOutcome};
+ghost use Rattle.kcr_seats.specs.Answer.{IsAnswer};
 ghost use Rattle.kcr_seats.specs.Hall.{NotBoth, SeatingOrShort};
 
 mod check;
+mod matrix;
 mod people;
 mod search;
 mod steps;
-mod table;
 
 pub use check::{is_seating, is_short};
+use matrix::FitsMatrix;
 use search::search;
 use std::alloc::{AllocError, Global};
 use std::marker::Brand;
 use std::sync::ledger::{Blank, Ledger};
 pub use steps::Steps;
-use table::Table;
 
 /// Which people fit which seats: a fixed relation between the numbers of the seats and of the people, both counted from
 /// 0.
@@ -48,7 +48,7 @@ pub trait Fits {
 
 /// What a search for a seating ends with.
 #[derive(Drop)]
-pub enum Outcome {
+pub enum Answer {
     /// The first seating: at the position of each seat the number of its person.
     Seated(Vec<usize>),
     /// The positions, from 0 and rising, of seats that too few people fit; no proper part of them is such.
@@ -57,53 +57,53 @@ pub enum Outcome {
 
 /// Seats people, or says which seats too few people fit. It calls `fits` at most seats times people times.
 ///
-/// The only error is out of memory. A step is a call of `fits` or a turn of a loop; `steps` counts both, also where
+/// The only error is out of memory. A step is a call of `fits` or a turn of a loop; `steps` counts both, also if
 /// memory runs out.
 pub fn seat<F: Fits, L: Ledger>(
     alloc: Global,
     fits: &F,
     steps: &mut Steps<L>,
-) -> Result<Outcome, AllocError>
+) -> Result<Answer, AllocError>
     requires seats { F.seat_count fits.now ≤ 16 }
     requires people { F.person_count fits.now ≤ 128 }
-    ensures answer { IfOk result (λ a. IsOutcome (F.relation fits.now) (F.seat_count fits.now)
+    ensures answer { IfOk result (λ a. IsAnswer (F.relation fits.now) (F.seat_count fits.now)
         (F.person_count fits.now) a) }
     ensures all { let seats = F.seat_count fits.now in let people = F.person_count fits.now in
         steps.new.all ≤ steps.old.all + (people + 2) * 4 * (seats + 1) * (seats + 1) * (people + 1) }
-    ensures asks { steps.new.asks ≤ steps.old.asks + F.seat_count fits.now * F.person_count fits.now }
+    ensures asks { steps.new.fits_calls ≤ steps.old.fits_calls + F.seat_count fits.now * F.person_count fits.now }
 {
-    let table = Table::taken(alloc, fits, steps)?;
-    search(alloc, &table, &mut steps.turns)
+    let table = FitsMatrix::from_relation(alloc, fits, steps)?;
+    search(alloc, &table, &mut steps.counter)
 }
 
 fn seat_from<F: Fits, L: Ledger>(
     alloc: Global,
     fits: &F,
     blank: Blank,
-) -> Result<Outcome, AllocError>
+) -> Result<Answer, AllocError>
     requires seats { F.seat_count fits.now ≤ 16 }
     requires people { F.person_count fits.now ≤ 128 }
     requires name { blank.name ≡ L.name }
     requires parts { blank.parts ≡ L.parts }
     requires two { 2 ≤ blank.parts }
-    ensures { IfOk result (λ a. IsOutcome (F.relation fits.now) (F.seat_count fits.now)
+    ensures { IfOk result (λ a. IsAnswer (F.relation fits.now) (F.seat_count fits.now)
         (F.person_count fits.now) a) }
 {
     seat(alloc, fits, &mut Steps::<L>::new(blank))
 }
 
-/// `seat`, where nobody counts the steps.
-pub fn seat_uncounted<F: Fits>(alloc: Global, fits: &F) -> Result<Outcome, AllocError>
+/// `seat` without counting steps.
+pub fn seat_uncounted<F: Fits>(alloc: Global, fits: &F) -> Result<Answer, AllocError>
     requires seats { F.seat_count fits.now ≤ 16 }
     requires people { F.person_count fits.now ≤ 128 }
-    ensures { IfOk result (λ a. IsOutcome (F.relation fits.now) (F.seat_count fits.now)
+    ensures { IfOk result (λ a. IsAnswer (F.relation fits.now) (F.seat_count fits.now)
         (F.person_count fits.now) a) }
 {
     seat_from::<F, Brand>(alloc, fits, Blank::new(2))
 }
 
 /// The theorem of Hall: of every relation there is a seating or there is a short list of seats, and never both.
-pub fn hall()
+pub fn halls_theorem()
     ensures either { SeatingOrShort }
     ensures not_both { NotBoth }
 {}

@@ -3,16 +3,16 @@ ghost use Rattle.std.specs.Prelude.{◌≡◌, ◌≢◌, ℕ, ◌+◌, ◌*◌,
 ghost use Rattle.std.specs.Prelude.{EachIndex, length, slice_index, true, false, vec_len};
 ghost use Rattle.kcr_seats.specs.Seating.{IsSeating, IsFirst};
 ghost use Rattle.kcr_seats.specs.People.{contains};
-ghost use Rattle.kcr_seats.specs.Table.{fits_of, seats_of, people_of};
-ghost use Rattle.kcr_seats.specs.Tried.{IsTried};
-ghost use Rattle.kcr_seats.specs.Outcome.{IsOutcome};
+ghost use Rattle.kcr_seats.specs.Matrix.{fits_of, seats_of, people_of};
+ghost use Rattle.kcr_seats.specs.Placement.{IsPlacement};
+ghost use Rattle.kcr_seats.specs.Answer.{IsAnswer};
 ghost use Rattle.kcr_seats.specs.Search.{IsSeatedBut, IsRootAlone, IsPut, IsReached, IsMarked, IsClosed, IsBusy};
-ghost use Rattle.kcr_seats.specs.Search.{IsListed, IsGiven, IsRefused, IsLowered, all_steps, lower_steps, search_steps};
+ghost use Rattle.kcr_seats.specs.Search.{IsListed, IsReassigned, IsNotReassigned, IsLowered, all_steps, lower_steps, search_steps};
 
-use crate::Outcome;
+use crate::Answer;
+use crate::matrix::FitsMatrix;
 use crate::people::People;
-use crate::steps::Turns;
-use crate::table::Table;
+use crate::steps::StepCounter;
 use std::alloc::{AllocError, Global};
 use std::sync::ledger::Ledger;
 
@@ -26,7 +26,7 @@ struct Reached {
 }
 
 impl Reached {
-    /// The root alone, among so many seats.
+    /// The root only, among this many seats.
     fn of_root(alloc: Global, seats: usize, root: usize) -> Result<Reached, AllocError>
         requires { root < seats }
         ensures { IfOk result (λ r. IsRootAlone seats root r.order.items r.from.items r.marked.items) }
@@ -59,11 +59,11 @@ impl Reached {
 /// Goes from the root to the seats whose people fit a seat that was reached.
 fn reach<L: Ledger>(
     alloc: Global,
-    table: &Table,
+    table: &FitsMatrix,
     seating: &[usize],
     root: usize,
     fixed: usize,
-    turns: &mut Turns<L>,
+    turns: &mut StepCounter<L>,
 ) -> Result<Reached, AllocError>
     requires people { people_of table.now ≤ 128 }
     requires seated { IsSeatedBut (fits_of table.now) (people_of table.now) root seating.now }
@@ -95,7 +95,7 @@ fn reach<L: Ledger>(
 }
 
 /// The people who have a seat other than the root.
-fn busy_people<L: Ledger>(seating: &[usize], root: usize, turns: &mut Turns<L>) -> People
+fn busy_people<L: Ledger>(seating: &[usize], root: usize, turns: &mut StepCounter<L>) -> People
     requires { (seat : ℕ) → seat < length seating.now → seat ≢ root → slice_index
         seating.now seat < 128 }
     ensures busy { IsBusy root seating.now result }
@@ -113,10 +113,10 @@ fn busy_people<L: Ledger>(seating: &[usize], root: usize, turns: &mut Turns<L>) 
 
 /// The index of a seat in the order, and a person who is not busy and fits it.
 fn free_person<L: Ledger>(
-    table: &Table,
+    table: &FitsMatrix,
     order: &[usize],
     busy: People,
-    turns: &mut Turns<L>,
+    turns: &mut StepCounter<L>,
 ) -> Option<(usize, usize)>
     requires seats { EachIndex order.now (λ i. slice_index order.now i < seats_of table.now) }
     ensures none { IfNone result ((i person : ℕ) → i < length order.now
@@ -139,7 +139,7 @@ fn free_person<L: Ledger>(
 
 /// What became of a try to seat the root.
 #[derive(Drop)]
-enum Tried {
+enum Placement {
     Placed,
     Stuck(Vec<bool>),
 }
@@ -147,18 +147,18 @@ enum Tried {
 /// Seats the root too, if the others can move to let it, or marks seats that too few people fit.
 fn reseat<L: Ledger>(
     alloc: Global,
-    table: &Table,
+    table: &FitsMatrix,
     seating: &mut Vec<usize>,
     root: usize,
     fixed: usize,
-    turns: &mut Turns<L>,
-) -> Result<Tried, AllocError>
+    turns: &mut StepCounter<L>,
+) -> Result<Placement, AllocError>
     requires people { people_of table.now ≤ 128 }
     requires seated { IsSeatedBut (fits_of table.now) (people_of table.now) root seating.old.items }
     requires seats { vec_len seating.old ≤ seats_of table.now }
     requires root { root < vec_len seating.old }
     requires fixed { fixed ≤ root }
-    ensures tried { IfOk result (λ t. IsTried (fits_of table.now) (people_of table.now) root fixed
+    ensures tried { IfOk result (λ t. IsPlacement (fits_of table.now) (people_of table.now) root fixed
         seating.old.items seating.new.items t) }
     ensures cost { turns.new ≤ turns.old + search_steps (seats_of table.now) (people_of table.now) }
 {
@@ -170,7 +170,7 @@ fn reseat<L: Ledger>(
         marked,
     } = reached;
     let Some((mut index, mut person)) = free_person(table, &order, busy, turns) else {
-        return Ok(Tried::Stuck(marked));
+        return Ok(Placement::Stuck(marked));
     };
     'shift: while index > 0 {
         turns.tick();
@@ -181,14 +181,14 @@ fn reseat<L: Ledger>(
         index = from[index];
     }
     seating[root] = person;
-    Ok(Tried::Placed)
+    Ok(Placement::Placed)
 }
 
 /// The seats that are marked.
-fn listed<L: Ledger>(
+fn marked_seats<L: Ledger>(
     alloc: Global,
     marked: &[bool],
-    turns: &mut Turns<L>,
+    turns: &mut StepCounter<L>,
 ) -> Result<Vec<usize>, AllocError>
     ensures listed { IfOk result (λ s. IsListed marked.now (length marked.now) s.items) }
     ensures cost { turns.new ≤ turns.old + length marked.now }
@@ -204,7 +204,7 @@ fn listed<L: Ledger>(
 }
 
 /// The seat of the person.
-fn seat_of<L: Ledger>(seating: &[usize], person: usize, turns: &mut Turns<L>) -> Option<usize>
+fn seat_of<L: Ledger>(seating: &[usize], person: usize, turns: &mut StepCounter<L>) -> Option<usize>
     ensures none { IfNone result ((seat : ℕ) → seat < length seating.now → slice_index
         seating.now seat ≢ person) }
     ensures some { IfSome result (λ seat. (seat < length seating.now) × (slice_index
@@ -223,11 +223,11 @@ fn seat_of<L: Ledger>(seating: &[usize], person: usize, turns: &mut Turns<L>) ->
 /// Gives the seat to the person, if the seats after it can then be seated and those before it stay.
 fn try_person<L: Ledger>(
     alloc: Global,
-    table: &Table,
+    table: &FitsMatrix,
     seating: &mut Vec<usize>,
     seat: usize,
     person: usize,
-    turns: &mut Turns<L>,
+    turns: &mut StepCounter<L>,
 ) -> Result<bool, AllocError>
     requires people { people_of table.now ≤ 128 }
     requires seating { IsSeating (fits_of table.now) (seats_of table.now) (people_of table.now)
@@ -237,9 +237,9 @@ fn try_person<L: Ledger>(
     requires fitting { IsTrue (fits_of table.now seat person) }
     requires other { slice_index seating.old.items seat ≢ person }
     ensures tried { IfOk result (λ b. MatchBool b
-        (IsGiven (fits_of table.now) (seats_of table.now) (people_of table.now) seat person
+        (IsReassigned (fits_of table.now) (seats_of table.now) (people_of table.now) seat person
         seating.old.items seating.new.items)
-        (IsRefused (fits_of table.now) (seats_of table.now) (people_of table.now) seat person
+        (IsNotReassigned (fits_of table.now) (seats_of table.now) (people_of table.now) seat person
         seating.old.items seating.new.items)) }
     ensures cost { turns.new ≤ turns.old + seats_of table.now + search_steps (seats_of table.now)
         (people_of table.now) }
@@ -253,7 +253,7 @@ fn try_person<L: Ledger>(
     }
     let old = seating[seat];
     seating[seat] = person;
-    if let Tried::Stuck(_) = reseat(alloc, table, seating, root, seat + 1, turns)? {
+    if let Placement::Stuck(_) = reseat(alloc, table, seating, root, seat + 1, turns)? {
         seating[seat] = old;
         return Ok(false);
     }
@@ -261,12 +261,12 @@ fn try_person<L: Ledger>(
 }
 
 /// Gives the seat to the lowest person with whom the seats after it can be seated while those before it stay.
-fn lower<L: Ledger>(
+fn assign_lowest<L: Ledger>(
     alloc: Global,
-    table: &Table,
+    table: &FitsMatrix,
     seating: &mut Vec<usize>,
     seat: usize,
-    turns: &mut Turns<L>,
+    turns: &mut StepCounter<L>,
 ) -> Result<(), AllocError>
     requires people { people_of table.now ≤ 128 }
     requires seating { IsSeating (fits_of table.now) (seats_of table.now) (people_of table.now)
@@ -288,11 +288,11 @@ fn lower<L: Ledger>(
 }
 
 /// Makes a seating the first one.
-fn improve<L: Ledger>(
+fn make_first<L: Ledger>(
     alloc: Global,
-    table: &Table,
+    table: &FitsMatrix,
     seating: &mut Vec<usize>,
-    turns: &mut Turns<L>,
+    turns: &mut StepCounter<L>,
 ) -> Result<(), AllocError>
     requires people { people_of table.now ≤ 128 }
     requires seating { IsSeating (fits_of table.now) (seats_of table.now) (people_of table.now)
@@ -304,7 +304,7 @@ fn improve<L: Ledger>(
 {
     for seat in 0..seating.len() {
         turns.tick();
-        lower(alloc, table, seating, seat, turns)?;
+        assign_lowest(alloc, table, seating, seat, turns)?;
     }
     Ok(())
 }
@@ -312,11 +312,11 @@ fn improve<L: Ledger>(
 /// The first seating by the table, or a least list of seats that too few people fit.
 pub(crate) fn search<L: Ledger>(
     alloc: Global,
-    table: &Table,
-    turns: &mut Turns<L>,
-) -> Result<Outcome, AllocError>
+    table: &FitsMatrix,
+    turns: &mut StepCounter<L>,
+) -> Result<Answer, AllocError>
     requires people { people_of table.now ≤ 128 }
-    ensures answer { IfOk result (λ a. IsOutcome (fits_of table.now) (seats_of table.now)
+    ensures answer { IfOk result (λ a. IsAnswer (fits_of table.now) (seats_of table.now)
         (people_of table.now) a) }
     ensures cost { turns.new ≤ turns.old + all_steps (seats_of table.now) (people_of table.now) }
 {
@@ -324,10 +324,10 @@ pub(crate) fn search<L: Ledger>(
     for root in 0..table.seats() {
         turns.tick();
         seating.push(0)?;
-        if let Tried::Stuck(marked) = reseat(alloc, table, &mut seating, root, 0, turns)? {
-            return Ok(Outcome::Short(listed(alloc, &marked, turns)?));
+        if let Placement::Stuck(marked) = reseat(alloc, table, &mut seating, root, 0, turns)? {
+            return Ok(Answer::Short(marked_seats(alloc, &marked, turns)?));
         }
     }
-    improve(alloc, table, &mut seating, turns)?;
-    Ok(Outcome::Seated(seating))
+    make_first(alloc, table, &mut seating, turns)?;
+    Ok(Answer::Seated(seating))
 }

@@ -6,12 +6,12 @@ use std::sync::ledger::{Blank, Book, Ledger, Share};
 
 /// All steps of a search so far.
 #[derive(Drop)]
-pub(crate) struct Turns<L: Ledger> {
+pub(crate) struct StepCounter<L: Ledger> {
     book: Book<L>,
     share: Share<L>,
 }
 
-impl<L: Ledger> Model for Turns<L> {
+impl<L: Ledger> Model for StepCounter<L> {
     ghost Value = { ℕ };
 
     ghost view = { λ turns. turns.book.total };
@@ -19,7 +19,7 @@ impl<L: Ledger> Model for Turns<L> {
     ghost invariant = { λ turns. 0 < turns.share.parts };
 }
 
-impl<L: Ledger> Turns<L> {
+impl<L: Ledger> StepCounter<L> {
     /// Counts a step.
     pub fn tick(&mut self)
         ensures { self.new ≡ self.old + 1 }
@@ -43,8 +43,8 @@ impl<L: Ledger> Turns<L> {
 /// A step is a call of `Fits::fits` or a turn of a loop. The counters take no bytes.
 #[derive(Drop)]
 pub struct Steps<L: Ledger> {
-    pub(crate) turns: Turns<L>,
-    asked: Share<L>,
+    pub(crate) counter: StepCounter<L>,
+    fits_calls: Share<L>,
 }
 
 impl<L: Ledger> Model for Steps<L> {
@@ -53,9 +53,9 @@ impl<L: Ledger> Model for Steps<L> {
 
     ghost Value = { Count };
 
-    ghost view = { λ steps. record { all = steps.turns; asks = steps.asked.amount } };
+    ghost view = { λ steps. record { all = steps.counter; fits_calls = steps.fits_calls.amount } };
 
-    ghost invariant = { λ steps. 0 < steps.asked.parts };
+    ghost invariant = { λ steps. 0 < steps.fits_calls.parts };
 }
 
 impl<L: Ledger> Steps<L> {
@@ -65,29 +65,29 @@ impl<L: Ledger> Steps<L> {
         requires parts { blank.parts ≡ L.parts }
         requires two { 2 ≤ blank.parts }
         ensures all { result.all ≡ 0 }
-        ensures asks { result.asks ≡ 0 }
+        ensures asks { result.fits_calls ≡ 0 }
     {
         let (book, mut share) = blank.open::<L>();
         let asked = share.split_off(1, 0);
         Steps {
-            turns: Turns { book, share },
-            asked,
+            counter: StepCounter { book, share },
+            fits_calls: asked,
         }
     }
 
     /// Counts a turn of a loop.
     pub(crate) fn tick(&mut self)
         ensures all { self.new.all ≡ self.old.all + 1 }
-        ensures asks { self.new.asks ≡ self.old.asks }
+        ensures asks { self.new.fits_calls ≡ self.old.fits_calls }
     {
-        self.turns.tick();
+        self.counter.tick();
     }
 
     /// Counts a call of `Fits::fits`.
-    pub(crate) fn tick_ask(&mut self)
+    pub(crate) fn tick_fits_call(&mut self)
         ensures all { self.new.all ≡ self.old.all + 1 }
-        ensures asks { self.new.asks ≡ self.old.asks + 1 }
+        ensures asks { self.new.fits_calls ≡ self.old.fits_calls + 1 }
     {
-        self.turns.tick_with(&mut self.asked);
+        self.counter.tick_with(&mut self.fits_calls);
     }
 }

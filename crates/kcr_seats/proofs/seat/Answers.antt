@@ -13,5 +13,5 @@ returns-clause-all g c =
     let searched = rw (table.seats_are, table.people_are) at c.search.ensures.cost in
     let before = ap (λ x. x.all) c.steps.view_is in
     let bound = in_all (g.F.Fits.seat_count c.args.fits.now) (g.F.Fits.person_count c.args.fits.now) in
-    let taken = c.taken.ensures.all in
+    let taken = c.from_relation.ensures.all in
     omega arith

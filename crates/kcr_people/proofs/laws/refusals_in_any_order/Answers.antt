@@ -1,7 +1,7 @@
 use Rattle.std.specs.Prelude.{◌&&◌}
 use Rattle.std.proofs.lemmas.List.Sorted.{list_any-IsPermutation}
 use Rattle.kcr_base.specs.Same.{same_text, same_place}
-use Rattle.kcr_people.specs.People.{same_training, lasts_beyond, stands}
+use Rattle.kcr_people.specs.People.{same_training, lasts_beyond, is_open_ended}
 use Rattle.kcr_people.proofs.Orders.{find-one, trained_from-order}
 use Rattle.kcr_people.proofs.laws.refusals_in_any_order.Goals as goal
 
@@ -32,11 +32,11 @@ returns-clause-appoint c = λ people persons trainings others rows puts p t x se
 pub returns-clause-replace : goal.returns-clause-replace
 returns-clause-replace c = λ people persons trainings others rows puts p t x settled full place who day one.
     rw (
-      find-one (stands place) rows puts x one,
+      find-one (is_open_ended place) rows puts x one,
       ← list_any-IsPermutation (λ row. same_text row.who who) people persons p,
       ← list_any-IsPermutation (λ row. same_text row.who who) trainings others t,
       ← list_any-IsPermutation (λ row. same_text row.who who && lasts_beyond day row) rows puts x,
     )
 
 pub returns-clause-release : goal.returns-clause-release
-returns-clause-release c = λ rows puts x settled full place day one. rw (find-one (stands place) rows puts x one)
+returns-clause-release c = λ rows puts x settled full place day one. rw (find-one (is_open_ended place) rows puts x one)

@@ -1,5 +1,5 @@
 use Rattle.std.proofs.Common.{◌≡◌, [], length, ap, subst, ◌∙◌, IfOk}
-use Rattle.kcr_room.specs.Ends.{stays_with}
+use Rattle.kcr_room.specs.Events.{stays_with}
 use Rattle.kcr_room.proofs.Ends.{ends-many, with-ends}
 use Rattle.kcr_room.proofs.stays.stays_of.Goals as goal
 

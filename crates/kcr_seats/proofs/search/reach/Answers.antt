@@ -4,7 +4,7 @@ use Rattle.std.proofs.Math.Nat.{mul-le-mul_right}
 use Rattle.kcr_seats.proofs.SearchLemmas.{order_short, root_reached, root_marked, not_root, row_start, row_closed, row_more, row_less}
 use Rattle.kcr_seats.proofs.Turns.{in_row}
 use Rattle.kcr_seats.proofs.search.reach.Goals as goal
-use Rattle.kcr_seats.specs.Table.{fits_of}
+use Rattle.kcr_seats.specs.Matrix.{fits_of}
 use Rattle.kcr_seats.proofs.search.reach.Goals.{then-not-index+then-contains+in_ok-put, else-not-index}
 use Rattle.kcr_seats.proofs.search.reach.Goals.{else-not-index-via-then-not-index+else-contains, else-not-index-via-else-not-index}
 

@@ -3,7 +3,7 @@ use Rattle.std.proofs.lemmas.Grind.{common_steps}
 use Rattle.std.proofs.lemmas.List.{length-set}
 use Rattle.kcr_seats.proofs.SearchLemmas.{way_back, way_same, order_short, placed}
 use Rattle.kcr_seats.proofs.Turns.{in_search}
-use Rattle.kcr_seats.specs.Table.{seats_of}
+use Rattle.kcr_seats.specs.Matrix.{seats_of}
 use Rattle.kcr_seats.proofs.search.reseat.Goals as goal
 
 pub shift-preserved : goal.shift-preserved

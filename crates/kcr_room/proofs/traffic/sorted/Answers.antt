@@ -1,5 +1,0 @@
-use Rattle.std.proofs.lemmas.List.Sorted.{IsNonDecreasingBy-from_sort}
-use Rattle.kcr_room.proofs.traffic.sorted.Goals as goal
-
-pub returns-clause-rising : goal.returns-clause-rising
-returns-clause-rising c = IsNonDecreasingBy-from_sort (λ moment. moment) c.sort_unstable.new.self.items c.sort_unstable.ensures.sorted

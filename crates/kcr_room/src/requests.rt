@@ -1,0 +1,328 @@
+//! What a request of the sheet changes, by stays, or the first reason why it is refused.
+ghost use Rattle.std.specs.Prelude.{MatchResult, Some, ◌≢◌, ◌≡◌, IfOk, None, map};
+ghost use Rattle.std.specs.List.{find, filter, list_any};
+ghost use Rattle.kcr_base.specs.declared.refusal.Refusal.TheVariants.{Memory};
+ghost use Rattle.kcr_room.specs.Requests;
+ghost use Rattle.kcr_room.specs.declared.SheetRequest.{SheetRequest};
+ghost use Rattle.kcr_room.specs.declared.Way.TheVariants.{Enter, Leave};
+
+use crate::occupancy::check_occupancy;
+use crate::{SheetRequest, Stay, Way};
+use kcr_base::{Initials, Moment, Refusal, is_among};
+use std::alloc::{AllocError, Global};
+
+fn has_no_end(until: Option<Moment>) -> bool
+    ensures { result ≡ Requests.has_no_end until }
+{
+    match until {
+        None => true,
+        Some(_) => false,
+    }
+}
+
+fn ends_from(at: Moment, until: Option<Moment>) -> bool
+    ensures { result ≡ Requests.ends_from at until }
+{
+    match until {
+        None => false,
+        Some(until) => at <= until,
+    }
+}
+
+fn reaches(who: Initials, at: Moment, stay: &Stay) -> bool
+    ensures { result ≡ Requests.reaches who at stay.now }
+{
+    stay.who == who && (at <= stay.since || ends_from(at, stay.until))
+}
+
+fn is_inside(who: Initials, stay: &Stay) -> bool
+    ensures { result ≡ Requests.is_inside who stay.now }
+{
+    stay.who == who && has_no_end(stay.until)
+}
+
+fn is_inside_of(ceremony: u32, who: Initials, stay: &Stay) -> bool
+    ensures { result ≡ Requests.is_inside_of ceremony who stay.now }
+{
+    is_inside(who, stay) && stay.ceremony == ceremony
+}
+
+fn has_reached(stays: &[Stay], who: Initials, at: Moment) -> bool
+    ensures { result ≡ list_any (Requests.reaches who at) stays.now }
+{
+    stays.iter().any(|stay| reaches(who, at, stay))
+}
+
+fn is_inside_some(stays: &[Stay], who: Initials) -> bool
+    ensures { result ≡ list_any (Requests.is_inside who) stays.now }
+{
+    stays.iter().any(|stay| is_inside(who, stay))
+}
+
+fn is_inside_this(stays: &[Stay], ceremony: u32, who: Initials) -> bool
+    ensures { result ≡ list_any (Requests.is_inside_of ceremony who) stays.now }
+{
+    stays.iter().any(|stay| is_inside_of(ceremony, who, stay))
+}
+
+// Whether it is not the person's turn: a row of the person is at the moment or later, or for `in` the
+// person is in some room, or for `out` not in the room of the ceremony.
+fn is_out_of_turn_in(stays: &[Stay], ceremony: u32, way: Way, at: Moment, who: Initials) -> bool
+    ensures { result ≡ Requests.is_out_of_turn_in stays.now ceremony way at who }
+{
+    match way {
+        Way::Enter => has_reached(stays, who, at) || is_inside_some(stays, who),
+        Way::Leave => has_reached(stays, who, at) || !is_inside_this(stays, ceremony, who),
+    }
+}
+
+// The first of the people whose turn it is not.
+fn first_out_of_turn(stays: &[Stay], request: &SheetRequest<'_>) -> Option<Initials>
+    ensures { let asked : SheetRequest = request.now in result
+        ≡ find (Requests.is_out_of_turn_in stays.now asked.ceremony asked.way asked.at) asked.people.now }
+{
+    for who in request.people {
+        if is_out_of_turn_in(stays, request.ceremony, request.way, request.at, *who) {
+            return Some(*who);
+        }
+    }
+    None
+}
+
+fn with_end(people: &[Initials], at: Moment, stay: &Stay) -> Stay
+    ensures { result ≡ Requests.with_end people.now at stay.now }
+{
+    let until = if is_among(people, stay.who) && has_no_end(stay.until) {
+        Some(at)
+    } else {
+        stay.until
+    };
+    Stay {
+        ceremony: stay.ceremony,
+        who: stay.who,
+        since: stay.since,
+        until,
+    }
+}
+
+fn new_stay(ceremony: u32, at: Moment, who: Initials) -> Stay
+    ensures { result ≡ Requests.new_stay ceremony at who }
+{
+    Stay {
+        ceremony,
+        who,
+        since: at,
+        until: None,
+    }
+}
+
+fn ends_by(ceremony: u32, people: &[Initials], stay: &Stay) -> bool
+    ensures { result ≡ Requests.ends_by ceremony people.now stay.now }
+{
+    stay.ceremony == ceremony && is_among(people, stay.who) && has_no_end(stay.until)
+}
+
+// The stays of a ceremony, in their order.
+fn stays_in(alloc: Global, stays: &[Stay], ceremony: u32) -> Result<Vec<Stay>, AllocError>
+    ensures { IfOk result (λ own. own.items ≡ filter (Requests.of_ceremony ceremony) stays.now) }
+{
+    let mut own = Vec::new(alloc);
+    for stay in stays {
+        if stay.ceremony == ceremony {
+            own.push(*stay)?;
+        }
+    }
+    Ok(own)
+}
+
+// The ceremony's stays with those who come.
+fn after_enter(
+    alloc: Global,
+    stays: &[Stay],
+    request: &SheetRequest<'_>,
+) -> Result<Vec<Stay>, AllocError>
+    ensures { let asked : SheetRequest = request.now in IfOk result (λ later.
+        later.items ≡ Requests.stays_after_request stays.now asked.ceremony Enter asked.people.now asked.at) }
+{
+    let mut later = stays_in(alloc, stays, request.ceremony)?;
+    for who in request.people {
+        later.push(new_stay(request.ceremony, request.at, *who))?;
+    }
+    Ok(later)
+}
+
+// The ceremony's stays if these people leave.
+fn after_leave(
+    alloc: Global,
+    stays: &[Stay],
+    request: &SheetRequest<'_>,
+) -> Result<Vec<Stay>, AllocError>
+    ensures { let asked : SheetRequest = request.now in IfOk result (λ later.
+        later.items ≡ Requests.stays_after_request stays.now asked.ceremony Leave asked.people.now asked.at) }
+{
+    stays
+        .iter()
+        .filter(|stay| stay.ceremony == request.ceremony)
+        .map(|stay| with_end(request.people, request.at, stay))
+        .collect(alloc)
+}
+
+// The ceremony's stays after the request.
+fn stays_after_request(
+    alloc: Global,
+    stays: &[Stay],
+    request: &SheetRequest<'_>,
+) -> Result<Vec<Stay>, AllocError>
+    ensures { let asked : SheetRequest = request.now in IfOk result (λ later.
+        later.items ≡ Requests.stays_after_request stays.now asked.ceremony asked.way asked.people.now asked.at) }
+{
+    match request.way {
+        Way::Enter => after_enter(alloc, stays, request),
+        Way::Leave => after_leave(alloc, stays, request),
+    }
+}
+
+fn new_stays(alloc: Global, request: &SheetRequest<'_>) -> Result<Vec<Stay>, AllocError>
+    ensures { let asked : SheetRequest = request.now in IfOk result (λ changed.
+        changed.items ≡ map (Requests.new_stay asked.ceremony asked.at) asked.people.now) }
+{
+    request
+        .people
+        .iter()
+        .map(|who| new_stay(request.ceremony, request.at, *who))
+        .collect(alloc)
+}
+
+fn ended_stays(
+    alloc: Global,
+    stays: &[Stay],
+    request: &SheetRequest<'_>,
+) -> Result<Vec<Stay>, AllocError>
+    ensures { let asked : SheetRequest = request.now in IfOk result (λ changed.
+        changed.items ≡ map (Requests.with_end asked.people.now asked.at)
+        (filter (Requests.ends_by asked.ceremony asked.people.now) stays.now)) }
+{
+    stays
+        .iter()
+        .filter(|stay| ends_by(request.ceremony, request.people, *stay))
+        .map(|stay| with_end(request.people, request.at, stay))
+        .collect(alloc)
+}
+
+// The stays that the request changes.
+fn changed_stays(
+    alloc: Global,
+    stays: &[Stay],
+    request: &SheetRequest<'_>,
+) -> Result<Vec<Stay>, AllocError>
+    ensures { let asked : SheetRequest = request.now in IfOk result (λ changed.
+        changed.items ≡ Requests.changed_stays stays.now asked.ceremony asked.way asked.people.now asked.at) }
+{
+    match request.way {
+        Way::Enter => new_stays(alloc, request),
+        Way::Leave => ended_stays(alloc, stays, request),
+    }
+}
+
+// The stay from the moment on.
+fn clipped_to_moment(at: Moment, stay: &Stay) -> Stay
+    ensures { result ≡ Requests.clipped_to_moment at stay.now }
+{
+    let since = if stay.since < at { at } else { stay.since };
+    Stay {
+        ceremony: stay.ceremony,
+        who: stay.who,
+        since,
+        until: stay.until,
+    }
+}
+
+// The ceremony's stays after the request, from its moment on.
+fn stays_from_moment(
+    alloc: Global,
+    stays: &[Stay],
+    request: &SheetRequest<'_>,
+) -> Result<Vec<Stay>, AllocError>
+    ensures { let asked : SheetRequest = request.now in IfOk result (λ cut.
+        cut.items ≡ Requests.stays_from_moment stays.now asked.ceremony asked.way asked.people.now asked.at) }
+{
+    let stays = stays_after_request(alloc, stays, request)?;
+    stays
+        .iter()
+        .map(|stay| clipped_to_moment(request.at, stay))
+        .collect(alloc)
+}
+
+fn is_overfull(entered: usize, request: &SheetRequest<'_>) -> bool
+    ensures { let asked : SheetRequest = request.now in
+        result ≡ Requests.is_overfull entered asked.way asked.people.now }
+{
+    match request.way {
+        Way::Enter => entered.saturating_add(request.people.len()) > 1000,
+        Way::Leave => false,
+    }
+}
+
+// What these stays of the ceremony are refused for.
+pub(crate) fn occupancy_refusal(
+    alloc: Global,
+    stays: &[Stay],
+    ceremony: u32,
+    full: bool,
+) -> Result<Option<Refusal>, AllocError>
+    ensures { IfOk result (λ refusal. refusal ≡ Requests.occupancy_refusal stays.now ceremony full) }
+{
+    let crowding = check_occupancy(alloc, stays, ceremony)?;
+    if crowding.is_crowded {
+        return Ok(Some(Refusal::Crowd));
+    }
+    if let Some(moment) = crowding.first_lone {
+        return Ok(Some(Refusal::Lone { moment }));
+    }
+    if full {
+        return Ok(Some(Refusal::Full));
+    }
+    Ok(None)
+}
+
+/// What a request of the sheet changes for a ceremony: for `in` a new stay for each person, for `out`
+/// the open stays of the people with their end. `stays` are all stays of the register, or at least those
+/// of the ceremony that last to the moment, and of each of the people the last one; `entered` is how many
+/// stays the ceremony has in all, `mark` is its mark, and `full` says that the register takes no more
+/// commands. The first refusal that holds, of: `Late` with the mark, the moment is not later than the
+/// mark; `Turn` with the first of the people, in the order of the request, who has a row at the moment or
+/// later, or who for `in` is in some room, or for `out` is not in the room of this ceremony; then, of the
+/// room as it would be after the whole request, at its moment and at every later one: `Crowd`, more than
+/// 128 people would be in it; `Lone` with the first moment at which exactly one would be; `Full`, for `in`
+/// there would be more than 1,000 `in` rows, or the register is full. What was before the moment the
+/// request does not change. A refusal changes nothing. `Memory` comes if memory runs out.
+pub fn add_stays(
+    alloc: Global,
+    stays: &[Stay],
+    entered: usize,
+    mark: Moment,
+    full: bool,
+    request: &SheetRequest<'_>,
+) -> Result<Vec<Stay>, Refusal>
+    ensures { let asked : SheetRequest = request.now in MatchResult result
+        (λ changed. (Requests.stays_refusal
+        stays.now entered asked.ceremony mark full asked.way asked.people.now asked.at ≡ None)
+        × (changed.items ≡ Requests.changed_stays stays.now asked.ceremony asked.way asked.people.now asked.at))
+        (λ refusal. refusal ≢ Memory
+        → Requests.stays_refusal stays.now entered asked.ceremony mark full asked.way asked.people.now asked.at
+        ≡ Some refusal) }
+{
+    if request.at <= mark {
+        return Err(Refusal::Late { mark });
+    }
+    if let Some(who) = first_out_of_turn(stays, request) {
+        return Err(Refusal::Turn { who });
+    }
+    let later = stays_from_moment(alloc, stays, request)?;
+    let full = full || is_overfull(entered, request);
+    if let Some(refusal) = occupancy_refusal(alloc, &later, request.ceremony, full)? {
+        return Err(refusal);
+    }
+    let changed = changed_stays(alloc, stays, request)?;
+    Ok(changed)
+}

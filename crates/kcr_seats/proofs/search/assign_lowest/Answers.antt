@@ -1,0 +1,44 @@
+use Rattle.std.proofs.Common.{◌≡◌, ◌≢◌, ◌+◌, ◌≤◌, ◌∙◌, ap, sym, arith, get_or, true, false}
+use Rattle.kcr_seats.proofs.Turns.{in_lower}
+use Rattle.kcr_seats.proofs.search.assign_lowest.Goals as goal
+use Rattle.kcr_seats.specs.Matrix.{fits_of}
+use Rattle.kcr_seats.proofs.search.assign_lowest.Goals.{else-contains-via-then-contains+in_ok-try_person+else-branch, else-contains-via-else-contains}
+
+pub loop-person-preserved : goal.loop-person-preserved
+loop-person-preserved g c = elim c.else-contains.branch [
+  | else-contains-via-then-contains+in_ok-try_person+else-branch w ↦
+      let z = rw w.if-branch.false at w.in_ok-try_person.ensures.tried in
+      record {
+        cost = omega arith;
+        same = ap (λ x. x.items) w.seating-is ∙ z.same ∙ c.loop-person.invariant.same;
+        reached = λ v s same. (
+            let low : c.loop-person.person ≤ get_or v c.args.seat 0 = c.loop-person.invariant.reached v s same in
+            let other : get_or v c.args.seat 0 ≢ c.loop-person.person =
+            z.none v s (λ k h. same k h ∙ sym (ap (λ x. get_or x k 0) c.loop-person.invariant.same)) in
+            omega arith);
+      }
+  | else-contains-via-else-contains w ↦ record {
+    cost = omega arith;
+    same = ap (λ x. x.items) w.seating-is ∙ c.loop-person.invariant.same;
+    reached = λ v s same. (
+        let low : c.loop-person.person ≤ get_or v c.args.seat 0 = c.loop-person.invariant.reached v s same in
+        let other : get_or v c.args.seat 0 ≢ c.loop-person.person = λ e.
+        let yes : fits_of c.args.table.now c.args.seat c.loop-person.person ≡ true = rw e at (s.fitting c.args.seat c.requires.seat) in
+        let not_so : false ≡ fits_of c.args.table.now c.args.seat c.loop-person.person =
+        w.if-contains.ensures ∙ c.row-fitting.ensures.each c.loop-person.person in
+        absurd (cc) in
+        omega arith);
+  }
+]
+
+pub returns-in_err-try_person-clause-cost : goal.returns-in_err-try_person-clause-cost
+returns-in_err-try_person-clause-cost g c =
+    omega (arith, in_lower c.requires.seating c.requires.seat (c.loop-person.person + 1) c.index-person-end.ensures (omega arith))
+
+pub returns-then-branch-clause-cost : goal.returns-then-branch-clause-cost
+returns-then-branch-clause-cost g c =
+    omega (arith, in_lower c.requires.seating c.requires.seat (c.loop-person.person + 1) c.index-person-end.ensures (omega arith))
+
+pub returns-clause-cost : goal.returns-clause-cost
+returns-clause-cost g c =
+    omega (arith, in_lower c.requires.seating c.requires.seat c.loop-person.person c.index-person-end.ensures (omega arith))

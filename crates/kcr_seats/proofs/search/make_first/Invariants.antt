@@ -1,0 +1,10 @@
+use Rattle.std.proofs.Common.{◌+◌, ◌*◌, ◌≤◌}
+use Rattle.kcr_seats.specs.Search.{IsFirstBelow, lower_steps}
+use Rattle.kcr_seats.specs.Matrix.{fits_of, seats_of, people_of}
+use Rattle.kcr_seats.proofs.search.make_first.Given as goal
+
+abbrev pub invariant-loop-seat : goal.invariant-loop-seat
+invariant-loop-seat g l = record {
+  first : IsFirstBelow (fits_of l.table) (seats_of l.table) (people_of l.table) l.seat l.seating.items;
+  cost : l.turns ≤ l.fn.turns + l.seat * (1 + lower_steps (seats_of l.table) (people_of l.table));
+}
