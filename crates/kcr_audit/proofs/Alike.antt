@@ -13,10 +13,10 @@ use Rattle.kcr_base.proofs.Members.{IsIn, in-order, in-append, in-filter, filter
 use Rattle.kcr_base.specs.Same.{same_text}
 use Rattle.kcr_room.specs.declared.SheetRow.{SheetRow}
 use Rattle.kcr_room.specs.declared.Way.{Way}
-use Rattle.kcr_room.specs.Room.{enters, later, last_onto, last_row, last_enters, is_of, in_by, crowd_by}
-use Rattle.kcr_room.specs.Adding.{is_out_of_turn, is_out_of_turn_by, new_row}
+use Rattle.kcr_room.specs.Room.{enters, later_row, last_onto, last_row, last_enters, is_of, in_by, headcount_by}
+use Rattle.kcr_room.specs.Requests.{is_out_of_turn, is_out_of_turn_by, new_row}
 use Rattle.kcr_history.specs.declared.commands.Act.{Act}
-use Rattle.kcr_history.specs.declared.commands.Act.TheVariants.{Sheet}
+use Rattle.kcr_history.specs.declared.commands.Act.TheVariants.{RecordSheet}
 use Rattle.kcr_history.specs.History.{History}
 use Rattle.kcr_history.specs.Room.{sheet, sheet_after}
 use Rattle.kcr_history.specs.Conditions.{conditions, fault}
@@ -35,7 +35,7 @@ record Last (rows : List SheetRow) : Type 0 where
   top : (x : SheetRow) → IsIn x rows → x.at ≤ row.at
 
 -- of two rows the kept one is before the others
-last-over : (z y kept : SheetRow) (ys : List SheetRow) → later (Some z) y ≡ Some kept → (kept ≡ z) ⊎ (kept ≡ y) → z.at ≤ kept.at → y.at ≤ kept.at
+last-over : (z y kept : SheetRow) (ys : List SheetRow) → later_row (Some z) y ≡ Some kept → (kept ≡ z) ⊎ (kept ≡ y) → z.at ≤ kept.at → y.at ≤ kept.at
     → Last (kept ∷ ys) → Last (z ∷ y ∷ ys)
 last-over z y kept ys e from l m last = record { row = last.row; is = ap (λ o. last_onto o ys) e ∙ last.is; inside = inside from last.inside; top = top }
   where
@@ -66,7 +66,7 @@ last-there : (rows : List SheetRow) (x : SheetRow) → IsIn x rows → Last rows
 last-there [] x h = absurd h
 last-there (y ∷ ys) x h = last-of y ys
 
--- the last of rows that are alike where they share a moment tells the same in any order
+-- the last of rows that are alike if they share a moment tells the same in any order
 last-same : (c : ℕ) (rows shown : List SheetRow) → IsPermutation rows shown
     → ((r o : SheetRow) → IsIn r rows → IsIn o rows → r.at ≡ o.at → enters c r ≡ enters c o) → last_enters c (last_row rows) ≡ last_enters c (last_row shown)
 last-same c [] [] p alike = refl
@@ -136,8 +136,8 @@ alike-more rows c way at people turn alike r o h k same e d = by_parts (in-appen
     by_parts (inr g) (inr n) = ap (enters d) (new-of c way at people r g).2 ∙ sym (ap (enters d) (new-of c way at people o n).2)
 
 alike-after : (A : History) (act : Act) → fault A act ≡ None → AreAlike (sheet A) → AreAlike (sheet_after act (sheet A))
-alike-after A (Sheet c way people at) f ih =
-    let n = none_holds (conditions A (Sheet c way people at)) f in
+alike-after A (RecordSheet c way people at) f ih =
+    let n = none_holds (conditions A (RecordSheet c way people at)) f in
     alike-more (sheet A) c way at people (turns A c way at people (assumption n)) ih
 alike-after A act f ih = ih
 
@@ -151,5 +151,5 @@ module _ (A : History) (h : IsRegister A) (shown : List SheetRow) (p : IsPermuta
   pub shown-in : (who : List ℕ) (c t : ℕ) → in_by (sheet A) who c t ≡ in_by shown who c t
   shown-in = same-in (sheet A) shown (IsPermutation-trans (sheet A) (reverse (sheet A)) shown (IsPermutation-reverse (sheet A)) p) (alike A h)
 
-  pub shown-crowd : (c t : ℕ) → crowd_by shown c t ≡ crowd_by (sheet A) c t
+  pub shown-crowd : (c t : ℕ) → headcount_by shown c t ≡ headcount_by (sheet A) c t
   shown-crowd c t = ap length (same_room shown (sheet A) c t (λ who. sym (shown-in who c t)))

@@ -9,15 +9,15 @@ use Rattle.std.proofs.lemmas.Map.Views.{Contains-from_any}
 use Rattle.kcr_base.proofs.ListLemmas.{none-find, any-map, any-more}
 use Rattle.kcr_room.specs.declared.SheetRow.{SheetRow}
 use Rattle.kcr_room.specs.declared.Stay.{Stay}
-use Rattle.kcr_room.specs.Room.{crowd_by, Followed, followed_rows}
+use Rattle.kcr_room.specs.Room.{headcount_by, Followed, followed_rows}
 use Rattle.kcr_room.specs.Moments.{IsEver}
-use Rattle.kcr_room.specs.Stays.{holds, stays_of, stays_by, crowd_in_by, is_crowd_in_by, comings_by}
+use Rattle.kcr_room.specs.Stays.{stay_covers, stays_of, stays_by, headcount_in_by, is_crowd_in_by, comings_by}
 use Rattle.kcr_room.proofs.Followed.{followed-same}
 use Rattle.kcr_room.proofs.Agreement.{same-crowd}
 use Rattle.kcr_room.proofs.Moments.{crowded-is_ever}
 use Rattle.kcr_history.specs.declared.views.Finding.{Finding}
 use Rattle.kcr_history.specs.declared.views.Finding.TheVariants as Findings
-use Rattle.kcr_history.specs.declared.views.WholeView.{WholeView}
+use Rattle.kcr_history.specs.declared.views.FullView.{FullView}
 use Rattle.kcr_history.specs.Audit.{IsTrueOf, rank}
 use Rattle.kcr_audit.specs.Rooms.{IsSometime, IsSoughtAmong, is_lone, is_crowd, is_crowd_at}
 use Rattle.kcr_audit.proofs.Found.{is-found, counted-any}
@@ -34,13 +34,13 @@ stays-listed : (c : ℕ) (all : List Followed) → list_any (of_stay c) (stays_o
 stays-listed c [] h = h
 stays-listed c (followed ∷ all) h = grind (arith, h, stays-listed c all)
 
--- where somebody is in the room the ceremony has a row
-crowd-listed : (rows : List SheetRow) (c t : ℕ) → 1 ≤ crowd_by rows c t → Contains (map (λ row. row.ceremony) rows) c
+-- if somebody is in the room the ceremony has a row
+crowd-listed : (rows : List SheetRow) (c t : ℕ) → 1 ≤ headcount_by rows c t → Contains (map (λ row. row.ceremony) rows) c
 crowd-listed rows c t h =
     let e = same-crowd rows c t in
-    let held : list_any (holds c t) (stays_by rows) ≡ true = counted-any (holds c t) (stays_by rows)
-    (let k : 1 ≤ crowd_in_by (stays_by rows) c t = omega arith in k) in
-    let some : list_any (of_stay c) (stays_by rows) ≡ true = any-more (holds c t) (of_stay c) (stays_by rows)
+    let held : list_any (stay_covers c t) (stays_by rows) ≡ true = counted-any (stay_covers c t) (stays_by rows)
+    (let k : 1 ≤ headcount_in_by (stays_by rows) c t = omega arith in k) in
+    let some : list_any (of_stay c) (stays_by rows) ≡ true = any-more (stay_covers c t) (of_stay c) (stays_by rows)
     (λ stay g. (and_parts (of_stay c stay) (_) (and_parts _ _ g).0).0) held in
     Contains-from_any {eq = λ m n. n == m} (λ x y e. sym (eqb-true y x e)) c (map (λ row. row.ceremony) rows)
     (any-map (λ n. n == c) (λ row. row.ceremony) rows
@@ -50,22 +50,22 @@ crowd-listed rows c t h =
 pub none-listed : (test : List SheetRow → ℕ → ℕ → Bool) (sheet all rows : List SheetRow) (numbers list : List ℕ) (found : Option (ℕ × ℕ)) → all ≡ sheet
     → rows ≡ sheet → list ≡ numbers → found ≡ None
     → ((c : ℕ) → Contains (map (λ row. row.ceremony) all) c → Contains numbers c) → IsSoughtAmong (test rows) list found
-    → (c t : ℕ) → 1 ≤ crowd_by sheet c t → test sheet c t ≡ false
+    → (c t : ℕ) → 1 ≤ headcount_by sheet c t → test sheet c t ≡ false
 none-listed test sheet all rows numbers list found e f g h listed none c t some =
     let among = rw (f, g, h) at none in
     All-contains (λ c. (t : ℕ) → test sheet c t ≡ false) numbers c among (listed c (rw e (crowd-listed sheet c t some))) t
 
-pub none-lone : (view : WholeView) → ((c t : ℕ) → 1 ≤ crowd_by view.sheet.items c t → is_lone view.sheet.items c t ≡ false) → (finding : Finding)
+pub none-lone : (view : FullView) → ((c t : ℕ) → 1 ≤ headcount_by view.sheet.items c t → is_lone view.sheet.items c t ≡ false) → (finding : Finding)
     → rank finding ≡ 4 → IsTrueOf view finding → ⊥
-none-lone view none (Findings.Lone c t) r h = true≢false (sym (eq-eqb (crowd_by view.sheet.items c t) 1 h) ∙ none c t (omega (arith, h)))
+none-lone view none (Findings.Lone c t) r h = true≢false (sym (eq-eqb (headcount_by view.sheet.items c t) 1 h) ∙ none c t (omega (arith, h)))
 none-lone view none other r h = omega (arith, r)
 
-pub none-crowd : (view : WholeView) → ((c t : ℕ) → 1 ≤ crowd_by view.sheet.items c t → is_crowd view.sheet.items c t ≡ false) → (finding : Finding)
+pub none-crowd : (view : FullView) → ((c t : ℕ) → 1 ≤ headcount_by view.sheet.items c t → is_crowd view.sheet.items c t ≡ false) → (finding : Finding)
     → rank finding ≡ 5 → IsTrueOf view finding → ⊥
-none-crowd view none (Findings.Crowd c t) r h = let few = ltb-false 128 (crowd_by view.sheet.items c t) (none c t (omega (arith, h))) in omega (arith, h, few)
+none-crowd view none (Findings.Crowd c t) r h = let few = ltb-false 128 (headcount_by view.sheet.items c t) (none c t (omega (arith, h))) in omega (arith, h, few)
 none-crowd view none other r h = omega (arith, r)
 
--- where there are not too many at the beginning of any stay there are not where somebody comes
+-- if there are not too many at the beginning of any stay there are not if somebody comes
 none-coming : (all stays : List Stay) (c : ℕ) → list_any (is_crowd_at all c) stays ≡ false → list_any (is_crowd_in_by all c) (comings_by stays c) ≡ false
 none-coming all [] c h = refl
 none-coming all (stay ∷ stays) c h = grind (arith, h, none-coming all stays c)

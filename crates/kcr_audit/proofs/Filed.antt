@@ -6,46 +6,46 @@ use Rattle.std.specs.List.{list_all, list_any}
 use Rattle.std.proofs.lemmas.Bool.{cond_both, true≢false, and_parts, eqb-true, eq-eqb, not-false, and_right}
 use Rattle.kcr_base.proofs.RefuseLemmas.{none_holds, unmet}
 use Rattle.kcr_base.proofs.RowsLemmas.{filter-order}
-use Rattle.kcr_base.specs.Rows.{or_else}
+use Rattle.kcr_base.specs.Rows.{option_or}
 use Rattle.kcr_base.specs.declared.place.Role.TheVariants.{Ca, Iw}
 use Rattle.kcr_base.specs.declared.refusal.Refusal.TheVariants.{Unknown}
 use Rattle.kcr_base.specs.declared.refusal.Thing.TheVariants as Things
 use Rattle.kcr_script.specs.declared.seat.Seat.{Seat}
 use Rattle.kcr_script.specs.declared.seat.Seat.TheVariants.{Staff}
 use Rattle.kcr_history.specs.declared.commands.Act.{Act}
-use Rattle.kcr_history.specs.declared.commands.Act.TheVariants.{Sign, Except}
-use Rattle.kcr_history.specs.declared.commands.Answer.{Answer}
-use Rattle.kcr_history.specs.declared.rows.SeatingRow.{SeatingRow}
-use Rattle.kcr_history.specs.declared.rows.StepState.{StepState}
-use Rattle.kcr_history.specs.declared.rows.StepState.TheVariants.{Signed, Passed, Undone}
-use Rattle.kcr_history.specs.History.{History, stacked_on}
+use Rattle.kcr_history.specs.declared.commands.Act.TheVariants.{Sign, RecordException}
+use Rattle.kcr_history.specs.declared.commands.ReplyData.{ReplyData}
+use Rattle.kcr_history.specs.declared.row_types.SeatingRow.{SeatingRow}
+use Rattle.kcr_history.specs.declared.row_types.StepState.{StepState}
+use Rattle.kcr_history.specs.declared.row_types.StepState.TheVariants.{Signed, Passed, Undone}
+use Rattle.kcr_history.specs.History.{History, pushed_onto}
 use Rattle.kcr_history.specs.Ceremonies.{Planned, planned_as, plan_of, is_ceremony, steps_of, steps_done, next_step}
 use Rattle.kcr_history.specs.Seating.{is_seating}
-use Rattle.kcr_history.specs.Tables.{step_done, fate_of, seats_at, seatings, seat_rows, seating_rows, ceremony_of_step, ceremony_row, step_row, step_keys}
+use Rattle.kcr_history.specs.Tables.{step_done, step_result, seats_at, seatings, seat_rows, seating_rows, ceremony_of_step, ceremony_row, step_row, step_keys}
 use Rattle.kcr_history.specs.Tables.{steps, tables, SameTables}
 use Rattle.kcr_history.specs.Conditions.{conditions, fault, no_ceremony}
 use Rattle.kcr_history.specs.Laws.{is_seated}
-use Rattle.kcr_history.specs.Machine.{answer_to, sitting, IsRegister}
+use Rattle.kcr_history.specs.Machine.{reply_to, seat_request, IsRegister}
 use Rattle.kcr_history.specs.declared.commands.Entry.{Entry}
 use Rattle.kcr_history.proofs.Steps.{Took, took}
 use Rattle.kcr_history.proofs.Piled.{filter-stacked, stacked-alone}
 use Rattle.kcr_laws.proofs.Done.{next_signed, next-undone}
 use Rattle.std.specs.List.Sorted.{IsPermutation}
 use Rattle.std.proofs.lemmas.List.Sorted.{list_any-IsPermutation, IsPermutation-trans}
-use Rattle.kcr_history.specs.declared.rows.StepRow.{StepRow}
+use Rattle.kcr_history.specs.declared.row_types.StepRow.{StepRow}
 use Rattle.kcr_history.specs.declared.views.Finding.TheVariants as Findings
-use Rattle.kcr_history.specs.declared.views.WholeView.{WholeView}
-use Rattle.kcr_history.specs.Audit.{IsTrueOf, is_done, are_numbered, is_well_seated, is_seating_by, ceremony_in, is_ill_seated}
+use Rattle.kcr_history.specs.declared.views.FullView.{FullView}
+use Rattle.kcr_history.specs.Audit.{IsTrueOf, is_done, are_numbered, has_valid_seating, is_seating_by, ceremony_in, has_invalid_seating}
 use Rattle.kcr_history.specs.Prints.{seatings_at, seated_at, seats_filled}
 use Rattle.kcr_laws.proofs.Seated.{seated}
-use Rattle.kcr_audit.specs.Whole.{tables_of}
+use Rattle.kcr_audit.specs.Views.{tables_of}
 use Rattle.kcr_audit.proofs.Placed.{seats-in-order, people-of-seats, seats-numbered}
 use Rattle.kcr_audit.proofs.Fitting.{ceremony-found, seating-same}
 
 abbrev pub is_of : ℕ → ℕ → SeatingRow → Bool
 is_of c k row = row.ceremony == c && row.step == k
 
--- the seats that are filled where a step becomes so
+-- the seats that are filled if a step becomes so
 abbrev pub seats_for : StepState → List Seat → List Seat
 seats_for Passed seats = Staff Ca ∷ Staff Iw ∷ []
 seats_for other seats = seats
@@ -62,7 +62,7 @@ own-rows c k i (who ∷ people) = rw (eq-eqb c c refl, eq-eqb k k refl)
     (ap (λ rows. record { ceremony = c; step = k; seat = suc i; who = who } ∷ rows) (own-rows c k (suc i) people))
 
 -- the rows that an answer files
-abbrev filed_by : Act → Answer → List SeatingRow
+abbrev filed_by : Act → ReplyData → List SeatingRow
 filed_by act answer = seating_rows (ceremony_of_step act) answer.step answer.seating
 
 -- the people fill the seats of the step by the history, when it became so
@@ -78,10 +78,10 @@ record Does (A B : History) (c k : ℕ) (fate : StepState × ℕ) (rows : List S
   next : k ≡ suc (steps_done B c)
 
 -- the answer's people are a seating by A for what the command signs or passes
-abbrev IsSeated : History → Act → Answer → Type 0
-IsSeated A act answer = is_seated A (sitting A act) answer.seating ≡ true
+abbrev IsSeated : History → Act → ReplyData → Type 0
+IsSeated A act answer = is_seated A (seat_request A act) answer.seating ≡ true
 
--- what a command files of the step: no row where it does not do it, and the people's rows where it does and they are seated
+-- what a command files of the step: no row if it does not do it, and the people's rows if it does and they are seated
 abbrev Files : History → History → ℕ → ℕ → List SeatingRow → Type 0 → Option (StepState × ℕ) → Type 0
 Files A B c k rows Seated None = filter (is_of c k) rows ≡ []
 Files A B c k rows Seated (Some fate) = Seated → Does A B c k fate rows
@@ -106,53 +106,53 @@ module _ (A B : History) (c k : ℕ) where
           (record { people = people; filed = own-rows c k 0 people; seated = rw (e, f) at s; planned = rw e at (is-planned B d n); next = rw (e, f) at next }))
 
   files_to : (act : Act) (people : Option (List (List ℕ))) → fault B act ≡ None
-      → Files A B c k (filed_by act (answer_to B act people)) (IsSeated A act (answer_to B act people)) (step_done c k act (answer_to B act people).step)
+      → Files A B c k (filed_by act (reply_to B act people)) (IsSeated A act (reply_to B act people)) (step_done c k act (reply_to B act people).step)
   files_to (Sign d step at) None f = files_none (d == c && step == k) (Signed, at)
   files_to (Sign d step at) (Some people) f = files_rows d step (Signed, at) people (none_holds (conditions B (Sign d step at)) f).0 (next_signed B d step at f)
-  files_to (Except d text true at) None f = files_none (d == c && next_step B d == k) (Passed, at)
-  files_to (Except d text true at) (Some people) f = files_rows d (next_step B d) (Passed, at) people
-      (none_holds (conditions B (Except d text true at)) f).0 refl
+  files_to (RecordException d text true at) None f = files_none (d == c && next_step B d == k) (Passed, at)
+  files_to (RecordException d text true at) (Some people) f = files_rows d (next_step B d) (Passed, at) people
+      (none_holds (conditions B (RecordException d text true at)) f).0 refl
   files_to act people f = refl
 
   files : (entry : Entry) → Took B entry
       → Files A B c k (filed_by entry.command.act entry.answer) (IsSeated A entry.command.act entry.answer) (step_done c k entry.command.act entry.answer.step)
   files entry t =
       let act = entry.command.act in
-      subst (λ (a : Answer). Files A B c k (filed_by act a) (IsSeated A act a) (step_done c k act a.step)) (sym t.answer) (files_to act t.people t.no_fault)
+      subst (λ (a : ReplyData). Files A B c k (filed_by act a) (IsSeated A act a) (step_done c k act a.step)) (sym t.answer) (files_to act t.people t.no_fault)
 
--- where none is told now or before, none was told before
-or-none : {X : Type 0} (a b : Option X) → or_else a b ≡ None → (a ≡ None) × (b ≡ None)
+-- if none is told now or before, none was told before
+or-none : {X : Type 0} (a b : Option X) → option_or a b ≡ None → (a ≡ None) × (b ≡ None)
 or-none None b e = (refl, e)
 or-none (Some x) b e = absurd (let f : Some x ≡ None = e in cc)
 
 -- of a step that is not done no row is filed
-none-filed : (A B : History) → IsRegister B → (c k : ℕ) → fate_of B c k ≡ None → filter (is_of c k) (seatings B) ≡ []
+none-filed : (A B : History) → IsRegister B → (c k : ℕ) → step_result B c k ≡ None → filter (is_of c k) (seatings B) ≡ []
 none-filed A [] h c k e = refl
 none-filed A (entry ∷ B) h c k e =
-    let n = or-none (step_done c k entry.command.act entry.answer.step) (fate_of B c k) e in
+    let n = or-none (step_done c k entry.command.act entry.answer.step) (step_result B c k) e in
     let mine = filed_by entry.command.act entry.answer in
     let none : filter (is_of c k) (filed_by entry.command.act entry.answer) ≡ [] = rw n.0 at (files A B c k entry (took B entry h.0)) in
-    filter-stacked (is_of c k) mine (seatings B) ∙ ap (λ rows. stacked_on rows (filter (is_of c k) (seatings B))) none ∙ none-filed A B h.1 c k n.1
+    filter-stacked (is_of c k) mine (seatings B) ∙ ap (λ rows. pushed_onto rows (filter (is_of c k) (seatings B))) none ∙ none-filed A B h.1 c k n.1
 
 -- the rows of a step that became so are those of people who are a seating by A, in a planned ceremony
 pub record IsFiled (A B : History) (c k : ℕ) (fate : StepState × ℕ) : Type 0 where
   pub people : List (List ℕ)
-  pub filed : filter (is_of c k) (seatings B) ≡ stacked_on (seat_rows c k 0 people) []
+  pub filed : filter (is_of c k) (seatings B) ≡ pushed_onto (seat_rows c k 0 people) []
   pub seated : Fill A c k fate people
   pub planned : is_ceremony B c ≡ true
 
 still-planned : (c : ℕ) (entry : Entry) (B : History) → is_ceremony B c ≡ true → is_ceremony (entry ∷ B) c ≡ true
 still-planned c entry B = still (planned_as c entry.command.act) (plan_of B c)
   where
-    still : (o p : Option Planned) → is_some p ≡ true → is_some (or_else o p) ≡ true
+    still : (o p : Option Planned) → is_some p ≡ true → is_some (option_or o p) ≡ true
     still None p g = g
     still (Some x) p g = refl
 
 abbrev all_seated : History → History → Bool
-all_seated A entries = list_all (λ entry. is_seated A (sitting A entry.command.act) entry.answer.seating) entries
+all_seated A entries = list_all (λ entry. is_seated A (seat_request A entry.command.act) entry.answer.seating) entries
 
--- each step that is done is so filed, where each recorded seating is one by A
-pub filed : (A B : History) → IsRegister B → all_seated A B ≡ true → (c k : ℕ) (fate : StepState × ℕ) → fate_of B c k ≡ Some fate → IsFiled A B c k fate
+-- each step that is done is so filed, if each recorded seating is one by A
+pub filed : (A B : History) → IsRegister B → all_seated A B ≡ true → (c k : ℕ) (fate : StepState × ℕ) → step_result B c k ≡ Some fate → IsFiled A B c k fate
 filed A [] h s c k fate e = absurd (let f : None ≡ Some fate = e in cc)
 filed A (entry ∷ B) h s c k fate e =
     by_done (step_done c k entry.command.act entry.answer.step) (files A B c k entry (took B entry h.0)) e (filed A B h.1 parts.1 c k fate)
@@ -161,17 +161,17 @@ filed A (entry ∷ B) h s c k fate e =
     mine = filed_by entry.command.act entry.answer
 
     parts : IsSeated A entry.command.act entry.answer × (all_seated A B ≡ true)
-    parts = and_parts (is_seated A (sitting A entry.command.act) entry.answer.seating) (all_seated A B) s
+    parts = and_parts (is_seated A (seat_request A entry.command.act) entry.answer.seating) (all_seated A B) s
 
     stack : (front back : List SeatingRow) → filter (is_of c k) mine ≡ front → filter (is_of c k) (seatings B) ≡ back
-        → filter (is_of c k) (seatings (entry ∷ B)) ≡ stacked_on front back
+        → filter (is_of c k) (seatings (entry ∷ B)) ≡ pushed_onto front back
     stack front back p q = filter-stacked (is_of c k) mine (seatings B) ∙ rw (p, q) refl
 
-    by_done : (o : Option (StepState × ℕ)) → Files A B c k mine (IsSeated A entry.command.act entry.answer) o → or_else o (fate_of B c k) ≡ Some fate
-        → (fate_of B c k ≡ Some fate → IsFiled A B c k fate) → IsFiled A (entry ∷ B) c k fate
+    by_done : (o : Option (StepState × ℕ)) → Files A B c k mine (IsSeated A entry.command.act entry.answer) o → option_or o (step_result B c k) ≡ Some fate
+        → (step_result B c k ≡ Some fate → IsFiled A B c k fate) → IsFiled A (entry ∷ B) c k fate
     by_done None none g ih = let old = ih g in record {
       people = old.people;
-      filed = stack [] (stacked_on (seat_rows c k 0 old.people) []) none old.filed;
+      filed = stack [] (pushed_onto (seat_rows c k 0 old.people) []) none old.filed;
       seated = old.seated;
       planned = still-planned c entry B old.planned;
     }
@@ -189,7 +189,7 @@ filed A (entry ∷ B) h s c k fate e =
 
 -- in whatever order they come, the rows of a step are those of its seats, and its people theirs
 rows-placed : (table shown : List SeatingRow) → IsPermutation table shown → (c k : ℕ) (people : List (List ℕ))
-    → filter (is_of c k) table ≡ stacked_on (seat_rows c k 0 people) [] → seatings_at shown c k ≡ seat_rows c k 0 people
+    → filter (is_of c k) table ≡ pushed_onto (seat_rows c k 0 people) [] → seatings_at shown c k ≡ seat_rows c k 0 people
 rows-placed table shown p c k people e =
     let own = seat_rows c k 0 people in
     seats-in-order c k 0 people (filter (is_of c k) shown)
@@ -199,40 +199,40 @@ rows-placed table shown p c k people e =
 abbrev row_with : History → ℕ × ℕ → Option (StepState × ℕ) → StepRow
 row_with A key fate = record (step_row A key) { state = unwrap_or (option_map (λ said. said.0) fate) Undone; at = option_map (λ said. said.1) fate }
 
-module _ (A : History) (h : IsRegister A) (view : WholeView) (same : SameTables (tables A) (tables_of view)) where
-  -- a step that is done is well seated, where its seats are those that its state asks for
-  well : (key : ℕ × ℕ) (state : StepState) (at : ℕ) → fate_of A key.0 key.1 ≡ Some (state, at)
+module _ (A : History) (h : IsRegister A) (view : FullView) (same : SameTables (tables A) (tables_of view)) where
+  -- a step that is done is well seated, if its seats are those that its state asks for
+  well : (key : ℕ × ℕ) (state : StepState) (at : ℕ) → step_result A key.0 key.1 ≡ Some (state, at)
       → seats_filled (row_with A key (Some (state, at))) ≡ seats_for state (seats_at (steps_of A key.0) key.1)
-      → is_well_seated view (row_with A key (Some (state, at))) (ceremony_in view key.0) (Some at) ≡ true
+      → has_valid_seating view (row_with A key (Some (state, at))) (ceremony_in view key.0) (Some at) ≡ true
   well key state at e s =
       let as_filed = filed A A h (seated A h) key.0 key.1 (state, at) e in
-      let rows = rows-placed (seatings A) view.asked.seatings.items same.seatings key.0 key.1 as_filed.people as_filed.filed in
+      let rows = rows-placed (seatings A) view.view.seatings.items same.seatings key.0 key.1 as_filed.people as_filed.filed in
       let row = row_with A key (Some (state, at)) in
-      ap (λ o. is_well_seated view row o (Some at)) (ceremony-found A view same.ceremonies key.0 as_filed.planned)
-      ∙ ap (λ b. b && is_seating_by view (ceremony_row A key.0) at (seats_filled row) (seated_at view.asked.seatings.items key.0 key.1))
+      ap (λ o. has_valid_seating view row o (Some at)) (ceremony-found A view same.ceremonies key.0 as_filed.planned)
+      ∙ ap (λ b. b && is_seating_by view (ceremony_row A key.0) at (seats_filled row) (seated_at view.view.seatings.items key.0 key.1))
       (ap (are_numbered 1) rows ∙ seats-numbered key.0 key.1 0 as_filed.people)
-      ∙ seating-same A h view same key.0 at (seats_filled row) (seated_at view.asked.seatings.items key.0 key.1)
-      ∙ ap (λ seats. is_seating A key.0 at seats (seated_at view.asked.seatings.items key.0 key.1)) s
+      ∙ seating-same A h view same key.0 at (seats_filled row) (seated_at view.view.seatings.items key.0 key.1)
+      ∙ ap (λ seats. is_seating A key.0 at seats (seated_at view.view.seatings.items key.0 key.1)) s
       ∙ ap (is_seating A key.0 at (seats_for state (seats_at (steps_of A key.0) key.1)))
       (ap (map (λ row. row.who)) rows ∙ people-of-seats key.0 key.1 0 as_filed.people)
       ∙ as_filed.seated
 
-  none-ill : (c s : ℕ) (key : ℕ × ℕ) → is_ill_seated view c s (step_row A key) ≡ false
-  none-ill c s key = by_fate (fate_of A key.0 key.1) refl
+  none-ill : (c s : ℕ) (key : ℕ × ℕ) → has_invalid_seating view c s (step_row A key) ≡ false
+  none-ill c s key = by_fate (step_result A key.0 key.1) refl
     where
       undone : (w : Bool) → (key.0 == c && key.1 == s && false && w) ≡ false
       undone w = ap (λ b. b && w) (and_right (key.0 == c && key.1 == s) false refl)
 
-      by_fate : (o : Option (StepState × ℕ)) → fate_of A key.0 key.1 ≡ o → is_ill_seated view c s (row_with A key o) ≡ false
+      by_fate : (o : Option (StepState × ℕ)) → step_result A key.0 key.1 ≡ o → has_invalid_seating view c s (row_with A key o) ≡ false
       by_fate None e = undone _
       by_fate (Some (Undone, at)) e = undone _
       by_fate (Some (state, at)) e = and_right (key.0 == c && key.1 == s && is_done state) _ (ap not (well key state at e refl))
 
-  none-of-steps : (c s : ℕ) (keys : List (ℕ × ℕ)) → list_any (is_ill_seated view c s) (map (step_row A) keys) ≡ false
+  none-of-steps : (c s : ℕ) (keys : List (ℕ × ℕ)) → list_any (has_invalid_seating view c s) (map (step_row A) keys) ≡ false
   none-of-steps c s [] = refl
   none-of-steps c s (key ∷ keys) = rw (none-ill c s key, none-of-steps c s keys) refl
 
   -- no step of a register is ill seated
   pub no-seating : (c s : ℕ) → IsTrueOf view (Findings.Seating c s) → ⊥
   no-seating c s t = true≢false
-      (sym t ∙ sym (list_any-IsPermutation (is_ill_seated view c s) (steps A) view.asked.steps.items same.steps) ∙ none-of-steps c s (step_keys A))
+      (sym t ∙ sym (list_any-IsPermutation (has_invalid_seating view c s) (steps A) view.view.steps.items same.steps) ∙ none-of-steps c s (step_keys A))

@@ -18,13 +18,13 @@ use Rattle.kcr_custody.specs.declared.Spot.TheVariants.{InBox, Spent}
 use Rattle.kcr_base.specs.declared.place.Facility.TheVariants.{East}
 use Rattle.kcr_base.proofs.SameLemmas.{same-is, same-itself, same-turned}
 use Rattle.kcr_base.proofs.ListLemmas.{any-same, any-map, any-more}
-use Rattle.kcr_history.specs.declared.rows.KeyRow.{KeyRow}
+use Rattle.kcr_history.specs.declared.row_types.KeyRow.{KeyRow}
 use Rattle.kcr_history.specs.declared.views.Finding.TheVariants as Findings
-use Rattle.kcr_history.specs.declared.views.WholeView.{WholeView}
-use Rattle.kcr_room.specs.Room.{crowd_by}
+use Rattle.kcr_history.specs.declared.views.FullView.{FullView}
+use Rattle.kcr_room.specs.Room.{headcount_by}
 use Rattle.kcr_history.specs.declared.views.Finding.{Finding}
-use Rattle.kcr_history.specs.Audit.{IsTrueOf, is_doubled, is_bag_there, is_lost, is_unboxed}
-use Rattle.kcr_history.specs.History.{History, all_said}
+use Rattle.kcr_history.specs.Audit.{IsTrueOf, is_duplicate, is_bag_there, is_lost, is_in_missing_box}
+use Rattle.kcr_history.specs.History.{History, values_of_acts}
 use Rattle.kcr_history.specs.Custody.{spot, rest}
 use Rattle.kcr_history.specs.Laws.{is_kept, has_its_box}
 use Rattle.kcr_history.specs.Tables.{boxes, bags, bag_row, sealed_serial, item_row, added_item, keys, key_row, tables, SameTables}
@@ -33,14 +33,14 @@ use Rattle.kcr_laws.proofs.Once.{once}
 use Rattle.kcr_laws.proofs.Balance.{balanced}
 use Rattle.kcr_laws.proofs.Alone.{rooms}
 use Rattle.kcr_audit.proofs.Alike.{shown-crowd}
-use Rattle.kcr_audit.specs.Whole.{tables_of}
+use Rattle.kcr_audit.specs.Views.{tables_of}
 use Rattle.kcr_audit.proofs.Found.{none-counted}
 use Rattle.kcr_laws.proofs.Stored.{sealed_somewhere, box-there}
 use Rattle.kcr_audit.proofs.Filed.{no-seating}
 
 -- DOUBLED
 
--- where all texts differ, at most one row has the text
+-- if all texts differ, at most one row has the text
 differ-once : {X : Type 0} (key : X → List ℕ) (text : List ℕ) (xs : List X) → all_differ (map key xs) ≡ true → count_by (λ x. same_text (key x) text) xs ≤ 1
 differ-once key text [] h = omega arith
 differ-once key text (x ∷ xs) h = by_test (same_text (key x) text) refl (differ-once key text xs p.1)
@@ -59,7 +59,7 @@ differ-once key text (x ∷ xs) h = by_test (same_text (key x) text) refl (diffe
     by_test false e ih = let next = count-cons (λ y. same_text (key y) text) x xs false e in omega arith
 
 not-doubled : {X : Type 0} (key : X → List ℕ) (text : List ℕ) (rows shown : List X) → all_differ (map key rows) ≡ true → IsPermutation rows shown
-    → is_doubled (λ x. same_text (key x) text) shown ≡ true → ⊥
+    → is_duplicate (λ x. same_text (key x) text) shown ≡ true → ⊥
 not-doubled key text rows shown h p d =
     let once = differ-once key text rows h in
     let same : count_by (λ x. same_text (key x) text) shown ≡ count_by (λ x. same_text (key x) text) rows =
@@ -69,7 +69,7 @@ not-doubled key text rows shown h p d =
 
 -- ROWS THAT ARE MADE OF TEXTS
 
--- where none of the texts makes a row that passes, none of the rows does
+-- if none of the texts makes a row that passes, none of the rows does
 none-made : {X : Type 0} (p : X → Bool) (make : List ℕ → X) (texts : List (List ℕ))
     → ((text : List ℕ) → list_any (same_text text) texts ≡ true → p (make text) ≡ false) → list_any p (map make texts) ≡ false
 none-made p make [] f = refl
@@ -88,13 +88,13 @@ own-texts : {X : Type 0} (key : X → List ℕ) (make : List ℕ → X) (texts :
 own-texts key make [] own = refl
 own-texts key make (text ∷ texts) own = rw (own text, own-texts key make texts own)
 
--- where one row is made of each text, the texts differ and no row that is made is bad, none is to be told of
+-- if one row is made of each text, the texts differ and no row that is made is bad, none is to be told of
 none-wrong : {X : Type 0} (key : X → List ℕ) (make : List ℕ → X) (bad : X → Bool) (texts : List (List ℕ)) (shown : List X)
     → ((text : List ℕ) → key (make text) ≡ text) → all_differ texts ≡ true → IsPermutation (map make texts) shown
     → ((text : List ℕ) → list_any (same_text text) texts ≡ true → bad (make text) ≡ false) → (text : List ℕ)
-    → (is_doubled (λ x. same_text (key x) text) shown || list_any (λ x. same_text (key x) text && bad x) shown) ≡ true → ⊥
+    → (is_duplicate (λ x. same_text (key x) text) shown || list_any (λ x. same_text (key x) text && bad x) shown) ≡ true → ⊥
 none-wrong key make bad texts shown own differ p good text t =
-    elim (or_cases (is_doubled (λ x. same_text (key x) text) shown) (list_any (λ x. same_text (key x) text && bad x) shown) t) [
+    elim (or_cases (is_duplicate (λ x. same_text (key x) text) shown) (list_any (λ x. same_text (key x) text && bad x) shown) t) [
       | inl d ↦ not-doubled key text (map make texts) shown (ap all_differ (own-texts key make texts own) ∙ differ) p d
       | inr w ↦
           true≢false (sym w ∙ sym (list_any-IsPermutation (λ x. same_text (key x) text && bad x) (map make texts) shown p)
@@ -108,10 +108,10 @@ holding : (o : Option Spot) → holds_items o ≡ true → (is_some o ≡ true) 
 holding None h = absurd (true≢false (sym h))
 holding (Some s) h = (refl, h)
 
-module _ (A : History) (h : IsRegister A) (view : WholeView) (same : SameTables (tables A) (tables_of view)) where
+module _ (A : History) (h : IsRegister A) (view : FullView) (same : SameTables (tables A) (tables_of view)) where
   -- a bag of the register is in a box that is there
-  boxed-bag : (o : Option Spot) → has_its_box A o ≡ true → is_unboxed view (unwrap_or o Spent) ≡ false
-  boxed-bag (Some (InBox f n)) e = ap not (sym (list_any-IsPermutation (is_box f n) (boxes A) view.asked.boxes.items same.boxes) ∙ box-there A f n ∙ e)
+  boxed-bag : (o : Option Spot) → has_its_box A o ≡ true → is_in_missing_box view (unwrap_or o Spent) ≡ false
+  boxed-bag (Some (InBox f n)) e = ap not (sym (list_any-IsPermutation (is_box f n) (boxes A) view.view.boxes.items same.boxes) ∙ box-there A f n ∙ e)
   boxed-bag other e = refl
 
   -- a bag of the register that is not spent is there
@@ -119,8 +119,8 @@ module _ (A : History) (h : IsRegister A) (view : WholeView) (same : SameTables 
   bag-there serial e =
       let held = holding (spot A serial) e in
       let there = and_from (same_text serial serial) (holds_items (Some (unwrap_or (spot A serial) Spent))) (same-itself serial) held.1 in
-      sym (list_any-IsPermutation is_there (bags A) view.asked.bags.items same.bags)
-      ∙ one-made is_there (bag_row A) serial (all_said sealed_serial A) (sealed_somewhere A h serial ∙ held.0) there
+      sym (list_any-IsPermutation is_there (bags A) view.view.bags.items same.bags)
+      ∙ one-made is_there (bag_row A) serial (values_of_acts sealed_serial A) (sealed_somewhere A h serial ∙ held.0) there
     where
       is_there : Bag → Bool
       is_there bag = same_text bag.serial serial && holds_items (Some bag.spot)
@@ -132,10 +132,10 @@ module _ (A : History) (h : IsRegister A) (view : WholeView) (same : SameTables 
   pub passing : (finding : Finding) → IsTrueOf view finding → ⊥
   passing (Findings.Seating c s) t = no-seating A h view same c s t
   passing (Findings.Custody item) t =
-      none-wrong (λ row. row.code) (item_row A) (λ row. is_lost view row.rest) (all_said added_item A) view.asked.items.items (λ i. refl)
+      none-wrong (λ row. row.code) (item_row A) (λ row. is_lost view row.rest) (values_of_acts added_item A) view.view.items.items (λ i. refl)
       (balanced A h).added_once same.items (λ i m. kept-item (rest A i) (((balanced A h).added_kept i).0 m)) item t
   passing (Findings.Bag serial) t =
-      none-wrong (λ row. row.serial) (bag_row A) (λ row. is_unboxed view row.spot) (all_said sealed_serial A) view.asked.bags.items (λ s. refl)
+      none-wrong (λ row. row.serial) (bag_row A) (λ row. is_in_missing_box view row.spot) (values_of_acts sealed_serial A) view.view.bags.items (λ s. refl)
       (balanced A h).sealed_once same.bags (λ s m. boxed-bag (spot A s) ((balanced A h).boxed s)) serial t
   passing (Findings.Key key) t =
       not-doubled (λ row. row.key) key (keys A) view.keys.items (ap all_differ (map-map (λ (row : KeyRow). row.key) key_row A) ∙ once A h) same.keys t
@@ -143,5 +143,5 @@ module _ (A : History) (h : IsRegister A) (view : WholeView) (same : SameTables 
   passing (Findings.Crowd c m) t =
       let e = shown-crowd A h view.sheet.items same.sheet c m in
       let few = (rooms A h c m).1 in
-      let many : 128 < crowd_by view.sheet.items c m = t in
+      let many : 128 < headcount_by view.sheet.items c m = t in
       omega arith

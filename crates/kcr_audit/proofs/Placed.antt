@@ -4,10 +4,10 @@ use Rattle.std.specs.List.Sorted.{IsPermutation}
 use Rattle.std.proofs.lemmas.Bool.{cases_order, ltb-true, ltb-false, lt-ltb, le-ltb, eq-eqb}
 use Rattle.kcr_base.proofs.RowsLemmas.{Shuffled, shuffled, nothing, under, flipped, after}
 use Rattle.kcr_base.proofs.Members.{IsIn, in-shuffled}
-use Rattle.kcr_history.specs.declared.rows.SeatingRow.{SeatingRow}
+use Rattle.kcr_history.specs.declared.row_types.SeatingRow.{SeatingRow}
 use Rattle.kcr_history.specs.Tables.{seat_rows}
 use Rattle.kcr_history.specs.Audit.{are_numbered}
-use Rattle.kcr_audit.specs.Wrongs.{put_row, rows_in_order}
+use Rattle.kcr_audit.specs.Defects.{put_row, rows_in_order}
 
 -- BY SEATS
 
@@ -23,7 +23,7 @@ put-apart x y (z ∷ zs) l = by_tests (nat_lt z.seat x.seat) (nat_lt z.seat y.se
     by_tests false false e f ih = rw (le-ltb y.seat x.seat (omega arith), lt-ltb x.seat y.seat l, f) refl
     by_tests true false e f ih = absurd (let m = ltb-true z.seat x.seat e in let n = ltb-false z.seat y.seat f in omega arith)
 
--- two rows put in their places in either order, where they are one if they have one seat
+-- two rows put in their places in either order, if they are one if they have one seat
 put-both : (x y : SeatingRow) (zs : List SeatingRow) → (x.seat ≡ y.seat → x ≡ y)
     → put_row x (put_row y zs) ≡ put_row y (put_row x zs)
 put-both x y zs same = elim (cases_order x.seat y.seat) [

@@ -7,12 +7,12 @@ use Rattle.std.proofs.lemmas.List.Folds.{list_any_more}
 use Rattle.std.proofs.lemmas.List.Sums.{count_by_more_yes, count_by_more_no, sum_by-take-le}
 use Rattle.kcr_base.specs.Same.{same_text}
 use Rattle.kcr_base.proofs.SameLemmas.{same-is, same-itself}
-use Rattle.kcr_history.specs.declared.rows.KeyRow.{KeyRow}
+use Rattle.kcr_history.specs.declared.row_types.KeyRow.{KeyRow}
 use Rattle.kcr_history.specs.declared.views.Finding.{Finding}
 use Rattle.kcr_history.specs.declared.views.Finding.TheVariants as Findings
-use Rattle.kcr_history.specs.declared.views.WholeView.{WholeView}
+use Rattle.kcr_history.specs.declared.views.FullView.{FullView}
 use Rattle.kcr_history.specs.Audit.{IsTrueOf, rank}
-use Rattle.kcr_audit.specs.Wrongs.{is_key_doubled}
+use Rattle.kcr_audit.specs.Defects.{is_key_duplicate}
 use Rattle.kcr_audit.proofs.Found.{none-counted, some-counted}
 
 -- the row has the key
@@ -53,19 +53,19 @@ module _ (rows : List KeyRow) (i : ℕ) (row : KeyRow) (old : List ℕ → Bool)
         | inr e ↦ let before = s.once key in let more = count_by_more_no (has key) rows i row l (has-here key false e) in omega arith
       ]
 
-  pub seen-again : old row.key ≡ true → is_key_doubled rows row.key ≡ true
+  pub seen-again : old row.key ≡ true → is_key_duplicate rows row.key ≡ true
   seen-again again =
       let before = some-counted (has row.key) (take i rows) (sym (s.told row.key) ∙ again) in
       let more = count_by_more_yes (has row.key) rows i row l (has-here row.key true (same-itself row.key)) in
       let all = sum_by-take-le (λ x. cond (has row.key x) 1 0) rows (i + 1) in
       lt-ltb 1 (count_by (has row.key) rows) (omega arith)
 
--- where no key was seen twice, none is doubled
-pub seen-all : (rows : List KeyRow) (seen : List ℕ → Bool) → Seen rows seen → (key : List ℕ) → is_key_doubled rows key ≡ false
+-- if no key was seen twice, none is doubled
+pub seen-all : (rows : List KeyRow) (seen : List ℕ → Bool) → Seen rows seen → (key : List ℕ) → is_key_duplicate rows key ≡ false
 seen-all rows seen s key = le-ltb 1 (count_by (has key) rows) (s.once key)
 
--- where no key is doubled, there is none to be found
-pub none-doubled : (view : WholeView) → ((key : List ℕ) → is_key_doubled view.keys.items key ≡ false) → (finding : Finding) → rank finding ≡ 3
+-- if no key is doubled, there is none to be found
+pub none-doubled : (view : FullView) → ((key : List ℕ) → is_key_duplicate view.keys.items key ≡ false) → (finding : Finding) → rank finding ≡ 3
     → IsTrueOf view finding → ⊥
 none-doubled view none (Findings.Key key) r h = true≢false (sym h ∙ none key)
 none-doubled view none other r h = omega (arith, r)

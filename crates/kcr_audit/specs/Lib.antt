@@ -1,4 +1,4 @@
-pub mod Sought
-pub mod Wrongs
+pub mod Kinds
+pub mod Defects
 pub mod Rooms
-pub mod Whole
+pub mod Views

@@ -2,16 +2,16 @@
 ghost use Rattle.std.specs.Prelude.{◌≡◌, ℕ, IfOk, map, find, option_map};
 ghost use Rattle.std.specs.List.{Contains};
 ghost use Rattle.kcr_room.specs.Stays;
-ghost use Rattle.kcr_audit.specs.Sought.{IsSought};
+ghost use Rattle.kcr_audit.specs.Kinds.{IsFindingOfKind};
 ghost use Rattle.kcr_audit.specs.Rooms;
 
 use kcr_base::Moment;
-use kcr_history::{Finding, WholeView};
-use kcr_room::{SheetRow, Stay, first_lone, holds, is_crowded, stays_of};
+use kcr_history::{Finding, FullView};
+use kcr_room::{SheetRow, Stay, first_lone, is_crowded, stay_covers, stays_of};
 use std::alloc::{AllocError, Global};
 
 /// At most this many people may be in a room.
-const MOST_PEOPLE: usize = 128;
+const MAX_PEOPLE: usize = 128;
 
 /// The ceremony of each row.
 fn ceremony_of_each(alloc: Global, rows: &[SheetRow]) -> Result<Vec<u32>, AllocError>
@@ -55,8 +55,11 @@ fn lone_among(
 }
 
 /// A moment with exactly one person in the room of a ceremony.
-pub(crate) fn lone_person(alloc: Global, view: &WholeView) -> Result<Option<Finding>, AllocError>
-    ensures { IfOk result (IsSought view.now 4) }
+pub(crate) fn find_lone_person(
+    alloc: Global,
+    view: &FullView,
+) -> Result<Option<Finding>, AllocError>
+    ensures { IfOk result (IsFindingOfKind view.now 4) }
 {
     let numbers = ceremonies_of(alloc, &view.sheet)?;
     match lone_among(alloc, &view.sheet, &numbers)? {
@@ -67,11 +70,11 @@ pub(crate) fn lone_person(alloc: Global, view: &WholeView) -> Result<Option<Find
 
 /// How many people are in the room of the ceremony at the moment.
 fn crowd(stays: &[Stay], ceremony: u32, at: Moment) -> usize
-    ensures { result ≡ Stays.crowd_in_by stays.now ceremony at }
+    ensures { result ≡ Stays.headcount_in_by stays.now ceremony at }
 {
     stays
         .iter()
-        .filter(|stay| holds(ceremony, at, **stay))
+        .filter(|stay| stay_covers(ceremony, at, **stay))
         .count()
 }
 
@@ -79,7 +82,7 @@ fn crowd(stays: &[Stay], ceremony: u32, at: Moment) -> usize
 fn is_crowd_at(stays: &[Stay], ceremony: u32, stay: Stay) -> bool
     ensures { result ≡ Rooms.is_crowd_at stays.now ceremony stay }
 {
-    stay.ceremony == ceremony && crowd(stays, ceremony, stay.since) > MOST_PEOPLE
+    stay.ceremony == ceremony && crowd(stays, ceremony, stay.since) > MAX_PEOPLE
 }
 
 /// When the first such stay begins.
@@ -92,7 +95,7 @@ fn first_crowd(stays: &[Stay], ceremony: u32) -> Option<Moment>
         .map(|stay| stay.since)
 }
 
-/// A moment with too many people in the room of the ceremony. It takes time in the order of n log n where there is
+/// A moment with too many people in the room of the ceremony. It takes time in the order of n log n if there is
 /// none.
 fn crowded_at(alloc: Global, rows: &[SheetRow], ceremony: u32) -> Result<Option<Moment>, AllocError>
     ensures { IfOk result (Rooms.IsSometime (Rooms.is_crowd rows.now ceremony)) }
@@ -121,8 +124,11 @@ fn crowd_among(
 }
 
 /// A moment with more than 128 people in the room of a ceremony.
-pub(crate) fn crowded_room(alloc: Global, view: &WholeView) -> Result<Option<Finding>, AllocError>
-    ensures { IfOk result (IsSought view.now 5) }
+pub(crate) fn find_crowded_room(
+    alloc: Global,
+    view: &FullView,
+) -> Result<Option<Finding>, AllocError>
+    ensures { IfOk result (IsFindingOfKind view.now 5) }
 {
     let numbers = ceremonies_of(alloc, &view.sheet)?;
     match crowd_among(alloc, &view.sheet, &numbers)? {

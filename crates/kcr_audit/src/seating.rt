@@ -6,11 +6,11 @@ ghost use Rattle.kcr_room.specs.Room;
 ghost use Rattle.kcr_history.specs.Audit;
 ghost use Rattle.kcr_history.specs.Prints;
 ghost use Rattle.kcr_history.specs.declared.views.Finding.TheVariants as Findings;
-ghost use Rattle.kcr_audit.specs.Sought.{IsSought};
-ghost use Rattle.kcr_audit.specs.Wrongs;
+ghost use Rattle.kcr_audit.specs.Kinds.{IsFindingOfKind};
+ghost use Rattle.kcr_audit.specs.Defects;
 
 use kcr_base::{Initials, Moment, Role, is_among};
-use kcr_history::{CeremonyRow, Finding, SeatingRow, StepRow, StepState, WholeView, fits};
+use kcr_history::{CeremonyRow, Finding, FullView, SeatingRow, StepRow, StepState, fits};
 use kcr_room::{SheetRow, Way};
 use kcr_script::Seat;
 use std::alloc::{AllocError, Global};
@@ -63,7 +63,7 @@ fn is_in(rows: &[SheetRow], who: Initials, ceremony: u32, at: Moment) -> bool
 
 /// Whether the person is in the room of the ceremony at the moment and fits the seat on its day.
 fn is_eligible(
-    view: &WholeView,
+    view: &FullView,
     ceremony: &CeremonyRow,
     at: Moment,
     seat: Seat,
@@ -73,9 +73,9 @@ fn is_eligible(
 {
     is_in(&view.sheet, who, ceremony.number, at)
         && fits(
-            &view.asked.trainings,
-            &view.asked.withdrawals,
-            &view.asked.appointments,
+            &view.view.trainings,
+            &view.view.withdrawals,
+            &view.view.appointments,
             ceremony.facility,
             at.day(),
             seat,
@@ -85,7 +85,7 @@ fn is_eligible(
 
 /// Whether the people, all distinct, are each eligible for the seat in their position.
 fn is_seating(
-    view: &WholeView,
+    view: &FullView,
     ceremony: &CeremonyRow,
     at: Moment,
     seats: &[Seat],
@@ -108,7 +108,7 @@ fn is_seating(
 /// The place of a row among rows in the order of their seats: before all whose seat is not earlier.
 fn place_of(row: SeatingRow, rows: &[SeatingRow]) -> usize
     ensures within { result ≤ length rows.now }
-    ensures placed { take result rows.now ++ row ∷ drop result rows.now ≡ Wrongs.put_row row rows.now }
+    ensures placed { take result rows.now ++ row ∷ drop result rows.now ≡ Defects.put_row row rows.now }
 {
     for (index, other) in rows.iter().enumerate() {
         if other.seat >= row.seat {
@@ -120,7 +120,7 @@ fn place_of(row: SeatingRow, rows: &[SeatingRow]) -> usize
 
 /// The rows in the order of their seats; of two with one seat the first listed comes first.
 fn in_order(alloc: Global, rows: &[SeatingRow]) -> Result<Vec<SeatingRow>, AllocError>
-    ensures { IfOk result (λ sorted. sorted.items ≡ Wrongs.rows_in_order rows.now) }
+    ensures { IfOk result (λ sorted. sorted.items ≡ Defects.rows_in_order rows.now) }
 {
     let mut sorted = Vec::new(alloc);
     let mut index = rows.len();
@@ -180,7 +180,7 @@ fn are_numbered(rows: &[SeatingRow]) -> bool
     true
 }
 
-/// The seats that were filled: the step's own, or those of an exception where it was passed.
+/// The seats that were filled: the step's own, or those of an exception if it was passed.
 fn seats_filled(row: &StepRow) -> &[Seat]
     ensures { result.now ≡ Prints.seats_filled row.now }
 {
@@ -201,10 +201,10 @@ fn is_done(state: StepState) -> bool
 }
 
 /// The row of the ceremony.
-fn ceremony_in(view: &WholeView, number: u32) -> Option<CeremonyRow>
+fn ceremony_in(view: &FullView, number: u32) -> Option<CeremonyRow>
     ensures { result ≡ Audit.ceremony_in view.now number }
 {
-    view.asked
+    view.view
         .ceremonies
         .iter()
         .copied()
@@ -213,13 +213,13 @@ fn ceremony_in(view: &WholeView, number: u32) -> Option<CeremonyRow>
 
 /// Whether the recorded seats are numbered from 1, and the recorded people fill the step's seats, in its ceremony and
 /// at its moment.
-fn is_well_seated(alloc: Global, view: &WholeView, row: &StepRow) -> Result<bool, AllocError>
-    ensures { IfOk result (λ well. well ≡ Audit.is_well_seated view.now row.now
+fn is_well_seated(alloc: Global, view: &FullView, row: &StepRow) -> Result<bool, AllocError>
+    ensures { IfOk result (λ well. well ≡ Audit.has_valid_seating view.now row.now
         (Audit.ceremony_in view.now row.now.ceremony) row.now.at) }
 {
     match (ceremony_in(view, row.ceremony), row.at) {
         (Some(ceremony), Some(at)) => {
-            let rows = seatings_at(alloc, &view.asked.seatings, row.ceremony, row.step)?;
+            let rows = seatings_at(alloc, &view.view.seatings, row.ceremony, row.step)?;
             let people = people_of(alloc, &rows)?;
             Ok(are_numbered(&rows) && is_seating(view, &ceremony, at, seats_filled(row), &people))
         }
@@ -228,8 +228,8 @@ fn is_well_seated(alloc: Global, view: &WholeView, row: &StepRow) -> Result<bool
 }
 
 /// Whether the step was signed or passed, and its recorded people are no seating.
-fn is_ill_seated(alloc: Global, view: &WholeView, row: &StepRow) -> Result<bool, AllocError>
-    ensures { IfOk result (λ ill. ill ≡ Wrongs.is_step_wrong view.now row.now) }
+fn is_ill_seated(alloc: Global, view: &FullView, row: &StepRow) -> Result<bool, AllocError>
+    ensures { IfOk result (λ ill. ill ≡ Defects.is_step_wrong view.now row.now) }
 {
     if !is_done(row.state) {
         return Ok(false);
@@ -239,11 +239,11 @@ fn is_ill_seated(alloc: Global, view: &WholeView, row: &StepRow) -> Result<bool,
 }
 
 /// The first step that was signed or passed and whose recorded people are no seating.
-fn first_ill_seated(alloc: Global, view: &WholeView) -> Result<Option<Finding>, AllocError>
+fn first_ill_seated(alloc: Global, view: &FullView) -> Result<Option<Finding>, AllocError>
     ensures { IfOk result (λ found. found ≡ option_map (λ row. Findings.Seating row.ceremony row.step)
-        (find (Wrongs.is_step_wrong view.now) view.now.asked.steps.items)) }
+        (find (Defects.is_step_wrong view.now) view.now.view.steps.items)) }
 {
-    for row in &view.asked.steps {
+    for row in &view.view.steps {
         if is_ill_seated(alloc, view, row)? {
             return Ok(Some(Finding::Seating(row.ceremony, row.step)));
         }
@@ -253,11 +253,11 @@ fn first_ill_seated(alloc: Global, view: &WholeView) -> Result<Option<Finding>, 
 
 /// A step that was signed or passed and whose recorded people are no seating of its seats.
 #[tactic(auto, using(crate::proofs::Found::steps))]
-pub(crate) fn ill_seated_step(
+pub(crate) fn find_invalid_seating(
     alloc: Global,
-    view: &WholeView,
+    view: &FullView,
 ) -> Result<Option<Finding>, AllocError>
-    ensures { IfOk result (IsSought view.now 0) }
+    ensures { IfOk result (IsFindingOfKind view.now 0) }
 {
     first_ill_seated(alloc, view)
 }

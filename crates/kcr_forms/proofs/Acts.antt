@@ -14,16 +14,16 @@ use Rattle.kcr_base.specs.declared.place.Facility.{Facility}
 use Rattle.kcr_base.specs.declared.place.Place.{Place}
 use Rattle.kcr_base.specs.declared.place.Role.{Role}
 use Rattle.kcr_custody.specs.declared.SafeNumber.{SafeNumber}
-use Rattle.kcr_custody.specs.declared.Store.{Store}
+use Rattle.kcr_custody.specs.declared.Destination.{Destination}
 use Rattle.kcr_room.specs.declared.Way.{Way}
 use Rattle.kcr_forms.specs.Forms.{initials_of, name_of, remark_of, day_of, moment_of, ceremony_of, box_of, role_of, facility_of, way_of}
-use Rattle.kcr_forms.specs.Forms.{place_of, store_of, item_of}
-use Rattle.kcr_history.specs.declared.commands.Act.TheVariants.{Enter, Train, Withdraw, Appoint, Replace, Release, AddBox, AddItem, Plan, Open, Close, Sheet}
-use Rattle.kcr_history.specs.declared.commands.Act.TheVariants.{Sign, Except, TurnSafe, Seal, Take, Put, Cut}
+use Rattle.kcr_forms.specs.Forms.{place_of, destination_of, item_of}
+use Rattle.kcr_history.specs.declared.commands.Act.TheVariants.{Enter, Train, Withdraw, Appoint, Replace, Release, AddBox, AddItem, Plan, Open, Close, RecordSheet}
+use Rattle.kcr_history.specs.declared.commands.Act.TheVariants.{Sign, RecordException, SetSafe, Seal, Take, Put, Cut}
 use Rattle.kcr_history.specs.Texts.{at_person, at_place, at_ceremony, at_bag, at_step, at_safe}
-use Rattle.kcr_forms.specs.Acts.{ArePeople, AreItems, IsStore}
-use Rattle.kcr_forms.specs.Cuts.{of_two, of_three, of_four}
-use Rattle.kcr_forms.specs.Told.{script_of, truth_of, people_of, items_of}
+use Rattle.kcr_forms.specs.Acts.{ArePeople, AreItems, IsDestination}
+use Rattle.kcr_forms.specs.Split.{of_two, of_three, of_four}
+use Rattle.kcr_forms.specs.ActTexts.{script_of, truth_of, people_from, items_from}
 use Rattle.kcr_forms.proofs.Formed.{days, moments, ceremonies, boxes, roles, facilities, ways, places-read, initials, items, names}
 use Rattle.kcr_forms.proofs.Formed.{remarks, scripts, truths, stores, people, item_lists}
 use Rattle.kcr_forms.proofs.Readers.{Tells, one, two, three, four}
@@ -71,33 +71,33 @@ module _ (ceremony : ℕ) where
   pub closing : Tells IsMoment (Close ceremony) (at_ceremony ceremony (codes "closing")) (λ values. option_map (Close ceremony) (moment_of values))
   closing = one moments (Close ceremony) (at_ceremony ceremony (codes "closing")) (λ a. refl)
 
-  pub sheet : Tells (λ (p : Way × (List (List ℕ) × ℕ)). ⊤ × (ArePeople p.1.0 × IsMoment p.1.1)) (λ p. Sheet ceremony p.0 p.1.0 p.1.1)
-      (at_ceremony ceremony (codes "sheet")) (of_three (Sheet ceremony) way_of people_of moment_of)
-  sheet = three ways people moments (Sheet ceremony) (at_ceremony ceremony (codes "sheet")) (λ a b c. refl)
+  pub sheet : Tells (λ (p : Way × (List (List ℕ) × ℕ)). ⊤ × (ArePeople p.1.0 × IsMoment p.1.1)) (λ p. RecordSheet ceremony p.0 p.1.0 p.1.1)
+      (at_ceremony ceremony (codes "sheet")) (of_three (RecordSheet ceremony) way_of people_from moment_of)
+  sheet = three ways people moments (RecordSheet ceremony) (at_ceremony ceremony (codes "sheet")) (λ a b c. refl)
 
-  pub exception : Tells (λ (p : List ℕ × (Bool × ℕ)). IsLine 1000 p.0 × (⊤ × IsMoment p.1.1)) (λ p. Except ceremony p.0 p.1.0 p.1.1)
+  pub exception : Tells (λ (p : List ℕ × (Bool × ℕ)). IsLine 1000 p.0 × (⊤ × IsMoment p.1.1)) (λ p. RecordException ceremony p.0 p.1.0 p.1.1)
       (at_ceremony ceremony (codes "exceptions"))
-      (of_three (Except ceremony) remark_of truth_of moment_of)
-  exception = three remarks truths moments (Except ceremony) (at_ceremony ceremony (codes "exceptions")) (λ a b c. refl)
+      (of_three (RecordException ceremony) remark_of truth_of moment_of)
+  exception = three remarks truths moments (RecordException ceremony) (at_ceremony ceremony (codes "exceptions")) (λ a b c. refl)
 
   pub signature : (step : ℕ) → Tells IsMoment (Sign ceremony step) (at_step ceremony step) (λ values. option_map (Sign ceremony step) (moment_of values))
   signature step = one moments (Sign ceremony step) (at_step ceremony step) (λ a. refl)
 
-  pub turning : (safe : SafeNumber) → Tells (λ (p : Bool × (List ℕ × ℕ)). ⊤ × (IsInitials p.1.0 × IsMoment p.1.1)) (λ p. TurnSafe ceremony safe p.0 p.1.0 p.1.1)
+  pub turning : (safe : SafeNumber) → Tells (λ (p : Bool × (List ℕ × ℕ)). ⊤ × (IsInitials p.1.0 × IsMoment p.1.1)) (λ p. SetSafe ceremony safe p.0 p.1.0 p.1.1)
       (at_safe ceremony safe)
-      (of_three (TurnSafe ceremony safe) truth_of initials_of moment_of)
-  turning safe = three truths initials moments (TurnSafe ceremony safe) (at_safe ceremony safe) (λ a b c. refl)
+      (of_three (SetSafe ceremony safe) truth_of initials_of moment_of)
+  turning safe = three truths initials moments (SetSafe ceremony safe) (at_safe ceremony safe) (λ a b c. refl)
 
   module _ (serial : List ℕ) where
     pub sealing : Tells (λ (p : List (List ℕ) × ℕ). AreItems p.0 × IsMoment p.1) (λ p. Seal ceremony serial p.0 p.1) (at_bag ceremony serial (codes "seal"))
-        (of_two (Seal ceremony serial) items_of moment_of)
+        (of_two (Seal ceremony serial) items_from moment_of)
     sealing = two item_lists moments (Seal ceremony serial) (at_bag ceremony serial (codes "seal")) (λ a b. refl)
 
     pub taking : Tells IsMoment (Take ceremony serial) (at_bag ceremony serial (codes "take")) (λ values. option_map (Take ceremony serial) (moment_of values))
     taking = one moments (Take ceremony serial) (at_bag ceremony serial (codes "take")) (λ a. refl)
 
-    pub putting : Tells (λ (p : Store × ℕ). IsStore p.0 × IsMoment p.1) (λ p. Put ceremony serial p.0 p.1) (at_bag ceremony serial (codes "put"))
-        (of_two (Put ceremony serial) store_of moment_of)
+    pub putting : Tells (λ (p : Destination × ℕ). IsDestination p.0 × IsMoment p.1) (λ p. Put ceremony serial p.0 p.1) (at_bag ceremony serial (codes "put"))
+        (of_two (Put ceremony serial) destination_of moment_of)
     putting = two stores moments (Put ceremony serial) (at_bag ceremony serial (codes "put")) (λ a b. refl)
 
     pub cutting : Tells IsMoment (Cut ceremony serial) (at_bag ceremony serial (codes "cut")) (λ values. option_map (Cut ceremony serial) (moment_of values))

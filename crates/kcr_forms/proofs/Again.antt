@@ -10,12 +10,12 @@ use Rattle.kcr_base.specs.Serial.{IsSerial}
 use Rattle.kcr_base.specs.declared.place.Place.{Place}
 use Rattle.kcr_custody.specs.declared.SafeNumber.{SafeNumber}
 use Rattle.kcr_history.specs.declared.commands.Act.{Act}
-use Rattle.kcr_history.specs.declared.commands.Act.TheVariants.{Enter, Train, Withdraw, Appoint, Replace, Release, AddBox, AddItem, Plan, Open, Close, Sheet}
-use Rattle.kcr_history.specs.declared.commands.Act.TheVariants.{Sign, Except, TurnSafe, Seal, Take, Put, Cut}
+use Rattle.kcr_history.specs.declared.commands.Act.TheVariants.{Enter, Train, Withdraw, Appoint, Replace, Release, AddBox, AddItem, Plan, Open, Close, RecordSheet}
+use Rattle.kcr_history.specs.declared.commands.Act.TheVariants.{Sign, RecordException, SetSafe, Seal, Take, Put, Cut}
 use Rattle.kcr_history.specs.Texts.{command_text, at_person, at_place, at_ceremony, at_bag, at_step, at_safe, safe_text}
 use Rattle.kcr_forms.specs.Acts.{IsAct}
-use Rattle.kcr_forms.specs.Told.{of_collection, of_person, of_place, of_bag, of_ceremony, of_step, of_safe, of_part, in_ceremony, on_ceremony, in_collection}
-use Rattle.kcr_forms.specs.Told.{of_path, after_slash, act_of}
+use Rattle.kcr_forms.specs.ActTexts.{of_collection, of_person, of_place, of_bag, of_ceremony, of_step, of_safe, of_part, in_ceremony, on_ceremony, in_collection}
+use Rattle.kcr_forms.specs.ActTexts.{of_path, after_slash, act_of}
 use Rattle.kcr_forms.proofs.Acts.{entry, training, withdrawal, appointment, replacement, release, new_box, new_item, plan, opening, closing, sheet}
 use Rattle.kcr_forms.proofs.Acts.{exception, signature, turning, sealing, taking, putting, cutting}
 use Rattle.kcr_forms.proofs.Cutting.{Lacks, lacks-literal, IsWord, word, cut-again, cut-none}
@@ -140,12 +140,12 @@ act-again (Open ceremony at) is = told-again (opening ceremony) at is.1
     (λ values. itself-again ceremony (codes "opening") values is.0 (word (codes "opening") refl refl))
 act-again (Close ceremony at) is = told-again (closing ceremony) at is.1
     (λ values. itself-again ceremony (codes "closing") values is.0 (word (codes "closing") refl refl))
-act-again (Sheet ceremony way who at) is = told-again (sheet ceremony) (way, (who, at)) (tt, (is.1, is.2))
+act-again (RecordSheet ceremony way who at) is = told-again (sheet ceremony) (way, (who, at)) (tt, (is.1, is.2))
     (λ values. itself-again ceremony (codes "sheet") values is.0 (word (codes "sheet") refl refl))
 act-again (Sign ceremony step at) is = told-again (signature ceremony step) at is.2 (λ values. step-again ceremony step values is.0 is.1)
-act-again (Except ceremony text pass at) is = told-again (exception ceremony) (text, (pass, at)) (is.1, (tt, is.2))
+act-again (RecordException ceremony text pass at) is = told-again (exception ceremony) (text, (pass, at)) (is.1, (tt, is.2))
     (λ values. itself-again ceremony (codes "exceptions") values is.0 (word (codes "exceptions") refl refl))
-act-again (TurnSafe ceremony safe state by at) is = told-again (turning ceremony safe) (state, (by, at)) (tt, (is.1, is.2))
+act-again (SetSafe ceremony safe state by at) is = told-again (turning ceremony safe) (state, (by, at)) (tt, (is.1, is.2))
     (λ values. safe-again ceremony safe values is.0)
 act-again (Seal ceremony serial held at) is = told-again (sealing ceremony serial) (held, at) (is.2, is.3)
     (λ values. bag-again ceremony serial (codes "seal") values is.0 is.1 (lacks-literal 10 (codes "seal") refl))

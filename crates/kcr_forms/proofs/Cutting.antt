@@ -10,7 +10,7 @@ use Rattle.std.proofs.lemmas.List.{take-append-drop}
 use Rattle.std.proofs.lemmas.List.Elements.{All-get_or, All-weaker}
 use Rattle.std.proofs.lemmas.List.Quantifiers.{position-Some}
 use Rattle.std.proofs.lemmas.List.Sums.{position_or_len_is, AllPass-from_list_all}
-use Rattle.kcr_forms.specs.Cuts.{cut_at}
+use Rattle.kcr_forms.specs.Split.{split_at_byte}
 
 -- the byte is not in the text
 abbrev pub Lacks : ℕ → List ℕ → Type 0
@@ -42,8 +42,8 @@ cut-from byte text (Some i) at p e =
     sym (take-append-drop i text) ∙ ap (λ (xs : List ℕ). take i text ++ xs) (drop-cons text i 0 is.0 ∙ (λ j. here j ∷ drop (sym (add-one i) j) text)) in
     whole ∙ (λ j. (same j).0 ++ byte ∷ (same j).1)
 
-pub cut-found : (byte : ℕ) (text : List ℕ) (p : List ℕ × List ℕ) → cut_at byte text ≡ Some p → text ≡ p.0 ++ byte ∷ p.1
-unfolding cut_at
+pub cut-found : (byte : ℕ) (text : List ℕ) (p : List ℕ × List ℕ) → split_at_byte byte text ≡ Some p → text ≡ p.0 ++ byte ∷ p.1
+unfolding split_at_byte
 cut-found byte text p e = cut-from byte text (position (λ b. eqb b byte) text) refl p e
 
 -- where the byte first stands
@@ -53,8 +53,8 @@ first-place byte x y lacks =
     (λ k h. rw (get_or-append x (byte ∷ y) 0 k h) (All-get_or (λ b. eqb b byte ≡ false) x k 0 h lacks))
     (λ h. rw (get_or-append_seam x byte y 0) (eq-eqb byte byte refl))
 
-pub cut-again : (byte : ℕ) (x y : List ℕ) → Lacks byte x → cut_at byte (x ++ byte ∷ y) ≡ Some (x, y)
-unfolding cut_at
+pub cut-again : (byte : ℕ) (x y : List ℕ) → Lacks byte x → split_at_byte byte (x ++ byte ∷ y) ≡ Some (x, y)
+unfolding split_at_byte
 cut-again byte x y lacks =
     let within : length x < length (x ++ byte ∷ y) = omega (arith, length-append x (byte ∷ y)) in
     let at : position (λ b. eqb b byte) (x ++ byte ∷ y) ≡ Some (length x) =
@@ -62,8 +62,8 @@ cut-again byte x y lacks =
     ap (option_map (λ i. (take i (x ++ byte ∷ y), drop (i + 1) (x ++ byte ∷ y)))) at
     ∙ (λ j. Some (take-append_seam x (byte ∷ y) j, drop-append-add x (byte ∷ y) 1 j))
 
-pub cut-none : (byte : ℕ) (text : List ℕ) → Lacks byte text → cut_at byte text ≡ None
-unfolding cut_at
+pub cut-none : (byte : ℕ) (text : List ℕ) → Lacks byte text → split_at_byte byte text ≡ None
+unfolding split_at_byte
 cut-none byte text lacks =
     let past : position_or_len (λ b. eqb b byte) text ≡ length text =
     position_or_len_is (λ b. eqb b byte) text (length text) 0 (omega arith) (λ k h. All-get_or (λ b. eqb b byte ≡ false) text k 0 h lacks)

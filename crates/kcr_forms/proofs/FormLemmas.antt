@@ -1,4 +1,4 @@
--- A text is of a form exactly where the test says so.
+-- A text is of a form if and only if the test says so.
 use Rattle.std.proofs.Common.{◌≡◌, ◌≤◌, ℕ, ◌&&◌, ◌⊎◌, List, length, Bool, true, Option, Some, None, if◌then◌else◌, refl, arith}
 use Rattle.std.specs.Prelude.{SomeIff, All}
 use Rattle.std.specs.Str.{is_utf8}
@@ -14,37 +14,37 @@ use Rattle.kcr_base.specs.Line.{IsPrinting, IsLine}
 use Rattle.kcr_base.specs.Lists.{IsListed, are_apart}
 use Rattle.kcr_base.specs.Number.{IsNumber}
 use Rattle.kcr_base.specs.Serial.{IsDigit, IsSerial}
-use Rattle.kcr_forms.specs.Forms.{is_within, is_capital, is_key_byte, is_serial_byte, is_printing, is_initials, is_key, is_serial, is_line}
+use Rattle.kcr_forms.specs.Forms.{is_between, is_capital, is_key_byte, is_serial_byte, is_printing, is_initials, is_key, is_serial, is_line}
 use Rattle.kcr_forms.specs.Forms.{initials_of, key_of, serial_of, item_of, name_of, remark_of, number_to, listed_to}
 
--- a reader that answers the text exactly on a form answers it exactly where the form's test does
+-- a reader that answers the text exactly on a form answers it if and only if the form's test does
 if_form-is : {V : Type 0} (r : Option V) (P : Type 0) (text : V) (test : Bool) → SomeIff r P text → (test ≡ true → P) → (P → test ≡ true)
     → r ≡ (if test then Some text else None)
 if_form-is r P text test h to from = grind (arith, to, from)
 
--- each element passes the test, where each has the property
+-- each element passes the test, if each has the property
 all-from : (p : ℕ → Bool) (P : ℕ → Type 0) (xs : List ℕ) → ((x : ℕ) → p x ≡ true → P x) → list_all p xs ≡ true → All P xs
 all-from p P xs f h = All-weaker (λ x. p x ≡ true) P f xs (AllPass-from_list_all p xs h)
 
 all-to : (p : ℕ → Bool) (P : ℕ → Type 0) (xs : List ℕ) → ((x : ℕ) → P x → p x ≡ true) → All P xs → list_all p xs ≡ true
 all-to p P xs f h = list_all-from_AllPass p xs (All-weaker P (λ x. p x ≡ true) f xs h)
 
-within-from : (low high b : ℕ) → is_within low high b ≡ true → (low ≤ b) × (b ≤ high)
+within-from : (low high b : ℕ) → is_between low high b ≡ true → (low ≤ b) × (b ≤ high)
 within-from low high b h = (grind (arith, nat_tests), grind (arith, nat_tests))
 
-within-to : (low high b : ℕ) → (low ≤ b) × (b ≤ high) → is_within low high b ≡ true
+within-to : (low high b : ℕ) → (low ≤ b) × (b ≤ high) → is_between low high b ≡ true
 within-to low high b h = grind (arith, nat_tests)
 
 -- a text of so many bytes that each pass the test
 sized-from : (low high : ℕ) (p : ℕ → Bool) (P : ℕ → Type 0) (text : List ℕ) → ((b : ℕ) → p b ≡ true → P b)
-    → (is_within low high (length text) && list_all p text) ≡ true → (low ≤ length text) × (length text ≤ high) × All P text
+    → (is_between low high (length text) && list_all p text) ≡ true → (low ≤ length text) × (length text ≤ high) × All P text
 sized-from low high p P text f h =
-    let parts = and_parts (is_within low high (length text)) (list_all p text) h in
+    let parts = and_parts (is_between low high (length text)) (list_all p text) h in
     let long = within-from low high (length text) parts.0 in
     (long.0, long.1, all-from p P text f parts.1)
 
 sized-to : (low high : ℕ) (p : ℕ → Bool) (P : ℕ → Type 0) (text : List ℕ) → ((b : ℕ) → P b → p b ≡ true)
-    → low ≤ length text → length text ≤ high → All P text → (is_within low high (length text) && list_all p text) ≡ true
+    → low ≤ length text → length text ≤ high → All P text → (is_between low high (length text) && list_all p text) ≡ true
 sized-to low high p P text f l m h = and_from _ (list_all p text) (within-to low high (length text) (l, m)) (all-to p P text f h)
 
 pub initials-read : (r : Option (List ℕ)) (text : List ℕ) → SomeIff r (IsInitials text) text → r ≡ initials_of text
@@ -99,7 +99,7 @@ line-is : (limit : ℕ) (r : Option (List ℕ)) (text : List ℕ) → SomeIff r 
 unfolding is_line
 line-is limit r text h =
     if_form-is r (IsLine limit text) text (is_line limit text) h
-    (λ e. let parts = and_parts (is_within 1 limit (length text)) (is_utf8 text && list_all is_printing text) e in
+    (λ e. let parts = and_parts (is_between 1 limit (length text)) (is_utf8 text && list_all is_printing text) e in
     let rest = and_parts (is_utf8 text) (list_all is_printing text) parts.1 in
     let long = within-from 1 limit (length text) parts.0 in
     record { not_empty = long.0; short = long.1; text = IsUtf8-from_is_utf8 text rest.0; printing = all-from is_printing IsPrinting text printing-from rest.1 })
@@ -120,20 +120,20 @@ remark-read r text h = line-is 1000 r text h
 pub number-new : (limit n : ℕ) (r : Option ℕ) → SomeIff r (IsNumber limit n) n → r ≡ number_to limit n
 unfolding number_to
 number-new limit n r h =
-    if_form-is r (IsNumber limit n) n (is_within 1 limit n) h
+    if_form-is r (IsNumber limit n) n (is_between 1 limit n) h
     (λ e. let bounds = within-from 1 limit n e in record { from = bounds.0; until = bounds.1 })
     (λ i. within-to 1 limit n (i.from, i.until))
 
 -- a number that is too large for the reader is beyond the limit
 pub number-large : (limit n : ℕ) → (n ≤ limit → ⊥) → number_to limit n ≡ None
 unfolding number_to
-number-large limit n h = rw (false_from_ne_true (is_within 1 limit n) (λ e. h (within-from 1 limit n e).1))
+number-large limit n h = rw (false_from_ne_true (is_between 1 limit n) (λ e. h (within-from 1 limit n e).1))
 
 pub listed-new : (limit : ℕ) (list : List (List ℕ)) (r : Option (List (List ℕ))) → SomeIff r (IsListed limit list) list → r ≡ listed_to limit list
 unfolding listed_to
 listed-new limit list r h =
-    if_form-is r (IsListed limit list) list (is_within 1 limit (length list) && are_apart list) h
-    (λ e. let parts = and_parts (is_within 1 limit (length list)) (are_apart list) e in
+    if_form-is r (IsListed limit list) list (is_between 1 limit (length list) && are_apart list) h
+    (λ e. let parts = and_parts (is_between 1 limit (length list)) (are_apart list) e in
     let long = within-from 1 limit (length list) parts.0 in
     record { at_least_one = long.0; at_most = long.1; apart = parts.1 })
     (λ i. rw (within-to 1 limit (length list) (i.at_least_one, i.at_most), i.apart) refl)

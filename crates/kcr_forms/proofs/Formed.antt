@@ -23,7 +23,7 @@ use Rattle.kcr_base.specs.Line.{IsPrinting, IsLine}
 use Rattle.kcr_base.specs.Lists.{IsListed, are_apart}
 use Rattle.kcr_base.specs.Moment.{IsMoment, moment_text}
 use Rattle.kcr_base.specs.Number.{IsNumber}
-use Rattle.kcr_base.specs.Reads.{Found, Only}
+use Rattle.kcr_base.specs.Reads.{HasText, ReadsText}
 use Rattle.kcr_base.specs.Place.{IsPlace, place_text}
 use Rattle.kcr_base.specs.Role.{role_text}
 use Rattle.kcr_base.specs.Serial.{IsDigit, IsSerial}
@@ -35,20 +35,20 @@ use Rattle.kcr_base.specs.declared.place.Role.{Role}
 use Rattle.kcr_base.specs.declared.place.Role.TheVariants.{Ca, Iw, Sa, Ssc1, Ssc2, Rkos, Sw}
 use Rattle.kcr_custody.specs.declared.SafeNumber.{SafeNumber}
 use Rattle.kcr_custody.specs.declared.SafeNumber.TheVariants.{One, Two}
-use Rattle.kcr_custody.specs.declared.Store.{Store}
-use Rattle.kcr_custody.specs.declared.Store.TheVariants.{SafeOne, Boxed}
+use Rattle.kcr_custody.specs.declared.Destination.{Destination}
+use Rattle.kcr_custody.specs.declared.Destination.TheVariants.{SafeOne, DepositBox}
 use Rattle.kcr_room.specs.declared.Way.{Way}
 use Rattle.kcr_room.specs.declared.Way.TheVariants.{Enter, Leave}
 use Rattle.kcr_room.specs.Room.{way_text}
 use Rattle.kcr_history.specs.Texts.{safe_text, store_text, truth_text, listed}
 use Rattle.kcr_forms.specs.Forms.{by_text, number_by_text, initials_of, serial_of, item_of, name_of, remark_of, is_initials, is_serial, is_line, day_of}
-use Rattle.kcr_forms.specs.Forms.{moment_of, ceremony_of, box_of, step_of, role_of, facility_of, way_of, safe_of, places, place_of, store_of, listed_to}
-use Rattle.kcr_forms.specs.Forms.{if_form, is_within}
+use Rattle.kcr_forms.specs.Forms.{moment_of, ceremony_of, box_of, step_of, role_of, facility_of, way_of, safe_of, places, place_of, destination_of, listed_to}
+use Rattle.kcr_forms.specs.Forms.{if_form, is_between}
 use Rattle.kcr_forms.proofs.FormLemmas.{initials-read, serial-read, item-read, name-read, remark-read, listed-new}
 use Rattle.kcr_forms.proofs.TextLemmas.{number-read}
 use Rattle.kcr_forms.proofs.ValueLemmas.{day-read, moment-read, place-read}
-use Rattle.kcr_forms.specs.Acts.{ArePeople, AreItems, IsStore}
-use Rattle.kcr_forms.specs.Told.{script_of, truth_of, each_of, between_commas, people_of, items_of}
+use Rattle.kcr_forms.specs.Acts.{ArePeople, AreItems, IsDestination}
+use Rattle.kcr_forms.specs.ActTexts.{script_of, truth_of, each_of, between_commas, people_from, items_from}
 use Rattle.kcr_forms.proofs.Cutting.{Lacks, lacks-literal}
 use Rattle.kcr_forms.proofs.Dates.{day-same, moment-same, day-printing}
 use Rattle.kcr_forms.proofs.Readers.{named, nothing, option_map_some, Reads, Value, InPath, AtLeast, lacks-below, at_least-less}
@@ -95,13 +95,13 @@ number_texts : {IsValue : ℕ → Type 0} (text_of : ℕ → List ℕ) (first la
 unfolding number_by_text
 number_texts text_of first last again = by_texts text_of (range_with_len first (last + 1 - first)) again
 
--- a reader of the values reads each again, where no two have one text
+-- a reader of the values reads each again, if no two have one text
 again-by : {V : Type 0} {IsValue : V → Type 0} {text_of : V → List ℕ} {read : List ℕ → Option V}
-    → ((bytes : List ℕ) (r : Option V) → Found IsValue text_of bytes r → Only IsValue text_of bytes r → r ≡ read bytes)
+    → ((bytes : List ℕ) (r : Option V) → HasText IsValue text_of bytes r → ReadsText IsValue text_of bytes r → r ≡ read bytes)
     → ((v w : V) → IsValue v → IsValue w → text_of v ≡ text_of w → v ≡ w) → (v : V) → IsValue v → read (text_of v) ≡ Some v
 again-by {text_of = text_of} reads same v is = sym (reads (text_of v) (Some v) (is, refl) (λ w is_w e. ap Some (same v w is is_w (sym e))))
 
--- the texts of listed values are printing where a test of the list says so, and have no slash
+-- the texts of listed values are printing if a test of the list says so, and have no slash
 module _ {V : Type 0} {IsValue : V → Type 0} (text_of : V → List ℕ) (values : List V) (reads : Reads IsValue text_of (by_text text_of values)) where
   tested : (test : ℕ → Bool) → list_all (λ v. list_all test (text_of v)) values ≡ true → (v : V) → IsValue v → list_all test (text_of v) ≡ true
   tested test all v is =
@@ -271,28 +271,28 @@ truths = record {
 
 -- ---- where a bag is put
 
-store-again : (v : Store) → IsStore v → store_of (store_text v) ≡ Some v
-unfolding store_of
+store-again : (v : Destination) → IsDestination v → destination_of (store_text v) ≡ Some v
+unfolding destination_of
 store-again SafeOne is = refl
-store-again (Boxed n) is = by (same_text (decimal n) (codes "safe1")) refl
+store-again (DepositBox n) is = by (same_text (decimal n) (codes "safe1")) refl
   where
-    by : (b : Bool) → same_text (decimal n) (codes "safe1") ≡ b → store_of (store_text (Boxed n)) ≡ Some (Boxed n)
+    by : (b : Bool) → same_text (decimal n) (codes "safe1") ≡ b → destination_of (store_text (DepositBox n)) ≡ Some (DepositBox n)
     by true e =
         let digits = (decimal_is_IsNumeral n (omega (arith, is.until))).0.1 in
         let letter : AllDigits 10 (codes "safe1") = subst (AllDigits 10) (equal_texts (decimal n) (codes "safe1") (sym e)) digits in
         absurd (omega (arith, letter.0))
     by false e = rw (e, boxes.reads.again n is) refl
 
-store-printing : (v : Store) → IsStore v → AtLeast 32 (store_text v)
+store-printing : (v : Destination) → IsDestination v → AtLeast 32 (store_text v)
 store-printing SafeOne is = literal 32 (codes "safe1") refl
-store-printing (Boxed n) is = at_least-less 48 32 (decimal n) (omega arith) (number-at_least 9999 n (omega arith) is)
+store-printing (DepositBox n) is = at_least-less 48 32 (decimal n) (omega arith) (number-at_least 9999 n (omega arith) is)
 
-pub stores : Value IsStore store_text store_of
-unfolding store_of
+pub stores : Value IsDestination store_text destination_of
+unfolding destination_of
 stores = record {
   reads = record {
     found = λ text v e. named text (codes "safe1") e (chosen store_text SafeOne) (λ e.
-        option_map_some Boxed (box_of text) v e (λ n found same. ap store_text (sym same) ∙ boxes.reads.found text n found));
+        option_map_some DepositBox (box_of text) v e (λ n found same. ap store_text (sym same) ∙ boxes.reads.found text n found));
     again = store-again;
   };
   printing = store-printing;
@@ -328,7 +328,7 @@ codes-found : (limit : ℕ) (IsValue : List ℕ → Type 0) (read : List ℕ →
 unfolding listed_to
 codes-found limit IsValue read reads text list e =
     option_and_then_some (listed_to limit) (each_of read (between_commas text)) list e (λ all told few.
-    let same = (cond_some (is_within 1 limit (length all) && are_apart all) all list few).1 in
+    let same = (cond_some (is_between 1 limit (length all) && are_apart all) all list few).1 in
     ap listed (sym same ∙ each-found IsValue read reads (between_commas text) all told) ∙ join_with_byte-slice_split 44 text)
 
 codes-again : (limit : ℕ) (IsValue : List ℕ → Type 0) (read : List ℕ → Option (List ℕ)) → Reads IsValue (λ text. text) read
@@ -349,8 +349,8 @@ join-at_least low (code ∷ next ∷ more) le each =
     (All-append (λ b. low ≤ b) (44 ∷ []) (listed (next ∷ more)) (All-from_recursion (λ b. low ≤ b) (44 ∷ []) (le, tt))
     (join-at_least low (next ∷ more) le (All-tail (λ c. AtLeast low c) code (next ∷ more) each)))
 
-pub people : Value ArePeople listed people_of
-unfolding people_of
+pub people : Value ArePeople listed people_from
+unfolding people_from
 people = record {
   reads = record {
     found = λ text v e. codes-found 32 IsInitials initials_of initials.reads text v e;
@@ -360,8 +360,8 @@ people = record {
   printing = λ v are. join-at_least 32 v (omega arith) (All-weaker IsInitials (λ code. AtLeast 32 code) initials.printing v are.each);
 }
 
-pub item_lists : Value AreItems listed items_of
-unfolding items_of
+pub item_lists : Value AreItems listed items_from
+unfolding items_from
 item_lists = record {
   reads = record {
     found = λ text v e. codes-found 64 IsSerial item_of items.reads text v e;

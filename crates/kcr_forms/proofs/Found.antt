@@ -9,9 +9,9 @@ use Rattle.kcr_base.specs.declared.place.Place.{Place}
 use Rattle.kcr_forms.specs.Forms.{safe_of}
 use Rattle.kcr_history.specs.declared.commands.Act.{Act}
 use Rattle.kcr_history.specs.Texts.{command_text, at_person, at_place, at_ceremony, at_bag}
-use Rattle.kcr_forms.specs.Cuts.{cut_at}
-use Rattle.kcr_forms.specs.Told.{of_collection, of_person, of_place, of_bag, of_ceremony, of_step, of_safe, of_part}
-use Rattle.kcr_forms.specs.Told.{in_ceremony, on_ceremony, in_collection, of_path, after_slash, act_of}
+use Rattle.kcr_forms.specs.Split.{split_at_byte}
+use Rattle.kcr_forms.specs.ActTexts.{of_collection, of_person, of_place, of_bag, of_ceremony, of_step, of_safe, of_part}
+use Rattle.kcr_forms.specs.ActTexts.{in_ceremony, on_ceremony, in_collection, of_path, after_slash, act_of}
 use Rattle.kcr_forms.proofs.Acts.{entry, training, withdrawal, appointment, replacement, release, new_box, new_item, plan, opening, closing, sheet}
 use Rattle.kcr_forms.proofs.Acts.{exception, signature, turning, sealing, taking, putting, cutting}
 use Rattle.kcr_forms.proofs.Cutting.{cut-found}
@@ -28,7 +28,7 @@ part-found : {V : Type 0} {IsValue : V → Type 0} {text_of : V → List ℕ} {r
     → (make : V → List ℕ → Option Act) (path : List ℕ) (act : Act)
     → of_part read make path ≡ Some act → ((v : V) (rest : List ℕ) → path ≡ text_of v ++ 47 ∷ rest → make v rest ≡ Some act → P) → P
 part-found {read = read} reads make path act e next =
-    option_and_then_some (λ p. option_and_then (λ value. make value p.1) (read p.0)) (cut_at 47 path) act e (λ p cut some.
+    option_and_then_some (λ p. option_and_then (λ value. make value p.1) (read p.0)) (split_at_byte 47 path) act e (λ p cut some.
     option_and_then_some (λ value. make value p.1) (read p.0) act some (λ v is made.
     next v p.1 (cut-found 47 path p cut ∙ ap (λ (t : List ℕ). t ++ 47 ∷ p.1) (sym (reads.found p.0 v is))) made))
 
@@ -95,9 +95,9 @@ thing-found ceremony kind path values act e =
 ceremony-path : (ceremony : ℕ) (path values : List ℕ) (act : Act) → on_ceremony ceremony path values ≡ Some act
     → Has (at_ceremony ceremony path) values act
 unfolding on_ceremony
-ceremony-path ceremony path values act e = by (cut_at 47 path) refl
+ceremony-path ceremony path values act e = by (split_at_byte 47 path) refl
   where
-    by : (o : Option (List ℕ × List ℕ)) → cut_at 47 path ≡ o → Has (at_ceremony ceremony path) values act
+    by : (o : Option (List ℕ × List ℕ)) → split_at_byte 47 path ≡ o → Has (at_ceremony ceremony path) values act
     by None cut = ceremony-found ceremony path values act (rw cut at e)
     by (Some p) cut = rw (cut-found 47 path p cut) (thing-found ceremony p.0 p.1 values act (rw cut at e))
 
@@ -120,9 +120,9 @@ in_collection-found name path values act e =
 
 path-found : (path values : List ℕ) (act : Act) → of_path path values ≡ Some act → Has (47 ∷ path) values act
 unfolding of_path
-path-found path values act e = by (cut_at 47 path) refl
+path-found path values act e = by (split_at_byte 47 path) refl
   where
-    by : (o : Option (List ℕ × List ℕ)) → cut_at 47 path ≡ o → Has (47 ∷ path) values act
+    by : (o : Option (List ℕ × List ℕ)) → split_at_byte 47 path ≡ o → Has (47 ∷ path) values act
     by None cut = collection-found path values act (rw cut at e)
     by (Some p) cut = rw (cut-found 47 path p cut) (in_collection-found p.0 p.1 values act (rw cut at e))
 
@@ -133,7 +133,7 @@ slash-first (b ∷ bytes) path e = grind (arith, nat_tests, e)
 pub act-found : (text : List ℕ) (act : Act) → act_of text ≡ Some act → command_text act ≡ text
 unfolding act_of
 act-found text act e =
-    option_and_then_some (λ p. option_and_then (λ path. of_path path p.1) (after_slash p.0)) (cut_at 10 text) act e (λ p cut some.
+    option_and_then_some (λ p. option_and_then (λ path. of_path path p.1) (after_slash p.0)) (split_at_byte 10 text) act e (λ p cut some.
     option_and_then_some (λ path. of_path path p.1) (after_slash p.0) act some (λ path slash told.
     path-found path p.1 act told ∙ ap (λ (t : List ℕ). t ++ 10 ∷ p.1) (sym (slash-first p.0 path slash)) ∙ sym (cut-found 10 text p cut)))
 

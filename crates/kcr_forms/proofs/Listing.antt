@@ -3,7 +3,7 @@ use Rattle.std.proofs.Common.{◌≡◌, ◌<◌, ◌≤◌, ◌+◌, ℕ, List,
 use Rattle.std.proofs.Common.{append_assoc, ap, ◌∙◌, sym, add-one, Bor}
 use Rattle.std.proofs.lemmas.List.{append-nil, drop_all}
 use Rattle.std.proofs.Math.Seq.{drop-cons}
-use Rattle.kcr_forms.specs.Told.{each_of}
+use Rattle.kcr_forms.specs.ActTexts.{each_of}
 
 -- the bytes of each code
 abbrev pub bytes_of : List (Bor (List ℕ)) → List (List ℕ)

@@ -9,7 +9,7 @@ use Rattle.std.proofs.lemmas.List.Elements.{All-weaker}
 use Rattle.std.proofs.lemmas.Option.{option_and_then_some}
 use Rattle.kcr_history.specs.declared.commands.Act.{Act}
 use Rattle.kcr_history.specs.Texts.{command_text}
-use Rattle.kcr_forms.specs.Cuts.{two_lines, three_lines, four_lines, made_of_two, made_of_three, of_two, of_three, of_four}
+use Rattle.kcr_forms.specs.Split.{split_two_lines, split_three_lines, split_four_lines, made_of_two, made_of_three, of_two, of_three, of_four}
 use Rattle.kcr_forms.proofs.Cutting.{Lacks, cut-found, cut-again}
 
 -- a reader reads the texts of the values and no others
@@ -21,7 +21,7 @@ pub record Reads {V : Type 0} (IsValue : V → Type 0) (text_of : V → List ℕ
 abbrev pub AtLeast : ℕ → List ℕ → Type 0
 AtLeast low text = All (λ b. low ≤ b) text
 
--- the same where the texts have no control character, so that each stands on a line
+-- the same if the texts have no control character, so that each stands on a line
 pub record Value {V : Type 0} (IsValue : V → Type 0) (text_of : V → List ℕ) (read : List ℕ → Option V) : Type 0 where
   pub reads : Reads IsValue text_of read
   pub printing : (v : V) → IsValue v → AtLeast 32 (text_of v)
@@ -69,7 +69,7 @@ pub record Tells {A : Type 0} (IsA : A → Type 0) (make : A → Act) (path : Li
 
 -- a value on the first line, and then what the lines after it tell
 abbrev line_then : {A X : Type 0} → (List ℕ → Option A) → (A → List ℕ → Option X) → List ℕ → Option X
-line_then read next text = option_and_then (λ line. option_and_then (λ x. next x line.1) (read line.0)) (two_lines text)
+line_then read next text = option_and_then (λ line. option_and_then (λ x. next x line.1) (read line.0)) (split_two_lines text)
 
 -- that all lines are there before the first is read makes no difference
 lines-read : {A L M X : Type 0} (first : Option (List ℕ × List ℕ)) (rest : List ℕ → Option L) (join : List ℕ → L → M) (read : List ℕ → Option A)
@@ -81,14 +81,14 @@ lines-read (Some p) rest join read part make same = let at = same p.0 in grind (
 
 module _ {A B C X : Type 0} (a : List ℕ → Option A) (b : List ℕ → Option B) (c : List ℕ → Option C) where
   three-read : (make : A → B → C → X) (text : List ℕ) → line_then a (λ x. of_two (make x) b c) text ≡ of_three make a b c text
-  unfolding of_two of_three three_lines
-  three-read make text = sym (lines-read (two_lines text) (λ t. two_lines t) (λ first q. (first, q.0, q.1)) a (λ m. a m.0)
+  unfolding of_two of_three split_three_lines
+  three-read make text = sym (lines-read (split_two_lines text) (λ t. split_two_lines t) (λ first q. (first, q.0, q.1)) a (λ m. a m.0)
       (λ (m : List ℕ × List ℕ × List ℕ) (x : A). made_of_two (make x) (b m.1) (c m.2)) (λ t l. refl))
 
   four-read : {D : Type 0} (d : List ℕ → Option D) (make : A → B → C → D → X) (text : List ℕ)
       → line_then a (λ x. of_three (make x) b c d) text ≡ of_four make a b c d text
-  unfolding of_three of_four four_lines
-  four-read d make text = sym (lines-read (two_lines text) three_lines (λ first q. (first, q.0, q.1, q.2)) a (λ m. a m.0)
+  unfolding of_three of_four split_four_lines
+  four-read d make text = sym (lines-read (split_two_lines text) split_three_lines (λ first q. (first, q.0, q.1, q.2)) a (λ m. a m.0)
       (λ (m : List ℕ × List ℕ × List ℕ × List ℕ) (x : A). made_of_three (make x) (b m.1) (c m.2) (d m.3)) (λ t l. refl))
 
 -- acts of one value to four; all but the last stand on lines of their own
@@ -110,7 +110,7 @@ module _ {A : Type 0} {IsA : A → Type 0} {text_a : A → List ℕ} {read_a : L
     lines = λ p. text_a p.0 ++ 10 ∷ (tells p.0).lines p.1;
     told = λ p. (tells p.0).told p.1 ∙ append_assoc path (10 ∷ text_a p.0) (10 ∷ (tells p.0).lines p.1);
     found = λ values act e.
-        option_and_then_some (λ line. option_and_then (λ x. next x line.1) (read_a line.0)) (two_lines values) act e (λ line cut all.
+        option_and_then_some (λ line. option_and_then (λ x. next x line.1) (read_a line.0)) (split_two_lines values) act e (λ line cut all.
         option_and_then_some (λ x. next x line.1) (read_a line.0) act all (λ x is rest.
         (tells x).found line.1 act rest ∙ append_assoc path (10 ∷ text_a x) (10 ∷ line.1)
         ∙ (λ j. path ++ 10 ∷ (a.reads.found line.0 x is j ++ 10 ∷ line.1)) ∙ ap (λ (t : List ℕ). path ++ 10 ∷ t) (sym (cut-found 10 values line cut))));

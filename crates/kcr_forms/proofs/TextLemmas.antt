@@ -3,7 +3,7 @@ use Rattle.std.proofs.Common.{◌≡◌, ℕ, zero, suc, ◌+◌, ◌-◌, ◌�
 use Rattle.std.specs.List.{AllByRecursion, range_with_len}
 use Rattle.std.proofs.lemmas.Bool.{both_ways, cases_eq}
 use Rattle.kcr_base.specs.Same.{same_text}
-use Rattle.kcr_base.specs.Reads.{Found, Only}
+use Rattle.kcr_base.specs.Reads.{HasText, ReadsText}
 use Rattle.kcr_base.proofs.ListLemmas.{first-is, none-find}
 use Rattle.kcr_base.proofs.Members.{IsIn, none-in}
 use Rattle.kcr_base.proofs.SameLemmas.{same-is, same-itself}
@@ -30,10 +30,10 @@ module _ {V : Type 0} (IsValue : V → Type 0) (text_of : V → List ℕ) (bytes
 
   -- a reader that finds only values of the text, and each of them, finds the one of a list of all values
   pub by_text-read : (xs : List V) → AllByRecursion IsValue xs → ((v : V) → IsValue v → IsIn v xs)
-      → Found IsValue text_of bytes r → Only IsValue text_of bytes r → r ≡ by_text text_of xs bytes
+      → HasText IsValue text_of bytes r → ReadsText IsValue text_of bytes r → r ≡ by_text text_of xs bytes
   by_text-read xs each all found only = by_find (find has_text xs) refl
     where
-      none : (q : Option V) → Found IsValue text_of bytes q → find has_text xs ≡ None → q ≡ None
+      none : (q : Option V) → HasText IsValue text_of bytes q → find has_text xs ≡ None → q ≡ None
       none None f e = refl
       none (Some v) f e = absurd (both_ways (has_text v) (none-in has_text v xs (none-find has_text xs e) (all v f.0)) (rw f.1 (same-itself bytes)))
 
@@ -44,7 +44,7 @@ module _ {V : Type 0} (IsValue : V → Type 0) (text_of : V → List ℕ) (bytes
 -- the same of numbers from one to another
 pub number-read : (IsValue : ℕ → Type 0) (text_of : ℕ → List ℕ) (low high : ℕ) (bytes : List ℕ) (r : Option ℕ)
     → ((n : ℕ) → low ≤ n → n ≤ high → IsValue n) → ((n : ℕ) → IsValue n → (low ≤ n) × (n ≤ high))
-    → Found IsValue text_of bytes r → Only IsValue text_of bytes r → r ≡ number_by_text text_of low high bytes
+    → HasText IsValue text_of bytes r → ReadsText IsValue text_of bytes r → r ≡ number_by_text text_of low high bytes
 unfolding number_by_text
 number-read IsValue text_of low high bytes r from to found only =
     by_text-read IsValue text_of bytes r (range_with_len low (high + 1 - low))

@@ -3,7 +3,7 @@ use Rattle.std.proofs.Common.{◌≡◌, ℕ, ◌+◌, ◌*◌, List, [], ◌∷
 use Rattle.std.specs.Bool.{⊤}
 use Rattle.std.specs.Fmt.{decimal}
 use Rattle.std.specs.List.{AllByRecursion, range_with_len}
-use Rattle.kcr_base.specs.Reads.{Found, Only}
+use Rattle.kcr_base.specs.Reads.{HasText, ReadsText}
 use Rattle.kcr_base.specs.Day.{IsDay, day_text}
 use Rattle.kcr_base.specs.Facility.{facility_text}
 use Rattle.kcr_base.specs.Moment.{IsMoment, moment_text}
@@ -24,13 +24,13 @@ use Rattle.kcr_room.specs.Room.{way_text}
 use Rattle.kcr_forms.specs.Forms.{number_by_text, day_of, moment_of, ceremony_of, box_of, step_of, role_of, facility_of, way_of, places, place_of}
 use Rattle.kcr_forms.proofs.TextLemmas.{in-range, each-map, each-range, by_text-read, number-read}
 
-pub day-read : (bytes : List ℕ) (r : Option ℕ) → Found IsDay day_text bytes r → Only IsDay day_text bytes r → r ≡ day_of bytes
+pub day-read : (bytes : List ℕ) (r : Option ℕ) → HasText IsDay day_text bytes r → ReadsText IsDay day_text bytes r → r ≡ day_of bytes
 unfolding day_of
 day-read bytes r found only =
     number-read IsDay day_text 10957 47481 bytes r
     (λ n low high. record { from = low; until = omega (arith, high) }) (λ n h. (h.from, omega (arith, h.until))) found only
 
-pub moment-read : (bytes : List ℕ) (r : Option ℕ) → Found IsMoment moment_text bytes r → Only IsMoment moment_text bytes r → r ≡ moment_of bytes
+pub moment-read : (bytes : List ℕ) (r : Option ℕ) → HasText IsMoment moment_text bytes r → ReadsText IsMoment moment_text bytes r → r ≡ moment_of bytes
 unfolding moment_of
 moment-read bytes r found only =
     number-read IsMoment moment_text (10957 * 86400) (47481 * 86400 + 86399) bytes r
@@ -44,7 +44,7 @@ decimal-read limit bytes r found only =
     (λ n low high. record { from = low; until = high }) (λ n h. (h.from, h.until))
     (parts r found) (λ v h t. only v (record { number = h; text = t }))
   where
-    parts : (o : Option ℕ) → IfSome o (IsNumberText limit bytes) → Found (IsNumber limit) decimal bytes o
+    parts : (o : Option ℕ) → IfSome o (IsNumberText limit bytes) → HasText (IsNumber limit) decimal bytes o
     parts None h = tt
     parts (Some n) h = (h.number, h.text)
 
@@ -64,7 +64,7 @@ step-read bytes r found only = decimal-read 400 bytes r found only
 in-roles : (v : Role) → IsIn v (Ca ∷ Iw ∷ Sa ∷ Ssc1 ∷ Ssc2 ∷ Rkos ∷ Sw ∷ [])
 in-roles v = grind arith
 
-pub role-read : (bytes : List ℕ) (r : Option Role) → Found (λ _. ⊤) role_text bytes r → Only (λ _. ⊤) role_text bytes r → r ≡ role_of bytes
+pub role-read : (bytes : List ℕ) (r : Option Role) → HasText (λ _. ⊤) role_text bytes r → ReadsText (λ _. ⊤) role_text bytes r → r ≡ role_of bytes
 unfolding role_of
 role-read bytes r found only =
     by_text-read (λ _. ⊤) role_text bytes r (Ca ∷ Iw ∷ Sa ∷ Ssc1 ∷ Ssc2 ∷ Rkos ∷ Sw ∷ []) (tt, (tt, (tt, (tt, (tt, (tt, (tt, tt)))))))
@@ -73,14 +73,14 @@ role-read bytes r found only =
 in-facilities : (v : Facility) → IsIn v (East ∷ West ∷ [])
 in-facilities v = grind arith
 
-pub facility-read : (bytes : List ℕ) (r : Option Facility) → Found (λ _. ⊤) facility_text bytes r → Only (λ _. ⊤) facility_text bytes r → r ≡ facility_of bytes
+pub facility-read : (bytes : List ℕ) (r : Option Facility) → HasText (λ _. ⊤) facility_text bytes r → ReadsText (λ _. ⊤) facility_text bytes r → r ≡ facility_of bytes
 unfolding facility_of
 facility-read bytes r found only = by_text-read (λ _. ⊤) facility_text bytes r (East ∷ West ∷ []) (tt, (tt, tt)) (λ v _. in-facilities v) found only
 
 in-ways : (v : Way) → IsIn v (Enter ∷ Leave ∷ [])
 in-ways v = grind arith
 
-pub way-read : (bytes : List ℕ) (r : Option Way) → Found (λ _. ⊤) way_text bytes r → Only (λ _. ⊤) way_text bytes r → r ≡ way_of bytes
+pub way-read : (bytes : List ℕ) (r : Option Way) → HasText (λ _. ⊤) way_text bytes r → ReadsText (λ _. ⊤) way_text bytes r → r ≡ way_of bytes
 unfolding way_of
 way-read bytes r found only = by_text-read (λ _. ⊤) way_text bytes r (Enter ∷ Leave ∷ []) (tt, (tt, tt)) (λ v _. in-ways v) found only
 
@@ -106,7 +106,7 @@ in-places (Rksh n) h =
     in-behind _ (map (Co East) seven) (map (Co West) seven ++ map Rksh seven)
     (in-behind _ (map (Co West) seven) (map Rksh seven) (map-in Rksh n seven (in-seven n h)))
 
-pub place-read : (bytes : List ℕ) (r : Option Place) → Found IsPlace place_text bytes r → Only IsPlace place_text bytes r → r ≡ place_of bytes
+pub place-read : (bytes : List ℕ) (r : Option Place) → HasText IsPlace place_text bytes r → ReadsText IsPlace place_text bytes r → r ≡ place_of bytes
 unfolding place_of
 place-read bytes r found only = by_text-read IsPlace place_text bytes r places each-place in-places found only
 

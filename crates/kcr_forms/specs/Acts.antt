@@ -8,12 +8,12 @@ use Rattle.kcr_base.specs.Moment.{IsMoment}
 use Rattle.kcr_base.specs.Number.{IsNumber}
 use Rattle.kcr_base.specs.Place.{IsPlace}
 use Rattle.kcr_base.specs.Serial.{IsSerial}
-use Rattle.kcr_custody.specs.declared.Store.{Store}
-use Rattle.kcr_custody.specs.declared.Store.TheVariants.{SafeOne, Boxed}
+use Rattle.kcr_custody.specs.declared.Destination.{Destination}
+use Rattle.kcr_custody.specs.declared.Destination.TheVariants.{SafeOne, DepositBox}
 use Rattle.kcr_history.specs.declared.commands.Act.{Act}
 use Rattle.kcr_history.specs.declared.commands.Act.TheVariants.{Enter, Train, Withdraw, Appoint, Replace, Release}
-use Rattle.kcr_history.specs.declared.commands.Act.TheVariants.{AddBox, AddItem, Plan, Open, Close, Sheet, Sign, Except}
-use Rattle.kcr_history.specs.declared.commands.Act.TheVariants.{TurnSafe, Seal, Take, Put, Cut}
+use Rattle.kcr_history.specs.declared.commands.Act.TheVariants.{AddBox, AddItem, Plan, Open, Close, RecordSheet, Sign, RecordException}
+use Rattle.kcr_history.specs.declared.commands.Act.TheVariants.{SetSafe, Seal, Take, Put, Cut}
 
 -- one to thirty-two people, none of them twice
 pub record ArePeople (people : List (List ℕ)) : Type 0 where
@@ -26,9 +26,9 @@ pub record AreItems (items : List (List ℕ)) : Type 0 where
   pub each : All IsSerial items
 
 -- safe 1, or a box with a number that boxes have
-abbrev pub IsStore : Store → Type 0
-IsStore SafeOne = Unit {0}
-IsStore (Boxed number) = IsNumber 9999 number
+abbrev pub IsDestination : Destination → Type 0
+IsDestination SafeOne = Unit {0}
+IsDestination (DepositBox number) = IsNumber 9999 number
 
 -- each part of the act is a value of its type; those of which all are, as roles, are left out
 abbrev pub IsAct : Act → Type 0
@@ -43,11 +43,11 @@ IsAct (AddItem ceremony item at) = IsNumber 9999 ceremony × IsSerial item × Is
 IsAct (Plan number facility day script) = IsNumber 9999 number × IsDay day × IsUtf8 script
 IsAct (Open ceremony at) = IsNumber 9999 ceremony × IsMoment at
 IsAct (Close ceremony at) = IsNumber 9999 ceremony × IsMoment at
-IsAct (Sheet ceremony way who at) = IsNumber 9999 ceremony × ArePeople who × IsMoment at
+IsAct (RecordSheet ceremony way who at) = IsNumber 9999 ceremony × ArePeople who × IsMoment at
 IsAct (Sign ceremony step at) = IsNumber 9999 ceremony × IsNumber 400 step × IsMoment at
-IsAct (Except ceremony text pass at) = IsNumber 9999 ceremony × IsLine 1000 text × IsMoment at
-IsAct (TurnSafe ceremony safe state by at) = IsNumber 9999 ceremony × IsInitials by × IsMoment at
+IsAct (RecordException ceremony text pass at) = IsNumber 9999 ceremony × IsLine 1000 text × IsMoment at
+IsAct (SetSafe ceremony safe state by at) = IsNumber 9999 ceremony × IsInitials by × IsMoment at
 IsAct (Seal ceremony serial items at) = IsNumber 9999 ceremony × IsSerial serial × AreItems items × IsMoment at
 IsAct (Take ceremony serial at) = IsNumber 9999 ceremony × IsSerial serial × IsMoment at
-IsAct (Put ceremony serial to at) = IsNumber 9999 ceremony × IsSerial serial × IsStore to × IsMoment at
+IsAct (Put ceremony serial to at) = IsNumber 9999 ceremony × IsSerial serial × IsDestination to × IsMoment at
 IsAct (Cut ceremony serial at) = IsNumber 9999 ceremony × IsSerial serial × IsMoment at

@@ -19,8 +19,8 @@ use Rattle.kcr_base.specs.declared.place.Role.{Role}
 use Rattle.kcr_base.specs.declared.place.Role.TheVariants.{Ca, Iw, Sa, Ssc1, Ssc2, Rkos, Sw}
 use Rattle.kcr_custody.specs.declared.SafeNumber.{SafeNumber}
 use Rattle.kcr_custody.specs.declared.SafeNumber.TheVariants.{One, Two}
-use Rattle.kcr_custody.specs.declared.Store.{Store}
-use Rattle.kcr_custody.specs.declared.Store.TheVariants.{SafeOne, Boxed}
+use Rattle.kcr_custody.specs.declared.Destination.{Destination}
+use Rattle.kcr_custody.specs.declared.Destination.TheVariants.{SafeOne, DepositBox}
 use Rattle.kcr_room.specs.declared.Way.{Way}
 use Rattle.kcr_room.specs.declared.Way.TheVariants.{Enter, Leave}
 use Rattle.kcr_room.specs.Room.{way_text}
@@ -29,32 +29,32 @@ use Rattle.kcr_history.specs.Texts.{safe_text}
 -- TEXTS THAT ARE THEIR OWN VALUE
 
 -- a number, or a byte, from `low` to `high`
-abbrev pub is_within : ℕ → ℕ → ℕ → Bool
-is_within low high b = nat_le low b && nat_le b high
+abbrev pub is_between : ℕ → ℕ → ℕ → Bool
+is_between low high b = nat_le low b && nat_le b high
 
 -- a capital letter A to Z
 abbrev pub is_capital : ℕ → Bool
-is_capital b = is_within 65 90 b
+is_capital b = is_between 65 90 b
 
 -- two to four capital letters
 unfoldable pub is_initials : List ℕ → Bool
-is_initials text = is_within 2 4 (length text) && list_all is_capital text
+is_initials text = is_between 2 4 (length text) && list_all is_capital text
 
 -- a letter, a digit or `-`
 abbrev pub is_key_byte : ℕ → Bool
-is_key_byte b = is_capital b || (is_within 97 122 b || (is_within 48 57 b || (b == 45)))
+is_key_byte b = is_capital b || (is_between 97 122 b || (is_between 48 57 b || (b == 45)))
 
 -- one to forty of them
 unfoldable pub is_key : List ℕ → Bool
-is_key text = is_within 1 40 (length text) && list_all is_key_byte text
+is_key text = is_between 1 40 (length text) && list_all is_key_byte text
 
 -- a capital letter or a digit
 abbrev pub is_serial_byte : ℕ → Bool
-is_serial_byte b = is_capital b || is_within 48 57 b
+is_serial_byte b = is_capital b || is_between 48 57 b
 
 -- four to sixteen of them
 unfoldable pub is_serial : List ℕ → Bool
-is_serial text = is_within 4 16 (length text) && list_all is_serial_byte text
+is_serial text = is_between 4 16 (length text) && list_all is_serial_byte text
 
 -- no control character
 abbrev pub is_printing : ℕ → Bool
@@ -62,9 +62,9 @@ is_printing b = nat_le 32 b && not (b == 127)
 
 -- 1 to `limit` bytes of text with no control character
 unfoldable pub is_line : ℕ → List ℕ → Bool
-is_line limit text = is_within 1 limit (length text) && (is_utf8 text && list_all is_printing text)
+is_line limit text = is_between 1 limit (length text) && (is_utf8 text && list_all is_printing text)
 
--- the text itself, where it is of a form
+-- the text itself, if it is of a form
 abbrev pub if_form : Bool → List ℕ → Option (List ℕ)
 if_form is text = if is then Some text else None
 
@@ -147,15 +147,15 @@ unfoldable pub place_of : List ℕ → Option Place
 place_of text = by_text place_text places text
 
 -- where a bag is put: safe 1, or the box whose number the text is
-unfoldable pub store_of : List ℕ → Option Store
-store_of text = if same_text text (codes "safe1") then Some SafeOne else option_map Boxed (box_of text)
+unfoldable pub destination_of : List ℕ → Option Destination
+destination_of text = if same_text text (codes "safe1") then Some SafeOne else option_map DepositBox (box_of text)
 
 -- NUMBERS AND LISTS
 
--- the number, where it is of 1 to `limit`
+-- the number, if it is of 1 to `limit`
 unfoldable pub number_to : ℕ → ℕ → Option ℕ
-number_to limit n = if is_within 1 limit n then Some n else None
+number_to limit n = if is_between 1 limit n then Some n else None
 
--- the list, where it has 1 to `limit` codes and none of them twice
+-- the list, if it has 1 to `limit` codes and none of them twice
 unfoldable pub listed_to : ℕ → List (List ℕ) → Option (List (List ℕ))
-listed_to limit list = if is_within 1 limit (length list) && are_apart list then Some list else None
+listed_to limit list = if is_between 1 limit (length list) && are_apart list then Some list else None

@@ -1,5 +1,5 @@
 pub mod Forms
 pub mod Acts
-pub mod Cuts
-pub mod Told
+pub mod Split
+pub mod ActTexts
 pub mod Values

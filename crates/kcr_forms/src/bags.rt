@@ -1,28 +1,28 @@
 //! The acts on a bag in a ceremony.
 ghost use Rattle.std.specs.Prelude.{◌≡◌, option_map, IfOk};
-ghost use Rattle.kcr_forms.specs.Forms.{moment_of, store_of, serial_of};
+ghost use Rattle.kcr_forms.specs.Forms.{moment_of, destination_of, serial_of};
 ghost use Rattle.kcr_history.specs.declared.commands.Act.TheVariants as Kinds;
-ghost use Rattle.kcr_forms.specs.Cuts.{of_two};
-ghost use Rattle.kcr_forms.specs.Told.{items_of, of_part, of_bag};
+ghost use Rattle.kcr_forms.specs.Split.{of_two};
+ghost use Rattle.kcr_forms.specs.ActTexts.{items_from, of_part, of_bag};
 
-use crate::cuts::{cut_at, is_text, two_lines};
-use crate::forms::{read_moment, read_serial, read_store};
+use crate::forms::{read_destination, read_moment, read_serial};
 use crate::lists::read_items;
+use crate::split::{is_text, split_at_byte, split_two_lines};
 use kcr_base::{CeremonyNumber, Serial};
 use kcr_history::Act;
 use std::alloc::{AllocError, Global};
 
 /// A sealing: the items and the moment.
-#[tactic(auto, unfolding(crate::specs::Cuts::of_two))]
+#[tactic(auto, unfolding(crate::specs::Split::of_two))]
 fn sealing(
     alloc: Global,
     ceremony: CeremonyNumber,
     serial: Serial,
     values: &[u8],
 ) -> Result<Option<Act>, AllocError>
-    ensures { IfOk result (λ act. act ≡ of_two (Kinds.Seal ceremony serial) items_of moment_of values.now) }
+    ensures { IfOk result (λ act. act ≡ of_two (Kinds.Seal ceremony serial) items_from moment_of values.now) }
 {
-    let Some((items, at)) = two_lines(values) else {
+    let Some((items, at)) = split_two_lines(values) else {
         return Ok(None);
     };
     let Some(items) = read_items(alloc, items)? else {
@@ -51,15 +51,15 @@ fn taking(ceremony: CeremonyNumber, serial: Serial, values: &[u8]) -> Option<Act
 }
 
 /// A bag put away: where, and the moment.
-#[tactic(auto, unfolding(crate::specs::Cuts::of_two))]
+#[tactic(auto, unfolding(crate::specs::Split::of_two))]
 fn putting(ceremony: CeremonyNumber, serial: Serial, values: &[u8]) -> Option<Act>
-    ensures { result ≡ of_two (Kinds.Put ceremony serial) store_of moment_of values.now }
+    ensures { result ≡ of_two (Kinds.Put ceremony serial) destination_of moment_of values.now }
 {
-    let (to, at) = two_lines(values)?;
+    let (to, at) = split_two_lines(values)?;
     Some(Act::Put {
         ceremony,
         serial,
-        to: read_store(to)?,
+        to: read_destination(to)?,
         at: read_moment(at)?,
     })
 }
@@ -76,7 +76,7 @@ fn cutting(ceremony: CeremonyNumber, serial: Serial, values: &[u8]) -> Option<Ac
 }
 
 /// The act on a bag in a ceremony with this path and these values. The error is out of memory.
-#[tactic(auto, unfolding(crate::specs::Told::of_bag))]
+#[tactic(auto, unfolding(crate::specs::ActTexts::of_bag))]
 pub(crate) fn on_bag(
     alloc: Global,
     ceremony: CeremonyNumber,
@@ -86,7 +86,7 @@ pub(crate) fn on_bag(
     ensures { IfOk result (λ act.
         act ≡ of_part serial_of (λ serial what. of_bag ceremony serial what values.now) path.now) }
 {
-    let Some((serial, what)) = cut_at(b'/', path) else {
+    let Some((serial, what)) = split_at_byte(b'/', path) else {
         return Ok(None);
     };
     let Some(serial) = read_serial(serial) else {

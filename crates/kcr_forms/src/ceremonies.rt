@@ -2,16 +2,16 @@
 ghost use Rattle.std.specs.Prelude.{◌≡◌, option_map, option_and_then, IfOk};
 ghost use Rattle.kcr_forms.specs.Forms.{moment_of, way_of, remark_of, initials_of, step_of, safe_of, ceremony_of};
 ghost use Rattle.kcr_history.specs.declared.commands.Act.TheVariants as Kinds;
-ghost use Rattle.kcr_forms.specs.Cuts.{of_three};
-ghost use Rattle.kcr_forms.specs.Told.{people_of, truth_of, of_part, of_step, of_safe, of_ceremony, in_ceremony};
-ghost use Rattle.kcr_forms.specs.Told.{on_ceremony};
+ghost use Rattle.kcr_forms.specs.Split.{of_three};
+ghost use Rattle.kcr_forms.specs.ActTexts.{people_from, truth_of, of_part, of_step, of_safe, of_ceremony, in_ceremony};
+ghost use Rattle.kcr_forms.specs.ActTexts.{on_ceremony};
 
 use crate::bags::on_bag;
-use crate::cuts::{cut_at, is_text, three_lines};
 use crate::forms::{
     read_ceremony, read_initials, read_moment, read_remark, read_safe, read_step, read_way,
 };
 use crate::lists::read_people;
+use crate::split::{is_text, split_at_byte, split_three_lines};
 use crate::values::read_truth;
 use kcr_base::CeremonyNumber;
 use kcr_history::Act;
@@ -38,11 +38,11 @@ fn closing(ceremony: CeremonyNumber, values: &[u8]) -> Option<Act>
 }
 
 /// Rows of the sheet: the way, the people and the moment.
-#[tactic(auto, unfolding(crate::specs::Cuts::of_three))]
+#[tactic(auto, unfolding(crate::specs::Split::of_three))]
 fn sheet(alloc: Global, ceremony: CeremonyNumber, values: &[u8]) -> Result<Option<Act>, AllocError>
-    ensures { IfOk result (λ act. act ≡ of_three (Kinds.Sheet ceremony) way_of people_of moment_of values.now) }
+    ensures { IfOk result (λ act. act ≡ of_three (Kinds.RecordSheet ceremony) way_of people_from moment_of values.now) }
 {
-    let Some((way, who, at)) = three_lines(values) else {
+    let Some((way, who, at)) = split_three_lines(values) else {
         return Ok(None);
     };
     let Some(way) = read_way(way) else {
@@ -54,7 +54,7 @@ fn sheet(alloc: Global, ceremony: CeremonyNumber, values: &[u8]) -> Result<Optio
     let Some(at) = read_moment(at) else {
         return Ok(None);
     };
-    Ok(Some(Act::Sheet {
+    Ok(Some(Act::RecordSheet {
         ceremony,
         way,
         who,
@@ -63,15 +63,15 @@ fn sheet(alloc: Global, ceremony: CeremonyNumber, values: &[u8]) -> Result<Optio
 }
 
 /// An exception: the remark, whether it passes over a step, and the moment.
-#[tactic(auto, unfolding(crate::specs::Cuts::of_three))]
+#[tactic(auto, unfolding(crate::specs::Split::of_three))]
 fn exception(
     alloc: Global,
     ceremony: CeremonyNumber,
     values: &[u8],
 ) -> Result<Option<Act>, AllocError>
-    ensures { IfOk result (λ act. act ≡ of_three (Kinds.Except ceremony) remark_of truth_of moment_of values.now) }
+    ensures { IfOk result (λ act. act ≡ of_three (Kinds.RecordException ceremony) remark_of truth_of moment_of values.now) }
 {
-    let Some((text, pass, at)) = three_lines(values) else {
+    let Some((text, pass, at)) = split_three_lines(values) else {
         return Ok(None);
     };
     let Some(text) = read_remark(alloc, text)? else {
@@ -83,7 +83,7 @@ fn exception(
     let Some(at) = read_moment(at) else {
         return Ok(None);
     };
-    Ok(Some(Act::Except {
+    Ok(Some(Act::RecordException {
         ceremony,
         text,
         pass,
@@ -92,7 +92,7 @@ fn exception(
 }
 
 /// The act on the ceremony itself with these values.
-#[tactic(auto, unfolding(crate::specs::Told::of_ceremony))]
+#[tactic(auto, unfolding(crate::specs::ActTexts::of_ceremony))]
 fn on_itself(
     alloc: Global,
     ceremony: CeremonyNumber,
@@ -115,11 +115,11 @@ fn on_itself(
 }
 
 /// The signature of the step in this path: the moment.
-#[tactic(auto, unfolding(crate::specs::Told::of_step))]
+#[tactic(auto, unfolding(crate::specs::ActTexts::of_step))]
 fn on_step(ceremony: CeremonyNumber, path: &[u8], values: &[u8]) -> Option<Act>
     ensures { result ≡ of_part step_of (λ step what. of_step ceremony step what values.now) path.now }
 {
-    let (step, what) = cut_at(b'/', path)?;
+    let (step, what) = split_at_byte(b'/', path)?;
     let step = read_step(step)?;
     if !is_text(what, "signature") {
         return None;
@@ -132,13 +132,13 @@ fn on_step(ceremony: CeremonyNumber, path: &[u8], values: &[u8]) -> Option<Act>
 }
 
 /// The turning of the safe in this path: whether it is open then, by whom, and the moment.
-#[tactic(auto, unfolding(crate::specs::Cuts::of_three, crate::specs::Told::of_safe))]
+#[tactic(auto, unfolding(crate::specs::Split::of_three, crate::specs::ActTexts::of_safe))]
 fn on_safe(ceremony: CeremonyNumber, path: &[u8], values: &[u8]) -> Option<Act>
     ensures { result ≡ option_and_then (λ safe. of_safe ceremony safe values.now) (safe_of path.now) }
 {
     let safe = read_safe(path)?;
-    let (is_open, by, at) = three_lines(values)?;
-    Some(Act::TurnSafe {
+    let (is_open, by, at) = split_three_lines(values)?;
+    Some(Act::SetSafe {
         ceremony,
         safe,
         is_open: read_truth(is_open)?,
@@ -148,7 +148,7 @@ fn on_safe(ceremony: CeremonyNumber, path: &[u8], values: &[u8]) -> Option<Act>
 }
 
 /// The act on a thing in the ceremony with these values.
-#[tactic(auto, unfolding(crate::specs::Told::in_ceremony))]
+#[tactic(auto, unfolding(crate::specs::ActTexts::in_ceremony))]
 fn on_thing(
     alloc: Global,
     ceremony: CeremonyNumber,
@@ -170,7 +170,7 @@ fn on_thing(
 }
 
 /// The act on a ceremony, or on a thing in it, with this path and these values. The error is out of memory.
-#[tactic(auto, unfolding(crate::specs::Told::on_ceremony))]
+#[tactic(auto, unfolding(crate::specs::ActTexts::on_ceremony))]
 pub(crate) fn on_ceremony(
     alloc: Global,
     path: &[u8],
@@ -179,13 +179,13 @@ pub(crate) fn on_ceremony(
     ensures { IfOk result (λ act.
         act ≡ of_part ceremony_of (λ ceremony rest. on_ceremony ceremony rest values.now) path.now) }
 {
-    let Some((ceremony, rest)) = cut_at(b'/', path) else {
+    let Some((ceremony, rest)) = split_at_byte(b'/', path) else {
         return Ok(None);
     };
     let Some(ceremony) = read_ceremony(ceremony) else {
         return Ok(None);
     };
-    match cut_at(b'/', rest) {
+    match split_at_byte(b'/', rest) {
         Some((kind, path)) => on_thing(alloc, ceremony, kind, path, values),
         None => on_itself(alloc, ceremony, rest, values),
     }

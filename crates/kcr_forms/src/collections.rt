@@ -3,24 +3,24 @@ ghost use Rattle.std.specs.Prelude.{◌≡◌, IfOk};
 ghost use Rattle.kcr_forms.specs.Forms.{initials_of, name_of, place_of, day_of, facility_of, box_of, ceremony_of};
 ghost use Rattle.kcr_forms.specs.Forms.{item_of, moment_of};
 ghost use Rattle.kcr_history.specs.declared.commands.Act.TheVariants as Kinds;
-ghost use Rattle.kcr_forms.specs.Cuts.{of_two, of_three, of_four};
-ghost use Rattle.kcr_forms.specs.Told.{script_of, of_collection};
+ghost use Rattle.kcr_forms.specs.Split.{of_two, of_three, of_four};
+ghost use Rattle.kcr_forms.specs.ActTexts.{script_of, of_collection};
 
-use crate::cuts::{four_lines, is_text, three_lines, two_lines};
 use crate::forms::{
     read_box, read_ceremony, read_day, read_facility, read_initials, read_item, read_moment,
     read_name, read_place,
 };
+use crate::split::{is_text, split_four_lines, split_three_lines, split_two_lines};
 use crate::values::read_script;
 use kcr_history::Act;
 use std::alloc::{AllocError, Global};
 
 /// A new person: the initials and the name.
-#[tactic(auto, unfolding(crate::specs::Cuts::of_two))]
+#[tactic(auto, unfolding(crate::specs::Split::of_two))]
 fn entry(alloc: Global, values: &[u8]) -> Result<Option<Act>, AllocError>
     ensures { IfOk result (λ act. act ≡ of_two Kinds.Enter initials_of name_of values.now) }
 {
-    let Some((who, name)) = two_lines(values) else {
+    let Some((who, name)) = split_two_lines(values) else {
         return Ok(None);
     };
     let Some(who) = read_initials(who) else {
@@ -31,11 +31,11 @@ fn entry(alloc: Global, values: &[u8]) -> Result<Option<Act>, AllocError>
 }
 
 /// An appointment: the place, the person and the day.
-#[tactic(auto, unfolding(crate::specs::Cuts::of_three))]
+#[tactic(auto, unfolding(crate::specs::Split::of_three))]
 fn appointment(values: &[u8]) -> Option<Act>
     ensures { result ≡ of_three Kinds.Appoint place_of initials_of day_of values.now }
 {
-    let (place, who, day) = three_lines(values)?;
+    let (place, who, day) = split_three_lines(values)?;
     Some(Act::Appoint {
         place: read_place(place)?,
         who: read_initials(who)?,
@@ -44,11 +44,11 @@ fn appointment(values: &[u8]) -> Option<Act>
 }
 
 /// A new box: the facility, the number and the place.
-#[tactic(auto, unfolding(crate::specs::Cuts::of_three))]
+#[tactic(auto, unfolding(crate::specs::Split::of_three))]
 fn new_box(values: &[u8]) -> Option<Act>
     ensures { result ≡ of_three Kinds.AddBox facility_of box_of place_of values.now }
 {
-    let (facility, number, place) = three_lines(values)?;
+    let (facility, number, place) = split_three_lines(values)?;
     Some(Act::AddBox {
         facility: read_facility(facility)?,
         number: read_box(number)?,
@@ -57,11 +57,11 @@ fn new_box(values: &[u8]) -> Option<Act>
 }
 
 /// A new item: the ceremony, the code and the moment.
-#[tactic(auto, unfolding(crate::specs::Cuts::of_three))]
+#[tactic(auto, unfolding(crate::specs::Split::of_three))]
 fn new_item(values: &[u8]) -> Option<Act>
     ensures { result ≡ of_three Kinds.AddItem ceremony_of item_of moment_of values.now }
 {
-    let (ceremony, item, at) = three_lines(values)?;
+    let (ceremony, item, at) = split_three_lines(values)?;
     Some(Act::AddItem {
         ceremony: read_ceremony(ceremony)?,
         item: read_item(item)?,
@@ -70,11 +70,11 @@ fn new_item(values: &[u8]) -> Option<Act>
 }
 
 /// A new ceremony: the number, the facility, the day, and all that is left as the script.
-#[tactic(auto, unfolding(crate::specs::Cuts::of_four))]
+#[tactic(auto, unfolding(crate::specs::Split::of_four))]
 fn plan(alloc: Global, values: &[u8]) -> Result<Option<Act>, AllocError>
     ensures { IfOk result (λ act. act ≡ of_four Kinds.Plan ceremony_of facility_of day_of script_of values.now) }
 {
-    let Some((number, facility, day, script)) = four_lines(values) else {
+    let Some((number, facility, day, script)) = split_four_lines(values) else {
         return Ok(None);
     };
     let Some(number) = read_ceremony(number) else {
@@ -98,7 +98,7 @@ fn plan(alloc: Global, values: &[u8]) -> Result<Option<Act>, AllocError>
 }
 
 /// The act that a list of this name begins with these values. The error is out of memory.
-#[tactic(auto, unfolding(crate::specs::Told::of_collection))]
+#[tactic(auto, unfolding(crate::specs::ActTexts::of_collection))]
 pub(crate) fn on_collection(
     alloc: Global,
     name: &[u8],

@@ -6,13 +6,13 @@
 ghost use Rattle.std.specs.Prelude.{◌≡◌, IfOk};
 ghost use Rattle.kcr_forms.specs.Forms.{initials_of, key_of, serial_of, item_of, name_of, remark_of, day_of, moment_of};
 ghost use Rattle.kcr_forms.specs.Forms.{ceremony_of, box_of, step_of, role_of, facility_of, way_of, safe_of, place_of};
-ghost use Rattle.kcr_forms.specs.Forms.{store_of, number_to, listed_to};
+ghost use Rattle.kcr_forms.specs.Forms.{destination_of, number_to, listed_to};
 
 use kcr_base::{
     BoxNumber, CeremonyNumber, Day, Facility, Initials, ItemCode, Items, Key, Moment, Name, People,
     Place, Remark, Role, Serial, StepNumber,
 };
-use kcr_custody::{SafeNumber, Store};
+use kcr_custody::{Destination, SafeNumber};
 use kcr_room::Way;
 use std::alloc::{AllocError, Global};
 
@@ -134,14 +134,14 @@ pub fn read_place(text: &[u8]) -> Option<Place>
 }
 
 /// Where a bag is put: `safe1`, or the number of a box.
-#[tactic(auto, unfolding(crate::specs::Forms::store_of))]
-pub fn read_store(text: &[u8]) -> Option<Store>
-    ensures { result ≡ store_of text.now }
+#[tactic(auto, unfolding(crate::specs::Forms::destination_of))]
+pub fn read_destination(text: &[u8]) -> Option<Destination>
+    ensures { result ≡ destination_of text.now }
 {
     if text == b"safe1".as_slice() {
-        Some(Store::SafeOne)
+        Some(Destination::SafeOne)
     } else {
-        read_box(text).map(Store::Boxed)
+        read_box(text).map(Destination::DepositBox)
     }
 }
 
@@ -165,15 +165,15 @@ pub fn box_number(number: u64) -> Option<BoxNumber>
     }
 }
 
-/// The people of a list, where they are 1 to 32 and none comes twice.
-pub fn people_of(list: Vec<Initials>) -> Option<People>
+/// The people of a list, if they are 1 to 32 and none comes twice.
+pub fn people_from(list: Vec<Initials>) -> Option<People>
     ensures { result ≡ listed_to 32 list.items }
 {
     People::new(list)
 }
 
-/// The items of a list, where they are 1 to 64 and none comes twice.
-pub fn items_of(list: Vec<ItemCode>) -> Option<Items>
+/// The items of a list, if they are 1 to 64 and none comes twice.
+pub fn items_from(list: Vec<ItemCode>) -> Option<Items>
     ensures { result ≡ listed_to 64 list.items }
 {
     Items::new(list)

@@ -8,7 +8,7 @@ use crate::parts;
 use kcr_history::Act;
 
 /// Equal texts are equal acts.
-pub fn texts_tell_acts()
+pub fn command_texts_are_injective()
     ensures { (a b : Act) → IsAct a → IsAct b → command_text a ≡ command_text b → a ≡ b }
 {}
 
@@ -67,7 +67,7 @@ pub fn acts_are_values(act: &Act)
             parts::ceremony(*ceremony);
             parts::moment(*at);
         }
-        Act::Sheet {
+        Act::RecordSheet {
             ceremony,
             who,
             at,
@@ -82,7 +82,7 @@ pub fn acts_are_values(act: &Act)
             parts::step(*step);
             parts::moment(*at);
         }
-        Act::Except {
+        Act::RecordException {
             ceremony,
             text,
             at,
@@ -92,7 +92,7 @@ pub fn acts_are_values(act: &Act)
             parts::remark(text);
             parts::moment(*at);
         }
-        Act::TurnSafe {
+        Act::SetSafe {
             ceremony,
             by,
             at,

@@ -7,17 +7,17 @@
 //! after it are read as that kind's values. A script is the last value of its act, so it may have lines of its own.
 #![tactic(auto)]
 
+mod act_reader;
 mod bags;
 mod ceremonies;
 mod collections;
-mod cuts;
 pub mod forms;
 pub mod laws;
 mod lists;
 mod parts;
 mod people;
 mod places;
-mod told;
+mod split;
 mod values;
 
-pub use told::read_act;
+pub use act_reader::read_act;

@@ -1,23 +1,23 @@
 //! Lists of codes with commas between them.
 ghost use Rattle.std.specs.Prelude.{◌≡◌, map, option_map, IfOk};
 ghost use Rattle.kcr_forms.specs.Forms.{initials_of, item_of};
-ghost use Rattle.kcr_forms.specs.Told;
+ghost use Rattle.kcr_forms.specs.ActTexts;
 
-use crate::forms::{items_of, people_of, read_initials, read_item};
+use crate::forms::{items_from, people_from, read_initials, read_item};
 use kcr_base::{Initials, ItemCode, Items, People};
 use std::alloc::{AllocError, Global};
 
 /// The texts between commas.
 fn between_commas(alloc: Global, text: &[u8]) -> Result<Vec<&[u8]>, AllocError>
-    ensures { IfOk result (λ codes. map (λ code. code.now) codes.items ≡ Told.between_commas text.now) }
+    ensures { IfOk result (λ codes. map (λ code. code.now) codes.items ≡ ActTexts.between_commas text.now) }
 {
     text.split(|b| *b == b',').collect(alloc)
 }
 
-/// The people that codes tell, where each tells one.
+/// The people that codes tell, if each tells one.
 fn each_person(alloc: Global, codes: &[&[u8]]) -> Result<Option<Vec<Initials>>, AllocError>
     ensures { IfOk result (λ people.
-        option_map (λ list. list.items) people ≡ Told.each_of initials_of (map (λ code. code.now) codes.now)) }
+        option_map (λ list. list.items) people ≡ ActTexts.each_of initials_of (map (λ code. code.now) codes.now)) }
 {
     let mut list = Vec::new(alloc);
     for code in codes {
@@ -29,10 +29,10 @@ fn each_person(alloc: Global, codes: &[&[u8]]) -> Result<Option<Vec<Initials>>, 
     Ok(Some(list))
 }
 
-/// The items that codes tell, where each tells one.
+/// The items that codes tell, if each tells one.
 fn each_item(alloc: Global, codes: &[&[u8]]) -> Result<Option<Vec<ItemCode>>, AllocError>
     ensures { IfOk result (λ items.
-        option_map (λ list. list.items) items ≡ Told.each_of item_of (map (λ code. code.now) codes.now)) }
+        option_map (λ list. list.items) items ≡ ActTexts.each_of item_of (map (λ code. code.now) codes.now)) }
 {
     let mut list = Vec::new(alloc);
     for code in codes {
@@ -45,25 +45,25 @@ fn each_item(alloc: Global, codes: &[&[u8]]) -> Result<Option<Vec<ItemCode>>, Al
 }
 
 /// The people with commas between them. The error is out of memory.
-#[tactic(auto, unfolding(crate::specs::Told::people_of))]
+#[tactic(auto, unfolding(crate::specs::ActTexts::people_from))]
 pub(crate) fn read_people(alloc: Global, text: &[u8]) -> Result<Option<People>, AllocError>
-    ensures { IfOk result (λ people. people ≡ Told.people_of text.now) }
+    ensures { IfOk result (λ people. people ≡ ActTexts.people_from text.now) }
 {
     let codes = between_commas(alloc, text)?;
     let Some(list) = each_person(alloc, &codes)? else {
         return Ok(None);
     };
-    Ok(people_of(list))
+    Ok(people_from(list))
 }
 
 /// The items with commas between them. The error is out of memory.
-#[tactic(auto, unfolding(crate::specs::Told::items_of))]
+#[tactic(auto, unfolding(crate::specs::ActTexts::items_from))]
 pub(crate) fn read_items(alloc: Global, text: &[u8]) -> Result<Option<Items>, AllocError>
-    ensures { IfOk result (λ items. items ≡ Told.items_of text.now) }
+    ensures { IfOk result (λ items. items ≡ ActTexts.items_from text.now) }
 {
     let codes = between_commas(alloc, text)?;
     let Some(list) = each_item(alloc, &codes)? else {
         return Ok(None);
     };
-    Ok(items_of(list))
+    Ok(items_from(list))
 }

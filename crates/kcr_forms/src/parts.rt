@@ -7,13 +7,13 @@ ghost use Rattle.kcr_base.specs.Moment.{IsMoment};
 ghost use Rattle.kcr_base.specs.Number.{IsNumber};
 ghost use Rattle.kcr_base.specs.Place.{IsPlace};
 ghost use Rattle.kcr_base.specs.Serial.{IsSerial};
-ghost use Rattle.kcr_forms.specs.Acts.{ArePeople, AreItems, IsStore};
+ghost use Rattle.kcr_forms.specs.Acts.{ArePeople, AreItems, IsDestination};
 
 use kcr_base::{
     BoxNumber, CeremonyNumber, Day, Initials, ItemCode, Items, Moment, Name, People, Place, Remark,
     Serial, StepNumber, Text,
 };
-use kcr_custody::Store;
+use kcr_custody::Destination;
 
 pub(crate) fn person(who: Initials)
     ensures { IsInitials who }
@@ -94,12 +94,12 @@ pub(crate) fn place(place: Place)
     }
 }
 
-pub(crate) fn store(to: Store)
-    ensures { IsStore to }
+pub(crate) fn store(to: Destination)
+    ensures { IsDestination to }
 {
     match to {
-        Store::SafeOne => {}
-        Store::Boxed(number) => new_box(number),
+        Destination::SafeOne => {}
+        Destination::DepositBox(number) => new_box(number),
     }
 }
 

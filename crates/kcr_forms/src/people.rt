@@ -2,20 +2,20 @@
 ghost use Rattle.std.specs.Prelude.{◌≡◌};
 ghost use Rattle.kcr_forms.specs.Forms.{initials_of, role_of, day_of};
 ghost use Rattle.kcr_history.specs.declared.commands.Act.TheVariants as Kinds;
-ghost use Rattle.kcr_forms.specs.Cuts.{of_two, of_three};
-ghost use Rattle.kcr_forms.specs.Told.{of_part, of_person};
+ghost use Rattle.kcr_forms.specs.Split.{of_two, of_three};
+ghost use Rattle.kcr_forms.specs.ActTexts.{of_part, of_person};
 
-use crate::cuts::{cut_at, is_text, three_lines, two_lines};
 use crate::forms::{read_day, read_initials, read_role};
+use crate::split::{is_text, split_at_byte, split_three_lines, split_two_lines};
 use kcr_base::Initials;
 use kcr_history::Act;
 
 /// A training: the role, its first day and its last.
-#[tactic(auto, unfolding(crate::specs::Cuts::of_three))]
+#[tactic(auto, unfolding(crate::specs::Split::of_three))]
 fn training(who: Initials, values: &[u8]) -> Option<Act>
     ensures { result ≡ of_three (Kinds.Train who) role_of day_of day_of values.now }
 {
-    let (role, since, until) = three_lines(values)?;
+    let (role, since, until) = split_three_lines(values)?;
     Some(Act::Train {
         who,
         role: read_role(role)?,
@@ -25,11 +25,11 @@ fn training(who: Initials, values: &[u8]) -> Option<Act>
 }
 
 /// A withdrawal: the role and the day.
-#[tactic(auto, unfolding(crate::specs::Cuts::of_two))]
+#[tactic(auto, unfolding(crate::specs::Split::of_two))]
 fn withdrawal(who: Initials, values: &[u8]) -> Option<Act>
     ensures { result ≡ of_two (Kinds.Withdraw who) role_of day_of values.now }
 {
-    let (role, day) = two_lines(values)?;
+    let (role, day) = split_two_lines(values)?;
     Some(Act::Withdraw {
         who,
         role: read_role(role)?,
@@ -38,11 +38,11 @@ fn withdrawal(who: Initials, values: &[u8]) -> Option<Act>
 }
 
 /// The act on a person with this path and these values.
-#[tactic(auto, unfolding(crate::specs::Told::of_person))]
+#[tactic(auto, unfolding(crate::specs::ActTexts::of_person))]
 pub(crate) fn on_person(path: &[u8], values: &[u8]) -> Option<Act>
     ensures { result ≡ of_part initials_of (λ who what. of_person who what values.now) path.now }
 {
-    let (who, what) = cut_at(b'/', path)?;
+    let (who, what) = split_at_byte(b'/', path)?;
     let who = read_initials(who)?;
     if is_text(what, "roles") {
         training(who, values)

@@ -6,7 +6,7 @@ use Rattle.kcr_people.specs.declared.Training.{Training}
 use Rattle.kcr_people.specs.People.{same_training}
 use Rattle.kcr_history.specs.declared.commands.Act.{Act}
 use Rattle.kcr_history.specs.declared.commands.Act.TheVariants.{Train}
-use Rattle.kcr_history.specs.History.{History, some_command}
+use Rattle.kcr_history.specs.History.{History, has_command}
 use Rattle.kcr_history.specs.Training.{is_training}
 use Rattle.kcr_history.specs.Tables.{trainings, training_row}
 use Rattle.kcr_history.specs.Conditions.{fault}
@@ -18,7 +18,7 @@ apart_after : (A : History) (act : Act) → fault A act ≡ None → Apart same_
     → Apart same_training (cons_option (training_row act) (trainings A))
 apart_after A (Train who role since until) f a =
     let new : Training = record { who = who; role = role; since = since; until = until } in
-    let absent : some_command (is_training who role since until) A ≡ false = grind arith in
+    let absent : has_command (is_training who role since until) A ≡ false = grind arith in
     (is_training-trainings A new ∙ absent, a)
 apart_after A act f a = a
 

@@ -14,7 +14,7 @@ use Rattle.kcr_base.specs.declared.refusal.Refusal.{Refusal}
 use Rattle.kcr_history.specs.Json.{quoted, member, object}
 use Rattle.kcr_history.specs.Refusals.{refusal_text}
 
--- what stands between a list and the next text: a comma where the list is not empty
+-- what stands between a list and the next text: a comma if the list is not empty
 abbrev pub separator : {X : Type 0} → List X → List ℕ
 separator [] = []
 separator (x ∷ xs) = 44 ∷ []
@@ -33,12 +33,12 @@ pub separator_more : {X : Type 0} (xs : List X) (i : ℕ) → i < length xs → 
 separator_more [] i h = absurd (omega arith)
 separator_more (x ∷ xs) i h = rw add-one
 
--- the next text stands behind those before it, and a comma where there are any
+-- the next text stands behind those before it, and a comma if there are any
 pub joined_more : (xs : List (List ℕ)) (i : ℕ) (x : List ℕ) → i < length xs → x ≡ get_or xs i x
     → join_with_byte 44 (take (i + 1) xs) ≡ join_with_byte 44 (take i xs) ++ separator (take i xs) ++ x
 joined_more xs i x h e = rw (take_more xs i x h, ← e) (joined-append (take i xs) x)
 
--- the same where each text is made of an element
+-- the same if each text is made of an element
 joined_map_more : {X : Type 0} (f : X → List ℕ) (xs : List X) (i : ℕ) (x : X) → i < length xs → x ≡ get_or xs i x
     → join_with_byte 44 (map f (take (i + 1) xs)) ≡ join_with_byte 44 (map f (take i xs)) ++ separator (take i xs) ++ f x
 joined_map_more f xs i x h e = rw (map_more f xs i x h, ← e, ← separator-map f (take i xs)) (joined-append (map f (take i xs)) (f x))
@@ -57,7 +57,7 @@ ok_text (Err error) bytes a b e h = h
 
 -- REPLIES
 
--- the next person stands in quotes behind those before, and a comma where there are any
+-- the next person stands in quotes behind those before, and a comma if there are any
 pub quoted_more : (people : List (List ℕ)) (i : ℕ) (who : List ℕ) → i < length people → who ≡ get_or people i who
     → (codes "[" ++ join_with_byte 44 (map quoted (take i people))) ++ separator (take i people) ++ codes "\"" ++ who ++ codes "\""
     ≡ codes "[" ++ join_with_byte 44 (map quoted (take (i + 1) people))

@@ -1,11 +1,11 @@
--- The appointments of a register: each begins where the older ones of its place and of its person have ended. So the holder by rows is the
+-- The appointments of a register: each begins if the older ones of its place and of its person have ended. So the holder by rows is the
 -- holder by history.
 use Rattle.std.proofs.Common.{◌≡◌, ℕ, ◌<◌, Bool, true, false, cond, ◌&&◌, nat_le, List, [], ◌∷◌, map, find, Option, Some, None, option_map, is_none}
 use Rattle.std.proofs.Common.{refl, ◌∙◌, subst, arith}
 use Rattle.std.specs.Prelude.{unwrap_or}
 use Rattle.std.specs.List.{list_all}
 use Rattle.std.proofs.lemmas.Bool.{true≢false, leb-true, leb-false, and_parts}
-use Rattle.kcr_base.specs.Rows.{or_else}
+use Rattle.kcr_base.specs.Rows.{option_or}
 use Rattle.kcr_base.specs.Same.{same_place}
 use Rattle.kcr_base.specs.declared.place.Place.{Place}
 use Rattle.kcr_base.proofs.ListLemmas.{find-none}
@@ -14,8 +14,8 @@ use Rattle.kcr_people.specs.declared.Appointment.{Appointment}
 use Rattle.kcr_people.specs.People.{lasts, open_row_by, begins_too_late, place_held_from_by, person_holds_from_by, holder_by, holds}
 use Rattle.kcr_history.specs.declared.commands.Act.{Act}
 use Rattle.kcr_history.specs.declared.commands.Act.TheVariants.{Appoint, Replace, Release}
-use Rattle.kcr_history.specs.History.{History, last_said}
-use Rattle.kcr_history.specs.Training.{holder, next_holder}
+use Rattle.kcr_history.specs.History.{History, last_value_of_acts}
+use Rattle.kcr_history.specs.Training.{holder, holder_effect}
 use Rattle.kcr_history.specs.Tables.{appointments, appointments_after, ended}
 use Rattle.kcr_history.specs.Conditions.{fault}
 use Rattle.kcr_history.specs.Machine.{IsRegister}
@@ -31,7 +31,7 @@ standing (Some r) day b n = (r, refl, leb-false day r.since b)
 abbrev pub IsOrderly : List Appointment → Type 0
 IsOrderly rows = (stacked rows ≡ true) × (list_all lasts rows ≡ true)
 
--- where a place has an open row that began before the day, an end on that day leaves the place free and the rows orderly
+-- if a place has an open row that began before the day, an end on that day leaves the place free and the rows orderly
 ends : (rows : List Appointment) (place : Place) (day : ℕ) → IsOrderly rows
     → begins_too_late (open_row_by rows place) day ≡ false → is_none (open_row_by rows place) ≡ false
     → (place_held_from_by (map (ended place day) rows) place day ≡ false) × IsOrderly (map (ended place day) rows)
@@ -80,7 +80,7 @@ turns (entry ∷ A) h = turn_after A entry.command.act (took A entry h.0).no_fau
 
 -- what is said of the place, or what was said before
 abbrev told_holder : Option (Option (List ℕ)) → Option (Option (List ℕ)) → Option (List ℕ)
-told_holder now before = unwrap_or (or_else now before) None
+told_holder now before = unwrap_or (option_or now before) None
 
 -- the row of a command that puts somebody in the place, before the older rows
 first-row : (b : Bool) (new : Appointment) (older : Option Appointment) (said : Option (Option (List ℕ)))
@@ -90,10 +90,10 @@ first-row b new older said h = grind arith
 
 holder_after : (A : History) (act : Act) (place : Place) (d : ℕ) → fault A act ≡ None → IsOrderly (appointments A)
     → holder_by (appointments A) place d ≡ holder A place d
-    → holder_by (appointments_after act (appointments A)) place d ≡ told_holder (next_holder place d act) (last_said (next_holder place d) A)
+    → holder_by (appointments_after act (appointments A)) place d ≡ told_holder (holder_effect place d act) (last_value_of_acts (holder_effect place d) A)
 holder_after A (Appoint at who since) place d f o ih =
     first-row (same_place at place && nat_le since d) (record { place = at; who = who; since = since; until = None })
-    (find (holds place d) (appointments A)) (last_said (next_holder place d) A) ih
+    (find (holds place d) (appointments A)) (last_value_of_acts (holder_effect place d) A) ih
 holder_after A (Replace at who since) place d f o ih =
     by_word (same_place at place && nat_le since d) refl
   where
@@ -101,14 +101,14 @@ holder_after A (Replace at who since) place d f o ih =
         → option_map (λ row. row.who)
         (cond (b && true) (Some (record { place = at; who = who; since = since; until = None }))
         (find (holds place d) (map (ended at since) (appointments A))))
-        ≡ told_holder (cond b (Some (Some who)) None) (last_said (next_holder place d) A)
+        ≡ told_holder (cond b (Some (Some who)) None) (last_value_of_acts (holder_effect place d) A)
     by_word true e = refl
     by_word false e = find-ended at place since d (appointments A) e ∙ ih
 holder_after A (Release at since) place d f o ih =
     by_word (same_place at place && nat_le since d) refl
   where
     by_word : (b : Bool) → (same_place at place && nat_le since d) ≡ b
-        → holder_by (map (ended at since) (appointments A)) place d ≡ told_holder (cond b (Some None) None) (last_said (next_holder place d) A)
+        → holder_by (map (ended at since) (appointments A)) place d ≡ told_holder (cond b (Some None) None) (last_value_of_acts (holder_effect place d) A)
     by_word true e =
         let q = and_parts (same_place at place) (nat_le since d) e in
         let free = (released A at since f o).0 in

@@ -11,9 +11,9 @@ use Rattle.kcr_base.proofs.RowsLemmas.{Shuffled, nothing, under, flipped, after,
 use Rattle.kcr_base.proofs.ListLemmas.{all-more}
 use Rattle.kcr_history.specs.declared.commands.Act.{Act}
 use Rattle.kcr_history.specs.declared.commands.Act.TheVariants.{Open}
-use Rattle.kcr_history.specs.declared.rows.MarkRow.{MarkRow}
-use Rattle.kcr_history.specs.History.{History, all_said, greatest, max_with}
-use Rattle.kcr_history.specs.Ceremonies.{marked, mark, opened_number, settled}
+use Rattle.kcr_history.specs.declared.row_types.MarkRow.{MarkRow}
+use Rattle.kcr_history.specs.History.{History, values_of_acts, greatest, max_with}
+use Rattle.kcr_history.specs.Ceremonies.{marked_moment, mark, opened_number, settled}
 use Rattle.kcr_history.specs.Tables.{marks, mark_row}
 
 -- THE GREATEST OF A LIST IN ANY ORDER
@@ -33,7 +33,7 @@ greatest-order xs ys p = greatest-shuffled (shuffled xs ys p)
 -- EACH CEREMONY THAT WAS OPENED HAS A MARK
 
 abbrev has_mark : History → ℕ → Bool
-has_mark A ceremony = list_any (λ m. eqb m.0 ceremony) (all_said marked A)
+has_mark A ceremony = list_any (λ m. eqb m.0 ceremony) (values_of_acts marked_moment A)
 
 some_mark : (ceremony : ℕ) (ms : List (ℕ × ℕ)) → list_any (λ m. eqb m.0 ceremony) ms ≡ true
     → is_some (greatest (map (λ m. m.1) (filter (λ m. eqb m.0 ceremony) ms))) ≡ true
@@ -49,29 +49,29 @@ all_more None ms cs h = h
 all_more (Some m) ms cs h = all-more (λ c. list_any (λ m. eqb m.0 c) ms) _ cs (λ c. or_right (eqb m.0 c) _) h
 
 marked_after : (act : Act) (ms : List (ℕ × ℕ)) (cs : List ℕ) → list_all (λ c. list_any (λ m. eqb m.0 c) ms) cs ≡ true
-    → list_all (λ c. list_any (λ m. eqb m.0 c) (cons_option (marked act) ms)) (cons_option (opened_number act) cs) ≡ true
+    → list_all (λ c. list_any (λ m. eqb m.0 c) (cons_option (marked_moment act) ms)) (cons_option (opened_number act) cs) ≡ true
 marked_after (Open ceremony at) ms cs h =
     and_from (eqb ceremony ceremony || list_any (λ m. eqb m.0 ceremony) ms) _ (rw (eq-eqb ceremony ceremony refl))
     (all_more (Some (ceremony, at)) ms cs h)
-marked_after act ms cs h = all_more (marked act) ms cs h
+marked_after act ms cs h = all_more (marked_moment act) ms cs h
 
-opened_marked : (A : History) → list_all (has_mark A) (all_said opened_number A) ≡ true
+opened_marked : (A : History) → list_all (has_mark A) (values_of_acts opened_number A) ≡ true
 opened_marked [] = refl
-opened_marked (entry ∷ A) = marked_after entry.command.act (all_said marked A) (all_said opened_number A) (opened_marked A)
+opened_marked (entry ∷ A) = marked_after entry.command.act (values_of_acts marked_moment A) (values_of_acts opened_number A) (opened_marked A)
 
 -- the moments of the rows are the marks
 row_marks : (A : History) (cs : List ℕ) → list_all (has_mark A) cs ≡ true → map (λ row. row.at) (map (mark_row A) cs) ≡ filter_map (mark A) cs
 row_marks A [] h = refl
 row_marks A (c ∷ cs) h =
     let p = and_parts (has_mark A c) (list_all (has_mark A) cs) h in
-    by_mark (mark A c) _ _ (some_mark c (all_said marked A) p.0) (row_marks A cs p.1)
+    by_mark (mark A c) _ _ (some_mark c (values_of_acts marked_moment A) p.0) (row_marks A cs p.1)
   where
     by_mark : (o : Option ℕ) (ms ns : List ℕ) → is_some o ≡ true → ms ≡ ns → (unwrap_or o 0 ∷ ms) ≡ cons_option o ns
     by_mark o ms ns e h = grind arith
 
 pub settled-rows : (A : History) (rows : List MarkRow) → IsPermutation (marks A) rows → option_map day_of (greatest (map (λ row. row.at) rows)) ≡ settled A
 settled-rows A rows p =
-    let own = row_marks A (all_said opened_number A) (opened_marked A) in
+    let own = row_marks A (values_of_acts opened_number A) (opened_marked A) in
     let moments : List MarkRow → List ℕ = map (λ row. row.at) in
     let same = greatest-order (moments (marks A)) (moments rows) (IsPermutation-map (λ row. row.at) (marks A) rows p) in
     ap (option_map day_of) (same ∙ ap greatest own)

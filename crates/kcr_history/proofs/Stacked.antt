@@ -1,4 +1,4 @@
--- The appointments of one place, and those of one person: each begins where the older ones have ended.
+-- The appointments of one place, and those of one person: each begins if the older ones have ended.
 use Rattle.std.proofs.Common.{◌≡◌, ℕ, ◌<◌, ◌≤◌, Bool, true, false, cond, not, ◌&&◌, nat_le, eqb, List, [], ◌∷◌, map, find, Option, Some, None}
 use Rattle.std.proofs.Common.{option_map, is_none, refl, sym, ap, ◌∙◌, arith, subst, inl, inr}
 use Rattle.std.specs.List.{list_any, list_all, AllByRecursion}
@@ -11,7 +11,7 @@ use Rattle.kcr_people.specs.declared.Appointment.{Appointment}
 use Rattle.kcr_base.specs.Rows.{put}
 use Rattle.kcr_base.proofs.ListLemmas.{any-map, find-cases}
 use Rattle.kcr_base.proofs.SameLemmas.{place-same, place-itself}
-use Rattle.kcr_people.specs.People.{lasts, lasts_beyond, ends_after, place_held_from_by, person_holds_from_by, open_row_by, stands, holds, holder_by}
+use Rattle.kcr_people.specs.People.{lasts, lasts_beyond, ends_after, place_held_from_by, person_holds_from_by, open_row_by, is_open_ended, holds, holder_by}
 use Rattle.kcr_history.specs.Changes.{same_appointment}
 use Rattle.kcr_history.specs.Tables.{ended, end_at}
 
@@ -86,7 +86,7 @@ in_turn-ended place day (row ∷ rows) t =
     and_from _ (in_turn (map (ended place day) rows)) (not_from_false _ (free-ended place day row.who row.since rows (not-true _ p.0)))
     (in_turn-ended place day rows p.1)
 
--- where the place has no holder from the day on, no row of the place begins on it
+-- if the place has no holder from the day on, no row of the place begins on it
 pub no_begin : (place : Place) (day : ℕ) (rows : List Appointment) → list_all lasts rows ≡ true → place_held_from_by rows place day ≡ false
     → list_any (λ row. same_place row.place place && eqb row.since day) rows ≡ false
 no_begin place day [] l h = refl
@@ -120,7 +120,7 @@ opened : (place : Place) (r : Appointment) (rows : List Appointment) → stacked
 opened place r [] s h = absurd (let e : None ≡ Some r = h in cc)
 opened place r (row ∷ rows) s h =
     let o = older row rows s in
-    elim (find-cases (stands place row) row r (open_row_by rows place) h) [
+    elim (find-cases (is_open_ended place row) row r (open_row_by rows place) h) [
       | inl (p, e) ↦
           let q = and_parts (same_place row.place place) (is_none row.until) p in
           subst (λ r. (r.place ≡ place) × IsOpen r (row ∷ rows)) e (place-same row.place place q.0, here rows q.1 o.0)
@@ -192,7 +192,7 @@ put-ended place day r rows s t h = let it = opened place r rows s h in rw (keyed
 
 -- what stands for the place is this row
 abbrev IsOnly : Place → Appointment → Appointment → Type 0
-IsOnly place r row = stands place row ≡ true → row ≡ r
+IsOnly place r row = is_open_ended place row ≡ true → row ≡ r
 
 none-stands : (r : Appointment) (first : ℕ) (rows : List Appointment) → place_held_from_by rows r.place first ≡ false → AllByRecursion (IsOnly r.place r) rows
 none-stands r first [] h = tt

@@ -3,41 +3,41 @@ use Rattle.std.proofs.Common.{◌≡◌, ℕ, ◌+◌, List, [], ◌∷◌, leng
 use Rattle.kcr_base.specs.Refuse.{NoneHolds}
 use Rattle.kcr_base.specs.declared.refusal.Refusal.{Refusal}
 use Rattle.kcr_base.proofs.RefuseLemmas.{none_holds}
-use Rattle.kcr_custody.specs.Custody.{not_ready}
+use Rattle.kcr_custody.specs.Custody.{not_ready_refusal}
 use Rattle.kcr_history.specs.declared.commands.Act.{Act}
-use Rattle.kcr_history.specs.declared.commands.Answer.{Answer}
+use Rattle.kcr_history.specs.declared.commands.ReplyData.{ReplyData}
 use Rattle.kcr_history.specs.declared.commands.Command.{Command}
 use Rattle.kcr_history.specs.declared.commands.Entry.{Entry}
 use Rattle.kcr_history.specs.History.{History, entry_of}
-use Rattle.kcr_history.specs.Conditions.{fault, not_open, late, full, scene_at}
+use Rattle.kcr_history.specs.Conditions.{fault, not_open_refusal, late_refusal, full_refusal, ceremony_status_at}
 use Rattle.kcr_history.specs.Tables.{keys}
 use Rattle.kcr_history.specs.Views.{greatest_number}
-use Rattle.kcr_history.specs.Machine.{Accepts, Sitting, sitting, answer_to, with_command, acts, repeats, seats, accepts, machine}
+use Rattle.kcr_history.specs.Machine.{Accepts, SeatRequest, seat_request, reply_to, with_command, DecidesNew, DecidesRepeat, seats, IsAcceptedWith, machine}
 use Rattle.kcr_history.specs.Machine.{IsOfMachine, IsAnswerTo, CanFollow, IsRegister}
 
--- the key was new, no condition held, and the answer is the machine's, with the people who were seated where seats were needed
+-- the key was new, no condition held, and the answer is the machine's, with the people who were seated if seats were needed
 pub record Took (A : History) (entry : Entry) : Type 0 where
   pub new_key : entry_of A entry.command.key ≡ None
   pub no_fault : fault A entry.command.act ≡ None
   pub people : Option (List (List ℕ))
-  pub answer : entry.answer ≡ answer_to A entry.command.act people
+  pub answer : entry.answer ≡ reply_to A entry.command.act people
 
--- where an act of custody finds its ceremony ready, it is open, the moment is not before its mark, and the register is not full
-pub none_ready : (A : History) (c at : ℕ) → not_ready (scene_at A c at) ≡ None → NoneHolds (not_open A c ∷ late A c at ∷ full A ∷ [])
-none_ready A c at = none_holds (not_open A c ∷ late A c at ∷ full A ∷ [])
+-- if an act of custody finds its ceremony ready, it is open, the moment is not before its mark, and the register is not full
+pub none_ready : (A : History) (c at : ℕ) → not_ready_refusal (ceremony_status_at A c at) ≡ None → NoneHolds (not_open_refusal A c ∷ late_refusal A c at ∷ full_refusal A ∷ [])
+none_ready A c at = none_holds (not_open_refusal A c ∷ late_refusal A c at ∷ full_refusal A ∷ [])
 
 -- WHAT A REGISTER'S ENTRY TELLS
 
 abbrev Told : History → Entry → Type 0
-Told A entry = (people : Option (List (List ℕ))) × (entry.answer ≡ answer_to A entry.command.act people)
+Told A entry = (people : Option (List (List ℕ))) × (entry.answer ≡ reply_to A entry.command.act people)
 
-told_by : (A : History) (entry : Entry) (o : Option Sitting) → IsAnswerTo A entry.command.act entry.answer o → Told A entry
+told_by : (A : History) (entry : Entry) (o : Option SeatRequest) → IsAnswerTo A entry.command.act entry.answer o → Told A entry
 told_by A entry None h = (None, h)
 told_by A entry (Some s) h = (Some h.0, h.2)
 
 pub took : (A : History) (entry : Entry) → CanFollow A entry → Took A entry
 took A entry h =
-    let t = told_by A entry (sitting A entry.command.act) h.answered in
+    let t = told_by A entry (seat_request A entry.command.act) h.answered in
     record { new_key = h.new_key; no_fault = h.no_fault; people = t.0; answer = t.1 }
 
 -- WHAT THE MACHINE ACCEPTS CAN FOLLOW
@@ -45,25 +45,25 @@ took A entry h =
 longer : {X : Type 0} (x : X) (xs : List X) → x ∷ xs ≡ xs → ⊥
 longer x xs e = omega (arith, ap length e)
 
-told : (a b : Answer) → Accepts a ≡ Accepts b → a ≡ b
+told : (a b : ReplyData) → Accepts a ≡ Accepts b → a ≡ b
 told a b e = cc
 
-module _ (A : History) (x : Command) (answer : Answer) where
+module _ (A : History) (x : Command) (answer : ReplyData) where
   abbrev A' : History
   A' = with_command A x answer
 
-  by_sitting : (o : Option Sitting) → MatchOption o (accepts A x (answer_to A x.act None) (Accepts answer) A') (λ s. seats A x s (Accepts answer) A')
+  by_sitting : (o : Option SeatRequest) → MatchOption o (IsAcceptedWith A x (reply_to A x.act None) (Accepts answer) A') (λ s. seats A x s (Accepts answer) A')
       → IsAnswerTo A x.act answer o
   by_sitting None h = told _ _ h.0
   by_sitting (Some s) (inl w) = (w.0, w.1.seating, told _ _ w.2.0)
   by_sitting (Some s) (inr w) = absurd (longer _ A w.2.1)
 
   by_key : (k : Option Entry) (f : Option Refusal)
-      → MatchOption k (acts A x f (Accepts answer) A') (λ kept. repeats A x kept (Accepts answer) A')
-      → (k ≡ None) × (f ≡ None) × IsAnswerTo A x.act answer (sitting A x.act)
+      → MatchOption k (DecidesNew A x f (Accepts answer) A') (λ kept. DecidesRepeat A x kept (Accepts answer) A')
+      → (k ≡ None) × (f ≡ None) × IsAnswerTo A x.act answer (seat_request A x.act)
   by_key (Some kept) f h = absurd (longer _ A h.1)
   by_key None (Some refusal) h = absurd (longer _ A h.1)
-  by_key None None h = (refl, refl, by_sitting (sitting A x.act) h)
+  by_key None None h = (refl, refl, by_sitting (seat_request A x.act) h)
 
   pub follows : machine A x (Accepts answer) A' → CanFollow A (record { command = x; answer = answer })
   follows h =
@@ -78,7 +78,7 @@ of_machine (entry ∷ A) h = (follows A entry.command entry.answer h.0, of_machi
 -- NUMBERS
 
 -- each answer has its number
-pub number_of_answer : (A : History) (act : Act) (people : Option (List (List ℕ))) → (answer_to A act people).accepted ≡ length A + 1
+pub number_of_answer : (A : History) (act : Act) (people : Option (List (List ℕ))) → (reply_to A act people).accepted ≡ length A + 1
 number_of_answer A act people = grind arith
 
 -- the number of an entry is how many have been accepted with it

@@ -1,8 +1,8 @@
 -- The greatest number of a step among seatings.
 use Rattle.std.proofs.Common.{◌≡◌, ℕ, List, [], ◌∷◌, map, fold, max, arith}
-use Rattle.kcr_history.specs.declared.rows.SeatingRow.{SeatingRow}
+use Rattle.kcr_history.specs.declared.row_types.SeatingRow.{SeatingRow}
 
--- 0 where there is no seating
+-- 0 if there is no seating
 abbrev pub top : List SeatingRow → ℕ
 top rows = fold max 0 (map (λ row. row.step) rows)
 

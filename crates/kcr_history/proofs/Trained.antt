@@ -4,7 +4,7 @@ use Rattle.std.specs.Prelude.{unwrap_or}
 use Rattle.std.specs.List.{list_any, list_all, cons_option}
 use Rattle.std.proofs.lemmas.Bool.{both_ways, and_left, and_parts, and_from, or_from, or_left, or_right, false_from_ne_true}
 use Rattle.std.proofs.lemmas.List.Folds.{list_all-map}
-use Rattle.kcr_base.specs.Rows.{or_else}
+use Rattle.kcr_base.specs.Rows.{option_or}
 use Rattle.kcr_base.specs.Same.{same_text, same_role}
 use Rattle.kcr_base.specs.declared.place.Role.{Role}
 use Rattle.kcr_base.proofs.ListLemmas.{all-more}
@@ -16,8 +16,8 @@ use Rattle.kcr_custody.proofs.Puts.{all_put_all}
 use Rattle.kcr_people.proofs.Withdrawn.{trained-after, is_of-true, is_of-own}
 use Rattle.kcr_history.specs.declared.commands.Act.{Act}
 use Rattle.kcr_history.specs.declared.commands.Act.TheVariants.{Train, Withdraw}
-use Rattle.kcr_history.specs.History.{History, some_command, last_said}
-use Rattle.kcr_history.specs.Training.{trained, says_of_training, is_training}
+use Rattle.kcr_history.specs.History.{History, has_command, last_value_of_acts}
+use Rattle.kcr_history.specs.Training.{trained, training_effect, is_training}
 use Rattle.kcr_history.specs.Tables.{trainings, training_row, withdrawals, withdrawals_after}
 use Rattle.kcr_history.specs.Conditions.{fault}
 use Rattle.kcr_history.specs.Machine.{IsRegister}
@@ -77,22 +77,22 @@ not_withdrawn new day rows (w ∷ ws) n h =
 trained_after : (A : History) (act : Act) (who : List ℕ) (role : Role) (day : ℕ) → fault A act ≡ None
     → trained_by (trainings A) (withdrawals A) who role day ≡ trained A who role day
     → trained_by (cons_option (training_row act) (trainings A)) (withdrawals_after act (trainings A) (withdrawals A)) who role day
-    ≡ unwrap_or (or_else (says_of_training who role day act) (last_said (says_of_training who role day) A)) false
+    ≡ unwrap_or (option_or (training_effect who role day act) (last_value_of_acts (training_effect who role day) A)) false
 trained_after A (Train p r since until) who role day f ih =
     let new : Training = record { who = p; role = r; since = since; until = until } in
-    let absent : some_command (is_training p r since until) A ≡ false = grind arith in
+    let absent : has_command (is_training p r since until) A ≡ false = grind arith in
     rw (not_withdrawn new day (trainings A) (withdrawals A) (is_training-trainings A new ∙ absent) (rooted A)) (by_cover (covers who role day new) _ _ ih)
   where
-    by_cover : (b t : Bool) (said : Option Bool) → t ≡ unwrap_or said false → ((b && true) || t) ≡ unwrap_or (or_else (cond b (Some true) None) said) false
+    by_cover : (b t : Bool) (said : Option Bool) → t ≡ unwrap_or said false → ((b && true) || t) ≡ unwrap_or (option_or (cond b (Some true) None) said) false
     by_cover b t said e = grind arith
 trained_after A (Withdraw p r from) who role day f ih =
     trained-after (trainings A) (withdrawals A) p r from who role day ∙ by_test (same_text who p && same_role role r && nat_le from day) _ _ ih
   where
-    by_test : (b t : Bool) (said : Option Bool) → t ≡ unwrap_or said false → (t && not b) ≡ unwrap_or (or_else (cond b (Some false) None) said) false
+    by_test : (b t : Bool) (said : Option Bool) → t ≡ unwrap_or said false → (t && not b) ≡ unwrap_or (option_or (cond b (Some false) None) said) false
     by_test b t said e = grind arith
 trained_after A act who role day f ih = ih
 
--- by the rows of a register somebody is trained exactly where the history says so
+-- by the rows of a register somebody is trained if and only if the history says so
 pub trained-rows : (A : History) → IsRegister A → (who : List ℕ) (role : Role) (day : ℕ)
     → trained_by (trainings A) (withdrawals A) who role day ≡ trained A who role day
 trained-rows [] h who role day = refl

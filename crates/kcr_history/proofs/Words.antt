@@ -1,7 +1,7 @@
 -- The words on the rows of a history's tables are the words on the history.
 use Rattle.std.proofs.Common.{◌≡◌, ℕ, Bool, true, false, cond, ◌||◌, List, [], ◌∷◌, map, Option, Some, option_map, refl, ap, ◌∙◌, arith, eqb, is_some}
 use Rattle.std.specs.List.{list_any, cons_option}
-use Rattle.kcr_base.specs.Rows.{or_else}
+use Rattle.kcr_base.specs.Rows.{option_or}
 use Rattle.kcr_base.specs.Same.{same_text}
 use Rattle.kcr_base.specs.declared.place.Place.{Place}
 use Rattle.kcr_people.specs.declared.Appointment.{Appointment}
@@ -10,18 +10,18 @@ use Rattle.kcr_people.specs.declared.Training.{Training}
 use Rattle.kcr_people.specs.People.{is_person_by, ever_trained_by, ever_put_by, same_training}
 use Rattle.kcr_history.specs.declared.commands.Act.{Act}
 use Rattle.kcr_history.specs.declared.commands.Act.TheVariants.{Appoint, Replace, Release, Plan}
-use Rattle.kcr_history.specs.History.{History, all_said, some_command, entry_of}
-use Rattle.kcr_history.specs.Training.{enters, is_person, trains_person, ever_trained, is_training, puts, ever_put}
+use Rattle.kcr_history.specs.History.{History, values_of_acts, has_command, entry_of}
+use Rattle.kcr_history.specs.Training.{enters, is_person, trains_person, ever_trained, is_training, puts, was_custodian}
 use Rattle.kcr_history.specs.Tables.{people, person_row, trainings, training_row, appointments, appointments_after, ended, keys, key_row, planned_number}
 use Rattle.kcr_history.specs.Views.{row_of_key}
 use Rattle.kcr_history.specs.Ceremonies.{Planned, planned_as, plan_of, is_ceremony}
 
--- some row of the commands passes a test where some command says so
+-- some row of the commands passes a test if some command says so
 some_row : {X : Type 0} (row_of : Act → Option X) (test : X → Bool) (says : Act → Bool)
     → ((act : Act) (rows : List X) → list_any test (cons_option (row_of act) rows) ≡ (says act || list_any test rows))
-    → (A : History) → list_any test (all_said row_of A) ≡ some_command says A
+    → (A : History) → list_any test (values_of_acts row_of A) ≡ has_command says A
 some_row row_of test says one [] = refl
-some_row row_of test says one (entry ∷ A) = one entry.command.act (all_said row_of A) ∙ ap (λ b. says entry.command.act || b) (some_row row_of test says one A)
+some_row row_of test says one (entry ∷ A) = one entry.command.act (values_of_acts row_of A) ∙ ap (λ b. says entry.command.act || b) (some_row row_of test says one A)
 
 pub is_person-people : (A : History) (who : List ℕ) → is_person_by (people A) who ≡ is_person A who
 is_person-people A who = some_row person_row (λ row. same_text row.who who) (enters who) entered A
@@ -37,7 +37,7 @@ ever_trained-trainings A who = some_row training_row (λ row. same_text row.who 
 
 -- the very same training
 pub is_training-trainings : (A : History) (row : Training)
-    → list_any (same_training row) (trainings A) ≡ some_command (is_training row.who row.role row.since row.until) A
+    → list_any (same_training row) (trainings A) ≡ has_command (is_training row.who row.role row.since row.until) A
 is_training-trainings A row = some_row training_row (same_training row) (is_training row.who row.role row.since row.until) entered A
   where
     entered : (act : Act) (rows : List Training)
@@ -56,7 +56,7 @@ ever_put_after who (Replace place p day) rows = ap (λ b. same_text p who || b) 
 ever_put_after who (Release place day) rows = ever_put-ended who place day rows
 ever_put_after who act rows = refl
 
-pub ever_put-appointments : (A : History) (who : List ℕ) → ever_put_by (appointments A) who ≡ ever_put A who
+pub ever_put-appointments : (A : History) (who : List ℕ) → ever_put_by (appointments A) who ≡ was_custodian A who
 ever_put-appointments [] who = refl
 ever_put-appointments (entry ∷ A) who =
     ever_put_after who entry.command.act (appointments A) ∙ ap (λ b. puts who entry.command.act || b) (ever_put-appointments A who)
@@ -72,12 +72,12 @@ row_of_key-keys (entry ∷ A) key =
     by_test true = refl
     by_test false = refl
 
--- a ceremony has a row where it was planned
+-- a ceremony has a row if it was planned
 planned_after : (act : Act) (c : ℕ) (numbers : List ℕ) (plan : Option Planned) → list_any (λ k. eqb k c) numbers ≡ is_some plan
-    → list_any (λ k. eqb k c) (cons_option (planned_number act) numbers) ≡ is_some (or_else (planned_as c act) plan)
+    → list_any (λ k. eqb k c) (cons_option (planned_number act) numbers) ≡ is_some (option_or (planned_as c act) plan)
 planned_after (Plan number facility day script) c numbers plan ih = grind arith
 planned_after act c numbers plan ih = ih
 
-pub planned-number : (A : History) (c : ℕ) → list_any (λ k. eqb k c) (all_said planned_number A) ≡ is_ceremony A c
+pub planned-number : (A : History) (c : ℕ) → list_any (λ k. eqb k c) (values_of_acts planned_number A) ≡ is_ceremony A c
 planned-number [] c = refl
-planned-number (entry ∷ A) c = planned_after entry.command.act c (all_said planned_number A) (plan_of A c) (planned-number A c)
+planned-number (entry ∷ A) c = planned_after entry.command.act c (values_of_acts planned_number A) (plan_of A c) (planned-number A c)

@@ -9,9 +9,9 @@ use Rattle.kcr_base.specs.declared.place.Facility.TheVariants.{East}
 use Rattle.kcr_script.specs.declared.script.Step.{Step}
 use Rattle.kcr_script.specs.Reading.{script_of}
 use Rattle.kcr_history.specs.declared.commands.Act.{Act}
-use Rattle.kcr_history.specs.declared.commands.Act.TheVariants.{AddItem, Plan, Open, Close, Sign, Except, TurnSafe}
+use Rattle.kcr_history.specs.declared.commands.Act.TheVariants.{AddItem, Plan, Open, Close, Sign, RecordException, SetSafe}
 use Rattle.kcr_history.specs.declared.commands.Act.TheVariants.{Seal, Take, Put, Cut}
-use Rattle.kcr_history.specs.History.{History, how_many, all_said, last_said, greatest}
+use Rattle.kcr_history.specs.History.{History, command_count, values_of_acts, last_value_of_acts, greatest}
 
 -- a planned ceremony
 pub record Planned : Type 0 where
@@ -28,7 +28,7 @@ planned_as ceremony act = None
 
 -- the plan of the ceremony
 abbrev pub plan_of : History → ℕ → Option Planned
-plan_of A ceremony = last_said (planned_as ceremony) A
+plan_of A ceremony = last_value_of_acts (planned_as ceremony) A
 
 -- there is such a ceremony
 abbrev pub is_ceremony : History → ℕ → Bool
@@ -54,43 +54,43 @@ step_at steps (suc k) = slice_get steps k
 -- STATES
 
 -- when the command opens the ceremony
-abbrev pub opening : ℕ → Act → Option ℕ
-opening ceremony (Open c at) = if c == ceremony then Some at else None
-opening ceremony act = None
+abbrev pub opening_moment : ℕ → Act → Option ℕ
+opening_moment ceremony (Open c at) = if c == ceremony then Some at else None
+opening_moment ceremony act = None
 
 -- when the command closes the ceremony
-abbrev pub closing : ℕ → Act → Option ℕ
-closing ceremony (Close c at) = if c == ceremony then Some at else None
-closing ceremony act = None
+abbrev pub closing_moment : ℕ → Act → Option ℕ
+closing_moment ceremony (Close c at) = if c == ceremony then Some at else None
+closing_moment ceremony act = None
 
-abbrev pub opened : History → ℕ → Option ℕ
-opened A ceremony = last_said (opening ceremony) A
+abbrev pub opened_at : History → ℕ → Option ℕ
+opened_at A ceremony = last_value_of_acts (opening_moment ceremony) A
 
-abbrev pub closed : History → ℕ → Option ℕ
-closed A ceremony = last_said (closing ceremony) A
+abbrev pub closed_at : History → ℕ → Option ℕ
+closed_at A ceremony = last_value_of_acts (closing_moment ceremony) A
 
 -- the ceremony is open: it was opened and not closed
-abbrev pub is_open : History → ℕ → Bool
-is_open A ceremony = is_some (opened A ceremony) && is_none (closed A ceremony)
+abbrev pub is_ceremony_open : History → ℕ → Bool
+is_ceremony_open A ceremony = is_some (opened_at A ceremony) && is_none (closed_at A ceremony)
 
 -- MARKS
 
 -- the ceremony and moment of an opening, signature, exception or custody command (items, safes, bags)
-abbrev pub marked : Act → Option (ℕ × ℕ)
-marked (Open c at) = Some (c, at)
-marked (Sign c k at) = Some (c, at)
-marked (Except c text pass at) = Some (c, at)
-marked (AddItem c item at) = Some (c, at)
-marked (TurnSafe c safe state by at) = Some (c, at)
-marked (Seal c serial items at) = Some (c, at)
-marked (Take c serial at) = Some (c, at)
-marked (Put c serial to at) = Some (c, at)
-marked (Cut c serial at) = Some (c, at)
-marked act = None
+abbrev pub marked_moment : Act → Option (ℕ × ℕ)
+marked_moment (Open c at) = Some (c, at)
+marked_moment (Sign c k at) = Some (c, at)
+marked_moment (RecordException c text pass at) = Some (c, at)
+marked_moment (AddItem c item at) = Some (c, at)
+marked_moment (SetSafe c safe state by at) = Some (c, at)
+marked_moment (Seal c serial items at) = Some (c, at)
+marked_moment (Take c serial at) = Some (c, at)
+marked_moment (Put c serial to at) = Some (c, at)
+marked_moment (Cut c serial at) = Some (c, at)
+marked_moment act = None
 
--- the mark of the ceremony: the greatest moment of those, none where there is none
+-- the mark of the ceremony: the greatest moment of those, none if there is none
 abbrev pub mark : History → ℕ → Option ℕ
-mark A ceremony = greatest (map (λ m. m.1) (filter (λ m. m.0 == ceremony) (all_said marked A)))
+mark A ceremony = greatest (map (λ m. m.1) (filter (λ m. m.0 == ceremony) (values_of_acts marked_moment A)))
 
 -- the ceremony that a command opens
 abbrev pub opened_number : Act → Option ℕ
@@ -99,9 +99,9 @@ opened_number act = None
 
 -- the marks of all ceremonies that were opened: no other has one
 abbrev pub all_marks : History → List ℕ
-all_marks A = filter_map (mark A) (all_said opened_number A)
+all_marks A = filter_map (mark A) (values_of_acts opened_number A)
 
--- the settled day: the day of the greatest mark of all ceremonies, none where there is no mark
+-- the settled day: the day of the greatest mark of all ceremonies, none if there is no mark
 abbrev pub settled : History → Option ℕ
 settled A = option_map day_of (greatest (all_marks A))
 
@@ -115,12 +115,12 @@ is_not_before t (Some m) = nat_le m t
 -- the command signs or passes a step of the ceremony
 abbrev pub does_step : ℕ → Act → Bool
 does_step ceremony (Sign c k at) = c == ceremony
-does_step ceremony (Except c text pass at) = c == ceremony && pass
+does_step ceremony (RecordException c text pass at) = c == ceremony && pass
 does_step ceremony act = false
 
 -- how many steps of the ceremony are signed or passed
 abbrev pub steps_done : History → ℕ → ℕ
-steps_done A ceremony = how_many (does_step ceremony) A
+steps_done A ceremony = command_count (does_step ceremony) A
 
 -- the step that is next: one more than those
 abbrev pub next_step : History → ℕ → ℕ
@@ -128,14 +128,14 @@ next_step A ceremony = suc (steps_done A ceremony)
 
 -- the command states an exception in the ceremony
 abbrev pub is_exception : ℕ → Act → Bool
-is_exception ceremony (Except c text pass at) = c == ceremony
+is_exception ceremony (RecordException c text pass at) = c == ceremony
 is_exception ceremony act = false
 
 abbrev pub exceptions_of : History → ℕ → ℕ
-exceptions_of A ceremony = how_many (is_exception ceremony) A
+exceptions_of A ceremony = command_count (is_exception ceremony) A
 
 -- step k may be signed at t: the ceremony is open, k is next and a step of its script, and t is not before the mark
 abbrev pub next : History → ℕ → ℕ → ℕ → Bool
 next A ceremony k t =
-    is_open A ceremony && k == next_step A ceremony && is_some (step_at (steps_of A ceremony) k)
+    is_ceremony_open A ceremony && k == next_step A ceremony && is_some (step_at (steps_of A ceremony) k)
     && is_not_before t (mark A ceremony)

@@ -11,12 +11,12 @@ use Rattle.kcr_custody.specs.Custody.{same_safe}
 use Rattle.kcr_custody.specs.Balance.{same_box, same_bag, same_item}
 use Rattle.kcr_room.specs.declared.SheetRow.{SheetRow}
 use Rattle.kcr_room.specs.declared.Stay.{Stay}
-use Rattle.kcr_history.specs.declared.rows.CeremonyRow.{CeremonyRow}
-use Rattle.kcr_history.specs.declared.rows.MarkRow.{MarkRow}
-use Rattle.kcr_history.specs.declared.rows.StepRow.{StepRow}
-use Rattle.kcr_history.specs.declared.rows.SeatingRow.{SeatingRow}
-use Rattle.kcr_history.specs.declared.rows.ExceptionRow.{ExceptionRow}
-use Rattle.kcr_history.specs.declared.rows.KeyRow.{KeyRow}
+use Rattle.kcr_history.specs.declared.row_types.CeremonyRow.{CeremonyRow}
+use Rattle.kcr_history.specs.declared.row_types.MarkRow.{MarkRow}
+use Rattle.kcr_history.specs.declared.row_types.StepRow.{StepRow}
+use Rattle.kcr_history.specs.declared.row_types.SeatingRow.{SeatingRow}
+use Rattle.kcr_history.specs.declared.row_types.ExceptionRow.{ExceptionRow}
+use Rattle.kcr_history.specs.declared.row_types.KeyRow.{KeyRow}
 use Rattle.kcr_history.specs.declared.views.Change.{Change}
 use Rattle.kcr_history.specs.declared.views.Change.TheVariants.{PutPerson, PutTraining, PutWithdrawal, PutAppointment}
 use Rattle.kcr_history.specs.declared.views.Change.TheVariants.{PutBox, PutSafe, PutBag, PutItem, PutCeremony, PutMark}

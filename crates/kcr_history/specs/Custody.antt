@@ -2,7 +2,7 @@
 use Rattle.std.specs.Prelude.{ℕ, ◌==◌, Bool, true, false, ◌&&◌, List, Option, Some, None, option_map, unwrap_or}
 use Rattle.std.specs.Prelude.{if◌then◌else◌}
 use Rattle.std.specs.List.{list_any}
-use Rattle.kcr_base.specs.Rows.{or_else}
+use Rattle.kcr_base.specs.Rows.{option_or}
 use Rattle.kcr_base.specs.Same.{same_text, same_place, same_facility}
 use Rattle.kcr_base.specs.declared.place.Facility.{Facility}
 use Rattle.kcr_base.specs.declared.place.Facility.TheVariants.{East}
@@ -12,25 +12,25 @@ use Rattle.kcr_custody.specs.declared.Spot.{Spot}
 use Rattle.kcr_custody.specs.declared.Spot.TheVariants.{Table, Spent}
 use Rattle.kcr_custody.specs.declared.Rest.{Rest}
 use Rattle.kcr_custody.specs.declared.Rest.TheVariants.{Loose, Within}
-use Rattle.kcr_custody.specs.Custody.{same_safe, spot_of_store}
+use Rattle.kcr_custody.specs.Custody.{same_safe, spot_of_destination}
 use Rattle.kcr_history.specs.declared.commands.Act.{Act}
-use Rattle.kcr_history.specs.declared.commands.Act.TheVariants.{AddBox, AddItem, TurnSafe, Seal, Take, Put, Cut}
-use Rattle.kcr_history.specs.History.{History, last_said, last_told}
+use Rattle.kcr_history.specs.declared.commands.Act.TheVariants.{AddBox, AddItem, SetSafe, Seal, Take, Put, Cut}
+use Rattle.kcr_history.specs.History.{History, last_value_of_acts, last_value_with_history}
 use Rattle.kcr_history.specs.Ceremonies.{facility_of}
 
 -- BAGS
 
 -- where a command leaves the bag; `here` gives the facility of a ceremony
-abbrev pub moved : (ℕ → Facility) → List ℕ → Act → Option Spot
-moved here serial (Seal c s items at) = if same_text s serial then Some (Table (here c)) else None
-moved here serial (Take c s at) = if same_text s serial then Some (Table (here c)) else None
-moved here serial (Put c s to at) = if same_text s serial then Some (spot_of_store (here c) to) else None
-moved here serial (Cut c s at) = if same_text s serial then Some Spent else None
-moved here serial act = None
+abbrev pub spot_after : (ℕ → Facility) → List ℕ → Act → Option Spot
+spot_after here serial (Seal c s items at) = if same_text s serial then Some (Table (here c)) else None
+spot_after here serial (Take c s at) = if same_text s serial then Some (Table (here c)) else None
+spot_after here serial (Put c s to at) = if same_text s serial then Some (spot_of_destination (here c) to) else None
+spot_after here serial (Cut c s at) = if same_text s serial then Some Spent else None
+spot_after here serial act = None
 
--- where the bag is, None where no such bag was sealed
+-- where the bag is, `None` if no such bag was sealed
 abbrev pub spot : History → List ℕ → Option Spot
-spot A serial = last_told (λ before. moved (facility_of before) serial) A
+spot A serial = last_value_with_history (λ before. spot_after (facility_of before) serial) A
 
 abbrev pub is_spent : Option Spot → Bool
 is_spent (Some Spent) = true
@@ -57,37 +57,37 @@ added_at here item act = None
 abbrev pub rest_in : History → List ℕ → Rest
 rest_in A serial =
     if is_spent (spot A serial)
-    then Loose (unwrap_or (last_told (λ before. cut_at (facility_of before) serial) A) East)
+    then Loose (unwrap_or (last_value_with_history (λ before. cut_at (facility_of before) serial) A) East)
     else Within serial
 
--- where the item is: as its last seal says, or else loose where it was added; None where it was never added
+-- where the item is: as its last seal says, or else loose where it was added; `None` if it was never added
 abbrev pub rest : History → List ℕ → Option Rest
 rest A item =
-    or_else (option_map (rest_in A) (last_said (sealed_in item) A))
-    (option_map Loose (last_told (λ before. added_at (facility_of before) item) A))
+    option_or (option_map (rest_in A) (last_value_of_acts (sealed_in item) A))
+    (option_map Loose (last_value_with_history (λ before. added_at (facility_of before) item) A))
 
 -- SAFES
 
 -- what a command says of the safe
-abbrev pub turned : (ℕ → Facility) → Facility → SafeNumber → Act → Option Bool
-turned here facility safe (TurnSafe c s state by at) =
+abbrev pub safe_state_after : (ℕ → Facility) → Facility → SafeNumber → Act → Option Bool
+safe_state_after here facility safe (SetSafe c s state by at) =
     if same_facility (here c) facility && same_safe s safe then Some state else None
-turned here facility safe act = None
+safe_state_after here facility safe act = None
 
 -- the safe is open: its last command says so; at first it is shut
-abbrev pub is_safe_open : History → Facility → SafeNumber → Bool
-is_safe_open A facility safe = unwrap_or (last_told (λ before. turned (facility_of before) facility safe) A) false
+abbrev pub is_open : History → Facility → SafeNumber → Bool
+is_open A facility safe = unwrap_or (last_value_with_history (λ before. safe_state_after (facility_of before) facility safe) A) false
 
 -- BOXES
 
 -- the place of a box that a command adds
-abbrev pub boxed : Facility → ℕ → Act → Option Place
-boxed facility number (AddBox f n place) = if same_facility f facility && n == number then Some place else None
-boxed facility number act = None
+abbrev pub added_box_place : Facility → ℕ → Act → Option Place
+added_box_place facility number (AddBox f n place) = if same_facility f facility && n == number then Some place else None
+added_box_place facility number act = None
 
--- the place that the box belongs to, None where there is no such box
+-- the place that the box belongs to, `None` if there is no such box
 abbrev pub place_of_box : History → Facility → ℕ → Option Place
-place_of_box A facility number = last_said (boxed facility number) A
+place_of_box A facility number = last_value_of_acts (added_box_place facility number) A
 
 -- the command adds a box for the place
 abbrev pub boxes_place : Place → Act → Bool

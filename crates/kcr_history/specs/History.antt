@@ -3,7 +3,7 @@
 use Rattle.std.specs.Prelude.{ℕ, Bool, nat_le, List, [], ◌∷◌, length, filter, Option, Some, None, find, max}
 use Rattle.std.specs.Prelude.{if◌then◌else◌}
 use Rattle.std.specs.List.{list_any, filter_map}
-use Rattle.kcr_base.specs.Rows.{or_else}
+use Rattle.kcr_base.specs.Rows.{option_or}
 use Rattle.kcr_base.specs.Same.{same_text}
 use Rattle.kcr_history.specs.declared.commands.Act.{Act}
 use Rattle.kcr_history.specs.declared.commands.Entry.{Entry}
@@ -12,37 +12,37 @@ abbrev pub History : Type 0
 History = List Entry
 
 -- some accepted command passes the test
-abbrev pub some_command : (Act → Bool) → History → Bool
-some_command test A = list_any (λ entry. test entry.command.act) A
+abbrev pub has_command : (Act → Bool) → History → Bool
+has_command test A = list_any (λ entry. test entry.command.act) A
 
 -- how many accepted commands pass the test
-abbrev pub how_many : (Act → Bool) → History → ℕ
-how_many test A = length (filter (λ entry. test entry.command.act) A)
+abbrev pub command_count : (Act → Bool) → History → ℕ
+command_count test A = length (filter (λ entry. test entry.command.act) A)
 
 -- all that the accepted commands say, the last first
-abbrev pub all_said : {X : Type 0} → (Act → Option X) → History → List X
-all_said says A = filter_map (λ entry. says entry.command.act) A
+abbrev pub values_of_acts : {X : Type 0} → (Act → Option X) → History → List X
+values_of_acts says A = filter_map (λ entry. says entry.command.act) A
 
 -- what the last entry of those that say something says
-abbrev pub last_by : {X : Type 0} → (Entry → Option X) → History → Option X
-last_by says [] = None
-last_by says (entry ∷ A) = or_else (says entry) (last_by says A)
+abbrev pub last_value_of_entries : {X : Type 0} → (Entry → Option X) → History → Option X
+last_value_of_entries says [] = None
+last_value_of_entries says (entry ∷ A) = option_or (says entry) (last_value_of_entries says A)
 
 -- what the last command of those that say something says
-abbrev pub last_said : {X : Type 0} → (Act → Option X) → History → Option X
-last_said says A = last_by (λ entry. says entry.command.act) A
+abbrev pub last_value_of_acts : {X : Type 0} → (Act → Option X) → History → Option X
+last_value_of_acts says A = last_value_of_entries (λ entry. says entry.command.act) A
 
 -- what the last command of those that say something says, by the history before it
-abbrev pub last_told : {X : Type 0} → (History → Act → Option X) → History → Option X
-last_told says [] = None
-last_told says (entry ∷ A) = or_else (says A entry.command.act) (last_told says A)
+abbrev pub last_value_with_history : {X : Type 0} → (History → Act → Option X) → History → Option X
+last_value_with_history says [] = None
+last_value_with_history says (entry ∷ A) = option_or (says A entry.command.act) (last_value_with_history says A)
 
 -- the things of a list put in front of others, one after the other: the last of them stands first
-abbrev pub stacked_on : {X : Type 0} → List X → List X → List X
-stacked_on [] older = older
-stacked_on (x ∷ xs) older = stacked_on xs (x ∷ older)
+abbrev pub pushed_onto : {X : Type 0} → List X → List X → List X
+pushed_onto [] older = older
+pushed_onto (x ∷ xs) older = pushed_onto xs (x ∷ older)
 
--- the greater of two numbers, where there is a second
+-- the greater of two numbers, if there is a second
 abbrev pub max_with : ℕ → Option ℕ → ℕ
 max_with n None = n
 max_with n (Some m) = max n m
@@ -52,10 +52,10 @@ abbrev pub greatest : List ℕ → Option ℕ
 greatest [] = None
 greatest (n ∷ ns) = Some (max_with n (greatest ns))
 
--- the greater of a number so far, where there is one, and one more
-abbrev pub with_mark : Option ℕ → ℕ → Option ℕ
-with_mark None n = Some n
-with_mark (Some m) n = if nat_le n m then Some m else Some n
+-- the greater of a number so far, if there is one, and one more
+abbrev pub max_option : Option ℕ → ℕ → Option ℕ
+max_option None n = Some n
+max_option (Some m) n = if nat_le n m then Some m else Some n
 
 -- the entry of the key
 abbrev pub entry_of : History → List ℕ → Option Entry

@@ -9,16 +9,16 @@ use Rattle.kcr_custody.specs.declared.Rest.TheVariants.{Loose, Within}
 use Rattle.kcr_custody.specs.declared.Spot.{Spot}
 use Rattle.kcr_custody.specs.declared.Spot.TheVariants.{InBox}
 use Rattle.kcr_room.specs.Laws.{IsAllowed}
-use Rattle.kcr_room.specs.Room.{crowd_by}
+use Rattle.kcr_room.specs.Room.{headcount_by}
 use Rattle.kcr_history.specs.declared.commands.Act.{Act}
 use Rattle.kcr_history.specs.declared.commands.Act.TheVariants.{Seal, Cut}
-use Rattle.kcr_history.specs.History.{History, all_said}
+use Rattle.kcr_history.specs.History.{History, values_of_acts}
 use Rattle.kcr_history.specs.Ceremonies.{facility_of}
 use Rattle.kcr_history.specs.Room.{sheet}
 use Rattle.kcr_history.specs.Custody.{spot, rest, place_of_box}
 use Rattle.kcr_history.specs.Seating.{is_seating, IsFirst}
 use Rattle.kcr_history.specs.Tables.{sealed_serial, added_item}
-use Rattle.kcr_history.specs.Machine.{Sitting, sitting}
+use Rattle.kcr_history.specs.Machine.{SeatRequest, seat_request}
 
 -- ONCE
 
@@ -29,24 +29,24 @@ IsOnce A = IsTrue (all_differ (map (λ entry. entry.command.key) A))
 -- SOUND
 
 -- the recorded people are a seating by the whole of A; a command that needs no seats has nothing to show
-abbrev pub is_seated : History → Option Sitting → Option (List (List ℕ)) → Bool
+abbrev pub is_seated : History → Option SeatRequest → Option (List (List ℕ)) → Bool
 is_seated A None people = true
 is_seated A (Some s) None = false
 is_seated A (Some s) (Some people) = is_seating A s.ceremony s.at s.seats people
 
 -- every recorded seating is one by the whole of A
 abbrev pub are_seated : History → Bool
-are_seated A = list_all (λ entry. is_seated A (sitting A entry.command.act) entry.answer.seating) A
+are_seated A = list_all (λ entry. is_seated A (seat_request A entry.command.act) entry.answer.seating) A
 
 -- every recorded seating is one by the whole of A, and at no moment is exactly one person, or more than 128, in a room
 pub record IsSound (A : History) : Type 0 where
   pub seated : IsTrue (are_seated A)
-  pub rooms : (ceremony t : ℕ) → IsAllowed (crowd_by (sheet A) ceremony t)
+  pub rooms : (ceremony t : ℕ) → IsAllowed (headcount_by (sheet A) ceremony t)
 
 -- FIRST SEATINGS
 
 -- the recorded people are the first seating by A; a command that needs no seats has nothing to show
-abbrev pub IsSeatedFirst : History → Option Sitting → Option (List (List ℕ)) → Type 0
+abbrev pub IsSeatedFirst : History → Option SeatRequest → Option (List (List ℕ)) → Type 0
 IsSeatedFirst A None people = Unit {0}
 IsSeatedFirst A (Some s) None = ⊥
 IsSeatedFirst A (Some s) (Some people) = IsFirst A s.ceremony s.at s.seats people
@@ -55,13 +55,13 @@ IsSeatedFirst A (Some s) (Some people) = IsFirst A s.ceremony s.at s.seats peopl
 abbrev pub HasFirstSeatings : History → Type 0
 HasFirstSeatings [] = Unit {0}
 HasFirstSeatings (entry ∷ A) =
-    IsSeatedFirst A (sitting A entry.command.act) entry.answer.seating × HasFirstSeatings A
+    IsSeatedFirst A (seat_request A entry.command.act) entry.answer.seating × HasFirstSeatings A
 
 -- BALANCED
 
 -- the command adds the item
 abbrev pub is_added : History → List ℕ → Bool
-is_added A item = list_any (same_text item) (all_said added_item A)
+is_added A item = list_any (same_text item) (values_of_acts added_item A)
 
 -- the item is loose at a facility, or within a bag that is there and not spent
 abbrev pub is_kept : History → Option Rest → Bool
@@ -90,8 +90,8 @@ were_in_place (entry ∷ A) = is_in_place A entry.command.act && were_in_place A
 -- each once; each serial was sealed once; what was sealed was loose, and what was cut lay on the table; each box that
 -- is named is there
 pub record IsBalanced (A : History) : Type 0 where
-  pub added_once : IsTrue (all_differ (all_said added_item A))
+  pub added_once : IsTrue (all_differ (values_of_acts added_item A))
   pub added_kept : (item : List ℕ) → IsTrue (is_added A item) ↔ IsTrue (is_kept A (rest A item))
-  pub sealed_once : IsTrue (all_differ (all_said sealed_serial A))
+  pub sealed_once : IsTrue (all_differ (values_of_acts sealed_serial A))
   pub in_place : IsTrue (were_in_place A)
   pub boxed : (serial : List ℕ) → IsTrue (has_its_box A (spot A serial))

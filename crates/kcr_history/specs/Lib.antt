@@ -11,8 +11,8 @@ pub mod Fitting
 pub mod Tables
 pub mod Changes
 pub mod Views
-pub mod Asked
-pub mod Front
+pub mod AsksByKind
+pub mod Early
 pub mod Conditions
 pub mod Machine
 pub mod Prints

@@ -7,97 +7,97 @@ use Rattle.kcr_base.specs.declared.refusal.Refusal.TheVariants.{Key, Short, Memo
 use Rattle.kcr_script.specs.declared.seat.Seat.{Seat}
 use Rattle.kcr_script.specs.declared.seat.Seat.TheVariants.{Staff}
 use Rattle.kcr_history.specs.declared.commands.Act.{Act}
-use Rattle.kcr_history.specs.declared.commands.Act.TheVariants.{Sign, Except}
-use Rattle.kcr_history.specs.declared.commands.Answer.{Answer}
+use Rattle.kcr_history.specs.declared.commands.Act.TheVariants.{Sign, RecordException}
+use Rattle.kcr_history.specs.declared.commands.ReplyData.{ReplyData}
 use Rattle.kcr_history.specs.declared.commands.Command.{Command}
 use Rattle.kcr_history.specs.declared.commands.Entry.{Entry}
 use Rattle.kcr_history.specs.declared.views.Verdict.{Verdict}
 use Rattle.kcr_history.specs.History.{History, entry_of}
 use Rattle.kcr_history.specs.Ceremonies.{steps_of, next_step, exceptions_of}
 use Rattle.kcr_history.specs.Seating.{is_seating, IsFirst, IsLeast}
-use Rattle.kcr_history.specs.Texts.{same_command, answer_text}
+use Rattle.kcr_history.specs.Texts.{same_command, reply_text}
 use Rattle.kcr_history.specs.Tables.{tables, seats_at, SameTables}
 use Rattle.kcr_history.specs.Changes.{changed_by}
 use Rattle.kcr_history.specs.Conditions.{fault}
 
 -- what is answered
 pub data Outcome : Type 0 where
-  Accepts : Answer → Outcome
+  Accepts : ReplyData → Outcome
   Refuses : Refusal → Outcome
 
 -- SEATS
 
 -- seats to be filled, in the room of a ceremony at a moment
-pub record Sitting : Type 0 where
+pub record SeatRequest : Type 0 where
   pub ceremony : ℕ
   pub at : ℕ
   pub seats : List Seat
 
 -- the seats of a signature are its step's, those of a passing exception CA and IW; other commands need none
-abbrev pub sitting : History → Act → Option Sitting
-sitting A (Sign ceremony step at) =
+abbrev pub seat_request : History → Act → Option SeatRequest
+seat_request A (Sign ceremony step at) =
     Some (record { ceremony = ceremony; at = at; seats = seats_at (steps_of A ceremony) step })
-sitting A (Except ceremony text true at) =
+seat_request A (RecordException ceremony text true at) =
     Some (record { ceremony = ceremony; at = at; seats = Staff Ca ∷ Staff Iw ∷ [] })
-sitting A act = None
+seat_request A act = None
 
 -- ANSWERS
 
 -- an answer that has no more than its number, one more than there were
-abbrev pub plain_answer : History → Answer
-plain_answer A = record { accepted = length A + 1; exception = None; seating = None; step = None }
+abbrev pub plain_reply : History → ReplyData
+plain_reply A = record { accepted = length A + 1; exception = None; seating = None; step = None }
 
 -- the answer to a command that is accepted now: its number; of a signature the step, of an exception its number in the
--- ceremony and, where it passes a step, that step; the seating where there is one
-abbrev pub answer_to : History → Act → Option (List (List ℕ)) → Answer
-answer_to A (Sign ceremony step at) people = record (plain_answer A) { seating = people; step = Some step }
-answer_to A (Except ceremony text true at) people =
-    record (plain_answer A) {
+-- ceremony and, if it passes a step, that step; the seating if there is one
+abbrev pub reply_to : History → Act → Option (List (List ℕ)) → ReplyData
+reply_to A (Sign ceremony step at) people = record (plain_reply A) { seating = people; step = Some step }
+reply_to A (RecordException ceremony text true at) people =
+    record (plain_reply A) {
       exception = Some (suc (exceptions_of A ceremony));
       seating = people;
       step = Some (next_step A ceremony);
     }
-answer_to A (Except ceremony text false at) people =
-    record (plain_answer A) { exception = Some (suc (exceptions_of A ceremony)) }
-answer_to A act people = plain_answer A
+reply_to A (RecordException ceremony text false at) people =
+    record (plain_reply A) { exception = Some (suc (exceptions_of A ceremony)) }
+reply_to A act people = plain_reply A
 
 -- the history with the command accepted after it
-abbrev pub with_command : History → Command → Answer → History
+abbrev pub with_command : History → Command → ReplyData → History
 with_command A x answer = record { command = x; answer = answer } ∷ A
 
 -- THE MACHINE
 
 -- the command is accepted with this answer
-abbrev pub accepts : History → Command → Answer → Outcome → History → Type 0
-accepts A x answer outcome A' = (outcome ≡ Accepts answer) × (A' ≡ with_command A x answer)
+abbrev pub IsAcceptedWith : History → Command → ReplyData → Outcome → History → Type 0
+IsAcceptedWith A x answer outcome A' = (outcome ≡ Accepts answer) × (A' ≡ with_command A x answer)
 
 -- the command is refused, and nothing changes
-abbrev pub refuses : History → Refusal → Outcome → History → Type 0
-refuses A refusal outcome A' = (outcome ≡ Refuses refusal) × (A' ≡ A)
+abbrev pub IsRefusedWith : History → Refusal → Outcome → History → Type 0
+IsRefusedWith A refusal outcome A' = (outcome ≡ Refuses refusal) × (A' ≡ A)
 
 -- seats are needed: the first seating is recorded, or a least shortage is told, its positions counted from 1
-abbrev pub seats : History → Command → Sitting → Outcome → History → Type 0
+abbrev pub seats : History → Command → SeatRequest → Outcome → History → Type 0
 seats A x s outcome A' =
     ((people : List (List ℕ)) × IsFirst A s.ceremony s.at s.seats people
-    × accepts A x (answer_to A x.act (Some people)) outcome A')
+    × IsAcceptedWith A x (reply_to A x.act (Some people)) outcome A')
     ⊎ ((positions : List ℕ) × IsLeast A s.ceremony s.at s.seats positions
-    × refuses A (Short (map suc positions)) outcome A')
+    × IsRefusedWith A (Short (map suc positions)) outcome A')
 
 -- a new key: the first refusal; or seats are needed; or the command is accepted
-abbrev pub acts : History → Command → Option Refusal → Outcome → History → Type 0
-acts A x (Some refusal) outcome A' = refuses A refusal outcome A'
-acts A x None outcome A' =
-    MatchOption (sitting A x.act) (accepts A x (answer_to A x.act None) outcome A') (λ s. seats A x s outcome A')
+abbrev pub DecidesNew : History → Command → Option Refusal → Outcome → History → Type 0
+DecidesNew A x (Some refusal) outcome A' = IsRefusedWith A refusal outcome A'
+DecidesNew A x None outcome A' =
+    MatchOption (seat_request A x.act) (IsAcceptedWith A x (reply_to A x.act None) outcome A') (λ s. seats A x s outcome A')
 
 -- a key that was accepted before: with the same command its kept answer, with another a refusal; nothing changes
-abbrev pub repeats : History → Command → Entry → Outcome → History → Type 0
-repeats A x kept outcome A' =
+abbrev pub DecidesRepeat : History → Command → Entry → Outcome → History → Type 0
+DecidesRepeat A x kept outcome A' =
     (outcome ≡ (if same_command kept.command.act x.act then Accepts kept.answer else Refuses Key)) × (A' ≡ A)
 
 -- one step of the machine: from history A the command has this outcome and leads to A'
 abbrev pub machine : History → Command → Outcome → History → Type 0
 machine A x outcome A' =
-    MatchOption (entry_of A x.key) (acts A x (fault A x.act) outcome A') (λ kept. repeats A x kept outcome A')
+    MatchOption (entry_of A x.key) (DecidesNew A x (fault A x.act) outcome A') (λ kept. DecidesRepeat A x kept outcome A')
 
 -- a history that the machine leads to from the empty one
 abbrev pub IsOfMachine : History → Type 0
@@ -106,19 +106,19 @@ IsOfMachine (entry ∷ A) = machine A entry.command (Accepts entry.answer) (entr
 
 -- REGISTERS
 
--- the answer is that of the act where it is accepted; where it needs seats, with some people who fill them
-abbrev pub IsAnswerTo : History → Act → Answer → Option Sitting → Type 0
-IsAnswerTo A act answer None = answer ≡ answer_to A act None
+-- the answer is that of the act if it is accepted; if it needs seats, with some people who fill them
+abbrev pub IsAnswerTo : History → Act → ReplyData → Option SeatRequest → Type 0
+IsAnswerTo A act answer None = answer ≡ reply_to A act None
 IsAnswerTo A act answer (Some s) =
     (people : List (List ℕ)) × IsTrue (is_seating A s.ceremony s.at s.seats people)
-    × (answer ≡ answer_to A act (Some people))
+    × (answer ≡ reply_to A act (Some people))
 
 -- the entry can come next: its key is new, nothing refuses its command, and its answer is one of that command, whether
 -- or not the seating in it is the first one
 pub record CanFollow (A : History) (entry : Entry) : Type 0 where
   pub new_key : entry_of A entry.command.key ≡ None
   pub no_fault : fault A entry.command.act ≡ None
-  pub answered : IsAnswerTo A entry.command.act entry.answer (sitting A entry.command.act)
+  pub answered : IsAnswerTo A entry.command.act entry.answer (seat_request A entry.command.act)
 
 -- a register's history: each entry can follow those before it
 abbrev pub IsRegister : History → Type 0
@@ -129,17 +129,17 @@ IsRegister (entry ∷ A) = CanFollow A entry × IsRegister A
 
 -- the verdict accepts the command with this answer: its changes lead from the tables before to those after, up to the
 -- order of rows; its reply is the answer's text
-pub record IsAcceptance (A : History) (x : Command) (verdict : Verdict) (answer : Answer) : Type 0 where
+pub record IsAcceptance (A : History) (x : Command) (verdict : Verdict) (answer : ReplyData) : Type 0 where
   pub step : machine A x (Accepts answer) (with_command A x answer)
   pub tables : SameTables (changed_by verdict.changes.items (tables A)) (tables (with_command A x answer))
-  pub reply : verdict.reply.text ≡ answer_text answer
+  pub reply : verdict.reply.text ≡ reply_text answer
 
 -- the verdict gives the reply that was kept of an earlier command under the same key: it changes nothing
 pub record IsRepeat (A : History) (x : Command) (verdict : Verdict) (kept : Entry) : Type 0 where
   pub found : entry_of A x.key ≡ Some kept
   pub step : machine A x (Accepts kept.answer) A
   pub changes : verdict.changes.items ≡ []
-  pub reply : verdict.reply.text ≡ answer_text kept.answer
+  pub reply : verdict.reply.text ≡ reply_text kept.answer
 
 -- the result of a decision is a step of the machine; out of memory may be answered in its place
 abbrev pub IsDecision : History → Command → Result Verdict Refusal → Type 0

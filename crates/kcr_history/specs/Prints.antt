@@ -22,14 +22,14 @@ use Rattle.kcr_script.specs.Seat.{seat_text}
 use Rattle.kcr_script.specs.Seats.{written}
 use Rattle.kcr_script.specs.declared.seat.Seat.{Seat}
 use Rattle.kcr_script.specs.declared.seat.Seat.TheVariants.{Staff}
-use Rattle.kcr_history.specs.declared.rows.CeremonyRow.{CeremonyRow}
-use Rattle.kcr_history.specs.declared.rows.CeremonyState.{CeremonyState}
-use Rattle.kcr_history.specs.declared.rows.CeremonyState.TheVariants as States
-use Rattle.kcr_history.specs.declared.rows.ExceptionRow.{ExceptionRow}
-use Rattle.kcr_history.specs.declared.rows.SeatingRow.{SeatingRow}
-use Rattle.kcr_history.specs.declared.rows.StepRow.{StepRow}
-use Rattle.kcr_history.specs.declared.rows.StepState.{StepState}
-use Rattle.kcr_history.specs.declared.rows.StepState.TheVariants.{Undone, Signed, Passed}
+use Rattle.kcr_history.specs.declared.row_types.CeremonyRow.{CeremonyRow}
+use Rattle.kcr_history.specs.declared.row_types.CeremonyState.{CeremonyState}
+use Rattle.kcr_history.specs.declared.row_types.CeremonyState.TheVariants as States
+use Rattle.kcr_history.specs.declared.row_types.ExceptionRow.{ExceptionRow}
+use Rattle.kcr_history.specs.declared.row_types.SeatingRow.{SeatingRow}
+use Rattle.kcr_history.specs.declared.row_types.StepRow.{StepRow}
+use Rattle.kcr_history.specs.declared.row_types.StepState.{StepState}
+use Rattle.kcr_history.specs.declared.row_types.StepState.TheVariants.{Undone, Signed, Passed}
 use Rattle.kcr_history.specs.History.{History}
 use Rattle.kcr_history.specs.Room.{sheet}
 use Rattle.kcr_history.specs.Tables.{people, safes, bags, items, ceremony_row, steps, seatings, exceptions}
@@ -42,7 +42,7 @@ abbrev pub put_in_order : {X : Type 0} → (X → X → Bool) → X → List X �
 put_in_order before x [] = x ∷ []
 put_in_order before x (y ∷ ys) = if before y x then y ∷ put_in_order before x ys else x ∷ y ∷ ys
 
--- things in order, where `before` tells which of two comes first
+-- things in order, if `before` tells which of two comes first
 abbrev pub in_order : {X : Type 0} → (X → X → Bool) → List X → List X
 in_order before [] = []
 in_order before (x ∷ xs) = put_in_order before x (in_order before xs)
@@ -67,7 +67,7 @@ state_text States.Planned = codes "planned"
 state_text States.Open = codes "open"
 state_text States.Closed = codes "closed"
 
--- a word and a moment, where there is one
+-- a word and a moment, if there is one
 abbrev pub moment_line : List ℕ → Option ℕ → List ℕ
 moment_line word None = []
 moment_line word (Some at) = line_of (word ∷ moment_text at ∷ [])
@@ -81,7 +81,7 @@ seatings_at rows ceremony step =
 abbrev pub seated_at : List SeatingRow → ℕ → ℕ → List (List ℕ)
 seated_at rows ceremony step = map (λ row. row.who) (seatings_at rows ceremony step)
 
--- the seats that were filled: the step's own, or CA and IW where it was passed
+-- the seats that were filled: the step's own, or CA and IW if it was passed
 abbrev pub seats_filled : StepRow → List Seat
 seats_filled row = by_state row.state
   where

@@ -1,5 +1,5 @@
 -- What a question is shown by a register with a history.
-use Rattle.std.specs.Prelude.{◌≡◌, ℕ, ◌==◌, Bool, false, ◌&&◌, ◌||◌, nat_lt, List, ◌++◌, map, filter, find, All}
+use Rattle.std.specs.Prelude.{◌≡◌, ℕ, ◌==◌, Bool, true, false, ◌&&◌, ◌||◌, nat_lt, List, ◌++◌, map, filter, find, All}
 use Rattle.std.specs.Prelude.{AllPairs, IsPermutation, IsTrue, Option, Some, None, option_map}
 use Rattle.std.specs.List.{filter_map}
 use Rattle.kcr_base.specs.Same.{is_before, role_number}
@@ -14,13 +14,21 @@ use Rattle.kcr_people.specs.declared.Person.{Person}
 use Rattle.kcr_people.specs.declared.Training.{Training}
 use Rattle.kcr_people.specs.declared.Withdrawal.{Withdrawal}
 use Rattle.kcr_custody.specs.Custody.{lies_in}
+use Rattle.kcr_custody.specs.declared.Bag.{Bag}
+use Rattle.kcr_custody.specs.declared.Item.{Item}
+use Rattle.kcr_custody.specs.declared.Rest.{Rest}
+use Rattle.kcr_custody.specs.declared.Rest.TheVariants.{Loose, Within}
+use Rattle.kcr_room.specs.Stays.{stays_by, attendance_in_by}
+use Rattle.kcr_room.specs.declared.Stay.{Stay}
 use Rattle.kcr_history.specs.History.{History}
 use Rattle.kcr_history.specs.Training.{holder}
 use Rattle.kcr_history.specs.Ceremonies.{is_ceremony}
-use Rattle.kcr_history.specs.Room.{present}
+use Rattle.kcr_history.specs.Room.{sheet, present}
 use Rattle.kcr_history.specs.Custody.{spot}
 use Rattle.kcr_history.specs.Seating.{one_to_seven}
-use Rattle.kcr_history.specs.Tables.{people, trainings, withdrawals, items}
+use Rattle.kcr_history.specs.Prints.{steps_in_order, exceptions_in_order, seated_at, name_of, bags_in_order}
+use Rattle.kcr_history.specs.Prints.{items_in_order}
+use Rattle.kcr_history.specs.Tables.{people, trainings, withdrawals, safes, items, ceremony_row, seatings}
 use Rattle.kcr_history.specs.Views.{is_training_of}
 use Rattle.kcr_history.specs.declared.questions.Question.{Question}
 use Rattle.kcr_history.specs.declared.questions.Question.TheVariants as asked
@@ -32,6 +40,13 @@ use Rattle.kcr_history.specs.declared.questions.HolderShown.{HolderShown}
 use Rattle.kcr_history.specs.declared.questions.CustodiansShown.{CustodiansShown}
 use Rattle.kcr_history.specs.declared.questions.BagShown.{BagShown}
 use Rattle.kcr_history.specs.declared.questions.RoomShown.{RoomShown}
+use Rattle.kcr_history.specs.declared.questions.StepsShown.{StepsShown}
+use Rattle.kcr_history.specs.declared.questions.CustodyShown.{CustodyShown}
+use Rattle.kcr_history.specs.declared.report_rows.BagWithItems.{BagWithItems}
+use Rattle.kcr_history.specs.declared.report_rows.SeatedStep.{SeatedStep}
+use Rattle.kcr_history.specs.declared.report_rows.StayWithName.{StayWithName}
+use Rattle.kcr_history.specs.declared.row_types.SeatingRow.{SeatingRow}
+use Rattle.kcr_history.specs.declared.row_types.StepRow.{StepRow}
 
 -- PEOPLE
 
@@ -82,7 +97,7 @@ pub record ArePeopleShown (A : History) (rows : List PersonShown) : Type 0 where
 abbrev pub all_places : List Place
 all_places = map (Places.Co East) one_to_seven ++ map (Places.Co West) one_to_seven ++ map Places.Rksh one_to_seven
 
--- a place with whoever holds it, where somebody does
+-- a place with whoever holds it, if somebody does
 abbrev pub holder_shown : Option (List ℕ) → Place → Option HolderShown
 holder_shown holds place = option_map (λ who. record { place = place; who = who }) holds
 
@@ -120,20 +135,70 @@ pub record IsRoomShown (A : History) (ceremony moment : ℕ) (shown : RoomShown)
   pub at : shown.at ≡ moment
   pub people : shown.people.items ≡ present A ceremony moment
 
+-- STEPS
+
+-- a step with the people of its seating, seat by seat
+abbrev pub with_seated : List SeatingRow → StepRow → SeatedStep
+with_seated rows row = record { step = row; seated = seated_at rows row.ceremony row.step }
+
+-- of a planned ceremony its row, its steps in order, each with its people, and its exceptions in order
+pub record AreStepsShown (A : History) (ceremony : ℕ) (shown : StepsShown) : Type 0 where
+  pub planned : IsTrue (is_ceremony A ceremony)
+  pub row : shown.ceremony ≡ ceremony_row A ceremony
+  pub steps : shown.steps.items ≡ map (with_seated (seatings A)) (steps_in_order A ceremony)
+  pub exceptions : shown.exceptions.items ≡ exceptions_in_order A ceremony
+
+-- A SHEET
+
+-- a stay with the person's name
+abbrev pub with_name : List Person → Stay → StayWithName
+with_name rows stay = record { stay = stay; name = name_of rows stay.who }
+
+-- of a planned ceremony its stays by their beginning, then initials, each with the person's name
+pub record IsSheetShown (A : History) (ceremony : ℕ) (shown : List StayWithName) : Type 0 where
+  pub planned : IsTrue (is_ceremony A ceremony)
+  pub stays : shown ≡ map (with_name (people A)) (attendance_in_by (stays_by (sheet A)) ceremony)
+
+-- CUSTODY
+
+-- a bag with the codes of its items
+abbrev pub with_items : List Item → Bag → BagWithItems
+with_items rows bag = record { bag = bag; codes = map (λ item. item.code) (filter (lies_in bag.serial) rows) }
+
+-- the item is in no bag
+abbrev pub is_loose : Item → Bool
+is_loose item = by_rest item.rest
+  where
+    by_rest : Rest → Bool
+    by_rest (Loose facility) = true
+    by_rest (Within serial) = false
+
+-- the four safes, the bags by serial, each with its items by code, and the loose items by code
+pub record IsCustodyShown (A : History) (shown : CustodyShown) : Type 0 where
+  pub safes : shown.safes.items ≡ safes A
+  pub bags : shown.bags.items ≡ map (with_items (items_in_order A)) (bags_in_order A)
+  pub loose : shown.loose.items ≡ filter is_loose (items_in_order A)
+
 -- QUESTIONS
 
--- what a register with this history shows
+-- what a register with this history shows. What `All` shows depends on the order of rows in a file, so `kcr_store`
+-- defines it.
 abbrev pub IsShown : History → Question → Shown → Type 0
 IsShown A asked.People (shown.People rows) = ArePeopleShown A rows.items
 IsShown A (asked.Custodians day) (shown.Custodians custodians) = AreCustodiansShown A day custodians
 IsShown A (asked.Bag serial) (shown.Bag bag) = IsBagShown A serial bag
 IsShown A (asked.Room ceremony at) (shown.Room room) = IsRoomShown A ceremony at room
+IsShown A (asked.Steps ceremony) (shown.Steps steps) = AreStepsShown A ceremony steps
+IsShown A (asked.Sheet ceremony) (shown.Sheet stays) = IsSheetShown A ceremony stays.items
+IsShown A asked.Custody (shown.Custody custody) = IsCustodyShown A custody
 IsShown A question shown = ⊥
 
 -- the refusal names the bag or the ceremony that is asked for
 abbrev pub NamesAsked : Question → Refusal → Type 0
 NamesAsked (asked.Bag serial) refusal = refusal ≡ Unknown (Things.Bag serial)
 NamesAsked (asked.Room ceremony at) refusal = refusal ≡ Unknown (Things.Ceremony ceremony)
+NamesAsked (asked.Steps ceremony) refusal = refusal ≡ Unknown (Things.Ceremony ceremony)
+NamesAsked (asked.Sheet ceremony) refusal = refusal ≡ Unknown (Things.Ceremony ceremony)
 NamesAsked question refusal = ⊥
 
 -- and it is not there: no such bag was sealed, no such ceremony planned
@@ -141,4 +206,8 @@ abbrev pub IsMissing : History → Question → Refusal → Type 0
 IsMissing A (asked.Bag serial) refusal = (spot A serial ≡ None) × NamesAsked (asked.Bag serial) refusal
 IsMissing A (asked.Room ceremony at) refusal =
     (is_ceremony A ceremony ≡ false) × NamesAsked (asked.Room ceremony at) refusal
+IsMissing A (asked.Steps ceremony) refusal =
+    (is_ceremony A ceremony ≡ false) × NamesAsked (asked.Steps ceremony) refusal
+IsMissing A (asked.Sheet ceremony) refusal =
+    (is_ceremony A ceremony ≡ false) × NamesAsked (asked.Sheet ceremony) refusal
 IsMissing A question refusal = ⊥

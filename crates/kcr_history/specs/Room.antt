@@ -5,15 +5,15 @@ use Rattle.kcr_base.specs.Days.{day_of}
 use Rattle.kcr_base.specs.declared.place.Role.{Role}
 use Rattle.kcr_room.specs.declared.SheetRow.{SheetRow}
 use Rattle.kcr_room.specs.Room.{in_by, present_by}
-use Rattle.kcr_room.specs.Adding.{new_row}
+use Rattle.kcr_room.specs.Requests.{new_row}
 use Rattle.kcr_history.specs.declared.commands.Act.{Act}
-use Rattle.kcr_history.specs.declared.commands.Act.TheVariants.{Sheet}
+use Rattle.kcr_history.specs.declared.commands.Act.TheVariants.{RecordSheet}
 use Rattle.kcr_history.specs.History.{History}
 use Rattle.kcr_history.specs.Training.{trained}
 
 -- the sheet with the rows that a command adds: one for each of its people
 abbrev pub sheet_after : Act → List SheetRow → List SheetRow
-sheet_after (Sheet c way people at) rows = rows ++ map (new_row c way at) people
+sheet_after (RecordSheet c way people at) rows = rows ++ map (new_row c way at) people
 sheet_after act rows = rows
 
 -- the sheet: person, way with ceremony, and moment, of all commands, in the order in which they were accepted
@@ -31,5 +31,5 @@ abbrev pub present : History → ℕ → ℕ → List (List ℕ)
 present A ceremony t = present_by (sheet A) ceremony t
 
 -- somebody in the room at t is trained for the role on the day of t
-abbrev pub is_attended_by : History → Role → ℕ → ℕ → Bool
-is_attended_by A role ceremony t = list_any (λ who. trained A who role (day_of t)) (present A ceremony t)
+abbrev pub has_trained_present : History → Role → ℕ → ℕ → Bool
+has_trained_present A role ceremony t = list_any (λ who. trained A who role (day_of t)) (present A ceremony t)

@@ -19,8 +19,8 @@ use Rattle.kcr_history.specs.Room.{is_in, present}
 abbrev pub one_to_seven : List ℕ
 one_to_seven = 1 ∷ 2 ∷ 3 ∷ 4 ∷ 5 ∷ 6 ∷ 7 ∷ []
 
--- the person fits the seat on the day, in a ceremony of the facility: a role, where trained for it; a Crypto Officer,
--- where holder of one of the facility's places or of the one named; a Recovery Key Share Holder likewise
+-- the person fits the seat on the day, in a ceremony of the facility: a role, if trained for it; a Crypto Officer,
+-- if holder of one of the facility's places or of the one named; a Recovery Key Share Holder in the same way
 abbrev pub fits : History → Facility → ℕ → Seat → List ℕ → Bool
 fits A facility day (Staff role) who = trained A who role day
 fits A facility day AnyCo who = list_any (λ n. is_holder A (Places.Co facility n) day who) one_to_seven

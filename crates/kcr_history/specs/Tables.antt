@@ -31,24 +31,24 @@ use Rattle.kcr_script.specs.declared.script.Step.{Step}
 use Rattle.kcr_script.specs.Reading.{script_of}
 use Rattle.kcr_history.specs.declared.commands.Act.{Act}
 use Rattle.kcr_history.specs.declared.commands.Act.TheVariants.{Enter, Train, Withdraw, Appoint, Replace, Release}
-use Rattle.kcr_history.specs.declared.commands.Act.TheVariants.{AddBox, AddItem, Plan, Sign, Except, Seal}
+use Rattle.kcr_history.specs.declared.commands.Act.TheVariants.{AddBox, AddItem, Plan, Sign, RecordException, Seal}
 use Rattle.kcr_history.specs.declared.commands.Entry.{Entry}
-use Rattle.kcr_history.specs.declared.rows.CeremonyState.{CeremonyState}
-use Rattle.kcr_history.specs.declared.rows.CeremonyState.TheVariants as States
-use Rattle.kcr_history.specs.declared.rows.CeremonyRow.{CeremonyRow}
-use Rattle.kcr_history.specs.declared.rows.MarkRow.{MarkRow}
-use Rattle.kcr_history.specs.declared.rows.StepState.{StepState}
-use Rattle.kcr_history.specs.declared.rows.StepState.TheVariants.{Undone, Signed, Passed}
-use Rattle.kcr_history.specs.declared.rows.StepRow.{StepRow}
-use Rattle.kcr_history.specs.declared.rows.SeatingRow.{SeatingRow}
-use Rattle.kcr_history.specs.declared.rows.ExceptionRow.{ExceptionRow}
-use Rattle.kcr_history.specs.declared.rows.KeyRow.{KeyRow}
-use Rattle.kcr_history.specs.History.{History, all_said, last_by, stacked_on}
-use Rattle.kcr_history.specs.Ceremonies.{opened_number, facility_of, day_planned, steps_of, step_at, opened, closed}
+use Rattle.kcr_history.specs.declared.row_types.CeremonyState.{CeremonyState}
+use Rattle.kcr_history.specs.declared.row_types.CeremonyState.TheVariants as States
+use Rattle.kcr_history.specs.declared.row_types.CeremonyRow.{CeremonyRow}
+use Rattle.kcr_history.specs.declared.row_types.MarkRow.{MarkRow}
+use Rattle.kcr_history.specs.declared.row_types.StepState.{StepState}
+use Rattle.kcr_history.specs.declared.row_types.StepState.TheVariants.{Undone, Signed, Passed}
+use Rattle.kcr_history.specs.declared.row_types.StepRow.{StepRow}
+use Rattle.kcr_history.specs.declared.row_types.SeatingRow.{SeatingRow}
+use Rattle.kcr_history.specs.declared.row_types.ExceptionRow.{ExceptionRow}
+use Rattle.kcr_history.specs.declared.row_types.KeyRow.{KeyRow}
+use Rattle.kcr_history.specs.History.{History, values_of_acts, last_value_of_entries, pushed_onto}
+use Rattle.kcr_history.specs.Ceremonies.{opened_number, facility_of, day_planned, steps_of, step_at, opened_at, closed_at}
 use Rattle.kcr_history.specs.Ceremonies.{mark}
 use Rattle.kcr_history.specs.Room.{sheet}
-use Rattle.kcr_history.specs.Custody.{spot, rest, is_safe_open}
-use Rattle.kcr_history.specs.Texts.{command_text, answer_text}
+use Rattle.kcr_history.specs.Custody.{spot, rest, is_open}
+use Rattle.kcr_history.specs.Texts.{command_text, reply_text}
 
 -- PEOPLE, TRAININGS, BOXES: A ROW FOR EACH COMMAND THAT ENTERS ONE
 
@@ -57,21 +57,21 @@ person_row (Enter who name) = Some (record { who = who; name = name })
 person_row act = None
 
 abbrev pub people : History → List Person
-people A = all_said person_row A
+people A = values_of_acts person_row A
 
 abbrev pub training_row : Act → Option Training
 training_row (Train who role since until) = Some (record { who = who; role = role; since = since; until = until })
 training_row act = None
 
 abbrev pub trainings : History → List Training
-trainings A = all_said training_row A
+trainings A = values_of_acts training_row A
 
 abbrev pub box_row : Act → Option BoxRow
 box_row (AddBox facility number place) = Some (record { facility = facility; number = number; place = place })
 box_row act = None
 
 abbrev pub boxes : History → List BoxRow
-boxes A = all_said box_row A
+boxes A = values_of_acts box_row A
 
 -- WITHDRAWALS: EACH TRAINING THAT WAS WITHDRAWN, WITH THE LEAST DAY FROM WHICH IT IS
 
@@ -88,7 +88,7 @@ withdrawals (entry ∷ A) = withdrawals_after entry.command.act (trainings A) (w
 
 -- APPOINTMENTS: EACH ENDS ON THE DAY OF THE NEXT LATER REPLACEMENT OR RELEASE OF ITS PLACE
 
--- the end of a row, which a place's row gets where it has none yet
+-- the end of a row, which a place's row gets if it has none yet
 abbrev pub end_at : Bool → Option ℕ → ℕ → Option ℕ
 end_at true None day = Some day
 end_at is_its until day = until
@@ -111,7 +111,7 @@ appointments (entry ∷ A) = appointments_after entry.command.act (appointments 
 -- SAFES: ALWAYS FOUR, EACH AS ITS LAST COMMAND LEFT IT
 
 abbrev pub safe_row : History → Facility → SafeNumber → SafeRow
-safe_row A facility safe = record { facility = facility; safe = safe; is_open = is_safe_open A facility safe }
+safe_row A facility safe = record { facility = facility; safe = safe; is_open = is_open A facility safe }
 
 abbrev pub safes : History → List SafeRow
 safes A = safe_row A East One ∷ safe_row A East Two ∷ safe_row A West One ∷ safe_row A West Two ∷ []
@@ -126,7 +126,7 @@ abbrev pub bag_row : History → List ℕ → Bag
 bag_row A serial = record { serial = serial; spot = unwrap_or (spot A serial) Spent }
 
 abbrev pub bags : History → List Bag
-bags A = map (bag_row A) (all_said sealed_serial A)
+bags A = map (bag_row A) (values_of_acts sealed_serial A)
 
 abbrev pub added_item : Act → Option (List ℕ)
 added_item (AddItem c item at) = Some item
@@ -136,14 +136,14 @@ abbrev pub item_row : History → List ℕ → Item
 item_row A item = record { code = item; rest = unwrap_or (rest A item) (Loose East) }
 
 abbrev pub items : History → List Item
-items A = map (item_row A) (all_said added_item A)
+items A = map (item_row A) (values_of_acts added_item A)
 
 -- CEREMONIES: ONE FOR EACH PLAN, WITH ITS STATE; MARKS: ONE FOR EACH THAT WAS OPENED
 
 abbrev pub state_of : History → ℕ → CeremonyState
 state_of A ceremony =
-    if is_some (closed A ceremony) then States.Closed else
-    (if is_some (opened A ceremony) then States.Open else States.Planned)
+    if is_some (closed_at A ceremony) then States.Closed else
+    (if is_some (opened_at A ceremony) then States.Open else States.Planned)
 
 abbrev pub planned_number : Act → Option ℕ
 planned_number (Plan number facility day script) = Some number
@@ -156,31 +156,31 @@ ceremony_row A ceremony =
       facility = facility_of A ceremony;
       day = day_planned A ceremony;
       state = state_of A ceremony;
-      opened = opened A ceremony;
-      closed = closed A ceremony;
+      opened = opened_at A ceremony;
+      closed = closed_at A ceremony;
     }
 
 abbrev pub ceremonies : History → List CeremonyRow
-ceremonies A = map (ceremony_row A) (all_said planned_number A)
+ceremonies A = map (ceremony_row A) (values_of_acts planned_number A)
 
 abbrev pub mark_row : History → ℕ → MarkRow
 mark_row A ceremony = record { ceremony = ceremony; at = unwrap_or (mark A ceremony) 0 }
 
 abbrev pub marks : History → List MarkRow
-marks A = map (mark_row A) (all_said opened_number A)
+marks A = map (mark_row A) (values_of_acts opened_number A)
 
 -- STEPS: THOSE OF EACH PLAN, WITH WHAT BECAME OF THEM
 
 -- what an accepted command does to step k of the ceremony, and when: it signs it, or passes over it
 abbrev pub step_done : ℕ → ℕ → Act → Option ℕ → Option (StepState × ℕ)
 step_done ceremony k (Sign c step at) said = if c == ceremony && step == k then Some (Signed, at) else None
-step_done ceremony k (Except c text pass at) (Some step) =
+step_done ceremony k (RecordException c text pass at) (Some step) =
     if c == ceremony && step == k then Some (Passed, at) else None
 step_done ceremony k act said = None
 
 -- what became of the step, None while it is neither signed nor passed
-abbrev pub fate_of : History → ℕ → ℕ → Option (StepState × ℕ)
-fate_of A ceremony k = last_by (λ entry. step_done ceremony k entry.command.act entry.answer.step) A
+abbrev pub step_result : History → ℕ → ℕ → Option (StepState × ℕ)
+step_result A ceremony k = last_value_of_entries (λ entry. step_done ceremony k entry.command.act entry.answer.step) A
 
 -- the numbers of some steps, counting on from step k, each with the ceremony's
 abbrev pub numbered : {X : Type 0} → ℕ → ℕ → List X → List (ℕ × ℕ)
@@ -190,7 +190,7 @@ numbered ceremony k (x ∷ xs) = (ceremony, suc k) ∷ numbered ceremony (suc k)
 -- the steps that a command plans, after those planned before
 abbrev pub step_keys_after : Act → List (ℕ × ℕ) → List (ℕ × ℕ)
 step_keys_after (Plan number facility day script) keys =
-    stacked_on (numbered number 0 (result_unwrap_or (script_of script) [])) keys
+    pushed_onto (numbered number 0 (result_unwrap_or (script_of script) [])) keys
 step_keys_after act keys = keys
 
 -- ceremony and number of each step that was planned
@@ -212,8 +212,8 @@ step_row A key =
       step = key.1;
       activity = activity_at (steps_of A key.0) key.1;
       seats = seats_at (steps_of A key.0) key.1;
-      state = unwrap_or (option_map (λ fate. fate.0) (fate_of A key.0 key.1)) Undone;
-      at = option_map (λ fate. fate.1) (fate_of A key.0 key.1);
+      state = unwrap_or (option_map (λ fate. fate.0) (step_result A key.0 key.1)) Undone;
+      at = option_map (λ fate. fate.1) (step_result A key.0 key.1);
     }
 
 abbrev pub steps : History → List StepRow
@@ -223,7 +223,7 @@ steps A = map (step_row A) (step_keys A)
 
 abbrev pub ceremony_of_step : Act → Option ℕ
 ceremony_of_step (Sign c k at) = Some c
-ceremony_of_step (Except c text pass at) = Some c
+ceremony_of_step (RecordException c text pass at) = Some c
 ceremony_of_step act = None
 
 -- the rows of the people, counting the seats on from `seat`
@@ -239,12 +239,12 @@ seating_rows ceremony step people = []
 abbrev pub seatings : History → List SeatingRow
 seatings [] = []
 seatings (entry ∷ A) =
-    stacked_on (seating_rows (ceremony_of_step entry.command.act) entry.answer.step entry.answer.seating) (seatings A)
+    pushed_onto (seating_rows (ceremony_of_step entry.command.act) entry.answer.step entry.answer.seating) (seatings A)
 
 -- EXCEPTIONS: ONE FOR EACH COMMAND THAT STATES ONE, NUMBERED AND WITH THE STEP THAT IT PASSED, AS ITS ANSWER SAYS
 
 abbrev pub exception_row : Act → Option ℕ → Option ℕ → Option ExceptionRow
-exception_row (Except c text pass at) (Some number) passed =
+exception_row (RecordException c text pass at) (Some number) passed =
     Some (record { ceremony = c; exception = number; text = text; at = at; passed = passed })
 exception_row act number passed = None
 
@@ -259,7 +259,7 @@ key_row entry =
       key = entry.command.key;
       accepted = entry.answer.accepted;
       command = command_text entry.command.act;
-      reply = answer_text entry.answer;
+      reply = reply_text entry.answer;
     }
 
 abbrev pub keys : History → List KeyRow

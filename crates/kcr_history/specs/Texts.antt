@@ -10,14 +10,14 @@ use Rattle.kcr_base.specs.Place.{place_text}
 use Rattle.kcr_base.specs.Role.{role_text}
 use Rattle.kcr_custody.specs.declared.SafeNumber.{SafeNumber}
 use Rattle.kcr_custody.specs.declared.SafeNumber.TheVariants.{One, Two}
-use Rattle.kcr_custody.specs.declared.Store.{Store}
-use Rattle.kcr_custody.specs.declared.Store.TheVariants.{SafeOne, Boxed}
+use Rattle.kcr_custody.specs.declared.Destination.{Destination}
+use Rattle.kcr_custody.specs.declared.Destination.TheVariants.{SafeOne, DepositBox}
 use Rattle.kcr_room.specs.Room.{way_text}
 use Rattle.kcr_history.specs.declared.commands.Act.{Act}
 use Rattle.kcr_history.specs.declared.commands.Act.TheVariants.{Enter, Train, Withdraw, Appoint, Replace, Release}
-use Rattle.kcr_history.specs.declared.commands.Act.TheVariants.{AddBox, AddItem, Plan, Open, Close, Sheet, Sign, Except}
-use Rattle.kcr_history.specs.declared.commands.Act.TheVariants.{TurnSafe, Seal, Take, Put, Cut}
-use Rattle.kcr_history.specs.declared.commands.Answer.{Answer}
+use Rattle.kcr_history.specs.declared.commands.Act.TheVariants.{AddBox, AddItem, Plan, Open, Close, RecordSheet, Sign, RecordException}
+use Rattle.kcr_history.specs.declared.commands.Act.TheVariants.{SetSafe, Seal, Take, Put, Cut}
+use Rattle.kcr_history.specs.declared.commands.ReplyData.{ReplyData}
 use Rattle.kcr_history.specs.Json.{quoted, member, object, array}
 
 -- VALUES
@@ -28,9 +28,9 @@ safe_text One = codes "1"
 safe_text Two = codes "2"
 
 -- where a bag is put: `safe1`, or the number of a box
-abbrev pub store_text : Store → List ℕ
+abbrev pub store_text : Destination → List ℕ
 store_text SafeOne = codes "safe1"
-store_text (Boxed number) = decimal number
+store_text (DepositBox number) = decimal number
 
 abbrev pub truth_text : Bool → List ℕ
 truth_text true = codes "true"
@@ -84,12 +84,12 @@ command_text (Plan number facility day script) =
     codes "/ceremonies" ++ line (decimal number) ++ line (facility_text facility) ++ line (day_text day) ++ line script
 command_text (Open ceremony at) = at_ceremony ceremony (codes "opening") ++ line (moment_text at)
 command_text (Close ceremony at) = at_ceremony ceremony (codes "closing") ++ line (moment_text at)
-command_text (Sheet ceremony way who at) =
+command_text (RecordSheet ceremony way who at) =
     at_ceremony ceremony (codes "sheet") ++ line (way_text way) ++ line (listed who) ++ line (moment_text at)
 command_text (Sign ceremony step at) = at_step ceremony step ++ line (moment_text at)
-command_text (Except ceremony text pass at) =
+command_text (RecordException ceremony text pass at) =
     at_ceremony ceremony (codes "exceptions") ++ line text ++ line (truth_text pass) ++ line (moment_text at)
-command_text (TurnSafe ceremony safe state by at) =
+command_text (SetSafe ceremony safe state by at) =
     at_safe ceremony safe ++ line (truth_text state) ++ line by ++ line (moment_text at)
 command_text (Seal ceremony serial items at) =
     at_bag ceremony serial (codes "seal") ++ line (listed items) ++ line (moment_text at)
@@ -98,13 +98,13 @@ command_text (Put ceremony serial to at) =
     at_bag ceremony serial (codes "put") ++ line (store_text to) ++ line (moment_text at)
 command_text (Cut ceremony serial at) = at_bag ceremony serial (codes "cut") ++ line (moment_text at)
 
--- two commands are the same where their texts are equal
+-- two commands are the same if their texts are equal
 abbrev pub same_command : Act → Act → Bool
 same_command a b = same_text (command_text a) (command_text b)
 
 -- REPLIES
 
--- a member, where there is a value for it
+-- a member, if there is a value for it
 abbrev pub member_if : List ℕ → Option (List ℕ) → List (List ℕ)
 member_if name None = []
 member_if name (Some value) = member name value ∷ []
@@ -113,10 +113,10 @@ member_if name (Some value) = member name value ∷ []
 abbrev pub people_array : List (List ℕ) → List ℕ
 people_array people = array (map quoted people)
 
--- the JSON text of the reply to an accepted command: its number; an exception's number, the seating and the step where
+-- the JSON text of the reply to an accepted command: its number; an exception's number, the seating and the step if
 -- there are such
-abbrev pub answer_text : Answer → List ℕ
-answer_text answer =
+abbrev pub reply_text : ReplyData → List ℕ
+reply_text answer =
     object
     (member (codes "accepted") (decimal answer.accepted)
     ∷ (member_if (codes "exception") (option_map decimal answer.exception)

@@ -6,7 +6,7 @@ use Rattle.kcr_base.specs.declared.place.Place.{Place}
 use Rattle.kcr_base.specs.declared.place.Role.{Role}
 use Rattle.kcr_history.specs.declared.commands.Act.{Act}
 use Rattle.kcr_history.specs.declared.commands.Act.TheVariants.{Enter, Train, Withdraw, Appoint, Replace, Release}
-use Rattle.kcr_history.specs.History.{History, some_command, last_said}
+use Rattle.kcr_history.specs.History.{History, has_command, last_value_of_acts}
 
 -- PEOPLE
 
@@ -17,22 +17,22 @@ enters who act = false
 
 -- the person is in the register: some accepted command has entered these initials
 abbrev pub is_person : History → List ℕ → Bool
-is_person A who = some_command (enters who) A
+is_person A who = has_command (enters who) A
 
 -- TRAINING
 
 -- what a command says of the person's training for the role on the day: a training that covers the day, both ends
 -- inclusive, that they are trained; a withdrawal from that day or an earlier one on, that they are not
-abbrev pub says_of_training : List ℕ → Role → ℕ → Act → Option Bool
-says_of_training who role day (Train p r since until) =
+abbrev pub training_effect : List ℕ → Role → ℕ → Act → Option Bool
+training_effect who role day (Train p r since until) =
     if same_text p who && same_role r role && nat_le since day && nat_le day until then Some true else None
-says_of_training who role day (Withdraw p r from) =
+training_effect who role day (Withdraw p r from) =
     if same_text who p && same_role role r && nat_le from day then Some false else None
-says_of_training who role day act = None
+training_effect who role day act = None
 
 -- the person is trained for the role on the day: the last command that says something of it says so
 abbrev pub trained : History → List ℕ → Role → ℕ → Bool
-trained A who role day = unwrap_or (last_said (says_of_training who role day) A) false
+trained A who role day = unwrap_or (last_value_of_acts (training_effect who role day) A) false
 
 -- the command trains the person, for whatever role and days
 abbrev pub trains_person : List ℕ → Act → Bool
@@ -41,7 +41,7 @@ trains_person who act = false
 
 -- the person was ever trained: withdrawn training counts
 abbrev pub ever_trained : History → List ℕ → Bool
-ever_trained A who = some_command (trains_person who) A
+ever_trained A who = has_command (trains_person who) A
 
 -- the very same training
 abbrev pub is_training : List ℕ → Role → ℕ → ℕ → Act → Bool
@@ -51,15 +51,15 @@ is_training who role since until act = false
 -- CUSTODIANS
 
 -- what a command says of the holder of a place from its day on: a person, or nobody
-abbrev pub next_holder : Place → ℕ → Act → Option (Option (List ℕ))
-next_holder place day (Appoint at who since) = if same_place at place && nat_le since day then Some (Some who) else None
-next_holder place day (Replace at who since) = if same_place at place && nat_le since day then Some (Some who) else None
-next_holder place day (Release at since) = if same_place at place && nat_le since day then Some None else None
-next_holder place day act = None
+abbrev pub holder_effect : Place → ℕ → Act → Option (Option (List ℕ))
+holder_effect place day (Appoint at who since) = if same_place at place && nat_le since day then Some (Some who) else None
+holder_effect place day (Replace at who since) = if same_place at place && nat_le since day then Some (Some who) else None
+holder_effect place day (Release at since) = if same_place at place && nat_le since day then Some None else None
+holder_effect place day act = None
 
 -- who holds the place on the day: whom the last command of the place with a day at most that day puts there
 abbrev pub holder : History → Place → ℕ → Option (List ℕ)
-holder A place day = unwrap_or (last_said (next_holder place day) A) None
+holder A place day = unwrap_or (last_value_of_acts (holder_effect place day) A) None
 
 -- the person holds the place on the day
 abbrev pub is_holder : History → Place → ℕ → List ℕ → Bool
@@ -72,5 +72,5 @@ puts who (Replace at p since) = same_text p who
 puts who act = false
 
 -- the person was ever put in a place
-abbrev pub ever_put : History → List ℕ → Bool
-ever_put A who = some_command (puts who) A
+abbrev pub was_custodian : History → List ℕ → Bool
+was_custodian A who = has_command (puts who) A

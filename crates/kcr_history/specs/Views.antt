@@ -15,25 +15,25 @@ use Rattle.kcr_custody.specs.declared.Bag.{Bag}
 use Rattle.kcr_custody.specs.declared.Item.{Item}
 use Rattle.kcr_custody.specs.Custody.{lies_in}
 use Rattle.kcr_room.specs.declared.Stay.{Stay}
-use Rattle.kcr_room.specs.Stays.{is_lasting}
-use Rattle.kcr_room.specs.Adding.{entries}
-use Rattle.kcr_history.specs.declared.rows.CeremonyRow.{CeremonyRow}
-use Rattle.kcr_history.specs.declared.rows.MarkRow.{MarkRow}
-use Rattle.kcr_history.specs.declared.rows.StepRow.{StepRow}
-use Rattle.kcr_history.specs.declared.rows.SeatingRow.{SeatingRow}
-use Rattle.kcr_history.specs.declared.rows.ExceptionRow.{ExceptionRow}
-use Rattle.kcr_history.specs.declared.rows.KeyRow.{KeyRow}
-use Rattle.kcr_history.specs.declared.views.AppointmentsOf.{AppointmentsOf}
-use Rattle.kcr_history.specs.declared.views.AppointmentsOf.TheVariants as Appointments
+use Rattle.kcr_room.specs.Stays.{stay_reaches}
+use Rattle.kcr_room.specs.Requests.{stay_count}
+use Rattle.kcr_history.specs.declared.row_types.CeremonyRow.{CeremonyRow}
+use Rattle.kcr_history.specs.declared.row_types.MarkRow.{MarkRow}
+use Rattle.kcr_history.specs.declared.row_types.StepRow.{StepRow}
+use Rattle.kcr_history.specs.declared.row_types.SeatingRow.{SeatingRow}
+use Rattle.kcr_history.specs.declared.row_types.ExceptionRow.{ExceptionRow}
+use Rattle.kcr_history.specs.declared.row_types.KeyRow.{KeyRow}
+use Rattle.kcr_history.specs.declared.views.AppointmentFilter.{AppointmentFilter}
+use Rattle.kcr_history.specs.declared.views.AppointmentFilter.TheVariants as Appointments
 use Rattle.kcr_history.specs.declared.views.Asks.{Asks}
-use Rattle.kcr_history.specs.declared.views.ItemsOf.{ItemsOf}
-use Rattle.kcr_history.specs.declared.views.ItemsOf.TheVariants as Items
+use Rattle.kcr_history.specs.declared.views.ItemFilter.{ItemFilter}
+use Rattle.kcr_history.specs.declared.views.ItemFilter.TheVariants as Items
 use Rattle.kcr_history.specs.declared.views.Selection.{Selection}
-use Rattle.kcr_history.specs.declared.views.Selection.TheVariants.{Nothing, Under, All}
-use Rattle.kcr_history.specs.declared.views.StaysOf.{StaysOf}
-use Rattle.kcr_history.specs.declared.views.StepOf.{StepOf}
-use Rattle.kcr_history.specs.declared.views.TrainingsOf.{TrainingsOf}
-use Rattle.kcr_history.specs.declared.views.TrainingsOf.TheVariants as Trainings
+use Rattle.kcr_history.specs.declared.views.Selection.TheVariants.{Nothing, Matching, All}
+use Rattle.kcr_history.specs.declared.views.StayFilter.{StayFilter}
+use Rattle.kcr_history.specs.declared.views.StepFilter.{StepFilter}
+use Rattle.kcr_history.specs.declared.views.TrainingFilter.{TrainingFilter}
+use Rattle.kcr_history.specs.declared.views.TrainingFilter.TheVariants as Trainings
 use Rattle.kcr_history.specs.declared.views.View.{View}
 use Rattle.kcr_history.specs.Tables.{Tables}
 
@@ -46,12 +46,12 @@ abbrev pub is_training_of : List ℕ → Training → Bool
 is_training_of who row = same_text row.who who
 
 -- the training lasts to the day
-abbrev pub lasts_to : ℕ → Training → Bool
-lasts_to day row = nat_le day row.until
+abbrev pub training_reaches : ℕ → Training → Bool
+training_reaches day row = nat_le day row.until
 
-abbrev pub is_training_asked : TrainingsOf → Training → Bool
+abbrev pub is_training_asked : TrainingFilter → Training → Bool
 is_training_asked (Trainings.Person who) row = is_training_of who row
-is_training_asked (Trainings.Lasting day) row = lasts_to day row
+is_training_asked (Trainings.EndingOnOrAfter day) row = training_reaches day row
 
 abbrev pub is_withdrawal_of : List ℕ → Withdrawal → Bool
 is_withdrawal_of who row = same_text row.who who
@@ -65,7 +65,7 @@ is_appointment_of who row = same_text row.who who
 abbrev pub is_of_serial : List ℕ → Bag → Bool
 is_of_serial serial row = same_text row.serial serial
 
-abbrev pub is_item_of : ItemsOf → Item → Bool
+abbrev pub is_item_of : ItemFilter → Item → Bool
 is_item_of (Items.Codes codes) row = list_any (same_text row.code) codes
 is_item_of (Items.Bag serial) row = lies_in serial row
 
@@ -90,33 +90,33 @@ is_of_key key row = same_text row.key key
 -- WHEN A VIEW HOLDS THEM
 
 -- the rows asked for are the table's, in any order; beside them the view may hold others
-abbrev pub Shows : {X K : Type 0} → (K → X → Bool) → Selection K → List X → List X → Type 0
-Shows is_under Nothing table rows = Unit {0}
-Shows is_under (Under key) table rows = IsPermutation (filter (is_under key) table) (filter (is_under key) rows)
-Shows is_under All table rows = IsPermutation table rows
+abbrev pub Includes : {X K : Type 0} → (K → X → Bool) → Selection K → List X → List X → Type 0
+Includes is_under Nothing table rows = Unit {0}
+Includes is_under (Matching key) table rows = IsPermutation (filter (is_under key) table) (filter (is_under key) rows)
+Includes is_under All table rows = IsPermutation table rows
 
--- the whole table, where it is asked for
-abbrev pub ShowsAll : {X : Type 0} → Bool → List X → List X → Type 0
-ShowsAll true table rows = IsPermutation table rows
-ShowsAll false table rows = Unit {0}
+-- the whole table, if it is asked for
+abbrev pub IncludesAll : {X : Type 0} → Bool → List X → List X → Type 0
+IncludesAll true table rows = IsPermutation table rows
+IncludesAll false table rows = Unit {0}
 
--- the number of the last step of the ceremony that has a seating, 0 where none has
+-- the number of the last step of the ceremony that has a seating, 0 if none has
 abbrev pub last_seated : List SeatingRow → ℕ → ℕ
 last_seated rows ceremony = fold max 0 (map (λ row. row.step) (filter (is_seating_of ceremony) rows))
 
--- the number of the step that is asked for, where these are seatings of its ceremony
-abbrev pub step_asked : StepOf → List SeatingRow → ℕ
+-- the number of the step that is asked for, if these are seatings of its ceremony
+abbrev pub step_asked : StepFilter → List SeatingRow → ℕ
 step_asked asked rows = unwrap_or asked.step (suc (last_seated rows asked.ceremony))
 
 -- the view tells the last step of the ceremony that has a seating, and has the row of the step that is asked for
-pub record ShowsStepOf (asked : StepOf) (all seatings : List SeatingRow) (table rows : List StepRow) : Type 0 where
+pub record ShowsStepOf (asked : StepFilter) (all seatings : List SeatingRow) (table rows : List StepRow) : Type 0 where
   pub last : last_seated seatings asked.ceremony ≡ last_seated all asked.ceremony
   pub step : IsPermutation (filter (is_step_at asked.ceremony (step_asked asked seatings)) table)
       (filter (is_step_at asked.ceremony (step_asked asked seatings)) rows)
 
-abbrev pub ShowsSteps : Option StepOf → List SeatingRow → List SeatingRow → List StepRow → List StepRow → Type 0
-ShowsSteps None all seatings table rows = Unit {0}
-ShowsSteps (Some asked) all seatings table rows = ShowsStepOf asked all seatings table rows
+abbrev pub IncludesStep : Option StepFilter → List SeatingRow → List SeatingRow → List StepRow → List StepRow → Type 0
+IncludesStep None all seatings table rows = Unit {0}
+IncludesStep (Some asked) all seatings table rows = ShowsStepOf asked all seatings table rows
 
 -- the later of two stays, by their beginnings
 abbrev pub later_stay : Stay → Option Stay → Option Stay
@@ -139,21 +139,21 @@ ShowsLast (who ∷ people) table rows = (last_stay rows who ≡ last_stay table 
 
 -- the stays of the ceremony that last to the moment, in any order, and of each of the people the one that began last;
 -- and no stay that the table does not have
-pub record ShowsStaysOf (asked : StaysOf) (table rows : List Stay) : Type 0 where
+pub record ShowsStaysOf (asked : StayFilter) (table rows : List Stay) : Type 0 where
   pub room : IsPermutation
-      (filter (is_lasting asked.ceremony asked.at) table) (filter (is_lasting asked.ceremony asked.at) rows)
+      (filter (stay_reaches asked.ceremony asked.at) table) (filter (stay_reaches asked.ceremony asked.at) rows)
   pub last : ShowsLast asked.people table rows
   pub within : (stay : Stay) → IsIn stay rows → IsIn stay table
 
-abbrev pub ShowsStays : Selection StaysOf → List Stay → List Stay → Type 0
-ShowsStays Nothing table rows = Unit {0}
-ShowsStays (Under asked) table rows = ShowsStaysOf asked table rows
-ShowsStays All table rows = IsPermutation table rows
+abbrev pub IncludesStays : Selection StayFilter → List Stay → List Stay → Type 0
+IncludesStays Nothing table rows = Unit {0}
+IncludesStays (Matching asked) table rows = ShowsStaysOf asked table rows
+IncludesStays All table rows = IsPermutation table rows
 
 -- how many stays the ceremony has
-abbrev pub ShowsEntries : Option ℕ → List Stay → ℕ → Type 0
-ShowsEntries None table count = Unit {0}
-ShowsEntries (Some ceremony) table count = count ≡ entries table ceremony
+abbrev pub HasStayCount : Option ℕ → List Stay → ℕ → Type 0
+HasStayCount None table count = Unit {0}
+HasStayCount (Some ceremony) table count = count ≡ stay_count table ceremony
 
 -- of each row that passes the test the view has one that passes it too and begins no earlier: so it has the last one
 abbrev pub ShowsLastOf : (Appointment → Bool) → List Appointment → List Appointment → Type 0
@@ -161,43 +161,43 @@ ShowsLastOf test table rows =
     EachOf (λ row. test row ≡ true → list_any (λ shown. test shown && nat_le row.since shown.since) rows ≡ true) table
 
 -- the last appointment to the place, that of the person, or both; or those that last beyond the day, in any order
-abbrev pub ShowsAppointmentsOf : AppointmentsOf → List Appointment → List Appointment → Type 0
+abbrev pub ShowsAppointmentsOf : AppointmentFilter → List Appointment → List Appointment → Type 0
 ShowsAppointmentsOf (Appointments.Place place) table rows = ShowsLastOf (is_appointment_to place) table rows
 ShowsAppointmentsOf (Appointments.Person who) table rows = ShowsLastOf (is_appointment_of who) table rows
-ShowsAppointmentsOf (Appointments.Both place who) table rows =
+ShowsAppointmentsOf (Appointments.LastToPlaceAndOfPerson place who) table rows =
     ShowsLastOf (is_appointment_to place) table rows × ShowsLastOf (is_appointment_of who) table rows
-ShowsAppointmentsOf (Appointments.Lasting day) table rows =
+ShowsAppointmentsOf (Appointments.EndingAfter day) table rows =
     IsPermutation (filter (lasts_beyond day) table) (filter (lasts_beyond day) rows)
 
 -- the view has the appointments that are asked for, and no row that the table does not have
-abbrev pub ShowsAppointments : Selection AppointmentsOf → List Appointment → List Appointment → Type 0
-ShowsAppointments Nothing table rows = Unit {0}
-ShowsAppointments (Under asked) table rows =
+abbrev pub IncludesAppointments : Selection AppointmentFilter → List Appointment → List Appointment → Type 0
+IncludesAppointments Nothing table rows = Unit {0}
+IncludesAppointments (Matching asked) table rows =
     ((row : Appointment) → IsIn row rows → IsIn row table) × ShowsAppointmentsOf asked table rows
-ShowsAppointments All table rows = IsPermutation table rows
+IncludesAppointments All table rows = IsPermutation table rows
 
 -- the row of the key
 abbrev pub row_of_key : List ℕ → List KeyRow → Option KeyRow
 row_of_key key rows = find (is_of_key key) rows
 
--- the greatest number of an accepted command, 0 where there is none
+-- the greatest number of an accepted command, 0 if there is none
 abbrev pub greatest_number : List KeyRow → ℕ
 greatest_number [] = 0
 greatest_number (row ∷ rows) = max row.accepted (greatest_number rows)
 
 -- the view holds the rows asked for
 pub record IsViewOf (asks : Asks) (t : Tables) (view : View) : Type 0 where
-  pub people : Shows is_of_people asks.people t.people view.people.items
-  pub trainings : Shows is_training_asked asks.trainings t.trainings view.trainings.items
-  pub withdrawals : Shows is_withdrawal_of asks.withdrawals t.withdrawals view.withdrawals.items
-  pub appointments : ShowsAppointments asks.appointments t.appointments view.appointments.items
-  pub boxes : ShowsAll asks.boxes t.boxes view.boxes.items
-  pub safes : ShowsAll asks.safes t.safes view.safes.items
-  pub bags : Shows is_of_serial asks.bags t.bags view.bags.items
-  pub items : Shows is_item_of asks.items t.items view.items.items
-  pub ceremonies : Shows is_of_number asks.ceremonies t.ceremonies view.ceremonies.items
-  pub marks : Shows is_mark_of asks.marks t.marks view.marks.items
-  pub steps : ShowsSteps asks.steps t.seatings view.seatings.items t.steps view.steps.items
-  pub exceptions : Shows is_exception_of asks.exceptions t.exceptions view.exceptions.items
-  pub stays : ShowsStays asks.stays t.stays view.stays.items
-  pub entries : ShowsEntries asks.entries t.stays view.entries
+  pub people : Includes is_of_people asks.people t.people view.people.items
+  pub trainings : Includes is_training_asked asks.trainings t.trainings view.trainings.items
+  pub withdrawals : Includes is_withdrawal_of asks.withdrawals t.withdrawals view.withdrawals.items
+  pub appointments : IncludesAppointments asks.appointments t.appointments view.appointments.items
+  pub boxes : IncludesAll asks.boxes t.boxes view.boxes.items
+  pub safes : IncludesAll asks.safes t.safes view.safes.items
+  pub bags : Includes is_of_serial asks.bags t.bags view.bags.items
+  pub items : Includes is_item_of asks.items t.items view.items.items
+  pub ceremonies : Includes is_of_number asks.ceremonies t.ceremonies view.ceremonies.items
+  pub marks : Includes is_mark_of asks.marks t.marks view.marks.items
+  pub steps : IncludesStep asks.steps t.seatings view.seatings.items t.steps view.steps.items
+  pub exceptions : Includes is_exception_of asks.exceptions t.exceptions view.exceptions.items
+  pub stays : IncludesStays asks.stays t.stays view.stays.items
+  pub entries : HasStayCount asks.stay_count t.stays view.stay_count

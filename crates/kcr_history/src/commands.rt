@@ -4,7 +4,7 @@ use kcr_base::{
     BoxNumber, CeremonyNumber, Day, Facility, Initials, ItemCode, Items, Key, Moment, Name, People,
     Place, Remark, Role, Serial, StepNumber, Text,
 };
-use kcr_custody::{SafeNumber, Store};
+use kcr_custody::{Destination, SafeNumber};
 use kcr_room::Way;
 
 /// What a command does to the register. Days and moments are in UTC.
@@ -75,7 +75,7 @@ pub enum Act {
         at: Moment,
     },
     /// Lists people who come into the room of a ceremony, or go out of it, all at one moment.
-    Sheet {
+    RecordSheet {
         ceremony: CeremonyNumber,
         way: Way,
         who: People,
@@ -88,14 +88,14 @@ pub enum Act {
         at: Moment,
     },
     /// States a script exception. With `pass` it passes over the next step, and then a CA and an IW are needed.
-    Except {
+    RecordException {
         ceremony: CeremonyNumber,
         text: Remark,
         pass: bool,
         at: Moment,
     },
     /// Opens or shuts a safe of the ceremony's facility.
-    TurnSafe {
+    SetSafe {
         ceremony: CeremonyNumber,
         safe: SafeNumber,
         is_open: bool,
@@ -119,7 +119,7 @@ pub enum Act {
     Put {
         ceremony: CeremonyNumber,
         serial: Serial,
-        to: Store,
+        to: Destination,
         at: Moment,
     },
     /// Cuts a bag on the table: its items are loose there, and the bag is spent.
@@ -140,7 +140,7 @@ pub struct Command {
 
 /// The reply to an accepted command, as data.
 #[derive(Drop)]
-pub struct Answer {
+pub struct ReplyData {
     /// How many commands have been accepted with this one, counted from 1.
     pub accepted: u32,
     /// The number of an exception in its ceremony, counted from 1.
@@ -155,7 +155,7 @@ pub struct Answer {
 #[derive(Drop)]
 pub struct Entry {
     pub command: Command,
-    pub answer: Answer,
+    pub answer: ReplyData,
 }
 
 /// A reply as it is sent: a JSON text (RFC 8259), compact, its members in byte order.

@@ -7,40 +7,43 @@
 //! command is refused and for what, what the machine answers to it, and which rows the tables then hold.
 #![tactic(auto)]
 
-mod asked;
+mod asks_by_kind;
+mod comma_lists;
 mod commands;
 mod fitting;
-mod joined;
 mod lists;
 mod paths;
 mod questions;
 mod refusals;
 mod replies;
+mod report_rows;
 mod row_laws;
-mod rows;
-mod seated;
+mod row_types;
+mod steps_done;
 mod texts;
 mod views;
 
-pub use asked::asks;
-pub use commands::{Act, Answer, Command, Entry, Reply};
+pub use asks_by_kind::asks;
+pub use commands::{Act, Command, Entry, Reply, ReplyData};
 pub use fitting::fits;
 pub use kcr_base::Text;
 pub use lists::{InitialsList, ItemList};
 pub use questions::{
-    BagShown, CustodiansShown, HolderShown, PersonShown, Question, RoleShown, RoomShown, Shown,
+    BagShown, CustodiansShown, CustodyShown, HolderShown, PersonShown, Question, RoleShown,
+    RoomShown, Shown, StepsShown,
 };
 pub use refusals::{fixed_text, refusal_text};
 pub use replies::answer_text;
+pub use report_rows::{BagWithItems, SeatedStep, StayWithName};
 pub use row_laws::{
     holder_of_rows, numbers_count_commands, people_of_rows, settled_of_rows, training_of_rows,
 };
-pub use rows::{
+pub use row_types::{
     CeremonyRow, CeremonyState, ExceptionRow, KeyRow, MarkRow, SeatingRow, StepRow, StepState,
 };
-pub use seated::last_seated;
+pub use steps_done::last_seated;
 pub use texts::command_text;
 pub use views::{
-    AppointmentsOf, Asks, Change, Finding, ItemsOf, Selection, StaysOf, StepOf, TrainingsOf,
-    Verdict, View, WholeView,
+    AppointmentFilter, Asks, Change, Finding, FullView, ItemFilter, Selection, StayFilter,
+    StepFilter, TrainingFilter, Verdict, View,
 };

@@ -1,6 +1,9 @@
 //! What can be asked of a register, and what it shows.
+use crate::report_rows::{BagWithItems, SeatedStep, StayWithName};
+use crate::row_types::{CeremonyRow, ExceptionRow};
+use crate::views::FullView;
 use kcr_base::{CeremonyNumber, Day, Initials, ItemCode, Moment, Name, Place, Role, Serial};
-use kcr_custody::Spot;
+use kcr_custody::{Item, SafeRow, Spot};
 
 /// A question about a register. It changes nothing.
 #[derive(Clone, Copy)]
@@ -14,6 +17,16 @@ pub enum Question {
     Bag(Serial),
     /// Who is in the room of the ceremony at the moment. A ceremony that was never planned is refused as unknown (12).
     Room(CeremonyNumber, Moment),
+    /// The script of the ceremony as it was done: its steps with who filled their seats, and its exceptions. A ceremony
+    /// that was never planned is refused as unknown (12).
+    Steps(CeremonyNumber),
+    /// Who was in the room of the ceremony, from when and until when. A ceremony that was never planned is refused as
+    /// unknown (12).
+    Sheet(CeremonyNumber),
+    /// The safes, the bags with their items, and the loose items.
+    Custody,
+    /// All rows of all tables. Memory grows with their number.
+    All,
 }
 
 /// A training of a person as it is shown: for a role, from `since` until `until`, both days inclusive.
@@ -65,6 +78,27 @@ pub struct RoomShown {
     pub people: Vec<Initials>,
 }
 
+/// The script of a ceremony as it was done.
+#[derive(Drop)]
+pub struct StepsShown {
+    pub ceremony: CeremonyRow,
+    /// The steps in their order, each with the people of its seating, seat by seat.
+    pub steps: Vec<SeatedStep>,
+    /// The exceptions in their order.
+    pub exceptions: Vec<ExceptionRow>,
+}
+
+/// Where safes, bags and items are.
+#[derive(Drop)]
+pub struct CustodyShown {
+    /// The four safes: those of EAST first, and by number.
+    pub safes: Vec<SafeRow>,
+    /// The bags by serial, each with the codes of its items.
+    pub bags: Vec<BagWithItems>,
+    /// The loose items by code.
+    pub loose: Vec<Item>,
+}
+
 /// What a register shows in answer to a question.
 #[derive(Drop)]
 pub enum Shown {
@@ -73,4 +107,10 @@ pub enum Shown {
     Custodians(CustodiansShown),
     Bag(BagShown),
     Room(RoomShown),
+    Steps(StepsShown),
+    /// The stays of the ceremony by beginning, then initials, each with the person's name.
+    Sheet(Vec<StayWithName>),
+    Custody(CustodyShown),
+    /// All rows, each table's in the order of their keys.
+    All(FullView),
 }

@@ -9,8 +9,8 @@ use itoa::Buffer;
 use kcr_base::{Positions, Refusal, Text};
 use std::alloc::{AllocError, Global};
 
-/// The JSON text of a refusal that carries nothing, as `{"number":11,"refusal":"key"}`, or None where the refusal
-/// carries something. It takes no memory, so out of memory itself (33), a fault of the device (34) and a broken
+/// The JSON text of a refusal that carries nothing, as `{"number":11,"refusal":"key"}`, or `None` if the refusal
+/// carries something. It takes no memory, so out of memory itself (33), an I/O error (34) and a broken
 /// register (35) can always be answered.
 #[tactic(auto, using(crate::proofs::Listed::number_text))]
 pub fn fixed_text(refusal: &Refusal) -> Option<&'static str>

@@ -6,17 +6,17 @@ ghost use Rattle.std.specs.Option.{option_map};
 ghost use Rattle.kcr_history.specs.Json;
 ghost use Rattle.kcr_history.specs.Texts;
 
-use crate::commands::Answer;
+use crate::commands::ReplyData;
 use crate::lists::InitialsList;
 use itoa::Buffer;
 use kcr_base::Text;
 use std::alloc::{AllocError, Global};
 
-/// The JSON text of the reply to an accepted command: its number, then, where there are such, an exception's number,
+/// The JSON text of the reply to an accepted command: its number, then, if there are such, an exception's number,
 /// who sits in each seat, and the step, members in byte order, as
 /// `{"accepted":31,"exception":1,"seating":["BB","AA"],"step":4}`. The error is out of memory.
-pub fn answer_text(alloc: Global, answer: &Answer) -> Result<Text, AllocError>
-    ensures { IfOk result (λ text. text ≡ Texts.answer_text answer.now) }
+pub fn answer_text(alloc: Global, answer: &ReplyData) -> Result<Text, AllocError>
+    ensures { IfOk result (λ text. text ≡ Texts.reply_text answer.now) }
 {
     let mut number = Buffer::new();
     let mut text = String::from_str(alloc, "{\"accepted\":")?;
@@ -28,7 +28,7 @@ pub fn answer_text(alloc: Global, answer: &Answer) -> Result<Text, AllocError>
     Ok(Text::from_string(text))
 }
 
-/// The text with a comma and a number of this name, as `,"step":4`, where there is one.
+/// The text with a comma and a number of this name, as `,"step":4`, if there is one.
 fn with_count(text: String, name: &str, count: Option<u32>) -> Result<String, AllocError>
     ensures { IfOk result (λ longer.
         string_bytes longer ≡ string_bytes text
@@ -44,7 +44,7 @@ fn with_count(text: String, name: &str, count: Option<u32>) -> Result<String, Al
     }
 }
 
-/// The text with a comma and the seating, as `,"seating":["BB","AA"]`, where there is one.
+/// The text with a comma and the seating, as `,"seating":["BB","AA"]`, if there is one.
 fn with_seating(
     alloc: Global,
     text: String,

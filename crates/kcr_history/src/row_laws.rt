@@ -7,9 +7,9 @@ ghost use Rattle.kcr_base.specs.declared.place.Place.{Place};
 ghost use Rattle.kcr_base.specs.declared.place.Role.{Role};
 ghost use Rattle.kcr_people.specs.People.{is_person_by, ever_trained_by, ever_put_by, trained_by, holder_by};
 ghost use Rattle.kcr_history.specs.declared.commands.Entry.{Entry};
-ghost use Rattle.kcr_history.specs.declared.rows.MarkRow.{MarkRow};
+ghost use Rattle.kcr_history.specs.declared.row_types.MarkRow.{MarkRow};
 ghost use Rattle.kcr_history.specs.History.{History, greatest};
-ghost use Rattle.kcr_history.specs.Training.{is_person, ever_trained, ever_put, trained, holder};
+ghost use Rattle.kcr_history.specs.Training.{is_person, ever_trained, was_custodian, trained, holder};
 ghost use Rattle.kcr_history.specs.Ceremonies.{settled};
 ghost use Rattle.kcr_history.specs.Tables.{people, trainings, withdrawals, appointments, marks};
 ghost use Rattle.kcr_history.specs.Machine.{IsRegister};
@@ -20,14 +20,14 @@ pub fn numbers_count_commands()
 {}
 
 /// Of any history: a person is in the table of people, was ever trained, or was ever put in a place by the rows exactly
-/// where some command says so.
+/// if some command says so.
 pub fn people_of_rows()
     ensures entered { (A : History) (who : List ℕ) → is_person_by (people A) who ≡ is_person A who }
     ensures trained { (A : History) (who : List ℕ) → ever_trained_by (trainings A) who ≡ ever_trained A who }
-    ensures put { (A : History) (who : List ℕ) → ever_put_by (appointments A) who ≡ ever_put A who }
+    ensures put { (A : History) (who : List ℕ) → ever_put_by (appointments A) who ≡ was_custodian A who }
 {}
 
-/// By the trainings and withdrawals of a register somebody is trained for a role on a day exactly where its history
+/// By the trainings and withdrawals of a register somebody is trained for a role on a day if and only if its history
 /// says so: the last command that says something of it is a training that covers the day.
 pub fn training_of_rows()
     ensures { (A : History) → IsRegister A → (who : List ℕ) (role : Role) (day : ℕ) →

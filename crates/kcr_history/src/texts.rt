@@ -3,8 +3,8 @@ ghost use Rattle.std.specs.Prelude.{◌≡◌, ◌++◌, IfOk, map, string_bytes
 ghost use Rattle.kcr_history.specs.Texts;
 ghost use Rattle.kcr_history.specs.declared.commands.Act.TheVariants as Kinds;
 
+use crate::comma_lists::{items_text, people_text};
 use crate::commands::Act;
-use crate::joined::{items_text, people_text};
 use crate::paths::{
     at_bag, at_ceremony, at_person, at_place, at_safe, at_step, with_day, with_line, with_moment,
     with_number, with_place,
@@ -13,7 +13,7 @@ use kcr_base::{
     BoxNumber, CeremonyNumber, Day, Facility, Initials, ItemCode, Items, Moment, Name, People,
     Place, Remark, Role, Serial, StepNumber, Text,
 };
-use kcr_custody::{SafeNumber, Store};
+use kcr_custody::{Destination, SafeNumber};
 use kcr_room::Way;
 use std::alloc::{AllocError, Global};
 
@@ -137,7 +137,7 @@ fn sheet_text(
     who: &People,
     at: Moment,
 ) -> Result<String, AllocError>
-    ensures { IfOk result (λ text. string_bytes text ≡ Texts.command_text (Kinds.Sheet ceremony way who.now at)) }
+    ensures { IfOk result (λ text. string_bytes text ≡ Texts.command_text (Kinds.RecordSheet ceremony way who.now at)) }
 {
     let text = at_ceremony(alloc, ceremony, "sheet")?;
     let text = with_line(text, way.text())?;
@@ -172,7 +172,7 @@ fn except_text(
     pass: bool,
     at: Moment,
 ) -> Result<String, AllocError>
-    ensures { IfOk result (λ text. string_bytes text ≡ Texts.command_text (Kinds.Except ceremony remark.now pass at)) }
+    ensures { IfOk result (λ text. string_bytes text ≡ Texts.command_text (Kinds.RecordException ceremony remark.now pass at)) }
 {
     let text = at_ceremony(alloc, ceremony, "exceptions")?;
     let text = with_line(text, remark.as_str())?;
@@ -189,7 +189,7 @@ fn turn_text(
     at: Moment,
 ) -> Result<String, AllocError>
     ensures { IfOk result (λ text. string_bytes text ≡ Texts.command_text
-        (Kinds.TurnSafe ceremony safe is_open by at)) }
+        (Kinds.SetSafe ceremony safe is_open by at)) }
 {
     let text = at_safe(alloc, ceremony, safe)?;
     let text = with_line(text, truth_text(is_open))?;
@@ -225,12 +225,12 @@ fn take_text(
 }
 
 /// The text with where a bag is put on a line of its own: `safe1`, or the number of a box.
-fn with_store(text: String, to: Store) -> Result<String, AllocError>
+fn with_store(text: String, to: Destination) -> Result<String, AllocError>
     ensures { IfOk result (λ longer. string_bytes longer ≡ string_bytes text ++ Texts.line (Texts.store_text to)) }
 {
     match to {
-        Store::SafeOne => with_line(text, "safe1"),
-        Store::Boxed(number) => with_number(text, number.get()),
+        Destination::SafeOne => with_line(text, "safe1"),
+        Destination::DepositBox(number) => with_number(text, number.get()),
     }
 }
 
@@ -238,7 +238,7 @@ fn put_text(
     alloc: Global,
     ceremony: CeremonyNumber,
     serial: Serial,
-    to: Store,
+    to: Destination,
     at: Moment,
 ) -> Result<String, AllocError>
     ensures { IfOk result (λ text. string_bytes text ≡ Texts.command_text (Kinds.Put ceremony serial to at)) }
@@ -289,20 +289,20 @@ fn text_of(alloc: Global, act: &Act) -> Result<String, AllocError>
         } => plan_text(alloc, *number, *facility, *day, script),
         Act::Open { ceremony, at } => open_text(alloc, *ceremony, *at),
         Act::Close { ceremony, at } => close_text(alloc, *ceremony, *at),
-        Act::Sheet {
+        Act::RecordSheet {
             ceremony,
             way,
             who,
             at,
         } => sheet_text(alloc, *ceremony, *way, who, *at),
         Act::Sign { ceremony, step, at } => sign_text(alloc, *ceremony, *step, *at),
-        Act::Except {
+        Act::RecordException {
             ceremony,
             text,
             pass,
             at,
         } => except_text(alloc, *ceremony, text, *pass, *at),
-        Act::TurnSafe {
+        Act::SetSafe {
             ceremony,
             safe,
             is_open,
@@ -335,7 +335,7 @@ fn text_of(alloc: Global, act: &Act) -> Result<String, AllocError>
 }
 
 /// The text by which two commands under one key are compared: the path of the command's request, then the value of
-/// each member of its body but the key, in their order, each on a line of its own. Two commands are the same where
+/// each member of its body but the key, in their order, each on a line of its own. Two commands are the same if
 /// their texts are equal. The error is out of memory.
 pub fn command_text(alloc: Global, act: &Act) -> Result<Text, AllocError>
     ensures { IfOk result (λ text. text ≡ Texts.command_text act.now) }

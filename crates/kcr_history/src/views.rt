@@ -1,7 +1,7 @@
 //! The rows that a decision reads, and those that it puts; all rows, which an audit reads.
-use crate::commands::{Answer, Reply};
+use crate::commands::{Reply, ReplyData};
 use crate::lists::{InitialsList, ItemList};
-use crate::rows::{CeremonyRow, ExceptionRow, KeyRow, MarkRow, SeatingRow, StepRow};
+use crate::row_types::{CeremonyRow, ExceptionRow, KeyRow, MarkRow, SeatingRow, StepRow};
 use kcr_base::{Day, Initials, Key, Moment, Place, Serial};
 use kcr_custody::{Bag, BoxRow, Item, SafeRow};
 use kcr_people::{Appointment, Person, Training, Withdrawal};
@@ -24,16 +24,16 @@ pub struct View {
     pub steps: Vec<StepRow>,
     pub seatings: Vec<SeatingRow>,
     pub stays: Vec<Stay>,
-    /// How many stays the ceremony has of which that is asked, 0 where it is asked of none.
-    pub entries: usize,
+    /// How many stays the ceremony has of which that is asked, 0 if it is asked of none.
+    pub stay_count: usize,
     pub exceptions: Vec<ExceptionRow>,
 }
 
 /// All rows of the register's tables, one list for each table, each in any order.
 #[derive(Drop)]
-pub struct WholeView {
+pub struct FullView {
     /// Those of the tables that a decision may ask for.
-    pub asked: View,
+    pub view: View,
     pub sheet: Vec<SheetRow>,
     pub keys: Vec<KeyRow>,
 }
@@ -42,38 +42,38 @@ pub struct WholeView {
 #[derive(Drop)]
 pub enum Selection<K> {
     Nothing,
-    Under(K),
+    Matching(K),
     All,
 }
 
-/// Which trainings are asked for. A training counts on a day only where it lasts to it, so those that ended before need
+/// Which trainings are asked for. A training counts on a day only if it lasts to it, so those that ended before need
 /// not be read.
 #[derive(Clone, Copy, PartialEq, Eq)]
-pub enum TrainingsOf {
+pub enum TrainingFilter {
     /// Those of the person, whenever they end.
     Person(Initials),
     /// Those of anybody whose last day is this day or a later one.
-    Lasting(Day),
+    EndingOnOrAfter(Day),
 }
 
 /// Which appointments are asked for. To change one, the one to a place that began last and the one of a person that
 /// began last are enough, since neither a place nor a person has two appointments at a time. An appointment counts on a
-/// day only where it lasts beyond it, so those that ended before need not be read to tell who holds a place.
+/// day only if it lasts beyond it, so those that ended before need not be read to tell who holds a place.
 #[derive(Clone, Copy, PartialEq, Eq)]
-pub enum AppointmentsOf {
+pub enum AppointmentFilter {
     /// The last one to the place.
     Place(Place),
     /// The last one of the person.
     Person(Initials),
     /// The last one to the place, and the last one of the person.
-    Both(Place, Initials),
+    LastToPlaceAndOfPerson(Place, Initials),
     /// Those to whatever place that have no end, or end on a day after this one.
-    Lasting(Day),
+    EndingAfter(Day),
 }
 
 /// Which items are asked for.
 #[derive(Drop)]
-pub enum ItemsOf {
+pub enum ItemFilter {
     /// These, by their codes.
     Codes(ItemList),
     /// Those within the bag.
@@ -83,7 +83,7 @@ pub enum ItemsOf {
 /// Which step of a ceremony is asked for, with one row of the ceremony's last seating, which tells how many steps are
 /// done.
 #[derive(Clone, Copy, PartialEq, Eq)]
-pub struct StepOf {
+pub struct StepFilter {
     pub ceremony: u32,
     /// The step's number, or none for the step after the last one that has a seating.
     pub step: Option<u32>,
@@ -93,7 +93,7 @@ pub struct StepOf {
 /// people the one that began last, in whatever ceremony. Whoever is in the room at the moment is there by one of the
 /// former, so those that ended before need not be read.
 #[derive(Drop)]
-pub struct StaysOf {
+pub struct StayFilter {
     pub ceremony: u32,
     pub at: Moment,
     pub people: InitialsList,
@@ -105,28 +105,28 @@ pub struct Asks {
     /// People, under their initials.
     pub people: Selection<InitialsList>,
     /// Trainings of a person, or those of anybody that last to a day.
-    pub trainings: Selection<TrainingsOf>,
+    pub trainings: Selection<TrainingFilter>,
     /// Withdrawals of a person's trainings.
     pub withdrawals: Selection<Initials>,
-    pub appointments: Selection<AppointmentsOf>,
+    pub appointments: Selection<AppointmentFilter>,
     /// Whether all boxes are read, of which a facility has at most seven.
     pub boxes: bool,
     /// Whether the four safes are read.
     pub safes: bool,
     /// A bag, under its serial.
     pub bags: Selection<Serial>,
-    pub items: Selection<ItemsOf>,
+    pub items: Selection<ItemFilter>,
     /// A ceremony, under its number.
     pub ceremonies: Selection<u32>,
     /// The mark of a ceremony.
     pub marks: Selection<u32>,
     /// A step of a ceremony, and how many are done.
-    pub steps: Option<StepOf>,
+    pub steps: Option<StepFilter>,
     /// The exceptions of a ceremony.
     pub exceptions: Selection<u32>,
-    pub stays: Selection<StaysOf>,
+    pub stays: Selection<StayFilter>,
     /// The ceremony of which it is asked how many stays it has.
-    pub entries: Option<u32>,
+    pub stay_count: Option<u32>,
 }
 
 /// A whole row that is put into its table, new or in place of the row that has its key. No row is ever removed.
@@ -150,13 +150,13 @@ pub enum Change {
     PutKey(KeyRow),
 }
 
-/// A command that is not refused: the rows to put, in this order, and the reply. `answer` is the reply as data where
-/// the command is accepted now, and none where it was accepted before and only its kept reply is given again.
+/// A command that is not refused: the rows to put, in this order, and the reply. `answer` is the reply as data if
+/// the command is accepted now, and none if it was accepted before and only its kept reply is given again.
 #[derive(Drop)]
 pub struct Verdict {
     pub changes: Vec<Change>,
     pub reply: Reply,
-    pub answer: Option<Answer>,
+    pub answer: Option<ReplyData>,
 }
 
 /// What an audit of the tables finds.

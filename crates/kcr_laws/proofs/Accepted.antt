@@ -2,39 +2,39 @@
 use Rattle.std.proofs.Common.{◌≡◌, ℕ, true, List, [], ◌∷◌, Option, Some, None, MatchOption, inl, inr}
 use Rattle.kcr_base.specs.declared.refusal.Refusal.{Refusal}
 use Rattle.kcr_history.specs.declared.commands.Act.{Act}
-use Rattle.kcr_history.specs.declared.commands.Answer.{Answer}
+use Rattle.kcr_history.specs.declared.commands.ReplyData.{ReplyData}
 use Rattle.kcr_history.specs.declared.commands.Command.{Command}
 use Rattle.kcr_history.specs.declared.commands.Entry.{Entry}
 use Rattle.kcr_history.specs.History.{History, entry_of}
 use Rattle.kcr_history.specs.Texts.{same_command}
 use Rattle.kcr_history.specs.Conditions.{fault}
-use Rattle.kcr_history.specs.Machine.{Outcome, Accepts, Refuses, Sitting, sitting, answer_to, with_command, accepts, seats, acts, repeats, machine}
+use Rattle.kcr_history.specs.Machine.{Outcome, Accepts, Refuses, SeatRequest, seat_request, reply_to, with_command, IsAcceptedWith, seats, DecidesNew, DecidesRepeat, machine}
 use Rattle.kcr_history.specs.Machine.{IsOfMachine, CanFollow, IsRegister}
 use Rattle.kcr_history.proofs.Steps.{follows}
 use Rattle.kcr_laws.specs.Examples.{AreSteps, AreAnswered, new_command}
 
-pub same_answer : (a b : Answer) → Accepts a ≡ Accepts b → a ≡ b
+pub same_answer : (a b : ReplyData) → Accepts a ≡ Accepts b → a ≡ b
 same_answer a b e = cc
 
 pub same_refusal : (r q : Refusal) → Refuses r ≡ Refuses q → r ≡ q
 same_refusal r q e = cc
 
-pub other_outcome : (a : Answer) (r : Refusal) → Accepts a ≡ Refuses r → ⊥
+pub other_outcome : (a : ReplyData) (r : Refusal) → Accepts a ≡ Refuses r → ⊥
 other_outcome a r e = absurd (let f : Accepts a ≡ Refuses r = e in cc)
 
 -- an entry by its parts
-abbrev pub one : List ℕ → Act → Answer → Entry
+abbrev pub one : List ℕ → Act → ReplyData → Entry
 one key act answer = record { command = record { key = key; act = act }; answer = answer }
 
--- what holds of the empty history, and with a further command where it held before, holds of every history
-pub each_history : (P : History → Type 0) → P [] → ((A : History) (key : List ℕ) (act : Act) (answer : Answer) → P A → P (one key act answer ∷ A))
+-- what holds of the empty history, and with a further command if it held before, holds of every history
+pub each_history : (P : History → Type 0) → P [] → ((A : History) (key : List ℕ) (act : Act) (answer : ReplyData) → P A → P (one key act answer ∷ A))
     → (A : History) → P A
 each_history P base step [] = base
 each_history P base step (entry ∷ A) = step A entry.command.key entry.command.act entry.answer (each_history P base step A)
 
 -- what an accepted command keeps holds of every register
 pub each_register : (P : History → Type 0) → P []
-    → ((A : History) (key : List ℕ) (act : Act) (answer : Answer) → IsRegister A → CanFollow A (one key act answer) → P A → P (one key act answer ∷ A))
+    → ((A : History) (key : List ℕ) (act : Act) (answer : ReplyData) → IsRegister A → CanFollow A (one key act answer) → P A → P (one key act answer ∷ A))
     → (A : History) → IsRegister A → P A
 each_register P base step [] h = base
 each_register P base step (entry ∷ A) h = step A entry.command.key entry.command.act entry.answer h.1 h.0 (each_register P base step A h.1)
@@ -49,22 +49,22 @@ repeated A x kept e s outcome A' h = let g = rw e at h in (rw s at g.0, g.1)
 
 -- what holds of a history, and of what an accepted command leads to, holds after any step
 pub step_leads : (P : History → Type 0) (A : History) (x : Command) → P A
-    → ((answer : Answer) → machine A x (Accepts answer) (with_command A x answer) → P (with_command A x answer))
+    → ((answer : ReplyData) → machine A x (Accepts answer) (with_command A x answer) → P (with_command A x answer))
     → (outcome : Outcome) (A' : History) → machine A x outcome A' → P A'
 step_leads P A x r grows outcome A' h = by_entry (entry_of A x.key) (fault A x.act) h
   where
-    grown : (answer : Answer) → outcome ≡ Accepts answer → A' ≡ with_command A x answer → P A'
+    grown : (answer : ReplyData) → outcome ≡ Accepts answer → A' ≡ with_command A x answer → P A'
     grown answer o e = rw e (grows answer (rw e at (rw o at h)))
 
-    seated : (s : Option Sitting) → MatchOption s (accepts A x (answer_to A x.act None) outcome A') (λ q. seats A x q outcome A') → P A'
-    seated None g = grown (answer_to A x.act None) g.0 g.1
-    seated (Some s) (inl w) = grown (answer_to A x.act (Some w.0)) w.2.0 w.2.1
+    seated : (s : Option SeatRequest) → MatchOption s (IsAcceptedWith A x (reply_to A x.act None) outcome A') (λ q. seats A x q outcome A') → P A'
+    seated None g = grown (reply_to A x.act None) g.0 g.1
+    seated (Some s) (inl w) = grown (reply_to A x.act (Some w.0)) w.2.0 w.2.1
     seated (Some s) (inr w) = rw w.2.1 r
 
-    by_entry : (k : Option Entry) (f : Option Refusal) → MatchOption k (acts A x f outcome A') (λ old. repeats A x old outcome A') → P A'
+    by_entry : (k : Option Entry) (f : Option Refusal) → MatchOption k (DecidesNew A x f outcome A') (λ old. DecidesRepeat A x old outcome A') → P A'
     by_entry (Some old) f g = rw g.1 r
     by_entry None (Some refusal) g = rw g.1 r
-    by_entry None None g = seated (sitting A x.act) g
+    by_entry None None g = seated (seat_request A x.act) g
 
 pub step_keeps : (A : History) (x : Command) (outcome : Outcome) (A' : History) → IsRegister A → machine A x outcome A' → IsRegister A'
 step_keeps A x outcome A' r = step_leads IsRegister A x r (λ answer step. (follows A x answer step, r)) outcome A'

@@ -6,50 +6,50 @@ use Rattle.kcr_base.proofs.Members.{none-in, listed-in}
 use Rattle.kcr_base.specs.declared.refusal.Refusal.TheVariants.{Crowd}
 use Rattle.kcr_room.specs.declared.SheetRow.{SheetRow}
 use Rattle.kcr_room.specs.declared.Way.{Way}
-use Rattle.kcr_room.specs.Room.{crowd_by}
-use Rattle.kcr_room.specs.Adding.{is_out_of_turn_by, new_row}
+use Rattle.kcr_room.specs.Room.{headcount_by}
+use Rattle.kcr_room.specs.Requests.{is_out_of_turn_by, new_row}
 use Rattle.kcr_room.specs.Laws.{IsAllowed}
 use Rattle.kcr_history.specs.declared.commands.Act.{Act}
-use Rattle.kcr_history.specs.declared.commands.Act.TheVariants.{Sheet}
-use Rattle.kcr_history.specs.declared.commands.Answer.{Answer}
+use Rattle.kcr_history.specs.declared.commands.Act.TheVariants.{RecordSheet}
+use Rattle.kcr_history.specs.declared.commands.ReplyData.{ReplyData}
 use Rattle.kcr_history.specs.History.{History}
 use Rattle.kcr_history.specs.Room.{sheet}
-use Rattle.kcr_history.specs.Conditions.{fault, out_of_turn, crowded, lone}
+use Rattle.kcr_history.specs.Conditions.{fault, out_of_turn_refusal, crowd_refusal, lone_room_refusal}
 use Rattle.kcr_history.specs.Machine.{IsRegister}
 use Rattle.kcr_laws.proofs.Accepted.{one, each_register}
 use Rattle.kcr_laws.proofs.Rooms.{HaveTurns, in_other, same_room}
 use Rattle.kcr_laws.proofs.Crowding.{crowd_holds, never_told}
 
 -- of people of whom none is refused each has the turn
-pub turns : (A : History) (c : ℕ) (way : Way) (at : ℕ) (people : List (List ℕ)) → out_of_turn A c way at people ≡ None
+pub turns : (A : History) (c : ℕ) (way : Way) (at : ℕ) (people : List (List ℕ)) → out_of_turn_refusal A c way at people ≡ None
     → HaveTurns (sheet A) c way at people
 turns A c way at people h p m =
     none-in (is_out_of_turn_by (sheet A) c way at) p people (none-find (is_out_of_turn_by (sheet A) c way at) people (grind arith)) (listed-in p people m)
 
 -- rows that are neither crowded nor lone
-own_room : (rows : List SheetRow) (c : ℕ) → crowded rows c ≡ None → lone rows c ≡ None → (t : ℕ) → IsAllowed (crowd_by rows c t)
+own_room : (rows : List SheetRow) (c : ℕ) → crowd_refusal rows c ≡ None → lone_room_refusal rows c ≡ None → (t : ℕ) → IsAllowed (headcount_by rows c t)
 own_room rows c k l t = (
   never_told rows c l t,
-  elim (cases_lt 128 (crowd_by rows c t)) [
+  elim (cases_lt 128 (headcount_by rows c t)) [
     | inl more ↦ absurd (let e : None ≡ Some Crowd = sym k ∙ crowd_holds rows c (t, more) in cc)
     | inr most ↦ most
   ],
 )
 
-room_after : (A : History) (key : List ℕ) (act : Act) (answer : Answer) (c t : ℕ) → fault A act ≡ None → IsAllowed (crowd_by (sheet A) c t)
-    → IsAllowed (crowd_by (sheet (one key act answer ∷ A)) c t)
-room_after A key (Sheet d way people at) answer c t f ih = by_ceremony (d == c) refl
+room_after : (A : History) (key : List ℕ) (act : Act) (answer : ReplyData) (c t : ℕ) → fault A act ≡ None → IsAllowed (headcount_by (sheet A) c t)
+    → IsAllowed (headcount_by (sheet (one key act answer ∷ A)) c t)
+room_after A key (RecordSheet d way people at) answer c t f ih = by_ceremony (d == c) refl
   where
-    by_ceremony : (b : Bool) → (d == c) ≡ b → IsAllowed (crowd_by (sheet A ++ map (new_row d way at) people) c t)
+    by_ceremony : (b : Bool) → (d == c) ≡ b → IsAllowed (headcount_by (sheet A ++ map (new_row d way at) people) c t)
     by_ceremony true e =
         let own = own_room (sheet A ++ map (new_row d way at) people) d (grind arith) (grind arith) t in
-        subst (λ z. IsAllowed (crowd_by (sheet A ++ map (new_row d way at) people) z t)) (eqb-true d c e) own
+        subst (λ z. IsAllowed (headcount_by (sheet A ++ map (new_row d way at) people) z t)) (eqb-true d c e) own
     by_ceremony false e =
         let as_before = λ (who : List ℕ). in_other (sheet A) d way at people who c t (turns A d way at people (grind arith)) e in
         subst IsAllowed (sym (ap length (same_room (sheet A ++ map (new_row d way at) people) (sheet A) c t as_before))) ih
 room_after A key act answer c t f ih = ih
 
-pub rooms : (A : History) → IsRegister A → (c t : ℕ) → IsAllowed (crowd_by (sheet A) c t)
+pub rooms : (A : History) → IsRegister A → (c t : ℕ) → IsAllowed (headcount_by (sheet A) c t)
 rooms A h c t =
-    each_register (λ B. IsAllowed (crowd_by (sheet B) c t)) (λ e. omega (arith, e), omega arith)
+    each_register (λ B. IsAllowed (headcount_by (sheet B) c t)) (λ e. omega (arith, e), omega arith)
     (λ B key act answer r a. room_after B key act answer c t a.no_fault) A h

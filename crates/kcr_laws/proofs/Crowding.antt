@@ -2,49 +2,49 @@
 use Rattle.std.proofs.Common.{◌≡◌, ℕ, Bool, true, false, not, ◌==◌, nat_lt, nat_le, List, [], ◌∷◌, find, Option, Some, None, option_map, refl, ap}
 use Rattle.std.proofs.Common.{inl, inr, arith}
 use Rattle.std.proofs.lemmas.Bool.{both_ways, ltb-true, lt-ltb, eqb-true, eqb-false, eq-eqb, cases_order}
-use Rattle.kcr_base.specs.Refuse.{when, no_people, is_not_later}
+use Rattle.kcr_base.specs.Refuse.{when, unknown_people_refusal, not_after_mark_refusal}
 use Rattle.kcr_base.specs.declared.refusal.Refusal.{Refusal}
 use Rattle.kcr_base.specs.declared.refusal.Refusal.TheVariants.{Unknown, Late, Turn, Crowd, Lone, Full}
 use Rattle.kcr_base.specs.declared.refusal.Thing.TheVariants as Things
 use Rattle.kcr_room.specs.declared.SheetRow.{SheetRow}
 use Rattle.kcr_room.specs.declared.Way.{Way}
-use Rattle.kcr_room.specs.Adding.{is_out_of_turn_by}
-use Rattle.kcr_room.specs.Moments.{IsFirst, IsEver}
-use Rattle.kcr_room.specs.Room.{crowd_by}
+use Rattle.kcr_room.specs.Requests.{is_out_of_turn_by}
+use Rattle.kcr_room.specs.Moments.{IsFirstMoment, IsEver}
+use Rattle.kcr_room.specs.Room.{headcount_by}
 use Rattle.kcr_room.specs.Stays.{stays_by, first_lone_in_by, is_crowded_in_by}
 use Rattle.kcr_room.proofs.Moments.{first_lone-is_first, first_lone-by_rows, crowded-is_ever, crowded-by_rows}
-use Rattle.kcr_history.specs.declared.commands.Act.TheVariants.{Sheet}
+use Rattle.kcr_history.specs.declared.commands.Act.TheVariants.{RecordSheet}
 use Rattle.kcr_history.specs.History.{History}
 use Rattle.kcr_history.specs.Training.{is_person}
 use Rattle.kcr_history.specs.Ceremonies.{mark}
 use Rattle.kcr_history.specs.Room.{sheet, sheet_after}
-use Rattle.kcr_history.specs.Conditions.{fault, is_full, no_ceremony, not_open, not_later, named_twice, first_twice, out_of_turn, crowded, lone, is_overfull}
+use Rattle.kcr_history.specs.Conditions.{fault, is_full, no_ceremony, not_open_refusal, not_later_refusal, named_twice_refusal, first_twice, out_of_turn_refusal, crowd_refusal, lone_room_refusal, is_overfull}
 use Rattle.kcr_laws.specs.Conditions.{IsEverCrowded, IsFirstAlone, IsNeverAlone}
 use Rattle.kcr_laws.proofs.Refused.{kind, IsOther, AreOther, other_when, other_of_some, of_the_one}
 
 -- MORE THAN 128
 
-pub ever : (rows : List SheetRow) (c : ℕ) → IsEver (λ t. nat_lt 128 (crowd_by rows c t)) (is_crowded_in_by (stays_by rows) c)
+pub ever : (rows : List SheetRow) (c : ℕ) → IsEver (λ t. nat_lt 128 (headcount_by rows c t)) (is_crowded_in_by (stays_by rows) c)
 ever rows c = crowded-by_rows rows c (is_crowded_in_by (stays_by rows) c) (crowded-is_ever (stays_by rows) c)
 
-pub crowd_told : (rows : List SheetRow) (c : ℕ) → crowded rows c ≡ Some Crowd → IsEverCrowded rows c
+pub crowd_told : (rows : List SheetRow) (c : ℕ) → crowd_refusal rows c ≡ Some Crowd → IsEverCrowded rows c
 crowd_told rows c h =
     let e = rw (told (is_crowded_in_by (stays_by rows) c) h) at (ever rows c) in
-    (e.0, ltb-true 128 (crowd_by rows c e.0) e.1)
+    (e.0, ltb-true 128 (headcount_by rows c e.0) e.1)
   where
     told : (b : Bool) → when b Crowd ≡ Some Crowd → b ≡ true
     told b g = grind arith
 
-pub crowd_holds : (rows : List SheetRow) (c : ℕ) → IsEverCrowded rows c → crowded rows c ≡ Some Crowd
+pub crowd_holds : (rows : List SheetRow) (c : ℕ) → IsEverCrowded rows c → crowd_refusal rows c ≡ Some Crowd
 crowd_holds rows c (t, l) = by_test (is_crowded_in_by (stays_by rows) c) (ever rows c)
   where
-    by_test : (b : Bool) → IsEver (λ u. nat_lt 128 (crowd_by rows c u)) b → when b Crowd ≡ Some Crowd
+    by_test : (b : Bool) → IsEver (λ u. nat_lt 128 (headcount_by rows c u)) b → when b Crowd ≡ Some Crowd
     by_test true e = refl
-    by_test false e = absurd (both_ways (nat_lt 128 (crowd_by rows c t)) (e t) (lt-ltb 128 (crowd_by rows c t) l))
+    by_test false e = absurd (both_ways (nat_lt 128 (headcount_by rows c t)) (e t) (lt-ltb 128 (headcount_by rows c t) l))
 
 -- EXACTLY ONE
 
-pub first : (rows : List SheetRow) (c : ℕ) → IsFirst (λ t. crowd_by rows c t == 1) (first_lone_in_by (stays_by rows) c)
+pub first : (rows : List SheetRow) (c : ℕ) → IsFirstMoment (λ t. headcount_by rows c t == 1) (first_lone_in_by (stays_by rows) c)
 first rows c = first_lone-by_rows rows c (first_lone_in_by (stays_by rows) c) (first_lone-is_first (stays_by rows) c)
 
 moment_told : (o : Option ℕ) (t : ℕ) → option_map Lone o ≡ Some (Lone t) → o ≡ Some t
@@ -53,38 +53,38 @@ moment_told o t h = grind arith
 none_told : (o : Option ℕ) → option_map Lone o ≡ None → o ≡ None
 none_told o h = grind arith
 
-pub lone_told : (rows : List SheetRow) (c t : ℕ) → lone rows c ≡ Some (Lone t) → IsFirstAlone rows c t
+pub lone_told : (rows : List SheetRow) (c t : ℕ) → lone_room_refusal rows c ≡ Some (Lone t) → IsFirstAlone rows c t
 lone_told rows c t h =
     let f = rw (moment_told (first_lone_in_by (stays_by rows) c) t h) at (first rows c) in
-    (eqb-true (crowd_by rows c t) 1 f.0, λ u l. eqb-false (crowd_by rows c u) 1 (f.1 u l))
+    (eqb-true (headcount_by rows c t) 1 f.0, λ u l. eqb-false (headcount_by rows c u) 1 (f.1 u l))
 
-pub lone_holds : (rows : List SheetRow) (c t : ℕ) → IsFirstAlone rows c t → lone rows c ≡ Some (Lone t)
+pub lone_holds : (rows : List SheetRow) (c t : ℕ) → IsFirstAlone rows c t → lone_room_refusal rows c ≡ Some (Lone t)
 lone_holds rows c t (one, none) = by_moment (first_lone_in_by (stays_by rows) c) (first rows c)
   where
-    by_moment : (o : Option ℕ) → IsFirst (λ u. crowd_by rows c u == 1) o → option_map Lone o ≡ Some (Lone t)
-    by_moment None f = absurd (both_ways (crowd_by rows c t == 1) (f t) (eq-eqb (crowd_by rows c t) 1 one))
+    by_moment : (o : Option ℕ) → IsFirstMoment (λ u. headcount_by rows c u == 1) o → option_map Lone o ≡ Some (Lone t)
+    by_moment None f = absurd (both_ways (headcount_by rows c t == 1) (f t) (eq-eqb (headcount_by rows c t) 1 one))
     by_moment (Some m) f = elim (cases_order m t) [
       | inl e ↦ ap (λ n. Some (Lone n)) e
-      | inr (inl l) ↦ absurd (none m l (eqb-true (crowd_by rows c m) 1 f.0))
-      | inr (inr l) ↦ absurd (both_ways (crowd_by rows c t == 1) (f.1 t l) (eq-eqb (crowd_by rows c t) 1 one))
+      | inr (inl l) ↦ absurd (none m l (eqb-true (headcount_by rows c m) 1 f.0))
+      | inr (inr l) ↦ absurd (both_ways (headcount_by rows c t == 1) (f.1 t l) (eq-eqb (headcount_by rows c t) 1 one))
     ]
 
-pub never_told : (rows : List SheetRow) (c : ℕ) → lone rows c ≡ None → IsNeverAlone rows c
-never_told rows c h t = eqb-false (crowd_by rows c t) 1 ((rw (none_told (first_lone_in_by (stays_by rows) c) h) at (first rows c)) t)
+pub never_told : (rows : List SheetRow) (c : ℕ) → lone_room_refusal rows c ≡ None → IsNeverAlone rows c
+never_told rows c h t = eqb-false (headcount_by rows c t) 1 ((rw (none_told (first_lone_in_by (stays_by rows) c) h) at (first rows c)) t)
 
-pub never_holds : (rows : List SheetRow) (c : ℕ) → IsNeverAlone rows c → lone rows c ≡ None
+pub never_holds : (rows : List SheetRow) (c : ℕ) → IsNeverAlone rows c → lone_room_refusal rows c ≡ None
 never_holds rows c none = by_moment (first_lone_in_by (stays_by rows) c) (first rows c)
   where
-    by_moment : (o : Option ℕ) → IsFirst (λ u. crowd_by rows c u == 1) o → option_map Lone o ≡ None
+    by_moment : (o : Option ℕ) → IsFirstMoment (λ u. headcount_by rows c u == 1) o → option_map Lone o ≡ None
     by_moment None f = refl
-    by_moment (Some m) f = absurd (none m (eqb-true (crowd_by rows c m) 1 f.0))
+    by_moment (Some m) f = absurd (none m (eqb-true (headcount_by rows c m) 1 f.0))
 
 -- THE FAULT OF A SHEET COMMAND
 
 -- the conditions of a sheet command before those of the room, and those behind them
 abbrev before_room : History → ℕ → Way → List (List ℕ) → ℕ → List (Option Refusal) → List (Option Refusal)
 before_room A c way people at rest =
-    no_ceremony A c ∷ no_people (is_person A) people ∷ not_open A c ∷ not_later A c at ∷ named_twice people ∷ out_of_turn A c way at people ∷ rest
+    no_ceremony A c ∷ unknown_people_refusal (is_person A) people ∷ not_open_refusal A c ∷ not_later_refusal A c at ∷ named_twice_refusal people ∷ out_of_turn_refusal A c way at people ∷ rest
 
 abbrev behind_room : History → ℕ → Way → List SheetRow → List (Option Refusal)
 behind_room A c way rows = when (is_overfull way rows c) Full ∷ when (is_full A) Full ∷ []
@@ -100,26 +100,26 @@ others_before A c way people at rest r e others =
       (unknown, (other_when r _ _ e, (not_late (mark A c), (turn (first_twice people), (turn (find (is_out_of_turn_by (sheet A) c way at) people), others))))),
     )
   where
-    not_late : (m : Option ℕ) → IsOther r (is_not_later at m)
+    not_late : (m : Option ℕ) → IsOther r (not_after_mark_refusal at m)
     not_late None = tt
     not_late (Some m) = other_when r (nat_le at m) (Late m) e
 
 others_behind : (A : History) (c : ℕ) (way : Way) (rows : List SheetRow) (r : Refusal) → (0 == kind r) ≡ false → AreOther r (behind_room A c way rows)
 others_behind A c way rows r e = (other_when r _ _ e, (other_when r _ _ e, tt))
 
-pub crowd_fault : (A : History) (c : ℕ) (way : Way) (people : List (List ℕ)) (at : ℕ) → fault A (Sheet c way people at) ≡ Some Crowd
-    → IsEverCrowded (sheet_after (Sheet c way people at) (sheet A)) c
+pub crowd_fault : (A : History) (c : ℕ) (way : Way) (people : List (List ℕ)) (at : ℕ) → fault A (RecordSheet c way people at) ≡ Some Crowd
+    → IsEverCrowded (sheet_after (RecordSheet c way people at) (sheet A)) c
 crowd_fault A c way people at h =
-    let rows = sheet_after (Sheet c way people at) (sheet A) in
+    let rows = sheet_after (RecordSheet c way people at) (sheet A) in
     crowd_told rows c
-    (of_the_one Crowd (before_room A c way people at []) (crowded rows c) (lone rows c ∷ behind_room A c way rows)
+    (of_the_one Crowd (before_room A c way people at []) (crowd_refusal rows c) (lone_room_refusal rows c ∷ behind_room A c way rows)
     (others_before A c way people at [] Crowd refl tt)
     (other_of_some Crowd Lone (λ t. refl) (first_lone_in_by (stays_by rows) c), others_behind A c way rows Crowd refl) h)
 
-pub lone_fault : (A : History) (c : ℕ) (way : Way) (people : List (List ℕ)) (at t : ℕ) → fault A (Sheet c way people at) ≡ Some (Lone t)
-    → IsFirstAlone (sheet_after (Sheet c way people at) (sheet A)) c t
+pub lone_fault : (A : History) (c : ℕ) (way : Way) (people : List (List ℕ)) (at t : ℕ) → fault A (RecordSheet c way people at) ≡ Some (Lone t)
+    → IsFirstAlone (sheet_after (RecordSheet c way people at) (sheet A)) c t
 lone_fault A c way people at t h =
-    let rows = sheet_after (Sheet c way people at) (sheet A) in
+    let rows = sheet_after (RecordSheet c way people at) (sheet A) in
     lone_told rows c t
-    (of_the_one (Lone t) (before_room A c way people at (crowded rows c ∷ [])) (lone rows c) (behind_room A c way rows)
-    (others_before A c way people at (crowded rows c ∷ []) (Lone t) refl (other_when (Lone t) _ _ refl, tt)) (others_behind A c way rows (Lone t) refl) h)
+    (of_the_one (Lone t) (before_room A c way people at (crowd_refusal rows c ∷ [])) (lone_room_refusal rows c) (behind_room A c way rows)
+    (others_before A c way people at (crowd_refusal rows c ∷ []) (Lone t) refl (other_when (Lone t) _ _ refl, tt)) (others_behind A c way rows (Lone t) refl) h)

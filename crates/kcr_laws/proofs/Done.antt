@@ -4,17 +4,17 @@ use Rattle.std.proofs.Common.{◌∙◌, arith, inl, inr}
 use Rattle.std.specs.Prelude.{is_some, ◌==◌}
 use Rattle.std.proofs.lemmas.Bool.{lt-leb, eqb-true, and_right, cases_Bool}
 use Rattle.std.proofs.lemmas.Bool.Decides.{nat_tests}
-use Rattle.kcr_base.specs.Rows.{or_else}
+use Rattle.kcr_base.specs.Rows.{option_or}
 use Rattle.kcr_base.proofs.ListLemmas.{none-there}
 use Rattle.kcr_history.specs.declared.commands.Act.{Act}
-use Rattle.kcr_history.specs.declared.commands.Act.TheVariants.{Sign, Except}
+use Rattle.kcr_history.specs.declared.commands.Act.TheVariants.{Sign, RecordException}
 use Rattle.kcr_history.specs.declared.commands.Entry.{Entry}
-use Rattle.kcr_history.specs.declared.rows.StepState.TheVariants.{Signed, Passed}
+use Rattle.kcr_history.specs.declared.row_types.StepState.TheVariants.{Signed, Passed}
 use Rattle.kcr_history.specs.History.{History}
 use Rattle.kcr_history.specs.Ceremonies.{does_step, steps_done, next_step}
 use Rattle.kcr_history.specs.Conditions.{fault}
-use Rattle.kcr_history.specs.Machine.{answer_to, IsRegister}
-use Rattle.kcr_history.specs.Tables.{step_done, fate_of}
+use Rattle.kcr_history.specs.Machine.{reply_to, IsRegister}
+use Rattle.kcr_history.specs.Tables.{step_done, step_result}
 use Rattle.kcr_history.proofs.Steps.{took}
 
 abbrev pub one_more : Bool → ℕ → ℕ
@@ -30,13 +30,13 @@ next_signed A d k at f = grind (arith, nat_tests)
 
 -- a command that does the step after the n steps done so far tells of it, and of no other
 pub advance : {F : Type 0} (n k step : ℕ) (m : Bool) → (step == k) ≡ m → step ≡ suc n → (fate : Option F) (new : F) → is_some fate ≡ (nat_le 1 k && nat_le k n)
-    → is_some (or_else (cond m (Some new) None) fate) ≡ (nat_le 1 k && nat_le k (suc n))
+    → is_some (option_or (cond m (Some new) None) fate) ≡ (nat_le 1 k && nat_le k (suc n))
 advance n k step m e s fate new ih = grind (arith, nat_tests)
 
--- so a command that does the next step of a ceremony, where m tells whether that is this ceremony
+-- so a command that does the next step of a ceremony, if m tells whether that is this ceremony
 fate_at : {F : Type 0} (A : History) (d c k step : ℕ) (m : Bool) → m ≡ (d == c) → step ≡ suc (steps_done A d) → (fate : Option F) (new : F)
     → is_some fate ≡ (nat_le 1 k && nat_le k (steps_done A c))
-    → is_some (or_else (cond (d == c && step == k) (Some new) None) fate) ≡ (nat_le 1 k && nat_le k (one_more m (steps_done A c)))
+    → is_some (option_or (cond (d == c && step == k) (Some new) None) fate) ≡ (nat_le 1 k && nat_le k (one_more m (steps_done A c)))
 fate_at A d c k step m g s fate new ih = rw g (elim (cases_Bool (d == c)) [
   | inl e ↦ rw e (advance (steps_done A c) k step (step == k) refl (s ∙ ap (λ z. suc (steps_done A z)) (eqb-true d c e)) fate new ih)
   | inr e ↦ rw e ih
@@ -44,13 +44,13 @@ fate_at A d c k step m g s fate new ih = rw g (elim (cases_Bool (d == c)) [
 
 -- by one command; `said` is the step that the answer names
 pub fate_after : (A : History) (act : Act) (said : Option ℕ) (c k : ℕ) → fault A act ≡ None → (people : Option (List (List ℕ)))
-    → said ≡ (answer_to A act people).step
-    → is_some (fate_of A c k) ≡ (nat_le 1 k && nat_le k (steps_done A c))
-    → is_some (or_else (step_done c k act said) (fate_of A c k)) ≡ (nat_le 1 k && nat_le k (one_more (does_step c act) (steps_done A c)))
-fate_after A (Sign d step at) said c k f people e ih = fate_at A d c k step (d == c) refl (next_signed A d step at f) (fate_of A c k) (Signed, at) ih
-fate_after A (Except d text true at) said c k f people e ih =
-    rw e (fate_at A d c k (next_step A d) (d == c && true) (grind arith) refl (fate_of A c k) (Passed, at) ih)
-fate_after A (Except d text false at) said c k f people e ih = rw (e, and_right (d == c) false refl) ih
+    → said ≡ (reply_to A act people).step
+    → is_some (step_result A c k) ≡ (nat_le 1 k && nat_le k (steps_done A c))
+    → is_some (option_or (step_done c k act said) (step_result A c k)) ≡ (nat_le 1 k && nat_le k (one_more (does_step c act) (steps_done A c)))
+fate_after A (Sign d step at) said c k f people e ih = fate_at A d c k step (d == c) refl (next_signed A d step at f) (step_result A c k) (Signed, at) ih
+fate_after A (RecordException d text true at) said c k f people e ih =
+    rw e (fate_at A d c k (next_step A d) (d == c && true) (grind arith) refl (step_result A c k) (Passed, at) ih)
+fate_after A (RecordException d text false at) said c k f people e ih = rw (e, and_right (d == c) false refl) ih
 fate_after A act said c k f people e ih = ih
 
 pub no_step_done : (k : ℕ) → (nat_le 1 k && nat_le k 0) ≡ false
@@ -59,8 +59,8 @@ no_step_done k = grind (arith, nat_tests)
 pub done-after : (A : History) (entry : Entry) (c : ℕ) → steps_done (entry ∷ A) c ≡ one_more (does_step c entry.command.act) (steps_done A c)
 done-after A entry c = count-cons (λ entry. does_step c entry.command.act) entry A
 
--- step k was signed or passed exactly where it is one of the steps done so far
-pub fate-done : (A : History) → IsRegister A → (c k : ℕ) → is_some (fate_of A c k) ≡ (nat_le 1 k && nat_le k (steps_done A c))
+-- step k was signed or passed if and only if it is one of the steps done so far
+pub fate-done : (A : History) → IsRegister A → (c k : ℕ) → is_some (step_result A c k) ≡ (nat_le 1 k && nat_le k (steps_done A c))
 fate-done [] h c k = sym (no_step_done k)
 fate-done (entry ∷ A) h c k =
     let t = took A entry h.0 in
@@ -68,7 +68,7 @@ fate-done (entry ∷ A) h c k =
     ∙ ap (λ n. nat_le 1 k && nat_le k n) (sym (done-after A entry c))
 
 -- nothing has become of the next step
-pub next-undone : (A : History) → IsRegister A → (c k : ℕ) → k ≡ suc (steps_done A c) → fate_of A c k ≡ None
+pub next-undone : (A : History) → IsRegister A → (c k : ℕ) → k ≡ suc (steps_done A c) → step_result A c k ≡ None
 next-undone A h c k e =
-    none-there (fate_of A c k)
+    none-there (step_result A c k)
     (fate-done A h c k ∙ and_right (nat_le 1 k) (nat_le k (steps_done A c)) (lt-leb k (steps_done A c) (omega (arith, e))))

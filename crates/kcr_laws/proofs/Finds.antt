@@ -9,7 +9,7 @@ use Rattle.kcr_people.specs.declared.Appointment.{Appointment}
 use Rattle.kcr_people.specs.People.{holds, lasts_beyond, place_held_from_by}
 use Rattle.kcr_history.proofs.Stacked.{stacked, free-none}
 
--- where a row holds a place on a day none that was put before it does
+-- if a row holds a place on a day none that was put before it does
 pub none-below : (place : Place) (day : ℕ) (row : Appointment) (rows : List Appointment) → stacked (row ∷ rows) ≡ true → holds place day row ≡ true
     → list_any (holds place day) rows ≡ false
 none-below place day row rows s k =

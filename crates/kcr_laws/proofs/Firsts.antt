@@ -65,7 +65,7 @@ module _ (A : History) (c t : ℕ) where
       → is_free_seating (seat ∷ seats) taken (who ∷ people) ≡ true
   unled seat seats taken who people l = grind (arith, l.fit, l.free, l.rest, one_less who taken people)
 
-  -- of the seatings whose first person is one of p and some who come later, where none has p
+  -- of the seatings whose first person is one of p and some who come later, if none has p
   pass_over : (seat : Seat) (seats : List Seat) (taken : List (List ℕ)) (p : List ℕ) (ps : List (List ℕ))
       → ((people : List (List ℕ)) → IsLed seat seats taken p people → ⊥)
       → Found (seat ∷ seats) taken (begins_in ps) → Found (seat ∷ seats) taken (begins_in (p ∷ ps))

@@ -7,13 +7,13 @@ use Rattle.kcr_base.specs.declared.refusal.Refusal.TheVariants.{Short}
 use Rattle.kcr_base.proofs.SameLemmas.{same-turned}
 use Rattle.kcr_room.proofs.Orders.{before-turned}
 use Rattle.kcr_script.specs.declared.seat.Seat.{Seat}
-use Rattle.kcr_history.specs.declared.commands.Answer.{Answer}
+use Rattle.kcr_history.specs.declared.commands.ReplyData.{ReplyData}
 use Rattle.kcr_history.specs.declared.commands.Command.{Command}
 use Rattle.kcr_history.specs.declared.commands.Entry.{Entry}
 use Rattle.kcr_history.specs.History.{History, entry_of}
 use Rattle.kcr_history.specs.Seating.{comes_first, IsFirst}
 use Rattle.kcr_history.specs.Conditions.{fault}
-use Rattle.kcr_history.specs.Machine.{Outcome, Accepts, Refuses, Sitting, sitting, answer_to, with_command, accepts, seats, acts, repeats, machine}
+use Rattle.kcr_history.specs.Machine.{Outcome, Accepts, Refuses, SeatRequest, seat_request, reply_to, with_command, IsAcceptedWith, seats, DecidesNew, DecidesRepeat, machine}
 use Rattle.kcr_laws.proofs.Trials.{same_people, people-are}
 use Rattle.kcr_laws.proofs.Accepted.{same_answer, same_refusal, other_outcome}
 use Rattle.kcr_laws.proofs.Halves.{one_half}
@@ -41,32 +41,32 @@ AreAlike o p B C = ((o ≡ p) × (B ≡ C)) ⊎ ((r : List ℕ) × (q : List ℕ
 alike : (A : History) (x : Command) (o p : Outcome) (B C : History) → machine A x o B → machine A x p C → AreAlike o p B C
 alike A x o p B C h k = by_entry (entry_of A x.key) (fault A x.act) h k
   where
-    by_sitting : (s : Option Sitting) → MatchOption s (accepts A x (answer_to A x.act None) o B) (λ q. seats A x q o B)
-        → MatchOption s (accepts A x (answer_to A x.act None) p C) (λ q. seats A x q p C) → AreAlike o p B C
+    by_sitting : (s : Option SeatRequest) → MatchOption s (IsAcceptedWith A x (reply_to A x.act None) o B) (λ q. seats A x q o B)
+        → MatchOption s (IsAcceptedWith A x (reply_to A x.act None) p C) (λ q. seats A x q p C) → AreAlike o p B C
     by_sitting None f g = inl (f.0 ∙ sym g.0, f.1 ∙ sym g.1)
     by_sitting (Some s) (inl v) (inl w) =
         let same : v.0 ≡ w.0 = first_unique A s.ceremony s.at s.seats v.0 w.0 v.1 w.1 in
-        let answers : answer_to A x.act (Some v.0) ≡ answer_to A x.act (Some w.0) = ap (λ people. answer_to A x.act (Some people)) same in
+        let answers : reply_to A x.act (Some v.0) ≡ reply_to A x.act (Some w.0) = ap (λ people. reply_to A x.act (Some people)) same in
         inl (v.2.0 ∙ ap Accepts answers ∙ sym w.2.0, v.2.1 ∙ ap (with_command A x) answers ∙ sym w.2.1)
     by_sitting (Some s) (inl v) (inr w) = absurd (one_half A s.ceremony s.at s.seats v.0 w.0 v.1.seating w.1.short)
     by_sitting (Some s) (inr v) (inl w) = absurd (one_half A s.ceremony s.at s.seats w.0 v.0 w.1.seating v.1.short)
     by_sitting (Some s) (inr v) (inr w) = inr (map suc v.0, map suc w.0, v.2.0, w.2.0)
 
-    by_entry : (e : Option Entry) (r : Option Refusal) → MatchOption e (acts A x r o B) (λ kept. repeats A x kept o B)
-        → MatchOption e (acts A x r p C) (λ kept. repeats A x kept p C) → AreAlike o p B C
+    by_entry : (e : Option Entry) (r : Option Refusal) → MatchOption e (DecidesNew A x r o B) (λ kept. DecidesRepeat A x kept o B)
+        → MatchOption e (DecidesNew A x r p C) (λ kept. DecidesRepeat A x kept p C) → AreAlike o p B C
     by_entry (Some kept) r f g = inl (f.0 ∙ sym g.0, f.1 ∙ sym g.1)
     by_entry None (Some refusal) f g = inl (f.0 ∙ sym g.0, f.1 ∙ sym g.1)
-    by_entry None None f g = by_sitting (sitting A x.act) f g
+    by_entry None None f g = by_sitting (seat_request A x.act) f g
 
 -- a command that is accepted is accepted with one answer, and leads to one history
-pub accepted_fixed : (A : History) (x : Command) (a b : Answer) (B C : History) → machine A x (Accepts a) B → machine A x (Accepts b) C → (a ≡ b) × (B ≡ C)
+pub accepted_fixed : (A : History) (x : Command) (a b : ReplyData) (B C : History) → machine A x (Accepts a) B → machine A x (Accepts b) C → (a ≡ b) × (B ≡ C)
 accepted_fixed A x a b B C h k = elim (alike A x (Accepts a) (Accepts b) B C h k) [
   | inl w ↦ (same_answer a b w.0, w.1)
   | inr w ↦ absurd (other_outcome _ _ w.2)
 ]
 
 -- no command is accepted here and refused there
-pub never_both : (A : History) (x : Command) (a : Answer) (r : Refusal) (B C : History) → machine A x (Accepts a) B → machine A x (Refuses r) C → ⊥
+pub never_both : (A : History) (x : Command) (a : ReplyData) (r : Refusal) (B C : History) → machine A x (Accepts a) B → machine A x (Refuses r) C → ⊥
 never_both A x a r B C h k = elim (alike A x (Accepts a) (Refuses r) B C h k) [ inl w ↦ other_outcome a r w.0 | inr w ↦ other_outcome _ _ w.2 ]
 
 -- one refusal, or two shortages

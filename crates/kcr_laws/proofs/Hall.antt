@@ -31,7 +31,7 @@ either s t i = s i || t i
 abbrev pub both : (ℕ → Bool) → (ℕ → Bool) → ℕ → Bool
 both s t i = s i && t i
 
--- where some number of a list passes a test there is such a number, and the other way round
+-- if some number of a list passes a test there is such a number, and the other way round
 some_at : (test : ℕ → Bool) (is : List ℕ) → list_any test is ≡ true → (i : ℕ) × (is_one i is ≡ true) × (test i ≡ true)
 some_at test [] h = absurd (false≢true h)
 some_at test (i ∷ is) h = elim (or_cases (test i) (list_any test is) h) [
@@ -130,7 +130,7 @@ module _ (all : List ℕ) (fits : ℕ → List ℕ → Bool) where
   more_there p people need w a =
       record { fit = a.fit; there = λ i o n. or_right (same_text (w i) p) (list_any (same_text (w i)) people) (a.there i o n); apart = a.apart }
 
-  -- the set without a seat, and who sits where once the person has that seat
+  -- the set without a seat, and who sits if once the person has that seat
   abbrev without : ℕ → (ℕ → Bool) → ℕ → Bool
   without k need i = need i && not (i == k)
 

@@ -37,7 +37,7 @@ below : (low high : ℕ) (ps : List ℕ) → rise low high ps ≡ true → (p : 
 below low high [] r p h = absurd (false≢true h)
 below low high (q ∷ ps) r p h = grind (arith, nat_tests, below (suc q) high ps)
 
--- where different positions have different people, all of a list, that list is at least as long as the positions
+-- if different positions have different people, all of a list, that list is at least as long as the positions
 as_many : (f : ℕ → List ℕ) (low high : ℕ) (ps : List ℕ) (ys : List (List ℕ)) → rise low high ps ≡ true
     → ((p q : ℕ) → p < q → q < high → same_text (f p) (f q) ≡ false)
     → ((p : ℕ) → is_one p ps ≡ true → list_any (same_text (f p)) ys ≡ true) → length ps ≤ length ys
@@ -85,7 +85,7 @@ module _ (A : History) (c t : ℕ) where
   sits (seat ∷ seats) (who ∷ people) h (suc p) l =
       sits seats people (rest_seated A c t seat seats who people h) p (omega (arith, l))
 
-  -- where people are seated, no positions are short
+  -- if people are seated, no positions are short
   pub one_half : (seats : List Seat) (people : List (List ℕ)) (positions : List ℕ) → is_seating A c t seats people ≡ true
       → is_short A c t seats positions ≡ true → ⊥
   one_half seats people positions h s =

@@ -6,7 +6,7 @@ use Rattle.std.specs.List.{list_any}
 use Rattle.std.proofs.lemmas.Bool.{false≢true, and_parts, or_cases}
 use Rattle.std.proofs.lemmas.Bool.Decides.{nat_tests}
 use Rattle.kcr_base.specs.Refuse.{when}
-use Rattle.kcr_base.specs.Rows.{or_else}
+use Rattle.kcr_base.specs.Rows.{option_or}
 use Rattle.kcr_base.specs.Same.{same_text, same_place, is_this}
 use Rattle.kcr_base.specs.declared.place.Place.{Place}
 use Rattle.kcr_base.specs.declared.place.Role.{Role}
@@ -14,16 +14,16 @@ use Rattle.kcr_base.specs.declared.refusal.Refusal.TheVariants.{Range, Vacant}
 use Rattle.kcr_base.proofs.SameLemmas.{place-same, place-itself}
 use Rattle.kcr_people.specs.declared.Appointment.{Appointment}
 use Rattle.kcr_people.specs.People.{holds, holder_by, lasts_beyond, place_held_from_by, holds_some_by, open_row_by, begins_too_late, trained_by}
-use Rattle.kcr_people.specs.People.{not_after_first_day, vacant}
+use Rattle.kcr_people.specs.People.{first_day_refusal, vacant_refusal}
 use Rattle.kcr_history.specs.declared.commands.Act.{Act}
 use Rattle.kcr_history.specs.declared.commands.Act.TheVariants.{Appoint, Replace, Release}
-use Rattle.kcr_history.specs.History.{History, last_said}
+use Rattle.kcr_history.specs.History.{History, last_value_of_acts}
 use Rattle.kcr_history.specs.Tables.{trainings, withdrawals, appointments, appointments_after, ended}
 use Rattle.kcr_history.specs.Machine.{IsRegister}
 use Rattle.kcr_history.proofs.Stacked.{stacked}
 use Rattle.kcr_history.proofs.Orderly.{orderly, holder-appointments}
 use Rattle.kcr_history.proofs.Trained.{trained-rows}
-use Rattle.kcr_laws.specs.Conditions.{IsHeldFrom, HoldsFrom, IsTrainedFrom, says_since, held_since, BeginsFrom}
+use Rattle.kcr_laws.specs.Conditions.{IsHeldOnOrAfter, HoldsPlaceOnOrAfter, IsTrainedOnOrAfter, says_since, held_since, BeginsFrom}
 use Rattle.kcr_laws.proofs.Finds.{none-below}
 
 -- A PLACE FROM A DAY ON
@@ -32,10 +32,10 @@ use Rattle.kcr_laws.proofs.Finds.{none-below}
 abbrev pub RowsHold : History → Place → ℕ → Type 0
 RowsHold A place day = (d : ℕ) × (day ≤ d) × (is_some (holder_by (appointments A) place d) ≡ true)
 
-pub place_told : (A : History) → IsRegister A → (place : Place) (day : ℕ) → RowsHold A place day → IsHeldFrom A place day
+pub place_told : (A : History) → IsRegister A → (place : Place) (day : ℕ) → RowsHold A place day → IsHeldOnOrAfter A place day
 place_told A r place day (d, l, h) = (d, l, ap is_some (sym (holder-appointments A r place d)) ∙ h)
 
-pub place_holds : (A : History) → IsRegister A → (place : Place) (day : ℕ) → IsHeldFrom A place day → RowsHold A place day
+pub place_holds : (A : History) → IsRegister A → (place : Place) (day : ℕ) → IsHeldOnOrAfter A place day → RowsHold A place day
 place_holds A r place day (d, l, h) = (d, l, ap is_some (holder-appointments A r place d) ∙ h)
 
 -- A PERSON FROM A DAY ON
@@ -71,12 +71,12 @@ by_some_row (row ∷ rows) place d who h = grind (arith, by_some_row rows place 
 abbrev pub RowsPut : History → List ℕ → ℕ → Type 0
 RowsPut A who day = (d : ℕ) × (day ≤ d) × (holds_some_by (appointments A) who d ≡ true)
 
-pub person_told : (A : History) → IsRegister A → (who : List ℕ) (day : ℕ) → RowsPut A who day → HoldsFrom A who day
+pub person_told : (A : History) → IsRegister A → (who : List ℕ) (day : ℕ) → RowsPut A who day → HoldsPlaceOnOrAfter A who day
 person_told A r who day (d, l, h) =
     let p = its_holder (appointments A) who d (orderly A r).0 h in
     (d, l, (p.0, ap (is_this who) (sym (holder-appointments A r p.0 d)) ∙ p.1))
 
-pub person_holds : (A : History) → IsRegister A → (who : List ℕ) (day : ℕ) → HoldsFrom A who day → RowsPut A who day
+pub person_holds : (A : History) → IsRegister A → (who : List ℕ) (day : ℕ) → HoldsPlaceOnOrAfter A who day → RowsPut A who day
 person_holds A r who day (d, l, p) = (d, l, by_some_row (appointments A) p.0 d who (ap (is_this who) (holder-appointments A r p.0 d) ∙ p.1))
 
 -- SINCE WHEN
@@ -98,10 +98,10 @@ own_end at place day (row ∷ rows) d = grind (arith, place-same row.place place
 
 -- what is said of the place, or what was said before
 abbrev said_since : Option (Option ℕ) → Option (Option ℕ) → Option ℕ
-said_since now before = unwrap_or (or_else now before) None
+said_since now before = unwrap_or (option_or now before) None
 
 since_after : (A : History) (act : Act) (place : Place) → since_of (open_row_by (appointments A) place) ≡ held_since A place
-    → since_of (open_row_by (appointments_after act (appointments A)) place) ≡ said_since (says_since place act) (last_said (says_since place) A)
+    → since_of (open_row_by (appointments_after act (appointments A)) place) ≡ said_since (says_since place act) (last_value_of_acts (says_since place) A)
 since_after A (Appoint at who day) place ih = grind (arith, ih)
 since_after A (Replace at who day) place ih = grind (arith, ih, other_end at place day (appointments A))
 since_after A (Release at day) place ih = grind (arith, ih, other_end at place day (appointments A), own_end at place day (appointments A))
@@ -113,20 +113,20 @@ since_said (entry ∷ A) place = since_after A entry.command.act place (since_sa
 
 -- TOO EARLY, AND VACANT
 
-pub early_told : (A : History) (place : Place) (day : ℕ) → not_after_first_day (appointments A) place day ≡ Some Range → BeginsFrom A place day
+pub early_told : (A : History) (place : Place) (day : ℕ) → first_day_refusal (appointments A) place day ≡ Some Range → BeginsFrom A place day
 early_told A place day h = by_row (open_row_by (appointments A) place) h (since_said A place)
   where
     by_row : (o : Option Appointment) → when (begins_too_late o day) Range ≡ Some Range → since_of o ≡ held_since A place → BeginsFrom A place day
     by_row None g s = absurd (let z : None ≡ Some Range = g in cc)
     by_row (Some row) g s = (row.since, sym s, grind (arith, nat_tests))
 
-pub early_holds : (A : History) (place : Place) (day : ℕ) → BeginsFrom A place day → not_after_first_day (appointments A) place day ≡ Some Range
+pub early_holds : (A : History) (place : Place) (day : ℕ) → BeginsFrom A place day → first_day_refusal (appointments A) place day ≡ Some Range
 early_holds A place day (since, s, l) = grind (arith, nat_tests, since_said A place)
 
-pub vacant_told : (A : History) (place : Place) → vacant (appointments A) place ≡ Some Vacant → held_since A place ≡ None
+pub vacant_told : (A : History) (place : Place) → vacant_refusal (appointments A) place ≡ Some Vacant → held_since A place ≡ None
 vacant_told A place h = grind (arith, since_said A place)
 
-pub vacant_holds : (A : History) (place : Place) → held_since A place ≡ None → vacant (appointments A) place ≡ Some Vacant
+pub vacant_holds : (A : History) (place : Place) → held_since A place ≡ None → vacant_refusal (appointments A) place ≡ Some Vacant
 vacant_holds A place e = grind (arith, since_said A place)
 
 -- TRAINED FROM A DAY ON
@@ -135,5 +135,5 @@ vacant_holds A place e = grind (arith, since_said A place)
 abbrev pub RowsTrain : History → List ℕ → Role → ℕ → Type 0
 RowsTrain A who role day = (d : ℕ) × (day ≤ d) × (trained_by (trainings A) (withdrawals A) who role d ≡ true)
 
-pub trained_told : (A : History) → IsRegister A → (who : List ℕ) (role : Role) (day : ℕ) → RowsTrain A who role day → IsTrainedFrom A who role day
+pub trained_told : (A : History) → IsRegister A → (who : List ℕ) (role : Role) (day : ℕ) → RowsTrain A who role day → IsTrainedOnOrAfter A who role day
 trained_told A r who role day (d, l, h) = (d, l, sym (trained-rows A r who role d) ∙ h)

@@ -10,8 +10,8 @@ use Rattle.kcr_base.proofs.SameLemmas.{same-is, same-itself, same-turned}
 use Rattle.kcr_room.specs.declared.SheetRow.{SheetRow}
 use Rattle.kcr_room.specs.declared.Way.{Way}
 use Rattle.kcr_room.specs.declared.Way.TheVariants as Ways
-use Rattle.kcr_room.specs.Room.{is_enter, enters, later, last_onto, last_row, is_of, last_enters, in_by, last_row_of, present_by}
-use Rattle.kcr_room.specs.Adding.{is_out_of_turn, is_out_of_turn_by, new_row}
+use Rattle.kcr_room.specs.Room.{is_enter, enters, later_row, last_onto, last_row, is_of, last_enters, in_by, last_row_of, present_by}
+use Rattle.kcr_room.specs.Requests.{is_out_of_turn, is_out_of_turn_by, new_row}
 use Rattle.kcr_room.specs.Laws.{are_rising}
 use Rattle.kcr_room.proofs.Agreement.{listed, last-above}
 use Rattle.kcr_room.proofs.Keeping.{present_are_in}
@@ -23,18 +23,18 @@ use Rattle.kcr_laws.proofs.Trials.{one_of}
 none_enters : (other : ℕ) (last : Option SheetRow) (rows : List SheetRow) → last_enters other last ≡ false → list_any (enters other) rows ≡ false
     → last_enters other (last_onto last rows) ≡ false
 none_enters other last [] l h = l
-none_enters other last (row ∷ rows) l h = none_enters other (later last row) rows (by_last last l) parts.1
+none_enters other last (row ∷ rows) l h = none_enters other (later_row last row) rows (by_last last l) parts.1
   where
     parts : (enters other row ≡ false) × (list_any (enters other) rows ≡ false)
     parts = or_parts (enters other row) (list_any (enters other) rows) h
 
-    by_last : (o : Option SheetRow) → last_enters other o ≡ false → last_enters other (later o row) ≡ false
+    by_last : (o : Option SheetRow) → last_enters other o ≡ false → last_enters other (later_row o row) ≡ false
     by_last None e = parts.0
     by_last (Some old) e = cond_both (nat_lt row.at old.at) (Some old) (Some row) (λ o. last_enters other o ≡ false) (λ _. e) (λ _. parts.0)
 
 pub onto_append : (last : Option SheetRow) (rows more : List SheetRow) → last_onto last (rows ++ more) ≡ last_onto (last_onto last rows) more
 onto_append last [] more = refl
-onto_append last (row ∷ rows) more = onto_append (later last row) rows more
+onto_append last (row ∷ rows) more = onto_append (later_row last row) rows more
 
 -- new rows are not of a moment before theirs
 pub none_yet : (c : ℕ) (way : Way) (at : ℕ) (who : List ℕ) (t : ℕ) (people : List (List ℕ)) → nat_le at t ≡ false
@@ -56,7 +56,7 @@ none_other : (c other : ℕ) (way : Way) (at : ℕ) (who : List ℕ) (t : ℕ) (
 none_other c other way at who t [] h = refl
 none_other c other way at who t (p ∷ people) h = grind (arith, and_right (is_enter way) (c == other) h, none_other c other way at who t people h)
 
--- the same rows of a person, where none is later than t
+-- the same rows of a person, if none is later than t
 all_of : (who : List ℕ) (m t : ℕ) (rows : List SheetRow) → m ≤ t → list_any (λ row. nat_lt m row.at) (filter (λ row. same_text row.who who) rows) ≡ false
     → filter (is_of who t) rows ≡ filter (λ row. same_text row.who who) rows
 all_of who m t [] l h = refl
@@ -64,7 +64,7 @@ all_of who m t (row ∷ rows) l h = grind (arith, nat_tests, all_of who m t rows
 
 -- WHOSE TURN IT IS
 
--- nobody's last row is later than t, where the new rows are not
+-- nobody's last row is later than t, if the new rows are not
 pub not_behind : (c : ℕ) (way : Way) (at t : ℕ) (last : Option SheetRow) → is_out_of_turn way c at last ≡ false → nat_le at t ≡ true
     → list_any (λ row. nat_lt t row.at) (listed last) ≡ false
 not_behind c way at t None h l = refl
@@ -77,7 +77,7 @@ elsewhere c other way at None d h = refl
 elsewhere c other Ways.Enter at (Some row) d h = grind arith
 elsewhere c other Ways.Leave at (Some row) d h = grind (arith, nat_tests)
 
--- where all of a person's rows are at most t, the last of them is the last one at t
+-- if all of a person's rows are at most t, the last of them is the last one at t
 last_at : (rows : List SheetRow) (who : List ℕ) (t : ℕ) → list_any (λ row. nat_lt t row.at) (listed (last_row_of rows who)) ≡ false
     → last_row (filter (is_of who t) rows) ≡ last_row_of rows who
 last_at rows who t h =
@@ -96,12 +96,12 @@ split_in rows more who c t =
 unchanged : (rows more : List SheetRow) (who : List ℕ) (c t : ℕ) → filter (is_of who t) more ≡ [] → in_by (rows ++ more) who c t ≡ in_by rows who c t
 unchanged rows more who c t h = split_in rows more who c t ∙ ap (λ some. last_enters c (last_onto (last_row (filter (is_of who t) rows)) some)) h
 
--- before the moment of new rows everybody is where they were
+-- before the moment of new rows everybody is if they were
 pub in_before : (rows : List SheetRow) (c : ℕ) (way : Way) (at : ℕ) (people : List (List ℕ)) (who : List ℕ) (other t : ℕ) → t < at
     → in_by (rows ++ map (new_row c way at) people) who other t ≡ in_by rows who other t
 in_before rows c way at people who other t l = unchanged rows (map (new_row c way at) people) who other t (none_yet c way at who t people (lt-leb at t l))
 
--- in another ceremony's room everybody is where they were, at every moment
+-- in another ceremony's room everybody is if they were, at every moment
 pub in_other : (rows : List SheetRow) (c : ℕ) (way : Way) (at : ℕ) (people : List (List ℕ)) (who : List ℕ) (other t : ℕ) → HaveTurns rows c way at people
     → (c == other) ≡ false
     → in_by (rows ++ map (new_row c way at) people) who other t ≡ in_by rows who other t

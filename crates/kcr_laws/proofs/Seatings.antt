@@ -1,48 +1,48 @@
 -- The machine leads to the registers whose recorded seatings are the first ones, and to no others.
 use Rattle.std.proofs.Common.{◌≡◌, ℕ, true, false, List, [], ◌∷◌, Some, None, MatchOption, ap, inl, inr}
 use Rattle.kcr_history.specs.declared.commands.Act.{Act}
-use Rattle.kcr_history.specs.declared.commands.Act.TheVariants.{Sign, Except}
-use Rattle.kcr_history.specs.declared.commands.Answer.{Answer}
+use Rattle.kcr_history.specs.declared.commands.Act.TheVariants.{Sign, RecordException}
+use Rattle.kcr_history.specs.declared.commands.ReplyData.{ReplyData}
 use Rattle.kcr_history.specs.declared.commands.Command.{Command}
 use Rattle.kcr_history.specs.History.{History}
-use Rattle.kcr_history.specs.Machine.{Accepts, sitting, answer_to, with_command, accepts, seats, machine, IsOfMachine, IsAnswerTo, CanFollow, IsRegister}
+use Rattle.kcr_history.specs.Machine.{Accepts, seat_request, reply_to, with_command, IsAcceptedWith, seats, machine, IsOfMachine, IsAnswerTo, CanFollow, IsRegister}
 use Rattle.kcr_history.specs.Laws.{IsSeatedFirst, HasFirstSeatings}
 use Rattle.kcr_history.proofs.Steps.{follows}
 use Rattle.kcr_laws.proofs.Accepted.{same_answer, other_outcome, one}
 
 -- with a new key, and with nothing that refuses it, the command with these parts is accepted with this answer
-abbrev IsSeated : History → List ℕ → Act → Answer → Type 0
+abbrev IsSeated : History → List ℕ → Act → ReplyData → Type 0
 IsSeated A key act answer =
     let x : Command = record { key = key; act = act } in
-    MatchOption (sitting A act) (accepts A x (answer_to A act None) (Accepts answer) (with_command A x answer))
+    MatchOption (seat_request A act) (IsAcceptedWith A x (reply_to A act None) (Accepts answer) (with_command A x answer))
     (λ s. seats A x s (Accepts answer) (with_command A x answer))
 
-seated_first : (A : History) (key : List ℕ) (act : Act) (answer : Answer) → IsSeated A key act answer → IsSeatedFirst A (sitting A act) answer.seating
+seated_first : (A : History) (key : List ℕ) (act : Act) (answer : ReplyData) → IsSeated A key act answer → IsSeatedFirst A (seat_request A act) answer.seating
 seated_first A key (Sign c k at) answer (inl w) = rw (same_answer _ _ w.2.0) w.1
 seated_first A key (Sign c k at) answer (inr w) = absurd (other_outcome _ _ w.2.0)
-seated_first A key (Except c text true at) answer (inl w) = rw (same_answer _ _ w.2.0) w.1
-seated_first A key (Except c text true at) answer (inr w) = absurd (other_outcome _ _ w.2.0)
-seated_first A key (Except c text false at) answer h = tt
+seated_first A key (RecordException c text true at) answer (inl w) = rw (same_answer _ _ w.2.0) w.1
+seated_first A key (RecordException c text true at) answer (inr w) = absurd (other_outcome _ _ w.2.0)
+seated_first A key (RecordException c text false at) answer h = tt
 seated_first A key act answer h = tt
 
-first_seated : (A : History) (key : List ℕ) (act : Act) (answer : Answer) → IsAnswerTo A act answer (sitting A act)
-    → IsSeatedFirst A (sitting A act) answer.seating → IsSeated A key act answer
+first_seated : (A : History) (key : List ℕ) (act : Act) (answer : ReplyData) → IsAnswerTo A act answer (seat_request A act)
+    → IsSeatedFirst A (seat_request A act) answer.seating → IsSeated A key act answer
 first_seated A key (Sign c k at) answer h first =
     inl (h.0, rw h.2 at first, (ap Accepts h.2, ap (with_command A (record { key = key; act = Sign c k at })) h.2))
-first_seated A key (Except c text true at) answer h first =
-    inl (h.0, rw h.2 at first, (ap Accepts h.2, ap (with_command A (record { key = key; act = Except c text true at })) h.2))
-first_seated A key (Except c text false at) answer h first =
-    (ap Accepts h, ap (with_command A (record { key = key; act = Except c text false at })) h)
+first_seated A key (RecordException c text true at) answer h first =
+    inl (h.0, rw h.2 at first, (ap Accepts h.2, ap (with_command A (record { key = key; act = RecordException c text true at })) h.2))
+first_seated A key (RecordException c text false at) answer h first =
+    (ap Accepts h, ap (with_command A (record { key = key; act = RecordException c text false at })) h)
 first_seated A key act answer h first = (ap Accepts h, ap (with_command A (record { key = key; act = act })) h)
 
-step_first : (A : History) (key : List ℕ) (act : Act) (answer : Answer)
-    → machine A (record { key = key; act = act }) (Accepts answer) (one key act answer ∷ A) → IsSeatedFirst A (sitting A act) answer.seating
+step_first : (A : History) (key : List ℕ) (act : Act) (answer : ReplyData)
+    → machine A (record { key = key; act = act }) (Accepts answer) (one key act answer ∷ A) → IsSeatedFirst A (seat_request A act) answer.seating
 step_first A key act answer h =
     let can = follows A (record { key = key; act = act }) answer h in
     seated_first A key act answer (rw (can.new_key, can.no_fault) at h)
 
-first_step : (A : History) (key : List ℕ) (act : Act) (answer : Answer) → CanFollow A (one key act answer)
-    → IsSeatedFirst A (sitting A act) answer.seating → machine A (record { key = key; act = act }) (Accepts answer) (one key act answer ∷ A)
+first_step : (A : History) (key : List ℕ) (act : Act) (answer : ReplyData) → CanFollow A (one key act answer)
+    → IsSeatedFirst A (seat_request A act) answer.seating → machine A (record { key = key; act = act }) (Accepts answer) (one key act answer ∷ A)
 first_step A key act answer can first = rw (can.new_key, can.no_fault) (first_seated A key act answer can.answered first)
 
 pub machine_first : (A : History) → IsOfMachine A → HasFirstSeatings A

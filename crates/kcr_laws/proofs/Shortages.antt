@@ -50,7 +50,7 @@ trial A c t seats positions h ih =
       | inr e ↦ let w = shorter_fails other positions (length positions) e in ih w.0 w.1 (not-false (is_short A c t seats w.0) w.2)
     ]
 
--- where some positions are short, some are a least shortage
+-- if some positions are short, some are a least shortage
 least_of_short : (fuel : ℕ) (A : History) (c t : ℕ) (seats : List Seat) (positions : List ℕ) → length positions ≤ fuel → is_short A c t seats positions ≡ true
     → (least : List ℕ) × IsLeast A c t seats least
 least_of_short zero A c t seats positions l h = trial A c t seats positions h (λ part m g. absurd (omega (arith, l, m)))

@@ -1,20 +1,20 @@
--- A signature is accepted exactly where its step is next and people can be seated.
+-- A signature is accepted if and only if its step is next and people can be seated.
 use Rattle.std.proofs.Common.{◌≡◌, ◌≢◌, ℕ, zero, suc, ◌<◌, true, false, ◌&&◌, List, [], map, length, Option, Some, None, is_some, inl, inr, refl, sym}
 use Rattle.std.proofs.Common.{ap, arith, ◌∙◌}
 use Rattle.std.specs.Prelude.{◌==◌, option_map, unwrap_or}
 use Rattle.std.proofs.lemmas.Bool.{false≢true, and_parts, lt-leb}
 use Rattle.std.proofs.lemmas.Bool.Decides.{nat_tests}
-use Rattle.kcr_base.specs.Refuse.{is_late}
+use Rattle.kcr_base.specs.Refuse.{before_mark_refusal}
 use Rattle.kcr_base.specs.declared.refusal.Refusal.{Refusal}
 use Rattle.kcr_base.specs.declared.refusal.Refusal.TheVariants.{Short}
 use Rattle.kcr_history.specs.declared.commands.Act.TheVariants.{Sign}
-use Rattle.kcr_history.specs.declared.commands.Answer.{Answer}
+use Rattle.kcr_history.specs.declared.commands.ReplyData.{ReplyData}
 use Rattle.kcr_history.specs.History.{History, entry_of}
-use Rattle.kcr_history.specs.Ceremonies.{Planned, plan_of, is_ceremony, steps_of, step_at, is_open, mark, next_step, is_not_before, next}
+use Rattle.kcr_history.specs.Ceremonies.{Planned, plan_of, is_ceremony, steps_of, step_at, is_ceremony_open, mark, next_step, is_not_before, next}
 use Rattle.kcr_history.specs.Seating.{IsFirst, IsLeast}
 use Rattle.kcr_history.specs.Tables.{seats_at}
 use Rattle.kcr_history.specs.Conditions.{fault, is_full}
-use Rattle.kcr_history.specs.Machine.{Outcome, Accepts, Refuses, Sitting, answer_to, with_command, seats, acts, machine}
+use Rattle.kcr_history.specs.Machine.{Outcome, Accepts, Refuses, SeatRequest, reply_to, with_command, seats, DecidesNew, machine}
 use Rattle.kcr_laws.specs.Conditions.{signature, IsAccepted, CanFill, IsShortOf}
 use Rattle.kcr_laws.proofs.Accepted.{same_answer, other_outcome, same_refusal}
 use Rattle.kcr_laws.proofs.Firsts.{first_or_none}
@@ -31,18 +31,18 @@ with_step None (suc k) h = absurd (false≢true h)
 
 pub next_known : (A : History) (c k at : ℕ) → next A c k at ≡ true → is_ceremony A c ≡ true
 next_known A c k at h =
-    let p = and_parts (is_open A c && k == next_step A c && is_some (step_at (steps_of A c) k)) (is_not_before at (mark A c)) h in
-    with_step (plan_of A c) k (and_parts (is_open A c && k == next_step A c) (is_some (step_at (steps_of A c) k)) p.0).1
+    let p = and_parts (is_ceremony_open A c && k == next_step A c && is_some (step_at (steps_of A c) k)) (is_not_before at (mark A c)) h in
+    with_step (plan_of A c) k (and_parts (is_ceremony_open A c && k == next_step A c) (is_some (step_at (steps_of A c) k)) p.0).1
 
-in_time : (at : ℕ) (m : Option ℕ) → is_not_before at m ≡ true → is_late at m ≡ None
+in_time : (at : ℕ) (m : Option ℕ) → is_not_before at m ≡ true → before_mark_refusal at m ≡ None
 in_time at None h = refl
 in_time at (Some m) h = grind (arith, nat_tests)
 
-timely : (at : ℕ) (m : Option ℕ) → is_late at m ≡ None → is_not_before at m ≡ true
+timely : (at : ℕ) (m : Option ℕ) → before_mark_refusal at m ≡ None → is_not_before at m ≡ true
 timely at None h = refl
 timely at (Some m) h = grind (arith, nat_tests)
 
--- where the step is next, and there is room for a command, nothing but want of people refuses the signature
+-- if the step is next, and there is room for a command, nothing but want of people refuses the signature
 pub next_no_fault : (A : History) (c k at : ℕ) → is_full A ≡ false → next A c k at ≡ true → fault A (Sign c k at) ≡ None
 next_no_fault A c k at room h = grind (arith, room, next_known A c k at h, in_time at (mark A c))
 
@@ -55,7 +55,7 @@ room_left A l = lt-leb 4000000000 (length A) l
 -- THE MACHINE'S STEP
 
 -- the seats of a step
-abbrev pub sitting_of : History → ℕ → ℕ → ℕ → Sitting
+abbrev pub sitting_of : History → ℕ → ℕ → ℕ → SeatRequest
 sitting_of A c k at = record { ceremony = c; at = at; seats = seats_at (steps_of A c) k }
 
 -- what a signature under a new key tells of which no condition has the refusal
@@ -64,13 +64,13 @@ signed_parts : (A : History) (key : List ℕ) (c k at : ℕ) (outcome : Outcome)
     → machine A (signature key c k at) outcome A' → (fault A (Sign c k at) ≡ None) × seats A (signature key c k at) (sitting_of A c k at) outcome A'
 signed_parts A key c k at outcome A' new other h = by_fault (fault A (Sign c k at)) other (rw new at h)
   where
-    by_fault : (f : Option Refusal) → ((r : Refusal) → f ≡ Some r → outcome ≢ Refuses r) → acts A (signature key c k at) f outcome A'
+    by_fault : (f : Option Refusal) → ((r : Refusal) → f ≡ Some r → outcome ≢ Refuses r) → DecidesNew A (signature key c k at) f outcome A'
         → (f ≡ None) × seats A (signature key c k at) (sitting_of A c k at) outcome A'
     by_fault None n g = (refl, g)
     by_fault (Some r) n g = absurd (n r refl g.0)
 
 -- what an accepted signature tells
-accepted_parts : (A : History) (key : List ℕ) (c k at : ℕ) (answer : Answer) (A' : History) → entry_of A key ≡ None
+accepted_parts : (A : History) (key : List ℕ) (c k at : ℕ) (answer : ReplyData) (A' : History) → entry_of A key ≡ None
     → machine A (signature key c k at) (Accepts answer) A'
     → (fault A (Sign c k at) ≡ None) × seats A (signature key c k at) (sitting_of A c k at) (Accepts answer) A'
 accepted_parts A key c k at answer A' new h = signed_parts A key c k at (Accepts answer) A' new (λ r f. other_outcome answer r) h
@@ -88,19 +88,19 @@ signed_next A key c k at new a =
 pub next_signed : (A : History) (key : List ℕ) (c k at : ℕ) → entry_of A key ≡ None → length A < 4000000000 → next A c k at ≡ true → CanFill A c k at
     → IsAccepted A (signature key c k at)
 next_signed A key c k at new l n (people, seating) = elim (first_or_none A c at (seats_at (steps_of A c) k)) [
-  | inl w ↦ (answer_to A (Sign c k at) (Some w.0), rw (new, next_no_fault A c k at (room_left A l) n) (inl (w.0, w.1, (refl, refl))))
+  | inl w ↦ (reply_to A (Sign c k at) (Some w.0), rw (new, next_no_fault A c k at (room_left A l) n) (inl (w.0, w.1, (refl, refl))))
   | inr none ↦ absurd (none people seating)
 ]
 
 -- the answer to an accepted signature names the step and the first seating
-pub first_recorded : (A : History) (key : List ℕ) (c k at : ℕ) (answer : Answer) (A' : History) → entry_of A key ≡ None
+pub first_recorded : (A : History) (key : List ℕ) (c k at : ℕ) (answer : ReplyData) (A' : History) → entry_of A key ≡ None
     → machine A (signature key c k at) (Accepts answer) A'
     → (people : List (List ℕ)) × IsFirst A c at (seats_at (steps_of A c) k) people × (answer.seating ≡ Some people)
 first_recorded A key c k at answer A' new h = by_seats (accepted_parts A key c k at answer A' new h).1
   where
     by_seats : seats A (signature key c k at) (sitting_of A c k at) (Accepts answer) A'
         → (people : List (List ℕ)) × IsFirst A c at (seats_at (steps_of A c) k) people × (answer.seating ≡ Some people)
-    by_seats (inl w) = (w.0, w.1, ap (λ (a : Answer). a.seating) (same_answer _ _ w.2.0))
+    by_seats (inl w) = (w.0, w.1, ap (λ (a : ReplyData). a.seating) (same_answer _ _ w.2.0))
     by_seats (inr w) = absurd (other_outcome _ _ w.2.0)
 
 -- WANT OF PEOPLE

@@ -3,21 +3,21 @@ use Rattle.std.proofs.Common.{◌≡◌, ℕ, ◌≤◌, Bool, true, false, cond
 use Rattle.std.specs.Prelude.{unwrap_or}
 use Rattle.std.proofs.lemmas.Bool.{and_right}
 use Rattle.std.proofs.lemmas.Bool.Decides.{nat_tests}
-use Rattle.kcr_base.specs.Rows.{or_else}
+use Rattle.kcr_base.specs.Rows.{option_or}
 use Rattle.kcr_base.specs.Same.{same_text, same_role, same_place}
 use Rattle.kcr_base.specs.declared.place.Role.{Role}
 use Rattle.kcr_base.specs.declared.place.Place.{Place}
-use Rattle.kcr_people.specs.People.{settles}
+use Rattle.kcr_people.specs.People.{settled_refusal}
 use Rattle.kcr_history.specs.declared.commands.Act.{Act}
 use Rattle.kcr_history.specs.declared.commands.Act.TheVariants.{Train, Withdraw, Appoint, Replace, Release}
 use Rattle.kcr_history.specs.declared.commands.Entry.{Entry}
-use Rattle.kcr_history.specs.History.{History, last_said}
-use Rattle.kcr_history.specs.Training.{holder, next_holder, trained, says_of_training}
+use Rattle.kcr_history.specs.History.{History, last_value_of_acts}
+use Rattle.kcr_history.specs.Training.{holder, holder_effect, trained, training_effect}
 use Rattle.kcr_history.specs.Ceremonies.{settled}
 use Rattle.kcr_history.specs.Conditions.{fault}
 
 -- a day that is not refused is later than the settled one
-later : (o : Option ℕ) (s day d : ℕ) → o ≡ Some s → settles o day ≡ None → d ≤ s → nat_le day d ≡ false
+later : (o : Option ℕ) (s day d : ℕ) → o ≡ Some s → settled_refusal o day ≡ None → d ≤ s → nat_le day d ≡ false
 later None s day d e h l = cc
 later (Some last) s day d e h l = grind (arith, nat_tests)
 
@@ -25,7 +25,7 @@ later (Some last) s day d e h l = grind (arith, nat_tests)
 silent : (b : Bool) (day d : ℕ) {X : Type 0} (x : X) → nat_le day d ≡ false → cond (b && nat_le day d) (Some x) None ≡ None
 silent b day d x h = ap (λ z. cond z (Some x) None) (and_right b (nat_le day d) h)
 
-no_word : (A : History) (act : Act) (place : Place) (s d : ℕ) → fault A act ≡ None → settled A ≡ Some s → d ≤ s → next_holder place d act ≡ None
+no_word : (A : History) (act : Act) (place : Place) (s d : ℕ) → fault A act ≡ None → settled A ≡ Some s → d ≤ s → holder_effect place d act ≡ None
 no_word A (Appoint at who day) place s d f e l = silent (same_place at place) day d (Some who) (later (settled A) s day d e (grind arith) l)
 no_word A (Replace at who day) place s d f e l = silent (same_place at place) day d (Some who) (later (settled A) s day d e (grind arith) l)
 no_word A (Release at day) place s d f e l = silent (same_place at place) day d None (later (settled A) s day d e (grind arith) l)
@@ -35,11 +35,11 @@ no_word A act place s d f e l = refl
 pub holder_stays : (A : History) (entry : Entry) (place : Place) (s d : ℕ) → fault A entry.command.act ≡ None → settled A ≡ Some s → d ≤ s
     → holder (entry ∷ A) place d ≡ holder A place d
 holder_stays A entry place s d f e l =
-    ap (λ o. unwrap_or (or_else o (last_said (next_holder place d) A)) None) (no_word A entry.command.act place s d f e l)
+    ap (λ o. unwrap_or (option_or o (last_value_of_acts (holder_effect place d) A)) None) (no_word A entry.command.act place s d f e l)
 
 -- a command says of a settled day that somebody is trained, or nothing
 says_no_worse : (A : History) (act : Act) (who : List ℕ) (role : Role) (s d : ℕ) → fault A act ≡ None → settled A ≡ Some s → d ≤ s
-    → (said : Option Bool) → unwrap_or said false ≡ true → unwrap_or (or_else (says_of_training who role d act) said) false ≡ true
+    → (said : Option Bool) → unwrap_or said false ≡ true → unwrap_or (option_or (training_effect who role d act) said) false ≡ true
 says_no_worse A (Train p r since until) who role s d f e l said h = grind arith
 says_no_worse A (Withdraw p r day) who role s d f e l said h =
     rw (silent (same_text who p && same_role role r) day d false (later (settled A) s day d e (grind arith) l)) h
@@ -48,4 +48,4 @@ says_no_worse A act who role s d f e l said h = h
 -- who was trained on a settled day still was after any accepted command
 pub trained_stays : (A : History) (entry : Entry) (who : List ℕ) (role : Role) (s d : ℕ) → fault A entry.command.act ≡ None → settled A ≡ Some s → d ≤ s
     → trained A who role d ≡ true → trained (entry ∷ A) who role d ≡ true
-trained_stays A entry who role s d f e l h = says_no_worse A entry.command.act who role s d f e l (last_said (says_of_training who role d) A) h
+trained_stays A entry who role s d f e l h = says_no_worse A entry.command.act who role s d f e l (last_value_of_acts (training_effect who role d) A) h

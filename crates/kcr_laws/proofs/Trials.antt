@@ -17,7 +17,7 @@ use Rattle.kcr_history.specs.History.{History, entry_of}
 use Rattle.kcr_history.specs.Room.{sheet, present}
 use Rattle.kcr_history.specs.Seating.{is_seating, comes_first, IsFirst, is_short, is_proper_part, IsLeast}
 use Rattle.kcr_history.specs.Conditions.{fault}
-use Rattle.kcr_history.specs.Machine.{Outcome, Accepts, Refuses, Sitting, sitting, answer_to, seats, acts, repeats, machine}
+use Rattle.kcr_history.specs.Machine.{Outcome, Accepts, Refuses, SeatRequest, seat_request, reply_to, seats, DecidesNew, DecidesRepeat, machine}
 use Rattle.kcr_laws.specs.Examples.{outcome_text, new_command, with_act, AreSteps, AreAnswered}
 
 -- EVERY LIST
@@ -144,28 +144,28 @@ pub record Played : Type 0 where
   pub history : History
   pub fillings : List Filling
 
-abbrev pub fill : History → Act → Sitting → List Filling → Option Played
+abbrev pub fill : History → Act → SeatRequest → List Filling → Option Played
 fill A act s [] = None
 fill A act s (Seated people ∷ fillings) =
     if is_first_by_trial A s.ceremony s.at s.seats people
-    then Some (record { outcome = Accepts (answer_to A act (Some people)); history = with_act A act (Some people); fillings = fillings })
+    then Some (record { outcome = Accepts (reply_to A act (Some people)); history = with_act A act (Some people); fillings = fillings })
     else None
 fill A act s (Lacking positions ∷ fillings) =
     if is_least_by_trial A s.ceremony s.at s.seats positions
     then Some (record { outcome = Refuses (Short (map suc positions)); history = A; fillings = fillings })
     else None
 
-abbrev pub seat_if : History → Act → Option Sitting → List Filling → Option Played
-seat_if A act None fillings = Some (record { outcome = Accepts (answer_to A act None); history = with_act A act None; fillings = fillings })
+abbrev pub seat_if : History → Act → Option SeatRequest → List Filling → Option Played
+seat_if A act None fillings = Some (record { outcome = Accepts (reply_to A act None); history = with_act A act None; fillings = fillings })
 seat_if A act (Some s) fillings = fill A act s fillings
 
-abbrev pub act_if : History → Act → Option Refusal → Option Sitting → List Filling → Option Played
+abbrev pub act_if : History → Act → Option Refusal → Option SeatRequest → List Filling → Option Played
 act_if A act (Some refusal) s fillings = Some (record { outcome = Refuses refusal; history = A; fillings = fillings })
 act_if A act None s fillings = seat_if A act s fillings
 
 -- one new command
 abbrev pub play : History → Act → List Filling → Option Played
-play A act fillings = if is_none (entry_of A (new_command A act).key) then act_if A act (fault A act) (sitting A act) fillings else None
+play A act fillings = if is_none (entry_of A (new_command A act).key) then act_if A act (fault A act) (seat_request A act) fillings else None
 
 some-is : {X : Type 0} (a b : X) → Some a ≡ Some b → a ≡ b
 some-is a b e = cc
@@ -186,7 +186,7 @@ then-some f (Some x) y e = (x, refl, e)
 abbrev IsStep : History → Act → Played → Type 0
 IsStep A act p = machine A (new_command A act) p.outcome p.history
 
-fill_seats : (A : History) (act : Act) (s : Sitting) (fillings : List Filling) (p : Played) → fill A act s fillings ≡ Some p
+fill_seats : (A : History) (act : Act) (s : SeatRequest) (fillings : List Filling) (p : Played) → fill A act s fillings ≡ Some p
     → seats A (new_command A act) s p.outcome p.history
 fill_seats A act s [] p e = no-some p e
 fill_seats A act s (Seated people ∷ fillings) p e =
@@ -198,21 +198,21 @@ fill_seats A act s (Lacking positions ∷ fillings) p e =
     subst (λ (q : Played). seats A (new_command A act) s q.outcome q.history) (some-is _ p t.1)
     (inr (positions, least_by_trial A s.ceremony s.at s.seats positions t.0, (refl, refl)))
 
-seats_if : (A : History) (act : Act) (s : Option Sitting) (fillings : List Filling) (p : Played) → seat_if A act s fillings ≡ Some p
-    → MatchOption s ((p.outcome ≡ Accepts (answer_to A act None)) × (p.history ≡ with_act A act None)) (λ q. seats A (new_command A act) q p.outcome p.history)
+seats_if : (A : History) (act : Act) (s : Option SeatRequest) (fillings : List Filling) (p : Played) → seat_if A act s fillings ≡ Some p
+    → MatchOption s ((p.outcome ≡ Accepts (reply_to A act None)) × (p.history ≡ with_act A act None)) (λ q. seats A (new_command A act) q p.outcome p.history)
 seats_if A act None fillings p e = (sym (ap (λ (q : Played). q.outcome) (some-is _ p e)), sym (ap (λ (q : Played). q.history) (some-is _ p e)))
 seats_if A act (Some s) fillings p e = fill_seats A act s fillings p e
 
-acts_if : (A : History) (act : Act) (f : Option Refusal) (fillings : List Filling) (p : Played) → act_if A act f (sitting A act) fillings ≡ Some p
-    → acts A (new_command A act) f p.outcome p.history
+acts_if : (A : History) (act : Act) (f : Option Refusal) (fillings : List Filling) (p : Played) → act_if A act f (seat_request A act) fillings ≡ Some p
+    → DecidesNew A (new_command A act) f p.outcome p.history
 acts_if A act (Some refusal) fillings p e = (sym (ap (λ (q : Played). q.outcome) (some-is _ p e)), sym (ap (λ (q : Played). q.history) (some-is _ p e)))
-acts_if A act None fillings p e = seats_if A act (sitting A act) fillings p e
+acts_if A act None fillings p e = seats_if A act (seat_request A act) fillings p e
 
 play_is_step : (A : History) (act : Act) (fillings : List Filling) (p : Played) → play A act fillings ≡ Some p → IsStep A act p
 play_is_step A act fillings p e = by_key (entry_of A (new_command A act).key) e
   where
-    by_key : (k : Option Entry) → cond (is_none k) (act_if A act (fault A act) (sitting A act) fillings) None ≡ Some p
-        → MatchOption k (acts A (new_command A act) (fault A act) p.outcome p.history) (λ kept. repeats A (new_command A act) kept p.outcome p.history)
+    by_key : (k : Option Entry) → cond (is_none k) (act_if A act (fault A act) (seat_request A act) fillings) None ≡ Some p
+        → MatchOption k (DecidesNew A (new_command A act) (fault A act) p.outcome p.history) (λ kept. DecidesRepeat A (new_command A act) kept p.outcome p.history)
     by_key None g = acts_if A act (fault A act) fillings p g
     by_key (Some kept) g = no-some p g
 

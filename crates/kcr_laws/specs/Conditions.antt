@@ -6,12 +6,12 @@ use Rattle.kcr_base.specs.declared.place.Place.{Place}
 use Rattle.kcr_base.specs.declared.place.Role.{Role}
 use Rattle.kcr_base.specs.declared.refusal.Refusal.TheVariants.{Short}
 use Rattle.kcr_room.specs.declared.SheetRow.{SheetRow}
-use Rattle.kcr_room.specs.Room.{crowd_by}
+use Rattle.kcr_room.specs.Room.{headcount_by}
 use Rattle.kcr_history.specs.declared.commands.Act.{Act}
 use Rattle.kcr_history.specs.declared.commands.Act.TheVariants.{Appoint, Replace, Release, Sign}
-use Rattle.kcr_history.specs.declared.commands.Answer.{Answer}
+use Rattle.kcr_history.specs.declared.commands.ReplyData.{ReplyData}
 use Rattle.kcr_history.specs.declared.commands.Command.{Command}
-use Rattle.kcr_history.specs.History.{History, last_said}
+use Rattle.kcr_history.specs.History.{History, last_value_of_acts}
 use Rattle.kcr_history.specs.Training.{trained, holder, is_holder}
 use Rattle.kcr_history.specs.Ceremonies.{steps_of}
 use Rattle.kcr_history.specs.Seating.{is_seating, IsLeast}
@@ -26,7 +26,7 @@ signature key ceremony step at = record { key = key; act = Sign ceremony step at
 
 -- the machine accepts the command, with some answer, as the history's next one
 abbrev pub IsAccepted : History → Command → Type 0
-IsAccepted A x = (answer : Answer) × machine A x (Accepts answer) (with_command A x answer)
+IsAccepted A x = (answer : ReplyData) × machine A x (Accepts answer) (with_command A x answer)
 
 -- some people, all distinct and in the room at the moment, are each eligible for the seat of the step in their position
 abbrev pub CanFill : History → ℕ → ℕ → ℕ → Type 0
@@ -43,29 +43,29 @@ IsShortOf A key ceremony step at =
 
 -- at some moment more than 128 people are in the room of the ceremony by the rows
 abbrev pub IsEverCrowded : List SheetRow → ℕ → Type 0
-IsEverCrowded rows ceremony = (t : ℕ) × (128 < crowd_by rows ceremony t)
+IsEverCrowded rows ceremony = (t : ℕ) × (128 < headcount_by rows ceremony t)
 
 -- at the moment exactly one person is in the room of the ceremony by the rows, and at no earlier one
 abbrev pub IsFirstAlone : List SheetRow → ℕ → ℕ → Type 0
-IsFirstAlone rows ceremony t = (crowd_by rows ceremony t ≡ 1) × ((u : ℕ) → u < t → crowd_by rows ceremony u ≢ 1)
+IsFirstAlone rows ceremony t = (headcount_by rows ceremony t ≡ 1) × ((u : ℕ) → u < t → headcount_by rows ceremony u ≢ 1)
 
 -- at no moment is exactly one person in the room of the ceremony by the rows
 abbrev pub IsNeverAlone : List SheetRow → ℕ → Type 0
-IsNeverAlone rows ceremony = (t : ℕ) → crowd_by rows ceremony t ≢ 1
+IsNeverAlone rows ceremony = (t : ℕ) → headcount_by rows ceremony t ≢ 1
 
 -- PLACES
 
 -- on the day or a later one somebody holds the place
-abbrev pub IsHeldFrom : History → Place → ℕ → Type 0
-IsHeldFrom A place day = (d : ℕ) × (day ≤ d) × IsTrue (is_some (holder A place d))
+abbrev pub IsHeldOnOrAfter : History → Place → ℕ → Type 0
+IsHeldOnOrAfter A place day = (d : ℕ) × (day ≤ d) × IsTrue (is_some (holder A place d))
 
 -- on the day or a later one the person holds some place
-abbrev pub HoldsFrom : History → List ℕ → ℕ → Type 0
-HoldsFrom A who day = (d : ℕ) × (day ≤ d) × ((place : Place) × IsTrue (is_holder A place d who))
+abbrev pub HoldsPlaceOnOrAfter : History → List ℕ → ℕ → Type 0
+HoldsPlaceOnOrAfter A who day = (d : ℕ) × (day ≤ d) × ((place : Place) × IsTrue (is_holder A place d who))
 
 -- on the day or a later one the person is trained for the role
-abbrev pub IsTrainedFrom : History → List ℕ → Role → ℕ → Type 0
-IsTrainedFrom A who role day = (d : ℕ) × (day ≤ d) × IsTrue (trained A who role d)
+abbrev pub IsTrainedOnOrAfter : History → List ℕ → Role → ℕ → Type 0
+IsTrainedOnOrAfter A who role day = (d : ℕ) × (day ≤ d) × IsTrue (trained A who role d)
 
 -- what a command of the place says of it: from which day on it puts somebody there, or, a release, no day
 abbrev pub says_since : Place → Act → Option (Option ℕ)
@@ -74,10 +74,10 @@ says_since place (Replace at who day) = if same_place at place then Some (Some d
 says_since place (Release at day) = if same_place at place then Some None else None
 says_since place act = None
 
--- the day from which on the last command of the place puts somebody there: none where that is a release, or where there
+-- the day from which on the last command of the place puts somebody there: none if that is a release, or if there
 -- is none
 abbrev pub held_since : History → Place → Option ℕ
-held_since A place = unwrap_or (last_said (says_since place) A) None
+held_since A place = unwrap_or (last_value_of_acts (says_since place) A) None
 
 -- the last command of the place puts somebody there, from the day or a later one on
 abbrev pub BeginsFrom : History → Place → ℕ → Type 0

@@ -5,17 +5,17 @@ use Rattle.kcr_base.specs.declared.place.Facility.TheVariants.{East, West}
 use Rattle.kcr_base.specs.declared.place.Place.TheVariants.{Co}
 use Rattle.kcr_base.specs.declared.place.Role.TheVariants.{Ca, Iw, Ssc2}
 use Rattle.kcr_custody.specs.declared.SafeNumber.TheVariants.{Two}
-use Rattle.kcr_custody.specs.declared.Store.TheVariants.{Boxed}
+use Rattle.kcr_custody.specs.declared.Destination.TheVariants.{DepositBox}
 use Rattle.kcr_room.specs.declared.Way.TheVariants as Ways
 use Rattle.kcr_history.specs.declared.commands.Act.{Act}
 use Rattle.kcr_history.specs.declared.commands.Act.TheVariants.{Enter, Train, Withdraw, Appoint, AddBox, AddItem, Plan}
-use Rattle.kcr_history.specs.declared.commands.Act.TheVariants.{Open, Sheet, Sign, Except, TurnSafe, Seal, Put, Cut}
+use Rattle.kcr_history.specs.declared.commands.Act.TheVariants.{Open, RecordSheet, Sign, RecordException, SetSafe, Seal, Put, Cut}
 use Rattle.kcr_history.specs.declared.commands.Act.TheVariants.{Release, Close}
 use Rattle.kcr_history.specs.declared.commands.Command.{Command}
 use Rattle.kcr_history.specs.History.{History}
 use Rattle.kcr_history.specs.Refusals.{refusal_text}
-use Rattle.kcr_history.specs.Texts.{answer_text}
-use Rattle.kcr_history.specs.Machine.{Outcome, Accepts, Refuses, answer_to, with_command, machine}
+use Rattle.kcr_history.specs.Texts.{reply_text}
+use Rattle.kcr_history.specs.Machine.{Outcome, Accepts, Refuses, reply_to, with_command, machine}
 
 -- PEOPLE, DAYS AND MOMENTS
 
@@ -70,13 +70,13 @@ clock hours minutes seconds = 86400 * that_day + (3600 * hours + (60 * minutes +
 
 -- COMMANDS AND WHAT THEY ARE ANSWERED
 
--- the act under a key that no command has yet, where the nth command's key is `kn`
+-- the act under a key that no command has yet, if the nth command's key is `kn`
 abbrev pub new_command : History → Act → Command
 new_command A act = record { key = codes "k" ++ decimal (suc (length A)); act = act }
 
--- the act accepted, with these people where seats are needed
+-- the act accepted, with these people if seats are needed
 abbrev pub with_act : History → Act → Option (List (List ℕ)) → History
-with_act A act people = with_command A (new_command A act) (answer_to A act people)
+with_act A act people = with_command A (new_command A act) (reply_to A act people)
 
 -- the acts accepted one after the other, none of which needs seats
 abbrev pub with_acts : History → List Act → History
@@ -85,7 +85,7 @@ with_acts A (act ∷ acts) = with_acts (with_act A act None) acts
 
 -- the JSON text of what is answered
 abbrev pub outcome_text : Outcome → List ℕ
-outcome_text (Accepts answer) = answer_text answer
+outcome_text (Accepts answer) = reply_text answer
 outcome_text (Refuses refusal) = refusal_text refusal
 
 -- the acts come one after the other, each under a new key, and the machine answers each with its text; A' is the
@@ -152,10 +152,10 @@ opened_with script = with_acts [] (opening_acts script)
 
 -- people come into the room of ceremony 61, or go out of it
 abbrev pub come : List (List ℕ) → ℕ → Act
-come people at = Sheet 61 Ways.Enter people at
+come people at = RecordSheet 61 Ways.Enter people at
 
 abbrev pub leave : List (List ℕ) → ℕ → Act
-leave people at = Sheet 61 Ways.Leave people at
+leave people at = RecordSheet 61 Ways.Leave people at
 
 -- the same, with these people in the room since 20:05:00
 abbrev pub attended_by : List ℕ → List (List ℕ) → History
@@ -167,7 +167,7 @@ signed_by_two =
     with_act (attended_by (script_of_one (codes "CA;IW")) (AA ∷ BB ∷ [])) (Sign 61 1 (clock 20 10 0))
     (Some (BB ∷ AA ∷ []))
 
--- after two Crypto Officers have signed it, where the second seat wants the holder of place 5
+-- after two Crypto Officers have signed it, if the second seat wants the holder of place 5
 abbrev pub signed_by_officers : History
 signed_by_officers =
     with_act (attended_by (script_of_one (codes "CO;CO/5")) (EE ∷ EB ∷ [])) (Sign 61 1 (clock 20 10 0))
@@ -179,7 +179,7 @@ three_steps_done =
     with_act
     (with_act
     (with_act (attended_by (script_of_three (codes "CA;IW")) (AA ∷ BB ∷ [])) (Sign 61 1 (clock 20 10 0))
-    (Some (BB ∷ AA ∷ []))) (Except 61 (codes "Read twice") true (clock 20 12 0)) (Some (BB ∷ AA ∷ [])))
+    (Some (BB ∷ AA ∷ []))) (RecordException 61 (codes "Read twice") true (clock 20 12 0)) (Some (BB ∷ AA ∷ [])))
     (Sign 61 3 (clock 20 13 0)) (Some (BB ∷ AA ∷ []))
 
 -- after four came, and two of them left, the second one's row handed in first
@@ -236,7 +236,7 @@ bag_sealed =
 
 -- then safe 2 was opened and the bag put in the box
 abbrev pub bag_in_box : History
-bag_in_box = with_acts bag_sealed (TurnSafe 61 Two true DD (clock 20 8 0) ∷ Put 61 bag_7 (Boxed 3) (clock 20 9 0) ∷ [])
+bag_in_box = with_acts bag_sealed (SetSafe 61 Two true DD (clock 20 8 0) ∷ Put 61 bag_7 (DepositBox 3) (clock 20 9 0) ∷ [])
 
 -- three people, one of them trained, and a Crypto Officer
 abbrev pub one_officer : History

@@ -5,15 +5,15 @@ ghost use Rattle.kcr_base.specs.declared.place.Place.{Place};
 ghost use Rattle.kcr_base.specs.declared.place.Role.{Role};
 ghost use Rattle.kcr_base.specs.declared.refusal.Refusal.{Refusal};
 ghost use Rattle.kcr_base.specs.declared.refusal.Refusal.TheVariants.{Short, Crowd, Lone, Range, Vacant};
-ghost use Rattle.kcr_people.specs.People.{person_holds_from_by, trained_from_by, open_row_by, vacant};
-ghost use Rattle.kcr_people.specs.People.{not_after_first_day, place_or_person_holds};
+ghost use Rattle.kcr_people.specs.People.{person_holds_from_by, trained_from_by, open_row_by, vacant_refusal};
+ghost use Rattle.kcr_people.specs.People.{first_day_refusal, place_or_person_holds};
 ghost use Rattle.kcr_room.specs.declared.Way.{Way};
-ghost use Rattle.kcr_room.specs.Moments.{IsFirst, IsEver};
-ghost use Rattle.kcr_room.specs.Room.{crowd_by};
+ghost use Rattle.kcr_room.specs.Moments.{IsFirstMoment, IsEver};
+ghost use Rattle.kcr_room.specs.Room.{headcount_by};
 ghost use Rattle.kcr_room.specs.Stays.{stays_by, first_lone_in_by, is_crowded_in_by};
 ghost use Rattle.kcr_history.specs.declared.commands.Act.{Act};
-ghost use Rattle.kcr_history.specs.declared.commands.Act.TheVariants.{Sheet};
-ghost use Rattle.kcr_history.specs.declared.commands.Answer.{Answer};
+ghost use Rattle.kcr_history.specs.declared.commands.Act.TheVariants.{RecordSheet};
+ghost use Rattle.kcr_history.specs.declared.commands.ReplyData.{ReplyData};
 ghost use Rattle.kcr_history.specs.declared.commands.Command.{Command};
 ghost use Rattle.kcr_history.specs.declared.commands.Entry.{Entry};
 ghost use Rattle.kcr_history.specs.History.{History, entry_of};
@@ -23,18 +23,18 @@ ghost use Rattle.kcr_history.specs.Seating as Seatings;
 ghost use Rattle.kcr_history.specs.Seating.{IsLeast};
 ghost use Rattle.kcr_history.specs.Room.{sheet, sheet_after};
 ghost use Rattle.kcr_history.specs.Tables.{trainings, withdrawals, appointments, seats_at};
-ghost use Rattle.kcr_history.specs.Conditions.{fault, crowded, lone};
+ghost use Rattle.kcr_history.specs.Conditions.{fault, crowd_refusal, lone_room_refusal};
 ghost use Rattle.kcr_history.specs.Texts.{same_command};
 ghost use Rattle.kcr_history.specs.Machine.{Outcome, Accepts, Refuses, machine, IsOfMachine, IsRegister};
 ghost use Rattle.kcr_history.specs.Laws.{HasFirstSeatings, IsOnce, IsSound, IsBalanced};
 ghost use Rattle.kcr_laws.specs.Conditions.{signature, IsAccepted, CanFill, IsShortOf, IsEverCrowded, IsFirstAlone};
-ghost use Rattle.kcr_laws.specs.Conditions.{IsNeverAlone, IsHeldFrom, HoldsFrom, IsTrainedFrom, BeginsFrom, held_since};
+ghost use Rattle.kcr_laws.specs.Conditions.{IsNeverAlone, IsHeldOnOrAfter, HoldsPlaceOnOrAfter, IsTrainedOnOrAfter, BeginsFrom, held_since};
 ghost use Rattle.kcr_laws.specs.Examples.{AreAnswered};
 
 use kcr_people::laws::{person_holds_from_a_day, place_held_from_a_day, trained_from_a_day};
 
 /// No key was accepted twice.
-pub fn keys_stand_once()
+pub fn keys_are_unique()
     ensures { (A : History) → IsRegister A → IsOnce A }
 {}
 
@@ -47,7 +47,7 @@ pub fn repeats_change_nothing()
 {}
 
 /// Whatever is answered, a register stays one.
-pub fn steps_keep_registers()
+pub fn machine_preserves_registers()
     ensures one { (A : History) (x : Command) (outcome : Outcome) (A' : History) → IsRegister A
         → machine A x outcome A' → IsRegister A' }
     ensures many { (A A' : History) (said : List (Act × List ℕ)) → IsRegister A → AreAnswered A said A'
@@ -61,12 +61,12 @@ pub fn machine_leads_to_first_seatings()
 {}
 
 /// What the machine answers is fixed, apart from which of several least shortages it names: a command is accepted with
-/// one answer, the first seating in it, and leads to one history; it is not refused as well, for where there is a
+/// one answer, the first seating in it, and leads to one history; it is not refused as well, for if there is a
 /// seating nothing is short; and it is refused with one refusal.
 pub fn answers_are_fixed()
-    ensures accepted { (A : History) (x : Command) (a b : Answer) (B C : History) →
+    ensures accepted { (A : History) (x : Command) (a b : ReplyData) (B C : History) →
         machine A x (Accepts a) B → machine A x (Accepts b) C → (a ≡ b) × (B ≡ C) }
-    ensures either { (A : History) (x : Command) (a : Answer) (r : Refusal) (B C : History) →
+    ensures either { (A : History) (x : Command) (a : ReplyData) (r : Refusal) (B C : History) →
         machine A x (Accepts a) B → machine A x (Refuses r) C → ⊥ }
     ensures refused { (A : History) (x : Command) (r q : Refusal) (B C : History) →
         machine A x (Refuses r) B → machine A x (Refuses q) C →
@@ -88,13 +88,13 @@ pub fn trainings_stay()
 {}
 
 /// The moment that a sheet request is refused for is the first of all moments at which exactly one person would be in
-/// the room, though it is sought at the moments of rows alone; likewise whether it would ever be too full.
-pub fn rooms_are_judged_at_every_moment()
+/// the room, though it is sought at the moments of rows alone. The same holds for a room that is too full.
+pub fn room_rules_hold_at_every_moment()
     ensures lone { (A : History) (act : Act) (ceremony : ℕ) →
-        IsFirst (λ t. crowd_by (sheet_after act (sheet A)) ceremony t == 1)
+        IsFirstMoment (λ t. headcount_by (sheet_after act (sheet A)) ceremony t == 1)
         (first_lone_in_by (stays_by (sheet_after act (sheet A))) ceremony) }
     ensures crowded { (A : History) (act : Act) (ceremony : ℕ) →
-        IsEver (λ t. nat_lt 128 (crowd_by (sheet_after act (sheet A)) ceremony t))
+        IsEver (λ t. nat_lt 128 (headcount_by (sheet_after act (sheet A)) ceremony t))
         (is_crowded_in_by (stays_by (sheet_after act (sheet A))) ceremony) }
 {}
 
@@ -110,18 +110,18 @@ pub fn registers_are_balanced()
 {}
 
 /// A step is signed exactly when it is next and distinct people then in the room can fill its seats: under a new key,
-/// and before the register is full, a signature is accepted exactly where the ceremony is open, the step is the next
+/// and before the register is full, a signature is accepted if and only if the ceremony is open, the step is the next
 /// one of its script, the moment is not before the ceremony's mark, and some people, all distinct and in the room at
 /// the moment, are each eligible for one of the step's seats. Such a ceremony is planned, and the answer names the
 /// first such people.
-pub fn steps_are_signed_by_who_fill_their_seats()
+pub fn signed_iff_seats_can_be_filled()
     ensures signed { (A : History) (key : List ℕ) (ceremony step at : ℕ) → entry_of A key ≡ None
         → length A < 4000000000 →
         IsAccepted A (signature key ceremony step at)
         ↔ (IsTrue (next A ceremony step at) × CanFill A ceremony step at) }
     ensures known { (A : History) (ceremony step at : ℕ) → IsTrue (next A ceremony step at)
         → IsTrue (is_ceremony A ceremony) }
-    ensures first { (A : History) (key : List ℕ) (ceremony step at : ℕ) (answer : Answer) (after : History)
+    ensures first { (A : History) (key : List ℕ) (ceremony step at : ℕ) (answer : ReplyData) (after : History)
         → entry_of A key ≡ None →
         machine A (signature key ceremony step at) (Accepts answer) after →
         (people : List (List ℕ)) × Seatings.IsFirst A ceremony at (seats_at (steps_of A ceremony) step) people
@@ -130,9 +130,9 @@ pub fn steps_are_signed_by_who_fill_their_seats()
 
 /// A step is short of people exactly when it is next and nobody can fill its seats: under a new key, and before the
 /// register is full, a signature is refused with a least set of the step's seats, which fewer people in the room fit
-/// than it has seats, exactly where the step is next and no people, all distinct, are each eligible for one of its
+/// than it has seats, if and only if the step is next and no people, all distinct, are each eligible for one of its
 /// seats. The refusal `short` of a signature always names such a set, its positions counted from 1.
-pub fn steps_are_short_where_nobody_fills_their_seats()
+pub fn short_iff_seats_cannot_be_filled()
     ensures short { (A : History) (key : List ℕ) (ceremony step at : ℕ) → entry_of A key ≡ None
         → length A < 4000000000 →
         IsShortOf A key ceremony step at ↔ (IsTrue (next A ceremony step at) × (CanFill A ceremony step at → ⊥)) }
@@ -148,37 +148,37 @@ pub fn every_command_is_answered()
     ensures { (A : History) (x : Command) → (outcome : Outcome) × (after : History) × machine A x outcome after }
 {}
 
-/// The refusal `crowd` holds of a sheet request exactly where at some moment more than 128 people would be in the room,
+/// The refusal `crowd` holds of a sheet request if and only if at some moment more than 128 people would be in the room,
 /// by the sheet with its rows; and a request that is answered so would have such a moment.
 pub fn sheets_are_refused_at_a_crowded_moment()
     ensures holds { (A : History) (act : Act) (ceremony : ℕ) →
-        crowded (sheet_after act (sheet A)) ceremony ≡ Some Crowd ↔ IsEverCrowded (sheet_after act (sheet A)) ceremony }
+        crowd_refusal (sheet_after act (sheet A)) ceremony ≡ Some Crowd ↔ IsEverCrowded (sheet_after act (sheet A)) ceremony }
     ensures refused { (A : History) (ceremony : ℕ) (way : Way) (people : List (List ℕ)) (at : ℕ) →
-        fault A (Sheet ceremony way people at) ≡ Some Crowd
-        → IsEverCrowded (sheet_after (Sheet ceremony way people at) (sheet A)) ceremony }
+        fault A (RecordSheet ceremony way people at) ≡ Some Crowd
+        → IsEverCrowded (sheet_after (RecordSheet ceremony way people at) (sheet A)) ceremony }
 {}
 
-/// The refusal `lone` holds of a sheet request with a moment exactly where that is the first one at which exactly one
-/// person would be in the room, by the sheet with its rows, and it does not hold exactly where there is no such moment;
+/// The refusal `lone_room_refusal` holds of a sheet request with a moment if and only if that is the first one at which exactly one
+/// person would be in the room, by the sheet with its rows, and it does not hold if and only if there is no such moment;
 /// and a request that is answered so would have that first moment.
 pub fn sheets_are_refused_at_a_lone_moment()
     ensures holds { (A : History) (act : Act) (ceremony t : ℕ) →
-        lone (sheet_after act (sheet A)) ceremony ≡ Some (Lone t)
+        lone_room_refusal (sheet_after act (sheet A)) ceremony ≡ Some (Lone t)
         ↔ IsFirstAlone (sheet_after act (sheet A)) ceremony t }
     ensures never { (A : History) (act : Act) (ceremony : ℕ) →
-        lone (sheet_after act (sheet A)) ceremony ≡ None ↔ IsNeverAlone (sheet_after act (sheet A)) ceremony }
+        lone_room_refusal (sheet_after act (sheet A)) ceremony ≡ None ↔ IsNeverAlone (sheet_after act (sheet A)) ceremony }
     ensures refused { (A : History) (ceremony : ℕ) (way : Way) (people : List (List ℕ)) (at t : ℕ) →
-        fault A (Sheet ceremony way people at) ≡ Some (Lone t)
-        → IsFirstAlone (sheet_after (Sheet ceremony way people at) (sheet A)) ceremony t }
+        fault A (RecordSheet ceremony way people at) ≡ Some (Lone t)
+        → IsFirstAlone (sheet_after (RecordSheet ceremony way people at) (sheet A)) ceremony t }
 {}
 
 /// In every register the refusal `held` holds of an appointment exactly where on its day or a later one somebody holds
-/// the place, or the person holds some place; of a replacement exactly where the person does.
+/// the place, or the person holds some place; of a replacement if and only if the person does.
 pub fn places_are_held_on_some_day()
     ensures appointment { (A : History) → IsRegister A → (place : Place) (who : List ℕ) (day : ℕ) →
-        IsTrue (place_or_person_holds (appointments A) place who day) ↔ (IsHeldFrom A place day ⊎ HoldsFrom A who day) }
+        IsTrue (place_or_person_holds (appointments A) place who day) ↔ (IsHeldOnOrAfter A place day ⊎ HoldsPlaceOnOrAfter A who day) }
     ensures replacement { (A : History) → IsRegister A → (who : List ℕ) (day : ℕ) →
-        IsTrue (person_holds_from_by (appointments A) who day) ↔ HoldsFrom A who day }
+        IsTrue (person_holds_from_by (appointments A) who day) ↔ HoldsPlaceOnOrAfter A who day }
 {
     place_held_from_a_day();
     person_holds_from_a_day();
@@ -186,22 +186,22 @@ pub fn places_are_held_on_some_day()
 
 /// Whether somebody may follow in a place, or give it up, is told by its last command: the row that has no end, if
 /// there is one, begins on the day from which on that command puts somebody there. So of a replacement and of a release
-/// `range` holds exactly where the last command of the place puts somebody there from that very day or a later one on,
-/// and `vacant` exactly where it is a release, or where there is none.
-pub fn places_are_as_their_last_command_says()
+/// `range` holds if and only if the last command of the place puts somebody there from that very day or a later one on,
+/// and `vacant_refusal` if and only if it is a release, or if there is none.
+pub fn last_command_decides_place()
     ensures rows { (A : History) (place : Place)
         → option_map (λ row. row.since) (open_row_by (appointments A) place) ≡ held_since A place }
     ensures range { (A : History) (place : Place) (day : ℕ) →
-        not_after_first_day (appointments A) place day ≡ Some Range ↔ BeginsFrom A place day }
+        first_day_refusal (appointments A) place day ≡ Some Range ↔ BeginsFrom A place day }
     ensures vacant { (A : History) (place : Place)
-        → vacant (appointments A) place ≡ Some Vacant ↔ held_since A place ≡ None }
+        → vacant_refusal (appointments A) place ≡ Some Vacant ↔ held_since A place ≡ None }
 {}
 
 /// In every register the test of a withdrawal, whether there is something to withdraw, passes exactly where on its day
 /// or a later one the person is trained for the role.
-pub fn trainings_are_there_on_some_day()
+pub fn training_held_on_some_day()
     ensures { (A : History) → IsRegister A → (who : List ℕ) (role : Role) (day : ℕ) →
-        IsTrue (trained_from_by (trainings A) (withdrawals A) who role day) ↔ IsTrainedFrom A who role day }
+        IsTrue (trained_from_by (trainings A) (withdrawals A) who role day) ↔ IsTrainedOnOrAfter A who role day }
 {
     trained_from_a_day();
 }

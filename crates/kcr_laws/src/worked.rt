@@ -1,6 +1,7 @@
 //! Worked examples: functions that do nothing, whose contracts tell what commands are answered one after the other.
 //! Most of them begin with a ceremony that was opened at 20:00:00, when sixteen commands had been accepted.
 ghost use Rattle.std.specs.Prelude.{◌≡◌, ℕ, Bool, true, false, List, [], ◌∷◌, ◌++◌, codes, Option, Some, None, Ok, Err};
+ghost use Rattle.std.specs.Prelude.{map, filter};
 ghost use Rattle.kcr_base.specs.Day.{day_text};
 ghost use Rattle.kcr_base.specs.declared.place.Facility.TheVariants.{East, West};
 ghost use Rattle.kcr_base.specs.declared.place.Place.TheVariants.{Co};
@@ -8,29 +9,31 @@ ghost use Rattle.kcr_base.specs.declared.place.Role.TheVariants.{Ca, Iw, Ssc2};
 ghost use Rattle.kcr_base.specs.declared.refusal.Refusal.TheVariants as Refusals;
 ghost use Rattle.kcr_base.specs.declared.refusal.Thing.TheVariants as Things;
 ghost use Rattle.kcr_custody.specs.declared.SafeNumber.TheVariants.{One, Two};
-ghost use Rattle.kcr_custody.specs.declared.Store.TheVariants.{Boxed};
+ghost use Rattle.kcr_custody.specs.declared.Destination.TheVariants.{DepositBox};
 ghost use Rattle.kcr_custody.specs.declared.Spot.TheVariants as Spots;
 ghost use Rattle.kcr_custody.specs.declared.Rest.TheVariants as Rests;
+ghost use Rattle.kcr_room.specs.Stays.{stays_by, attendance_in_by};
 ghost use Rattle.kcr_script.specs.declared.seat.Seat.{Seat};
 ghost use Rattle.kcr_script.specs.declared.seat.Seat.TheVariants.{Staff};
-ghost use Rattle.kcr_history.specs.declared.rows.CeremonyState.TheVariants as States;
-ghost use Rattle.kcr_history.specs.declared.rows.StepRow.{StepRow};
-ghost use Rattle.kcr_history.specs.declared.rows.StepState.{StepState};
-ghost use Rattle.kcr_history.specs.declared.rows.StepState.TheVariants as StepStates;
+ghost use Rattle.kcr_history.specs.declared.row_types.CeremonyState.TheVariants as States;
+ghost use Rattle.kcr_history.specs.declared.row_types.StepRow.{StepRow};
+ghost use Rattle.kcr_history.specs.declared.row_types.StepState.{StepState};
+ghost use Rattle.kcr_history.specs.declared.row_types.StepState.TheVariants as StepStates;
 ghost use Rattle.kcr_history.specs.declared.commands.Act.TheVariants.{Enter, Train, Withdraw, AddBox, Appoint, Replace};
-ghost use Rattle.kcr_history.specs.declared.commands.Act.TheVariants.{Release, Plan, Open, Close, Sign, Except};
-ghost use Rattle.kcr_history.specs.declared.commands.Act.TheVariants.{AddItem, Seal, Cut, TurnSafe, Put, Take};
+ghost use Rattle.kcr_history.specs.declared.commands.Act.TheVariants.{Release, Plan, Open, Close, Sign, RecordException};
+ghost use Rattle.kcr_history.specs.declared.commands.Act.TheVariants.{AddItem, Seal, Cut, SetSafe, Put, Take};
 ghost use Rattle.kcr_history.specs.History.{History};
-ghost use Rattle.kcr_history.specs.Machine.{Accepts, Refuses, answer_to, machine};
-ghost use Rattle.kcr_history.specs.Prints.{annotated, attendance, custody};
-ghost use Rattle.kcr_history.specs.Questions.{roles_of, holders_on, codes_within};
+ghost use Rattle.kcr_history.specs.Machine.{Accepts, Refuses, reply_to, machine};
+ghost use Rattle.kcr_history.specs.Prints.{annotated, attendance, custody, steps_in_order, bags_in_order, items_in_order};
+ghost use Rattle.kcr_history.specs.Questions.{roles_of, holders_on, codes_within, with_seated, with_name, with_items};
+ghost use Rattle.kcr_history.specs.Questions.{is_loose};
 ghost use Rattle.kcr_history.specs.Refusals.{refusal_text};
-ghost use Rattle.kcr_history.specs.Room.{is_in, present};
+ghost use Rattle.kcr_history.specs.Room.{is_in, present, sheet};
 ghost use Rattle.kcr_history.specs.Custody.{spot};
 ghost use Rattle.kcr_history.specs.Seating.{IsLeast};
 ghost use Rattle.kcr_history.specs.Ceremonies.{is_ceremony, steps_of};
-ghost use Rattle.kcr_history.specs.Tables.{people, seats_at, tables, trainings, withdrawals};
-ghost use Rattle.kcr_history.specs.Texts.{answer_text, command_text};
+ghost use Rattle.kcr_history.specs.Tables.{people, seatings, seats_at, tables, trainings, withdrawals};
+ghost use Rattle.kcr_history.specs.Texts.{reply_text, command_text};
 ghost use Rattle.kcr_laws.specs.Examples.{AA, BB, CC, DD, EA, EB, EE, WC, new_year, that_day, february, march, june};
 ghost use Rattle.kcr_laws.specs.Examples.{december, clock, come, leave, new_command, with_act, with_acts, lines};
 ghost use Rattle.kcr_laws.specs.Examples.{AreAnswered, accepted_from, script_of_one, script_of_two, script_of_three};
@@ -75,7 +78,7 @@ pub fn first_person()
     ensures key { (new_command [] (Enter AA (codes "Ann Abel"))).key ≡ codes "k1" }
     ensures repeated { machine (with_acts [] (Enter AA (codes "Ann Abel") ∷ []))
         (new_command [] (Enter AA (codes "Ann Abel")))
-        (Accepts (answer_to [] (Enter AA (codes "Ann Abel")) None))
+        (Accepts (reply_to [] (Enter AA (codes "Ann Abel")) None))
         (with_acts [] (Enter AA (codes "Ann Abel") ∷ [])) }
     ensures other { machine (with_acts [] (Enter AA (codes "Ann Abel") ∷ []))
         (new_command [] (Enter AA (codes "Ann B")))
@@ -127,14 +130,14 @@ pub fn three_steps()
         ∷ (Sign 61 1 (clock 20 10 0), codes "{\"accepted\":18,\"seating\":[\"BB\",\"AA\"],\"step\":1}")
         ∷ (Sign 61 3 (clock 20 11 0), codes "{\"next\":2,\"number\":23,\"refusal\":\"order\"}")
         ∷ (
-          Except 61 (codes "Read twice") true (clock 20 12 0),
+          RecordException 61 (codes "Read twice") true (clock 20 12 0),
           codes "{\"accepted\":19,\"exception\":1,\"seating\":[\"BB\",\"AA\"],\"step\":2}",
         )
         ∷ (Sign 61 3 (clock 20 13 0), codes "{\"accepted\":20,\"seating\":[\"BB\",\"AA\"],\"step\":3}")
         ∷ [])
         three_steps_done }
     ensures behind_the_last { AreAnswered three_steps_done
-        ((Except 61 (codes "Read again") true (clock 20 14 0), codes "{\"next\":4,\"number\":23,\"refusal\":\"order\"}")
+        ((RecordException 61 (codes "Read again") true (clock 20 14 0), codes "{\"next\":4,\"number\":23,\"refusal\":\"order\"}")
         ∷ (Sign 61 9 (clock 20 14 0), codes "{\"number\":12,\"refusal\":\"unknown\",\"thing\":\"step 9\"}")
         ∷ [])
         three_steps_done }
@@ -233,7 +236,7 @@ pub fn training_and_custodians()
         another_officer }
 {}
 
-/// Training is withdrawn from a day later than the settled one, and only where there is some; from then on nobody
+/// Training is withdrawn from a day later than the settled one, and only if there is some; from then on nobody
 /// sits by it.
 pub fn withdrawn_training()
     ensures too_early { AreAnswered signed_at_midnight
@@ -297,10 +300,10 @@ pub fn the_room()
 pub fn signatures_and_exceptions()
     ensures { AreAnswered (opened_with (script_of_one (codes "CA;IW")))
         ((Sign 61 1 (clock 19 59 59), codes "{\"mark\":\"2025-02-13T20:00:00Z\",\"number\":22,\"refusal\":\"late\"}")
-        ∷ (Except 61 (codes "Late start") false (clock 20 1 0), codes "{\"accepted\":17,\"exception\":1}")
+        ∷ (RecordException 61 (codes "Late start") false (clock 20 1 0), codes "{\"accepted\":17,\"exception\":1}")
         ∷ [])
         (with_act (opened_with (script_of_one (codes "CA;IW")))
-        (Except 61 (codes "Late start") false (clock 20 1 0)) None) }
+        (RecordException 61 (codes "Late start") false (clock 20 1 0)) None) }
 {}
 
 /// Of several seatings the first in the byte order of initials is recorded.
@@ -343,10 +346,10 @@ pub fn bag_into_a_box()
         ∷ AddItem 61 HSM4 (clock 20 6 0)
         ∷ Seal 61 bag_7 (HSM4 ∷ []) (clock 20 7 0) ∷ [])) bag_sealed }
     ensures boxed { AreAnswered bag_sealed
-        ((Put 61 bag_7 (Boxed 3) (clock 20 8 0), codes "{\"number\":28,\"refusal\":\"safe\"}")
-        ∷ (TurnSafe 61 One true AA (clock 20 8 0), codes "{\"number\":30,\"refusal\":\"absent\",\"who\":\"AA\"}")
-        ∷ (TurnSafe 61 Two true DD (clock 20 8 0), codes "{\"accepted\":23}")
-        ∷ (Put 61 bag_7 (Boxed 3) (clock 20 9 0), codes "{\"accepted\":24}")
+        ((Put 61 bag_7 (DepositBox 3) (clock 20 8 0), codes "{\"number\":28,\"refusal\":\"safe\"}")
+        ∷ (SetSafe 61 One true AA (clock 20 8 0), codes "{\"number\":30,\"refusal\":\"absent\",\"who\":\"AA\"}")
+        ∷ (SetSafe 61 Two true DD (clock 20 8 0), codes "{\"accepted\":23}")
+        ∷ (Put 61 bag_7 (DepositBox 3) (clock 20 9 0), codes "{\"accepted\":24}")
         ∷ [])
         bag_in_box }
     ensures unreached { AreAnswered bag_in_box
@@ -450,6 +453,30 @@ pub fn what_is_shown()
     ensures no_bag { spot bag_in_box bag_8 ≡ None }
     ensures room { present two_left 61 (clock 20 25 0) ≡ AA ∷ CC ∷ EA ∷ [] }
     ensures no_room { is_ceremony [] 61 ≡ false }
+{}
+
+/// What the questions are shown whose answers are lists.
+pub fn lists_that_are_shown()
+    ensures seated { map (with_seated (seatings signed_by_two)) (steps_in_order signed_by_two 61) ≡
+        record {
+          step =
+              record {
+                ceremony = 61;
+                step = 1;
+                activity = codes "Check bags";
+                seats = Staff Ca ∷ Staff Iw ∷ [];
+                state = StepStates.Signed;
+                at = Some (clock 20 10 0);
+              };
+          seated = BB ∷ AA ∷ [];
+        } ∷ [] }
+    ensures named { map (λ stay. (with_name (people two_left) stay).name)
+        (attendance_in_by (stays_by (sheet two_left)) 61) ≡
+        codes "Ann Abel" ∷ codes "Bob Berg" ∷ codes "Cole, Cy" ∷ codes "Eva Ames" ∷ [] }
+    ensures packed { map (with_items (items_in_order bag_on_table)) (bags_in_order bag_on_table) ≡
+        record { bag = record { serial = bag_7; spot = Spots.Spent }; codes = [] }
+        ∷ record { bag = record { serial = bag_8; spot = Spots.Table East }; codes = HSM4 ∷ [] } ∷ [] }
+    ensures none_loose { filter is_loose (items_in_order bag_on_table) ≡ [] }
 {}
 
 /// Whoever left at a moment is not in the room at it, and was a second before.

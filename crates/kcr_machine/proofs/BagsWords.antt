@@ -7,7 +7,7 @@ use Rattle.std.specs.List.Sorted.{IsPermutation}
 use Rattle.std.proofs.lemmas.List.Sorted.{list_any-IsPermutation}
 use Rattle.std.proofs.lemmas.Bool.{false≢true, or_parts, and_parts, eqb-true}
 use Rattle.kcr_base.proofs.RefuseLemmas.{none_holds, unmet}
-use Rattle.kcr_base.specs.Rows.{or_else}
+use Rattle.kcr_base.specs.Rows.{option_or}
 use Rattle.kcr_base.specs.Same.{same_text, same_facility}
 use Rattle.kcr_base.specs.declared.place.Facility.{Facility}
 use Rattle.kcr_base.specs.declared.place.Facility.TheVariants.{East, West}
@@ -21,13 +21,13 @@ use Rattle.kcr_custody.specs.declared.SafeNumber.{SafeNumber}
 use Rattle.kcr_custody.specs.declared.SafeNumber.TheVariants.{One, Two}
 use Rattle.kcr_custody.specs.declared.SafeRow.{SafeRow}
 use Rattle.kcr_custody.specs.declared.Spot.TheVariants.{Spent}
-use Rattle.kcr_custody.specs.Custody.{spot_by, rest_by, is_open_by, opens, is_box, place_of_box_by}
+use Rattle.kcr_custody.specs.Custody.{spot_by, rest_by, is_open_by, is_open_row, is_box, place_of_box_by}
 use Rattle.kcr_history.specs.declared.commands.Act.{Act}
 use Rattle.kcr_history.specs.declared.commands.Act.TheVariants.{AddBox, AddItem, Seal}
-use Rattle.kcr_history.specs.declared.views.ItemsOf.TheVariants as Items
-use Rattle.kcr_history.specs.History.{History, all_said, last_said, last_told}
+use Rattle.kcr_history.specs.declared.views.ItemFilter.TheVariants as Items
+use Rattle.kcr_history.specs.History.{History, values_of_acts, last_value_of_acts, last_value_with_history}
 use Rattle.kcr_history.specs.Ceremonies.{facility_of}
-use Rattle.kcr_history.specs.Custody.{spot, sealed_in, added_at, rest_in, rest, is_safe_open, boxed, place_of_box}
+use Rattle.kcr_history.specs.Custody.{spot, sealed_in, added_at, rest_in, rest, is_open, added_box_place, place_of_box}
 use Rattle.kcr_history.specs.Tables.{bags, bag_row, sealed_serial, items, item_row, added_item, safes, boxes, box_row}
 use Rattle.kcr_history.specs.Views.{is_of_serial, is_item_of}
 use Rattle.kcr_history.specs.Conditions.{conditions, fault}
@@ -45,20 +45,20 @@ use Rattle.kcr_machine.proofs.Scenes.{said-then, some-where}
 pub spot-shown : (A : History) → IsRegister A → (s : List ℕ) (rows : List Bag) → Shown (is_of_serial s) (bags A) rows → spot_by rows s ≡ spot A s
 spot-shown A h s rows p =
     said-view (λ row. same_text row.serial s) (is_of_serial s) (bag_row A) (bag_row A s) (λ row. row.spot) (spot A s) Spent (λ row e. e)
-    (λ k e. ap (bag_row A) (same-is k s e)) (all_said sealed_serial A) rows p
+    (λ k e. ap (bag_row A) (same-is k s e)) (values_of_acts sealed_serial A) rows p
     (sealed_somewhere A h s) refl
 
 -- ITEMS
 
 abbrev is_added : History → List ℕ → Bool
-is_added A k = list_any (λ i. same_text i k) (all_said added_item A)
+is_added A k = list_any (λ i. same_text i k) (values_of_acts added_item A)
 
 abbrev added : History → List ℕ → Option Facility
-added A k = last_told (λ before. added_at (facility_of before) k) A
+added A k = last_value_with_history (λ before. added_at (facility_of before) k) A
 
 -- an item was added somewhere exactly where it was added
 added_after : (A : History) (act : Act) (k : List ℕ) → is_added A k ≡ is_some (added A k)
-    → list_any (λ i. same_text i k) (cons_option (added_item act) (all_said added_item A)) ≡ is_some (or_else (added_at (facility_of A) k act) (added A k))
+    → list_any (λ i. same_text i k) (cons_option (added_item act) (values_of_acts added_item A)) ≡ is_some (option_or (added_at (facility_of A) k act) (added A k))
 added_after A (AddItem c item at) k ih = grind arith
 added_after A act k ih = ih
 
@@ -67,11 +67,11 @@ added_somewhere [] k = refl
 added_somewhere (entry ∷ A) k = added_after A entry.command.act k (added_somewhere A k)
 
 some_rest : (S : Option (List ℕ)) (D : Option Facility) (inside : List ℕ → Rest)
-    → is_some (or_else (option_map inside S) (option_map Loose D)) ≡ (is_some S || is_some D)
+    → is_some (option_or (option_map inside S) (option_map Loose D)) ≡ (is_some S || is_some D)
 some_rest S D inside = grind arith
 
 abbrev last_bag : History → List ℕ → Option (List ℕ)
-last_bag A k = last_said (sealed_in k) A
+last_bag A k = last_value_of_acts (sealed_in k) A
 
 -- an item that was sealed was added
 sealed_added : (A : History) → IsRegister A → (k : List ℕ) → is_some (last_bag A k) ≡ true → is_some (added A k) ≡ true
@@ -88,7 +88,7 @@ sealed_added (entry ∷ A) h k s =
     by_act act f ih e = absurd (false≢true e)
 
 -- an item is somewhere exactly where it was added
-pub added_rest : (A : History) → IsRegister A → (k : List ℕ) → list_any (λ i. same_text i k) (all_said added_item A) ≡ is_some (rest A k)
+pub added_rest : (A : History) → IsRegister A → (k : List ℕ) → list_any (λ i. same_text i k) (values_of_acts added_item A) ≡ is_some (rest A k)
 added_rest A h k = grind (arith, added_somewhere A k, sealed_added A h k, some_rest (last_bag A k) (added A k) (rest_in A))
 
 -- where an item is, by rows among which its own is
@@ -96,7 +96,7 @@ rest-shown : (A : History) → IsRegister A → (of : Item → Bool) (k : List �
     → Shown of (items A) rows → rest_by rows k ≡ rest A k
 rest-shown A h of k own rows p =
     said-view (λ row. same_text row.code k) of (item_row A) (item_row A k) (λ row. row.rest) (rest A k) (Loose East) own
-    (λ j e. ap (item_row A) (same-is j k e)) (all_said added_item A) rows p
+    (λ j e. ap (item_row A) (same-is j k e)) (values_of_acts added_item A) rows p
     (added_rest A h k) refl
 
 -- the same of items that are asked for by their codes
@@ -106,7 +106,7 @@ rest-coded A h codes rows p k i = rest-shown A h (is_item_of (Items.Codes codes)
 
 -- SAFES
 
-open-safes : (A : History) (facility : Facility) (safe : SafeNumber) → is_open_by (safes A) facility safe ≡ is_safe_open A facility safe
+open-safes : (A : History) (facility : Facility) (safe : SafeNumber) → is_open_by (safes A) facility safe ≡ is_open A facility safe
 open-safes A East One = grind arith
 open-safes A East Two = grind arith
 open-safes A West One = grind arith
@@ -114,8 +114,8 @@ open-safes A West Two = grind arith
 
 -- whether a safe is open, by the four rows in any order
 pub open-shown : (A : History) (rows : List SafeRow) → IsPermutation (safes A) rows → (facility : Facility) (safe : SafeNumber)
-    → is_open_by rows facility safe ≡ is_safe_open A facility safe
-open-shown A rows p facility safe = sym (list_any-IsPermutation (opens facility safe) (safes A) rows p) ∙ open-safes A facility safe
+    → is_open_by rows facility safe ≡ is_open A facility safe
+open-shown A rows p facility safe = sym (list_any-IsPermutation (is_open_row facility safe) (safes A) rows p) ∙ open-safes A facility safe
 
 facility-same : (f g : Facility) → same_facility f g ≡ true → f ≡ g
 facility-same f g e = grind arith
@@ -128,15 +128,15 @@ each P Q f [] a = tt
 each P Q f (x ∷ xs) a = (f x a.0, each P Q f xs a.1)
 
 placed_after : (A : History) (act : Act) (f : Facility) (n : ℕ) → fault A act ≡ None → AllByRecursion (Placed A f n) (boxes A)
-    → AllByRecursion (λ row. is_box f n row ≡ true → or_else (boxed f n act) (place_of_box A f n) ≡ Some row.place) (cons_option (box_row act) (boxes A))
+    → AllByRecursion (λ row. is_box f n row ≡ true → option_or (added_box_place f n act) (place_of_box A f n) ≡ Some row.place) (cons_option (box_row act) (boxes A))
 placed_after A (AddBox facility number place) f n fine ih = (
   first,
-  each (Placed A f n) (λ row. is_box f n row ≡ true → or_else (boxed f n (AddBox facility number place)) (place_of_box A f n) ≡ Some row.place)
+  each (Placed A f n) (λ row. is_box f n row ≡ true → option_or (added_box_place f n (AddBox facility number place)) (place_of_box A f n) ≡ Some row.place)
       (λ row g e. older row (g e)) (boxes A) ih,
 )
   where
     first : (same_facility facility f && eqb number n) ≡ true
-        → or_else (cond (same_facility facility f && eqb number n) (Some place) None) (place_of_box A f n) ≡ Some place
+        → option_or (cond (same_facility facility f && eqb number n) (Some place) None) (place_of_box A f n) ≡ Some place
     first e = rw e
 
     free : is_some (place_of_box A facility number) ≡ false
@@ -145,7 +145,7 @@ placed_after A (AddBox facility number place) f n fine ih = (
         (unmet _ Taken (none_holds (conditions A (AddBox facility number place)) fine).0)).0
 
     older : (row : BoxRow) → place_of_box A f n ≡ Some row.place
-        → or_else (cond (same_facility facility f && eqb number n) (Some place) None) (place_of_box A f n) ≡ Some row.place
+        → option_or (cond (same_facility facility f && eqb number n) (Some place) None) (place_of_box A f n) ≡ Some row.place
     older row g = grind (arith, facility-same facility f, free)
 placed_after A act f n fine ih = ih
 

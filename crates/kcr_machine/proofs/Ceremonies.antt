@@ -15,18 +15,18 @@ use Rattle.kcr_base.proofs.RefuseLemmas.{none_holds, unmet, met}
 use Rattle.kcr_base.proofs.RowsLemmas.{filter-order}
 use Rattle.kcr_base.proofs.ListLemmas.{any-same, some_if, none-there, any-map}
 use Rattle.kcr_history.specs.declared.commands.Act.{Act}
-use Rattle.kcr_history.specs.declared.commands.Act.TheVariants.{Open, Close, Plan, Sign, Except}
-use Rattle.kcr_history.specs.declared.commands.Answer.{Answer}
-use Rattle.kcr_history.specs.declared.rows.CeremonyRow.{CeremonyRow}
-use Rattle.kcr_history.specs.declared.rows.CeremonyState.TheVariants as States
-use Rattle.kcr_history.specs.declared.rows.MarkRow.{MarkRow}
+use Rattle.kcr_history.specs.declared.commands.Act.TheVariants.{Open, Close, Plan, Sign, RecordException}
+use Rattle.kcr_history.specs.declared.commands.ReplyData.{ReplyData}
+use Rattle.kcr_history.specs.declared.row_types.CeremonyRow.{CeremonyRow}
+use Rattle.kcr_history.specs.declared.row_types.CeremonyState.TheVariants as States
+use Rattle.kcr_history.specs.declared.row_types.MarkRow.{MarkRow}
 use Rattle.kcr_history.specs.declared.views.Change.TheVariants.{PutKey, PutStep}
 use Rattle.kcr_history.specs.declared.views.View.{View}
-use Rattle.kcr_history.specs.History.{History, all_said, entry_of, stacked_on}
-use Rattle.kcr_history.specs.Ceremonies.{is_ceremony, facility_of, opening, opened, closing, closed, is_open, mark, opened_number, steps_of}
+use Rattle.kcr_history.specs.History.{History, values_of_acts, entry_of, pushed_onto}
+use Rattle.kcr_history.specs.Ceremonies.{is_ceremony, facility_of, opening_moment, opened_at, closing_moment, closed_at, is_ceremony_open, mark, opened_number, steps_of}
 use Rattle.kcr_history.specs.Ceremonies.{planned_as, plan_of}
 use Rattle.kcr_history.specs.Tables.{planned_number, ceremony_row, ceremonies, mark_row, marks, tables, sealed_serial, bag_row, bags, numbered, step_keys}
-use Rattle.kcr_history.specs.Tables.{step_row, steps, fate_of, Tables, step_done}
+use Rattle.kcr_history.specs.Tables.{step_row, steps, step_result, Tables, step_done}
 use Rattle.kcr_history.specs.Changes.{same_ceremony, same_mark, changed_by, same_step}
 use Rattle.kcr_history.specs.Views.{is_of_number}
 use Rattle.kcr_history.specs.Conditions.{conditions, fault, no_ceremony}
@@ -34,8 +34,8 @@ use Rattle.kcr_history.specs.Machine.{IsRegister, with_command}
 use Rattle.kcr_history.proofs.Steps.{took}
 use Rattle.kcr_history.proofs.Piled.{map-stacked}
 use Rattle.kcr_history.proofs.Words.{planned-number}
-use Rattle.kcr_rules.specs.Scene.{ceremony_by}
-use Rattle.kcr_rules.specs.CeremonyRows.{is_open_beside, lies_on_table, planned_row, undone_row, undone_rows}
+use Rattle.kcr_rules.specs.CeremonyStatus.{ceremony_by}
+use Rattle.kcr_rules.specs.CeremonyRows.{is_open_beside, lies_on_table, planned_row, planned_step_row, planned_step_rows}
 use Rattle.kcr_machine.specs.RowDecision.{new_key_row}
 use Rattle.kcr_base.specs.declared.place.Facility.{Facility}
 use Rattle.kcr_custody.specs.declared.Bag.{Bag}
@@ -44,8 +44,8 @@ use Rattle.kcr_custody.specs.declared.Spot.{Spot}
 use Rattle.kcr_custody.specs.declared.Spot.TheVariants.{Spent}
 use Rattle.kcr_custody.specs.Custody.{is_on_table}
 use Rattle.kcr_script.specs.declared.script.Step.{Step}
-use Rattle.kcr_history.specs.declared.rows.StepRow.{StepRow}
-use Rattle.kcr_history.specs.declared.rows.StepState.TheVariants.{Signed, Passed}
+use Rattle.kcr_history.specs.declared.row_types.StepRow.{StepRow}
+use Rattle.kcr_history.specs.declared.row_types.StepState.TheVariants.{Signed, Passed}
 use Rattle.kcr_history.specs.Custody.{spot}
 use Rattle.std.specs.Result.{result_unwrap_or}
 use Rattle.kcr_script.specs.Reading.{script_of}
@@ -62,7 +62,7 @@ use Rattle.kcr_machine.proofs.UsedRooms.{used-shown}
 
 -- OPENING
 
--- the row of the ceremony, where all rows are shown
+-- the row of the ceremony, if all rows are shown
 row-shown : (A : History) (c : ℕ) (rows : List CeremonyRow) → IsPermutation (ceremonies A) rows
     → ceremony_by rows c ≡ some_if (is_ceremony A c) (ceremony_row A c)
 row-shown A c rows p = ceremony-shown A c rows (filter-order (is_of_number c) (ceremonies A) rows p)
@@ -70,54 +70,54 @@ row-shown A c rows p = ceremony-shown A c rows (filter-order (is_of_number c) (c
 -- whether another ceremony is open in its facility
 busy-shown : (A : History) (c : ℕ) (rows : List CeremonyRow) → IsPermutation (ceremonies A) rows
     → list_any (is_open_beside (ceremony_row A c)) rows
-    ≡ list_any (λ other. not (eqb other c) && same_facility (facility_of A other) (facility_of A c) && is_open A other) (all_said planned_number A)
+    ≡ list_any (λ other. not (eqb other c) && same_facility (facility_of A other) (facility_of A c) && is_ceremony_open A other) (values_of_acts planned_number A)
 busy-shown A c rows p =
     sym (list_any-IsPermutation (is_open_beside (ceremony_row A c)) (ceremonies A) rows p)
-    ∙ any-map (is_open_beside (ceremony_row A c)) (ceremony_row A) (all_said planned_number A)
+    ∙ any-map (is_open_beside (ceremony_row A c)) (ceremony_row A) (values_of_acts planned_number A)
     ∙ any-same (λ other. is_open_beside (ceremony_row A c) (ceremony_row A other))
-    (λ other. not (eqb other c) && same_facility (facility_of A other) (facility_of A c) && is_open A other)
-    (all_said planned_number A) (λ other. ap (λ b. not (eqb other c) && same_facility (facility_of A other) (facility_of A c) && b) (open-state A other))
+    (λ other. not (eqb other c) && same_facility (facility_of A other) (facility_of A c) && is_ceremony_open A other)
+    (values_of_acts planned_number A) (λ other. ap (λ b. not (eqb other c) && same_facility (facility_of A other) (facility_of A c) && b) (open-state A other))
 
 pub open-fault : (A : History) (c at : ℕ) → FaultShown A (Open c at)
 open-fault A c at view v =
     rw (row-shown A c view.ceremonies.items v.ceremonies) (grind (arith, busy-shown A c view.ceremonies.items v.ceremonies))
 
 -- only a ceremony that was opened is closed
-closed-opened : (A : History) → IsRegister A → (c : ℕ) → is_some (closed A c) ≡ true → is_some (opened A c) ≡ true
+closed-opened : (A : History) → IsRegister A → (c : ℕ) → is_some (closed_at A c) ≡ true → is_some (opened_at A c) ≡ true
 closed-opened [] h c e = absurd (false≢true e)
 closed-opened (entry ∷ A) h c e =
-    said-then (closing c entry.command.act) (closed A c) (opening c entry.command.act) (opened A c) (by_act entry.command.act (took A entry h.0).no_fault)
+    said-then (closing_moment c entry.command.act) (closed_at A c) (opening_moment c entry.command.act) (opened_at A c) (by_act entry.command.act (took A entry h.0).no_fault)
     (closed-opened A h.1 c) e
   where
-    by_act : (act : Act) → fault A act ≡ None → is_some (closing c act) ≡ true → is_some (opened A c) ≡ true
+    by_act : (act : Act) → fault A act ≡ None → is_some (closing_moment c act) ≡ true → is_some (opened_at A c) ≡ true
     by_act (Close d at) f e =
-        let open_now = met (is_open A d) Refusals.State (none_holds (conditions A (Close d at)) f).1.0 in
-        subst (λ c. is_some (opened A c) ≡ true) (eqb-true d c (some-where (eqb d c) at e)) (open-opened A d open_now)
+        let open_now = met (is_ceremony_open A d) Refusals.State (none_holds (conditions A (Close d at)) f).1.0 in
+        subst (λ c. is_some (opened_at A c) ≡ true) (eqb-true d c (some-where (eqb d c) at e)) (open-opened A d open_now)
     by_act act f e = absurd (false≢true e)
 
 -- one that was never opened was never closed
-never-closed : (A : History) → IsRegister A → (c : ℕ) → is_some (opened A c) ≡ false → closed A c ≡ None
-never-closed A h c e = none-there (closed A c) (false_from_ne_true (is_some (closed A c)) (λ g. true≢false (sym (closed-opened A h c g) ∙ e)))
+never-closed : (A : History) → IsRegister A → (c : ℕ) → is_some (opened_at A c) ≡ false → closed_at A c ≡ None
+never-closed A h c e = none-there (closed_at A c) (false_from_ne_true (is_some (closed_at A c)) (λ g. true≢false (sym (closed-opened A h c g) ∙ e)))
 
 -- one row is put under its number, and the others stay
 ceremony-put : (A B : History) (c : ℕ) (row : CeremonyRow) → row ≡ ceremony_row B c → ((k : ℕ) → eqb k c ≡ false → ceremony_row A k ≡ ceremony_row B k)
     → is_ceremony A c ≡ true
-    → put same_ceremony row (ceremonies A) ≡ map (ceremony_row B) (all_said planned_number A)
+    → put same_ceremony row (ceremonies A) ≡ map (ceremony_row B) (values_of_acts planned_number A)
 ceremony-put A B c row own other known =
     ap (λ row. put same_ceremony row (ceremonies A)) own
     ∙ put-at same_ceremony (ceremony_row A) (ceremony_row B) (ceremony_row B c) (λ k e. ap (ceremony_row B) (sym (eqb-true k c e))) other
-    (all_said planned_number A) (planned-number A c ∙ known)
+    (values_of_acts planned_number A) (planned-number A c ∙ known)
 
 -- the tables with one that is opened
-module _ (A : History) (h : IsRegister A) (key : List ℕ) (answer : Answer) (c at : ℕ) (f : fault A (Open c at) ≡ None) where
+module _ (A : History) (h : IsRegister A) (key : List ℕ) (answer : ReplyData) (c at : ℕ) (f : fault A (Open c at) ≡ None) where
   abbrev opened_now : History
   opened_now = with_command A (command_of key (Open c at)) answer
 
   known : is_ceremony A c ≡ true
   known = met (is_ceremony A c) (Unknown (Things.Ceremony c)) (none_holds (conditions A (Open c at)) f).0
 
-  fresh : is_some (opened A c) ≡ false
-  fresh = unmet (is_some (opened A c)) Refusals.State (assumption (none_holds (conditions A (Open c at)) f))
+  fresh : is_some (opened_at A c) ≡ false
+  fresh = unmet (is_some (opened_at A c)) Refusals.State (assumption (none_holds (conditions A (Open c at)) f))
 
   abbrev open_row : CeremonyRow
   open_row = record (ceremony_row A c) { state = States.Open; opened = Some at }
@@ -131,8 +131,8 @@ module _ (A : History) (h : IsRegister A) (key : List ℕ) (answer : Answer) (c 
   marks-first : put same_mark first_mark (marks A) ≡ marks opened_now
   marks-first =
       put-first same_mark (mark_row A) (mark_row opened_now) first_mark (λ k e. rw (mark-after A (entry_as key (Open c at) answer) k, turned c k e) refl)
-      (all_said opened_number A) (opened-number A c ∙ fresh)
-      ∙ ap (λ row. row ∷ map (mark_row opened_now) (all_said opened_number A)) own
+      (values_of_acts opened_number A) (opened-number A c ∙ fresh)
+      ∙ ap (λ row. row ∷ map (mark_row opened_now) (values_of_acts opened_number A)) own
     where
       own : first_mark ≡ mark_row opened_now c
       own = rw (mark-after A (entry_as key (Open c at) answer) c, eq-eqb c c refl, none-there (mark A c) (marked-opened A h c ∙ fresh)) refl
@@ -149,12 +149,12 @@ spent : (facility : Facility) (o : Option Spot) → is_on_table facility (Some (
 spent facility o = grind arith
 
 table-shown : (A : History) (facility : Facility) (rows : List Bag) → IsPermutation (bags A) rows
-    → list_any (lies_on_table facility) rows ≡ list_any (λ serial. is_on_table facility (spot A serial)) (all_said sealed_serial A)
+    → list_any (lies_on_table facility) rows ≡ list_any (λ serial. is_on_table facility (spot A serial)) (values_of_acts sealed_serial A)
 table-shown A facility rows p =
     sym (list_any-IsPermutation (lies_on_table facility) (bags A) rows p)
-    ∙ any-map (lies_on_table facility) (bag_row A) (all_said sealed_serial A)
+    ∙ any-map (lies_on_table facility) (bag_row A) (values_of_acts sealed_serial A)
     ∙ any-same (λ serial. lies_on_table facility (bag_row A serial)) (λ serial. is_on_table facility (spot A serial))
-    (all_said sealed_serial A) (λ serial. spent facility (spot A serial))
+    (values_of_acts sealed_serial A) (λ serial. spent facility (spot A serial))
 
 -- THE KIND
 
@@ -173,7 +173,7 @@ close-fault A h c at view v =
     ))
 
 -- the tables with one that is closed
-module _ (A : History) (key : List ℕ) (answer : Answer) (c at : ℕ) (f : fault A (Close c at) ≡ None) where
+module _ (A : History) (key : List ℕ) (answer : ReplyData) (c at : ℕ) (f : fault A (Close c at) ≡ None) where
   abbrev closed_now : History
   closed_now = with_command A (command_of key (Close c at)) answer
 
@@ -199,10 +199,10 @@ plan-fault A number facility day script view v = rw (known-shown A number view.c
 -- ROWS OF A CEREMONY THAT WAS NOT PLANNED
 
 -- only steps of a planned ceremony are signed or passed
-done-planned : (A : History) → IsRegister A → (c k : ℕ) → is_some (fate_of A c k) ≡ true → is_ceremony A c ≡ true
+done-planned : (A : History) → IsRegister A → (c k : ℕ) → is_some (step_result A c k) ≡ true → is_ceremony A c ≡ true
 done-planned [] h c k e = absurd (false≢true e)
 done-planned (entry ∷ A) h c k e =
-    said-then (step_done c k entry.command.act entry.answer.step) (fate_of A c k) (planned_as c entry.command.act) (plan_of A c)
+    said-then (step_done c k entry.command.act entry.answer.step) (step_result A c k) (planned_as c entry.command.act) (plan_of A c)
     (by_act entry.command.act entry.answer.step (took A entry h.0).no_fault) (done-planned A h.1 c k) e
   where
     own : (d step : ℕ) → no_ceremony A d ≡ None → (eqb d c && eqb step k) ≡ true → is_ceremony A c ≡ true
@@ -211,9 +211,9 @@ done-planned (entry ∷ A) h c k e =
 
     by_act : (act : Act) (said : Option ℕ) → fault A act ≡ None → is_some (step_done c k act said) ≡ true → is_ceremony A c ≡ true
     by_act (Sign d step at) said f e = own d step (none_holds (conditions A (Sign d step at)) f).0 (some-where (eqb d c && eqb step k) (Signed, at) e)
-    by_act (Except d text pass at) (Some step) f e =
-        own d step (none_holds (conditions A (Except d text pass at)) f).0 (some-where (eqb d c && eqb step k) (Passed, at) e)
-    by_act (Except d text pass at) None f e = absurd (false≢true e)
+    by_act (RecordException d text pass at) (Some step) f e =
+        own d step (none_holds (conditions A (RecordException d text pass at)) f).0 (some-where (eqb d c && eqb step k) (Passed, at) e)
+    by_act (RecordException d text pass at) None f e = absurd (false≢true e)
     by_act act said f e = absurd (false≢true e)
 
 -- what implies that a ceremony was planned is not so of one that was not
@@ -225,29 +225,29 @@ not-planned o b imp e = none-there o (false_from_ne_true (is_some o) (λ i. true
 -- rows of steps that are all new are put in front, one planned_now the other
 put-steps : (c i : ℕ) (ss : List Step) (rest : List Change) (t : Tables)
     → ((j : ℕ) → i ≤ j → list_any (λ row. eqb row.ceremony c && eqb row.step j) t.steps ≡ false)
-    → changed_by (map PutStep (undone_rows c i ss) ++ rest) t ≡ changed_by rest (record t { steps = stacked_on (undone_rows c i ss) t.steps })
+    → changed_by (map PutStep (planned_step_rows c i ss) ++ rest) t ≡ changed_by rest (record t { steps = pushed_onto (planned_step_rows c i ss) t.steps })
 put-steps c i [] rest t not_known = refl
 put-steps c i (s ∷ ss) rest t not_known =
-    let row : StepRow = undone_row c i s in
-    ap (λ rows. changed_by (map PutStep (undone_rows c (i + 1) ss) ++ rest) (record t { steps = rows }))
+    let row : StepRow = planned_step_row c i s in
+    ap (λ rows. changed_by (map PutStep (planned_step_rows c (i + 1) ss) ++ rest) (record t { steps = rows }))
     (put-new same_step row t.steps (not_known i (omega arith)))
     ∙ put-steps c (i + 1) ss rest (record t { steps = row ∷ t.steps })
     (λ j l. rw (and_right (eqb c c) (eqb i j) (ne_eqb i j (λ e. omega (arith, e, l))), not_known j (omega (arith, l))) refl)
 
 -- the rows of a ceremony's steps, none of which was done
-own-rows : (B : History) (c i : ℕ) (all ss : List Step) → steps_of B c ≡ all → ((k : ℕ) → fate_of B c k ≡ None)
+own-rows : (B : History) (c i : ℕ) (all ss : List Step) → steps_of B c ≡ all → ((k : ℕ) → step_result B c k ≡ None)
     → ((j : ℕ) → slice_get all (i + j) ≡ slice_get ss j)
-    → map (step_row B) (numbered c i ss) ≡ undone_rows c (suc i) ss
+    → map (step_row B) (numbered c i ss) ≡ planned_step_rows c (suc i) ss
 own-rows B c i all [] e undone at = refl
 own-rows B c i all (s ∷ ss) e undone at =
     let here : slice_get all i ≡ Some s = ap (slice_get all) (let z : i ≡ i + 0 = omega arith in z) ∙ at 0 in
     rw (e, undone (suc i), here)
-    (ap (λ rows. undone_row c (suc i) s ∷ rows)
+    (ap (λ rows. planned_step_row c (suc i) s ∷ rows)
     (own-rows B c (suc i) all ss e undone (λ j. ap (slice_get all) (let z : suc i + j ≡ i + suc j = omega arith in z) ∙ at (suc j))
-    ∙ ap (λ n. undone_rows c n ss) (sym (add-one (suc i)))))
+    ∙ ap (λ n. planned_step_rows c n ss) (sym (add-one (suc i)))))
 
 -- the tables with one that is planned
-module _ (A : History) (h : IsRegister A) (key : List ℕ) (answer : Answer) (c : ℕ) (facility : Facility) (day : ℕ) (script : List ℕ)
+module _ (A : History) (h : IsRegister A) (key : List ℕ) (answer : ReplyData) (c : ℕ) (facility : Facility) (day : ℕ) (script : List ℕ)
     (f : fault A (Plan c facility day script) ≡ None) where
   abbrev planned_now : History
   planned_now = with_command A (command_of key (Plan c facility day script)) answer
@@ -258,14 +258,14 @@ module _ (A : History) (h : IsRegister A) (key : List ℕ) (answer : Answer) (c 
   not_known : is_ceremony A c ≡ false
   not_known = unmet (is_ceremony A c) Taken (none_holds (conditions A (Plan c facility day script)) f).0
 
-  not_opened : opened A c ≡ None
-  not_opened = not-planned (opened A c) (is_ceremony A c) (opened-planned A h c) not_known
+  not_opened : opened_at A c ≡ None
+  not_opened = not-planned (opened_at A c) (is_ceremony A c) (opened-planned A h c) not_known
 
   ceremonies-planned : put same_ceremony (planned_row c facility day) (ceremonies A) ≡ ceremonies planned_now
   ceremonies-planned =
       put-first same_ceremony (ceremony_row A) (ceremony_row planned_now) (planned_row c facility day) (λ k e. rw (turned c k e) refl)
-      (all_said planned_number A) (planned-number A c ∙ not_known)
-      ∙ ap (λ row. row ∷ map (ceremony_row planned_now) (all_said planned_number A)) own
+      (values_of_acts planned_number A) (planned-number A c ∙ not_known)
+      ∙ ap (λ row. row ∷ map (ceremony_row planned_now) (values_of_acts planned_number A)) own
     where
       own : planned_row c facility day ≡ ceremony_row planned_now c
       own = rw (eq-eqb c c refl, never-closed A h c (ap is_some not_opened), not_opened) refl
@@ -277,13 +277,13 @@ module _ (A : History) (h : IsRegister A) (key : List ℕ) (answer : Answer) (c 
   no_key : (k : ℕ × ℕ) → IsIn k (step_keys A) → eqb k.0 c ≡ false
   no_key k i = none-in (λ k. eqb k.0 c) k (step_keys A) (keys-planned A h c not_known) i
 
-  steps-put : stacked_on (undone_rows c 1 its_steps) (steps A) ≡ steps planned_now
+  steps-put : pushed_onto (planned_step_rows c 1 its_steps) (steps A) ≡ steps planned_now
   steps-put =
       sym (map-stacked (step_row planned_now) (numbered c 0 its_steps) (step_keys A)
-      ∙ ap (λ rows. stacked_on rows (map (step_row planned_now) (step_keys A))) (own-rows planned_now c 0 its_steps its_steps its_own
-      (λ k. not-planned (fate_of A c k) (is_ceremony A c) (done-planned A h c k) not_known)
+      ∙ ap (λ rows. pushed_onto rows (map (step_row planned_now) (step_keys A))) (own-rows planned_now c 0 its_steps its_steps its_own
+      (λ k. not-planned (step_result A c k) (is_ceremony A c) (done-planned A h c k) not_known)
       (λ j. ap (slice_get its_steps) (let z : 0 + j ≡ j = omega arith in z)))
-      ∙ ap (λ rows. stacked_on (undone_rows c 1 its_steps) rows)
+      ∙ ap (λ rows. pushed_onto (planned_step_rows c 1 its_steps) rows)
       (sym (map-same-in (step_row A) (step_row planned_now) (step_keys A) (λ k i. rw (turned c k.0 (no_key k i)) refl))))
 
   new_steps : (j : ℕ) → list_any (λ row. eqb row.ceremony c && eqb row.step j) (steps A) ≡ false
@@ -294,6 +294,6 @@ module _ (A : History) (h : IsRegister A) (key : List ℕ) (answer : Answer) (c 
   pub plan-leads : (view : View) → entry_of A key ≡ None → Leads A view (command_of key (Plan c facility day script)) answer
   plan-leads view k =
       let rest : List Change = PutKey (new_key_row (command_of key (Plan c facility day script)) answer) ∷ [] in
-      ap (λ rows. changed_by (map PutStep (undone_rows c 1 its_steps) ++ rest) (record (tables A) { ceremonies = rows })) ceremonies-planned
+      ap (λ rows. changed_by (map PutStep (planned_step_rows c 1 its_steps) ++ rest) (record (tables A) { ceremonies = rows })) ceremonies-planned
       ∙ put-steps c 1 its_steps rest (record (tables A) { ceremonies = ceremonies planned_now }) (λ j l. new_steps j)
       ∙ rw (steps-put, new_key A (command_of key (Plan c facility day script)) answer k) refl

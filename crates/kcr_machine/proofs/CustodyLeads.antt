@@ -9,7 +9,7 @@ use Rattle.kcr_base.proofs.RefuseLemmas.{none_holds, unmet}
 use Rattle.kcr_base.proofs.SameLemmas.{same-itself, same-is, same-turned}
 use Rattle.kcr_base.proofs.ListLemmas.{there, still}
 use Rattle.kcr_base.specs.Refuse.{when}
-use Rattle.kcr_base.specs.Rows.{or_else, put, put_all}
+use Rattle.kcr_base.specs.Rows.{option_or, put, put_all}
 use Rattle.kcr_base.specs.Same.{same_text, same_facility}
 use Rattle.kcr_base.specs.declared.place.Facility.{Facility}
 use Rattle.kcr_base.specs.declared.place.Facility.TheVariants.{East, West}
@@ -19,15 +19,15 @@ use Rattle.kcr_custody.specs.declared.Rest.{Rest}
 use Rattle.kcr_custody.specs.declared.Rest.TheVariants.{Loose, Within}
 use Rattle.kcr_custody.specs.declared.Spot.{Spot}
 use Rattle.kcr_custody.specs.declared.Spot.TheVariants.{Table, Spent}
-use Rattle.kcr_custody.specs.declared.Store.{Store}
+use Rattle.kcr_custody.specs.declared.Destination.{Destination}
 use Rattle.kcr_custody.specs.Balance.{same_bag, same_item, same_box}
-use Rattle.kcr_custody.specs.Custody.{is_on_table, safe_of, is_within, lies_in, within, loosened, packed, spot_of_store, same_safe, no_bag}
+use Rattle.kcr_custody.specs.Custody.{is_on_table, safe_of, is_within, lies_in, sealed_item, loose_items, sealed_items, spot_of_destination, same_safe, unknown_bag_refusal}
 use Rattle.kcr_history.specs.declared.commands.Act.{Act}
-use Rattle.kcr_history.specs.declared.commands.Act.TheVariants.{Seal, Take, Put, Cut, AddItem, TurnSafe, AddBox}
-use Rattle.kcr_history.specs.declared.commands.Answer.{Answer}
-use Rattle.kcr_history.specs.History.{History, all_said, last_said, last_told, some_command}
+use Rattle.kcr_history.specs.declared.commands.Act.TheVariants.{Seal, Take, Put, Cut, AddItem, SetSafe, AddBox}
+use Rattle.kcr_history.specs.declared.commands.ReplyData.{ReplyData}
+use Rattle.kcr_history.specs.History.{History, values_of_acts, last_value_of_acts, last_value_with_history, has_command}
 use Rattle.kcr_history.specs.Ceremonies.{facility_of}
-use Rattle.kcr_history.specs.Custody.{moved, spot, is_spent, sealed_in, cut_at, added_at, rest_in, rest, turned, place_of_box, boxes_place}
+use Rattle.kcr_history.specs.Custody.{spot_after, spot, is_spent, sealed_in, cut_at, added_at, rest_in, rest, safe_state_after, place_of_box, boxes_place}
 use Rattle.kcr_history.specs.Tables.{bags, bag_row, sealed_serial, items, item_row, added_item, Tables, tables, safes, boxes}
 use Rattle.kcr_history.specs.Conditions.{conditions, fault}
 use Rattle.kcr_history.specs.Machine.{IsRegister, with_command}
@@ -51,7 +51,7 @@ use Rattle.kcr_base.proofs.Members.{IsIn, filter-in, in-any, in-filter, in-map, 
 use Rattle.kcr_machine.proofs.Scenes.{facility-shown, marks-put}
 
 -- the history with an act accepted after it
-abbrev then_act : History → List ℕ → Act → Answer → History
+abbrev then_act : History → List ℕ → Act → ReplyData → History
 then_act A key act answer = with_command A (command_of key act) answer
 
 -- A BOX
@@ -59,7 +59,7 @@ then_act A key act answer = with_command A (command_of key act) answer
 pub add_box-leads : (A : History) (facility : Facility) (number : ℕ) (place : Place) → LeadsOn A (AddBox facility number place)
 add_box-leads A facility number place key view answer v k f =
     let new : BoxRow = record { facility = facility; number = number; place = place } in
-    let free = (or_parts (is_some (place_of_box A facility number)) (some_command (boxes_place place) A)
+    let free = (or_parts (is_some (place_of_box A facility number)) (has_command (boxes_place place) A)
     (unmet _ Taken (none_holds (conditions A (AddBox facility number place)) f).0)).0 in
     rw (put-new same_box new (boxes A) (box-there A facility number ∙ free), new_key A (command_of key (AddBox facility number place)) answer k)
 
@@ -68,7 +68,7 @@ add_box-leads A facility number place key view answer v k f =
 -- what is said of a safe by one more command
 abbrev next_state : Facility → SafeNumber → Bool → Facility → SafeNumber → Option Bool → Bool
 next_state here safe state facility other before =
-    unwrap_or (or_else (cond (same_facility here facility && same_safe safe other) (Some state) None) before) false
+    unwrap_or (option_or (cond (same_facility here facility && same_safe safe other) (Some state) None) before) false
 
 abbrev row_of : Facility → SafeNumber → Bool → SafeRow
 row_of facility safe is_open = record { facility = facility; safe = safe; is_open = is_open }
@@ -84,14 +84,14 @@ put-safe East Two state last = refl
 put-safe West One state last = refl
 put-safe West Two state last = refl
 
-safes-put : (A : History) (key : List ℕ) (answer : Answer) (c : ℕ) (safe : SafeNumber) (state : Bool) (by : List ℕ) (at : ℕ)
-    → put same_safe_row (row_of (facility_of A c) safe state) (safes A) ≡ safes (with_command A (command_of key (TurnSafe c safe state by at)) answer)
+safes-put : (A : History) (key : List ℕ) (answer : ReplyData) (c : ℕ) (safe : SafeNumber) (state : Bool) (by : List ℕ) (at : ℕ)
+    → put same_safe_row (row_of (facility_of A c) safe state) (safes A) ≡ safes (with_command A (command_of key (SetSafe c safe state by at)) answer)
 safes-put A key answer c safe state by at =
-    put-safe (facility_of A c) safe state (λ facility safe. last_told (λ before. turned (facility_of before) facility safe) A)
+    put-safe (facility_of A c) safe state (λ facility safe. last_value_with_history (λ before. safe_state_after (facility_of before) facility safe) A)
 
-pub turn-leads : (A : History) → IsRegister A → (c : ℕ) (safe : SafeNumber) (state : Bool) (by : List ℕ) (at : ℕ) → LeadsOn A (TurnSafe c safe state by at)
+pub turn-leads : (A : History) → IsRegister A → (c : ℕ) (safe : SafeNumber) (state : Bool) (by : List ℕ) (at : ℕ) → LeadsOn A (SetSafe c safe state by at)
 turn-leads A h c safe state by at key view answer v k f =
-    let act = TurnSafe c safe state by at in
+    let act = SetSafe c safe state by at in
     rw (
       facility-shown A c view.ceremonies.items v.ceremonies,
       safes-put A key answer c safe state by at,
@@ -103,22 +103,22 @@ turn-leads A h c safe state by at key view answer v k f =
 -- AN ITEM
 
 abbrev last_bag : History → List ℕ → Option (List ℕ)
-last_bag A k = last_said (sealed_in k) A
+last_bag A k = last_value_of_acts (sealed_in k) A
 
 abbrev added : History → List ℕ → Option Rest
-added A k = option_map Loose (last_told (λ before. added_at (facility_of before) k) A)
+added A k = option_map Loose (last_value_with_history (λ before. added_at (facility_of before) k) A)
 
 -- an item that is nowhere was never sealed
 no_bag_yet : (A : History) (k : List ℕ) → is_some (rest A k) ≡ false → last_bag A k ≡ None
 no_bag_yet A k h = grind arith
 
 -- its row is put in front, and the others stay
-items-added : (A : History) → IsRegister A → (key : List ℕ) (answer : Answer) (c : ℕ) (item : List ℕ) (at : ℕ) → is_some (rest A item) ≡ false
+items-added : (A : History) → IsRegister A → (key : List ℕ) (answer : ReplyData) (c : ℕ) (item : List ℕ) (at : ℕ) → is_some (rest A item) ≡ false
     → put same_item (record { code = item; rest = Loose (facility_of A c) }) (items A) ≡ items (with_command A (command_of key (AddItem c item at)) answer)
 items-added A h key answer c item at free =
     put-first same_item (item_row A) (item_row B) (record { code = item; rest = Loose (facility_of A c) }) (λ k e. rw (same-turned item k ∙ e) refl)
-    (all_said added_item A) (added_rest A h item ∙ free)
-    ∙ ap (λ row. row ∷ map (item_row B) (all_said added_item A)) own
+    (values_of_acts added_item A) (added_rest A h item ∙ free)
+    ∙ ap (λ row. row ∷ map (item_row B) (values_of_acts added_item A)) own
   where
     B : History
     B = with_command A (command_of key (AddItem c item at)) answer
@@ -141,39 +141,39 @@ add_item-leads A h c item at key view answer v k f =
 
 -- moved to a place, or as it was
 abbrev moved_row : History → List ℕ → Spot → List ℕ → Bag
-moved_row A t to k = record { serial = k; spot = unwrap_or (or_else (cond (same_text t k) (Some to) None) (spot A k)) Spent }
+moved_row A t to k = record { serial = k; spot = unwrap_or (option_or (cond (same_text t k) (Some to) None) (spot A k)) Spent }
 
-bags_moved : (A : History) → IsRegister A → (t : List ℕ) (to : Spot) → no_bag (spot A t) t ≡ None
-    → put same_bag (record { serial = t; spot = to }) (bags A) ≡ map (moved_row A t to) (all_said sealed_serial A)
+bags_moved : (A : History) → IsRegister A → (t : List ℕ) (to : Spot) → unknown_bag_refusal (spot A t) t ≡ None
+    → put same_bag (record { serial = t; spot = to }) (bags A) ≡ map (moved_row A t to) (values_of_acts sealed_serial A)
 bags_moved A h t to n =
     put-at same_bag (bag_row A) (moved_row A t to) (record { serial = t; spot = to })
     (λ k e. let q : k ≡ t = same-is k t e in rw (q, same-itself t) refl) (λ k e. rw (same-turned t k ∙ e) refl)
-    (all_said sealed_serial A) (sealed_somewhere A h t ∙ there (spot A t) (unmet (is_none (spot A t)) (Unknown (Things.Bag t)) n))
+    (values_of_acts sealed_serial A) (sealed_somewhere A h t ∙ there (spot A t) (unmet (is_none (spot A t)) (Unknown (Things.Bag t)) n))
 
 -- the row of a new bag is put in front
 bags_sealed : (A : History) → IsRegister A → (t : List ℕ) (to : Spot) → is_some (spot A t) ≡ false
-    → put same_bag (record { serial = t; spot = to }) (bags A) ≡ record { serial = t; spot = to } ∷ map (moved_row A t to) (all_said sealed_serial A)
+    → put same_bag (record { serial = t; spot = to }) (bags A) ≡ record { serial = t; spot = to } ∷ map (moved_row A t to) (values_of_acts sealed_serial A)
 bags_sealed A h t to new =
-    put-first same_bag (bag_row A) (moved_row A t to) (record { serial = t; spot = to }) (λ k e. rw (same-turned t k ∙ e) refl) (all_said sealed_serial A)
+    put-first same_bag (bag_row A) (moved_row A t to) (record { serial = t; spot = to }) (λ k e. rw (same-turned t k ∙ e) refl) (values_of_acts sealed_serial A)
     (sealed_somewhere A h t ∙ new)
 
 -- ITEMS OF A BAG THAT IS TAKEN OR PUT
 
 abbrev loosed : History → List ℕ → Rest
-loosed A s = Loose (unwrap_or (last_told (λ before. cut_at (facility_of before) s) A) East)
+loosed A s = Loose (unwrap_or (last_value_with_history (λ before. cut_at (facility_of before) s) A) East)
 
 -- where the items of bag s are, once bag t has moved
 abbrev in_moved : History → List ℕ → Spot → List ℕ → Rest
-in_moved A t to s = cond (is_spent (or_else (cond (same_text t s) (Some to) None) (spot A s))) (loosed A s) (Within s)
+in_moved A t to s = cond (is_spent (option_or (cond (same_text t s) (Some to) None) (spot A s))) (loosed A s) (Within s)
 
 -- a bag that is not spent, moved to where it is not either, leaves its items in it
 still_in : (A : History) (t : List ℕ) (to : Spot) → is_spent (spot A t) ≡ false → is_spent (Some to) ≡ false → (s : List ℕ) → rest_in A s ≡ in_moved A t to s
 still_in A t to u v s = grind (arith, same-is t s)
 
 items_stay : (A : History) (t : List ℕ) (to : Spot) → is_spent (spot A t) ≡ false → is_spent (Some to) ≡ false → (ks : List (List ℕ))
-    → map (item_row A) ks ≡ map (λ k. record { code = k; rest = unwrap_or (or_else (option_map (in_moved A t to) (last_bag A k)) (added A k)) (Loose East) }) ks
+    → map (item_row A) ks ≡ map (λ k. record { code = k; rest = unwrap_or (option_or (option_map (in_moved A t to) (last_bag A k)) (added A k)) (Loose East) }) ks
 items_stay A t to u v ks =
-    map-same (item_row A) _ ks (λ k. ap (λ o. record { code = k; rest = unwrap_or (or_else o (added A k)) (Loose East) }) (in_bag (last_bag A k)))
+    map-same (item_row A) _ ks (λ k. ap (λ o. record { code = k; rest = unwrap_or (option_or o (added A k)) (Loose East) }) (in_bag (last_bag A k)))
   where
     in_bag : (o : Option (List ℕ)) → option_map (rest_in A) o ≡ option_map (in_moved A t to) o
     in_bag o = grind (arith, still_in A t to u v)
@@ -185,37 +185,37 @@ stored facility o m = grind arith
 on_table : (facility : Facility) (o : Option Spot) → when (not (is_on_table facility o)) Elsewhere ≡ None → is_spent o ≡ false
 on_table facility o m = grind arith
 
-stored_there : (facility : Facility) (to : Store) → is_spent (Some (spot_of_store facility to)) ≡ false
+stored_there : (facility : Facility) (to : Destination) → is_spent (Some (spot_of_destination facility to)) ≡ false
 stored_there facility to = grind arith
 
 -- ITEMS THAT ARE SEALED
 
-sealed_spot_after : (A : History) (act : Act) (k s : List ℕ) → (last_said (sealed_in k) A ≡ Some s → is_some (spot A s) ≡ true)
-    → or_else (sealed_in k act) (last_said (sealed_in k) A) ≡ Some s → is_some (or_else (moved (facility_of A) s act) (spot A s)) ≡ true
+sealed_spot_after : (A : History) (act : Act) (k s : List ℕ) → (last_value_of_acts (sealed_in k) A ≡ Some s → is_some (spot A s) ≡ true)
+    → option_or (sealed_in k act) (last_value_of_acts (sealed_in k) A) ≡ Some s → is_some (option_or (spot_after (facility_of A) s act) (spot A s)) ≡ true
 sealed_spot_after A (Seal c serial codes at) k s ih e = grind (arith, same-itself s)
-sealed_spot_after A act k s ih e = still (moved (facility_of A) s act) (spot A s) (ih e)
+sealed_spot_after A act k s ih e = still (spot_after (facility_of A) s act) (spot A s) (ih e)
 
 -- a bag that an item was sealed in is somewhere
-sealed_spot : (A : History) (k s : List ℕ) → last_said (sealed_in k) A ≡ Some s → is_some (spot A s) ≡ true
+sealed_spot : (A : History) (k s : List ℕ) → last_value_of_acts (sealed_in k) A ≡ Some s → is_some (spot A s) ≡ true
 sealed_spot [] k s e = absurd (let q : None ≡ Some s = e in cc)
 sealed_spot (entry ∷ A) k s e = sealed_spot_after A entry.command.act k s (sealed_spot A k s) e
 
 -- an item's row, in the new bag or as it was
-sealed_row : (A : History) (key : List ℕ) (c : ℕ) (serial : List ℕ) (codes : List (List ℕ)) (at : ℕ) (answer : Answer) → is_some (spot A serial) ≡ false
+sealed_row : (A : History) (key : List ℕ) (c : ℕ) (serial : List ℕ) (codes : List (List ℕ)) (at : ℕ) (answer : ReplyData) → is_some (spot A serial) ≡ false
     → (k : List ℕ)
-    → cond (list_any (same_text k) codes) (within serial k) (item_row A k) ≡ item_row (then_act A key (Seal c serial codes at) answer) k
+    → cond (list_any (same_text k) codes) (sealed_item serial k) (item_row A k) ≡ item_row (then_act A key (Seal c serial codes at) answer) k
 sealed_row A key c serial codes at answer n k = grind (arith, same-itself serial, same-is serial, sealed_spot A k)
 
-items-seal : (A : History) → IsRegister A → (key : List ℕ) (c : ℕ) (serial : List ℕ) (codes : List (List ℕ)) (at : ℕ) (answer : Answer)
+items-seal : (A : History) → IsRegister A → (key : List ℕ) (c : ℕ) (serial : List ℕ) (codes : List (List ℕ)) (at : ℕ) (answer : ReplyData)
     → fault A (Seal c serial codes at) ≡ None
-    → put_all same_item (packed serial codes) (items A) ≡ items (then_act A key (Seal c serial codes at) answer)
+    → put_all same_item (sealed_items serial codes) (items A) ≡ items (then_act A key (Seal c serial codes at) answer)
 items-seal A h key c serial codes at answer n =
     let met = none_holds (conditions A (Seal c serial codes at)) n in
-    put-rows same_item (λ c k. same_text k c) (within serial) (λ c k. refl) (all_said added_item A) codes
+    put-rows same_item (λ c k. same_text k c) (sealed_item serial) (λ c k. refl) (values_of_acts added_item A) codes
     (λ code i. added_rest A h code ∙ items_known A code codes met.1.0 (in-listed code codes i))
-    (λ c k i j e. ap (within serial) (sym (same-is k c e))) (item_row A) (λ c k. refl)
-    ∙ map-same (λ k. cond (list_any (same_text k) codes) (within serial k) (item_row A k)) (item_row (then_act A key (Seal c serial codes at) answer))
-    (all_said added_item A)
+    (λ c k i j e. ap (sealed_item serial) (sym (same-is k c e))) (item_row A) (λ c k. refl)
+    ∙ map-same (λ k. cond (list_any (same_text k) codes) (sealed_item serial k) (item_row A k)) (item_row (then_act A key (Seal c serial codes at) answer))
+    (values_of_acts added_item A)
     (sealed_row A key c serial codes at answer (unmet (is_some (spot A serial)) Taken (assumption met)))
 
 -- ITEMS OF A BAG THAT IS CUT
@@ -224,7 +224,7 @@ abbrev itemed : List ℕ → Rest → Item
 itemed code rest = record { code = code; rest = rest }
 
 -- an item's row, loose where its bag was cut or as it was
-cut_row : (A : History) (key : List ℕ) (c : ℕ) (t : List ℕ) (at : ℕ) (answer : Answer) → is_spent (spot A t) ≡ false → (k : List ℕ)
+cut_row : (A : History) (key : List ℕ) (c : ℕ) (t : List ℕ) (at : ℕ) (answer : ReplyData) → is_spent (spot A t) ≡ false → (k : List ℕ)
     → cond (is_within t (unwrap_or (rest A k) (Loose East))) (itemed k (Loose (facility_of A c))) (item_row A k)
     ≡ item_row (then_act A key (Cut c t at) answer) k
 cut_row A key c t at answer n k = grind (arith, same-itself t, same-is t, same-turned t)
@@ -237,29 +237,29 @@ module _ (A : History) (t : List ℕ) (rows : List Item) (p : Shown (lies_in t) 
   abbrev codes_in : List (List ℕ)
   codes_in = map (λ row. row.code) (filter (lies_in t) rows)
 
-  code-in : (k : List ℕ) → IsIn k codes_in → IsIn k (all_said added_item A) × (lies_in t (item_row A k) ≡ true)
+  code-in : (k : List ℕ) → IsIn k codes_in → IsIn k (values_of_acts added_item A) × (lies_in t (item_row A k) ≡ true)
   code-in k i =
       let m = in-map (λ row. row.code) k (filter (lies_in t) rows) i in
       let n = in-filter (lies_in t) m.0 (items A) (in-order m.0 (filter (lies_in t) (items A)) (filter (lies_in t) rows) p m.1) in
-      let q = in-map (item_row A) m.0 (all_said added_item A) n.0 in
+      let q = in-map (item_row A) m.0 (values_of_acts added_item A) n.0 in
       let e : k ≡ q.0 = m.2 ∙ ap (λ row. row.code) q.2 in
-      (subst (λ k. IsIn k (all_said added_item A)) (sym e) q.1, ap (λ k. lies_in t (item_row A k)) e ∙ ap (lies_in t) (sym q.2) ∙ n.1)
+      (subst (λ k. IsIn k (values_of_acts added_item A)) (sym e) q.1, ap (λ k. lies_in t (item_row A k)) e ∙ ap (lies_in t) (sym q.2) ∙ n.1)
 
-  lies-told : (k : List ℕ) → IsIn k (all_said added_item A) → list_any (same_text k) codes_in ≡ lies_in t (item_row A k)
+  lies-told : (k : List ℕ) → IsIn k (values_of_acts added_item A) → list_any (same_text k) codes_in ≡ lies_in t (item_row A k)
   lies-told k i =
       same-answers (list_any (same_text k) codes_in) (lies_in t (item_row A k)) (λ h. (code-in k (listed-in k codes_in h)).1)
       (λ e. in-listed k codes_in (map-in (λ row. row.code) (item_row A k) (filter (lies_in t) rows)
       (in-order (item_row A k) (filter (lies_in t) rows) (filter (lies_in t) (items A))
       (IsPermutation-sym (filter (lies_in t) (items A)) (filter (lies_in t) rows) p)
-      (filter-in (lies_in t) (item_row A k) (items A) (map-in (item_row A) k (all_said added_item A) i) e))))
+      (filter-in (lies_in t) (item_row A k) (items A) (map-in (item_row A) k (values_of_acts added_item A) i) e))))
 
 -- so they lead to the table after the cut
-items-cut : (A : History) (key : List ℕ) (c : ℕ) (t : List ℕ) (at : ℕ) (answer : Answer) → fault A (Cut c t at) ≡ None
+items-cut : (A : History) (key : List ℕ) (c : ℕ) (t : List ℕ) (at : ℕ) (answer : ReplyData) → fault A (Cut c t at) ≡ None
     → (rows : List Item) → Shown (lies_in t) (items A) rows
-    → put_all same_item (loosened rows t (facility_of A c)) (items A) ≡ items (then_act A key (Cut c t at) answer)
+    → put_all same_item (loose_items rows t (facility_of A c)) (items A) ≡ items (then_act A key (Cut c t at) answer)
 items-cut A key c t at answer n rows p =
     let here = facility_of A c in
-    let all = all_said added_item A in
+    let all = values_of_acts added_item A in
     let codes = codes_in A t rows p in
     ap (λ changes. put_all same_item changes (items A)) (sym (map-map (itemed_loose here) (λ (row : Item). row.code) (filter (lies_in t) rows)))
     ∙ put-rows same_item (λ c k. same_text k c) (itemed_loose here) (λ c k. refl) all codes
@@ -281,21 +281,21 @@ take-leads A h c t at key view answer v k f =
       bags_moved A h t (Table here) n.1.0,
       marks-put A (entry_as key act answer) c at f refl refl,
       new_key A (command_of key act) answer k,
-      items_stay A t (Table here) (stored here (spot A t) (assumption n)) refl (all_said added_item A),
+      items_stay A t (Table here) (stored here (spot A t) (assumption n)) refl (values_of_acts added_item A),
     )
     refl
 
-pub put-leads : (A : History) → IsRegister A → (c : ℕ) (t : List ℕ) (to : Store) (at : ℕ) → LeadsOn A (Put c t to at)
+pub put-leads : (A : History) → IsRegister A → (c : ℕ) (t : List ℕ) (to : Destination) (at : ℕ) → LeadsOn A (Put c t to at)
 put-leads A h c t to at key view answer v k f =
     let act = Put c t to at in
     let here = facility_of A c in
     let n = none_holds (conditions A act) f in
     rw (
       facility-shown A c view.ceremonies.items v.ceremonies,
-      bags_moved A h t (spot_of_store here to) n.1.0,
+      bags_moved A h t (spot_of_destination here to) n.1.0,
       marks-put A (entry_as key act answer) c at f refl refl,
       new_key A (command_of key act) answer k,
-      items_stay A t (spot_of_store here to) (on_table here (spot A t) (assumption n)) (stored_there here to) (all_said added_item A),
+      items_stay A t (spot_of_destination here to) (on_table here (spot A t) (assumption n)) (stored_there here to) (values_of_acts added_item A),
     )
     refl
 
@@ -314,9 +314,9 @@ seal-leads A h c t codes at key view answer v k f =
     let here = facility_of A c in
     let n = none_holds (conditions A act) f in
     let tell = PutKey (new_key_row (command_of key act) answer) ∷ [] in
-    ap (λ facility. changed_by (map PutItem (packed t codes) ++ tell) (with_bag (record { serial = t; spot = Table facility }) c at (tables A)))
+    ap (λ facility. changed_by (map PutItem (sealed_items t codes) ++ tell) (with_bag (record { serial = t; spot = Table facility }) c at (tables A)))
     (facility-shown A c view.ceremonies.items v.ceremonies)
-    ∙ items-changed (packed t codes) tell (with_bag (record { serial = t; spot = Table here }) c at (tables A))
+    ∙ items-changed (sealed_items t codes) tell (with_bag (record { serial = t; spot = Table here }) c at (tables A))
     ∙ rw (
       bags_sealed A h t (Table here) (unmet (is_some (spot A t)) Taken (assumption n)),
       marks-put A (entry_as key act answer) c at f refl refl,
@@ -331,9 +331,9 @@ cut-leads A h c t at key view answer v k f =
     let here = facility_of A c in
     let tell = PutKey (new_key_row (command_of key act) answer) ∷ [] in
     let bag : Bag = record { serial = t; spot = Spent } in
-    ap (λ facility. changed_by (map PutItem (loosened view.items.items t facility) ++ tell) (with_bag bag c at (tables A)))
+    ap (λ facility. changed_by (map PutItem (loose_items view.items.items t facility) ++ tell) (with_bag bag c at (tables A)))
     (facility-shown A c view.ceremonies.items v.ceremonies)
-    ∙ items-changed (loosened view.items.items t here) tell (with_bag bag c at (tables A))
+    ∙ items-changed (loose_items view.items.items t here) tell (with_bag bag c at (tables A))
     ∙ rw (
       bags_moved A h t Spent (none_holds (conditions A act) f).1.0,
       marks-put A (entry_as key act answer) c at f refl refl,

@@ -1,14 +1,14 @@
 -- A decision by the rows of a view is a step of the machine.
 use Rattle.std.proofs.Common.{◌≡◌, ◌≢◌, ℕ, suc, true, false, nat_le, List, map, length, Option, Some, None, option_map, refl, sym, ap, ◌∙◌, subst}
-use Rattle.std.proofs.Common.{inl, inr, Result, Ok, Err, MatchOption}
-use Rattle.std.specs.Prelude.{IfSome}
+use Rattle.std.proofs.Common.{◌⊎◌, inl, inr, Result, Ok, Err, MatchOption}
+use Rattle.std.specs.Prelude.{IfErr, IfSome, IsSome}
 use Rattle.kcr_base.specs.Same.{same_text}
 use Rattle.kcr_base.specs.declared.refusal.Refusal.{Refusal}
-use Rattle.kcr_base.specs.declared.refusal.Refusal.TheVariants.{Key, Short, Memory}
+use Rattle.kcr_base.specs.declared.refusal.Refusal.TheVariants.{Key, Short, Memory, Disk}
 use Rattle.kcr_history.specs.declared.commands.Act.{Act}
-use Rattle.kcr_history.specs.declared.commands.Act.TheVariants.{Enter, Train, Withdraw, Appoint, Replace, Release, AddBox, AddItem, Plan, Open, Close, Sheet}
-use Rattle.kcr_history.specs.declared.commands.Act.TheVariants.{TurnSafe, Sign, Except, Seal, Take, Put, Cut}
-use Rattle.kcr_history.specs.declared.commands.Answer.{Answer}
+use Rattle.kcr_history.specs.declared.commands.Act.TheVariants.{Enter, Train, Withdraw, Appoint, Replace, Release, AddBox, AddItem, Plan, Open, Close, RecordSheet}
+use Rattle.kcr_history.specs.declared.commands.Act.TheVariants.{SetSafe, Sign, RecordException, Seal, Take, Put, Cut}
+use Rattle.kcr_history.specs.declared.commands.ReplyData.{ReplyData}
 use Rattle.kcr_history.specs.declared.commands.Command.{Command}
 use Rattle.kcr_history.specs.declared.commands.Entry.{Entry}
 use Rattle.kcr_history.specs.declared.views.Verdict.{Verdict}
@@ -17,19 +17,20 @@ use Rattle.kcr_history.specs.History.{History, entry_of}
 use Rattle.kcr_history.specs.Texts.{command_text}
 use Rattle.kcr_history.specs.Seating.{IsFirst, IsLeast}
 use Rattle.kcr_history.specs.Tables.{keys, key_row, tables, SameTables, people}
-use Rattle.kcr_history.specs.declared.rows.KeyRow.{KeyRow}
+use Rattle.kcr_history.specs.declared.row_types.KeyRow.{KeyRow}
 use Rattle.kcr_history.specs.Views.{row_of_key, greatest_number, IsViewOf}
-use Rattle.kcr_history.specs.Asked.{asks_by, asks_of}
-use Rattle.kcr_history.specs.Front.{front_asks}
+use Rattle.kcr_history.specs.AsksByKind.{asks_by, asks_of}
+use Rattle.kcr_history.specs.Early.{early_asks}
 use Rattle.kcr_history.specs.Conditions.{fault, is_full, conditions}
-use Rattle.kcr_history.specs.Machine.{Accepts, Refuses, Sitting, sitting, answer_to, with_command, accepts, seats, acts, IsRegister, IsAcceptance}
+use Rattle.kcr_history.specs.Machine.{Accepts, Refuses, SeatRequest, seat_request, reply_to, with_command, IsAcceptedWith, seats, DecidesNew, IsRegister, IsAcceptance}
 use Rattle.kcr_history.specs.Machine.{IsRepeat, IsDecision}
 use Rattle.kcr_history.proofs.Steps.{greatest-keys}
 use Rattle.kcr_history.proofs.Words.{row_of_key-keys}
 use Rattle.std.proofs.lemmas.Option.{same_Some, none-some}
-use Rattle.kcr_rules.specs.Ahead.{refusal_ahead_by, IsToldAhead}
-use Rattle.kcr_rules.specs.ByRows.{refusal_by, is_overdone, sitting_by, IsSeatedFor, IsUnseatedFor, all_changes_by}
-use Rattle.kcr_machine.specs.RowDecision.{is_full_by, answer_by, AcceptsNew, RepeatsRow, IsRowDecision, IsRowRepeat}
+use Rattle.kcr_rules.specs.Early.{early_refusal_by, IsEarlyRefusal}
+use Rattle.kcr_rules.specs.ByRows.{refusal_by, has_too_many_steps, seat_request_by, IsSeatedFor, IsUnseatedFor, all_changes_by}
+use Rattle.kcr_machine.specs.RowDecision.{IsAnswerOf, IsReplyOf, IsOfKind, IsOwnRefusal, MayBeRefused}
+use Rattle.kcr_machine.specs.RowDecision.{is_full_by, reply_by, AcceptsNew, RepeatsRow, IsRowDecision, IsRowRepeat}
 use Rattle.kcr_rules.specs.Signing.{IsSeatedBy, IsUnseatedBy}
 use Rattle.kcr_base.proofs.RefuseLemmas.{none_holds}
 use Rattle.kcr_machine.proofs.Ahead.{ahead-shown}
@@ -64,11 +65,11 @@ fault-shown A h (Take ceremony serial at) view v = take-fault A h ceremony seria
 fault-shown A h (Put ceremony serial to at) view v = put-fault A h ceremony serial to at view v
 fault-shown A h (Cut ceremony serial at) view v = cut-fault A h ceremony serial at view v
 fault-shown A h (AddItem c item at) view v = add_item-fault A h c item at view v
-fault-shown A h (Sheet c way all at) view v =
+fault-shown A h (RecordSheet c way all at) view v =
     sheet-fault A h (sheet-made A h) c way all at view v
-fault-shown A h (TurnSafe c safe state by at) view v = turn-fault A h c safe state by at view v
+fault-shown A h (SetSafe c safe state by at) view v = turn-fault A h c safe state by at view v
 fault-shown A h (Sign ceremony step at) view v = sign-fault A h ceremony step at view (front-of _ _ view v)
-fault-shown A h (Except ceremony text pass at) view v = except-fault A h ceremony text pass at view (front-of _ _ view v)
+fault-shown A h (RecordException ceremony text pass at) view v = except-fault A h ceremony text pass at view (front-of _ _ view v)
 
 full-shown : (A : History) (x : Command) (view : View) (last : ℕ) → last ≡ length A
     → refusal_by view (is_full_by last) x.act ≡ refusal_by view (is_full A) x.act
@@ -82,42 +83,42 @@ sign-fine A h c k at view v none = sym (sign-fault A h c k at view (front-of _ _
 
 -- the seats that an act needs by the rows are those by the history
 sitting-shown : (A : History) → IsRegister A → (act : Act) (view : View) → IsViewOf (asks_by act) (tables A) view
-    → refusal_by view (is_full A) act ≡ None → sitting_by view act ≡ sitting A act
+    → refusal_by view (is_full A) act ≡ None → seat_request_by view act ≡ seat_request A act
 sitting-shown A h (Sign c k at) view v none =
     ap (λ seats. Some (record { ceremony = c; at = at; seats = seats }))
     (seats-shown A h c k view v.steps.step (sign-there A c k at (sign-fine A h c k at view v none)))
-sitting-shown A h (Except c text true at) view v none = refl
-sitting-shown A h (Except c text false at) view v none = refl
+sitting-shown A h (RecordException c text true at) view v none = refl
+sitting-shown A h (RecordException c text false at) view v none = refl
 sitting-shown A h act view v none = refl
 
 -- the seats that lack people by the rows are a least shortage of the history
-abbrev Lacks : History → Sitting → Refusal → Type 0
+abbrev Lacks : History → SeatRequest → Refusal → Type 0
 Lacks A s refusal = (positions : List ℕ) × IsLeast A s.ceremony s.at s.seats positions × (refusal ≡ Short (map suc positions))
 
 -- the rows tell of no more steps done than a script has
-not_overdone-shown : (A : History) → IsRegister A → (act : Act) (view : View) → IsViewOf (front_asks (asks_by act)) (tables A) view
-    → is_overdone view act ≡ false
+not_overdone-shown : (A : History) → IsRegister A → (act : Act) (view : View) → IsViewOf (early_asks (asks_by act)) (tables A) view
+    → has_too_many_steps view act ≡ false
 not_overdone-shown A h (Sign c k at) view v = not_overdone A h _ view v.steps
-not_overdone-shown A h (Except c text pass at) view v = not_overdone A h _ view v.steps
+not_overdone-shown A h (RecordException c text pass at) view v = not_overdone A h _ view v.steps
 not_overdone-shown A h act view v = refl
 
 -- ANSWERS
 
 -- the answer by the rows is the one by the history
 answer-shown : (A : History) → IsRegister A → (act : Act) (view : View) → IsViewOf (asks_by act) (tables A) view → (last : ℕ) → last ≡ length A
-    → (people : Option (List (List ℕ))) → IsSeatedFor view (sitting_by view act) people → answer_by view last act people ≡ answer_to A act people
+    → (people : Option (List (List ℕ))) → IsSeatedFor view (seat_request_by view act) people → reply_by view last act people ≡ reply_to A act people
 answer-shown A h (Sign c k at) view v last e people g = rw e refl
-answer-shown A h (Except c text true at) view v last e people g =
+answer-shown A h (RecordException c text true at) view v last e people g =
     rw (e, stated-shown A h c view.exceptions.items v.exceptions, done-shown A h (the_next c) view v.steps) refl
-answer-shown A h (Except c text false at) view v last e people g = rw (e, stated-shown A h c view.exceptions.items v.exceptions, g) refl
+answer-shown A h (RecordException c text false at) view v last e people g = rw (e, stated-shown A h c view.exceptions.items v.exceptions, g) refl
 answer-shown A h act view v last e people g = rw (e, g) refl
 
 -- CHANGES
 
 -- the changes of an act that has no fault, with those of its seats, lead from the tables before it to those after it
-leads : (A : History) → IsRegister A → (key : List ℕ) (act : Act) (view : View) (seats : Option (List (List ℕ))) (answer : Answer)
+leads : (A : History) → IsRegister A → (key : List ℕ) (act : Act) (view : View) (seats : Option (List (List ℕ))) (answer : ReplyData)
     → IsViewOf (asks_by act) (tables A) view → entry_of A key ≡ None → fault A act ≡ None
-    → IsSeatedFor view (sitting_by view act) seats → answer ≡ answer_to A act seats
+    → IsSeatedFor view (seat_request_by view act) seats → answer ≡ reply_to A act seats
     → SameTables (changed_with (all_changes_by view act seats) (command_of key act) answer (tables A)) (tables (with_command A (command_of key act) answer))
 leads A h key (Enter who name) view seats answer v k f g e = same-tables _ _ (enter-leads A who name key view answer v k f)
 leads A h key (Train who role since until) view seats answer v k f g e = same-tables _ _ (train-leads A who role since until key view answer v k f)
@@ -134,47 +135,47 @@ leads A h key (Take c serial at) view seats answer v k f g e = same-tables _ _ (
 leads A h key (Put c serial to at) view seats answer v k f g e = same-tables _ _ (put-leads A h c serial to at key view answer v k f)
 leads A h key (Cut c serial at) view seats answer v k f g e = same-tables _ _ (cut-leads A h c serial at key view answer v k f)
 leads A h key (AddItem c item at) view seats answer v k f g e = same-tables _ _ (add_item-leads A h c item at key view answer v k f)
-leads A h key (Sheet c way all at) view seats answer v k f g e =
-    let n = none_holds (conditions A (Sheet c way all at)) f in
+leads A h key (RecordSheet c way all at) view seats answer v k f g e =
+    let n = none_holds (conditions A (RecordSheet c way all at)) f in
     sheet-leads A (sheet-made A h) key c way all at (named_once all (assumption n)) view answer v k (assumption n)
-leads A h key (TurnSafe c safe state by at) view seats answer v k f g e = same-tables _ _ (turn-leads A h c safe state by at key view answer v k f)
+leads A h key (SetSafe c safe state by at) view seats answer v k f g e = same-tables _ _ (turn-leads A h c safe state by at key view answer v k f)
 leads A h key (Sign c k at) view None answer v q f g e = absurd g
 leads A h key (Sign c k at) view (Some seats) answer v q f g e = same-tables _ _ (sign-leads A h c k at seats key view answer v q f e)
-leads A h key (Except c text true at) view None answer v q f g e = absurd g
-leads A h key (Except c text true at) view (Some seats) answer v q f g e = same-tables _ _ (pass-leads A h c text at seats key view answer v q f e)
-leads A h key (Except c text false at) view seats answer v q f g e = same-tables _ _ (state-leads A h c text at key view answer v q f e)
+leads A h key (RecordException c text true at) view None answer v q f g e = absurd g
+leads A h key (RecordException c text true at) view (Some seats) answer v q f g e = same-tables _ _ (pass-leads A h c text at seats key view answer v q f e)
+leads A h key (RecordException c text false at) view seats answer v q f g e = same-tables _ _ (state-leads A h c text at key view answer v q f e)
 
 -- ACCEPTED
 
--- where no seats are needed the command is accepted; else with the people who are seated
-module _ (A : History) (x : Command) (view : View) (answer : Answer) where
-  abbrev Steps : Option Sitting → Type 0
+-- if no seats are needed the command is accepted; else with the people who are seated
+module _ (A : History) (x : Command) (view : View) (answer : ReplyData) where
+  abbrev Steps : Option SeatRequest → Type 0
   Steps o =
-      MatchOption o (accepts A x (answer_to A x.act None) (Accepts answer) (with_command A x answer))
+      MatchOption o (IsAcceptedWith A x (reply_to A x.act None) (Accepts answer) (with_command A x answer))
       (λ s. seats A x s (Accepts answer) (with_command A x answer))
 
-  by_people : (s : Sitting) (people : Option (List (List ℕ))) → IsSeatedFor view (Some s) people
+  by_people : (s : SeatRequest) (people : Option (List (List ℕ))) → IsSeatedFor view (Some s) people
       → ((ps : List (List ℕ)) → IsSeatedBy view s ps → IsFirst A s.ceremony s.at s.seats ps)
-      → answer ≡ answer_to A x.act people → seats A x s (Accepts answer) (with_command A x answer)
+      → answer ≡ reply_to A x.act people → seats A x s (Accepts answer) (with_command A x answer)
   by_people s None g first e = absurd g
   by_people s (Some people) g first e = inl (people, first people g, (ap Accepts e, ap (with_command A x) e))
 
-  by_sitting : (o : Option Sitting) → IsSeatedFor view o answer.seating
-      → ((s : Sitting) (ps : List (List ℕ)) → o ≡ Some s → IsSeatedBy view s ps → IsFirst A s.ceremony s.at s.seats ps)
-      → answer ≡ answer_to A x.act answer.seating → Steps o
-  by_sitting None g first e = let n = e ∙ ap (answer_to A x.act) g in (ap Accepts n, ap (with_command A x) n)
+  by_sitting : (o : Option SeatRequest) → IsSeatedFor view o answer.seating
+      → ((s : SeatRequest) (ps : List (List ℕ)) → o ≡ Some s → IsSeatedBy view s ps → IsFirst A s.ceremony s.at s.seats ps)
+      → answer ≡ reply_to A x.act answer.seating → Steps o
+  by_sitting None g first e = let n = e ∙ ap (reply_to A x.act) g in (ap Accepts n, ap (with_command A x) n)
   by_sitting (Some s) g first e = by_people s answer.seating g (λ ps q. first s ps refl q) e
 
-accepted : (A : History) (x : Command) (view : View) (last : ℕ) (verdict : Verdict) (answer : Answer) → IsRegister A
+accepted : (A : History) (x : Command) (view : View) (last : ℕ) (verdict : Verdict) (answer : ReplyData) → IsRegister A
     → IsViewOf (asks_of x) (tables A) view → last ≡ length A
     → entry_of A x.key ≡ None → AcceptsNew view last x verdict answer → IsAcceptance A x verdict answer
 accepted A x view last verdict answer h v e k g =
     let none : refusal_by view (is_full A) x.act ≡ None = sym (full-shown A x view last e) ∙ g.fine in
     let fine : fault A x.act ≡ None = sym (fault-shown A h x.act view v) ∙ none in
-    let next : answer ≡ answer_to A x.act answer.seating = g.next ∙ answer-shown A h x.act view v last e answer.seating g.seated in
-    let seated : IsSeatedFor view (sitting A x.act) answer.seating = subst (λ o. IsSeatedFor view o answer.seating)
+    let next : answer ≡ reply_to A x.act answer.seating = g.next ∙ answer-shown A h x.act view v last e answer.seating g.seated in
+    let seated : IsSeatedFor view (seat_request A x.act) answer.seating = subst (λ o. IsSeatedFor view o answer.seating)
     (sitting-shown A h x.act view v none) g.seated in
-    let step = by_sitting A x view answer (sitting A x.act) seated (λ s ps e. seated-first A h view s (sitting-is A h x.act view v s e) ps) next in
+    let step = by_sitting A x view answer (seat_request A x.act) seated (λ s ps e. seated-first A h view s (sitting-is A h x.act view v s e) ps) next in
     record {
       step = rw (k, fine) step;
       tables = rw g.changes (leads A h x.key x.act view answer.seating answer v k fine g.seated next);
@@ -183,20 +184,20 @@ accepted A x view last verdict answer h v e k g =
 
 -- REFUSED
 
-unseated : (A : History) (x : Command) (view : View) (refusal : Refusal) → (o : Option Sitting) → IsUnseatedFor view o refusal
-    → ((s : Sitting) → o ≡ Some s → IsUnseatedBy view s refusal → Lacks A s refusal)
-    → MatchOption o (accepts A x (answer_to A x.act None) (Refuses refusal) A) (λ s. seats A x s (Refuses refusal) A)
+unseated : (A : History) (x : Command) (view : View) (refusal : Refusal) → (o : Option SeatRequest) → IsUnseatedFor view o refusal
+    → ((s : SeatRequest) → o ≡ Some s → IsUnseatedBy view s refusal → Lacks A s refusal)
+    → MatchOption o (IsAcceptedWith A x (reply_to A x.act None) (Refuses refusal) A) (λ s. seats A x s (Refuses refusal) A)
 unseated A x view refusal None g least = absurd g
 unseated A x view refusal (Some s) g least = let w = least s refl g in inr (w.0, w.1, (ap Refuses w.2, refl))
 
 refused_new : (A : History) → IsRegister A → (x : Command) (view : View) (refusal : Refusal) → refusal ≢ Memory → IsViewOf (asks_of x) (tables A) view
     → refusal_by view (is_full A) x.act ≡ fault A x.act → (o : Option Refusal) → refusal_by view (is_full A) x.act ≡ o
-    → MatchOption o (IsUnseatedFor view (sitting_by view x.act) refusal) (λ first. refusal ≡ first) → acts A x (fault A x.act) (Refuses refusal) A
+    → MatchOption o (IsUnseatedFor view (seat_request_by view x.act) refusal) (λ first. refusal ≡ first) → DecidesNew A x (fault A x.act) (Refuses refusal) A
 refused_new A h x view refusal ne v e (Some first) f g = rw (sym e ∙ f) (ap Refuses g, refl)
 refused_new A h x view refusal ne v e None f g =
     let fine : fault A x.act ≡ None = sym e ∙ f in
-    let w : IsUnseatedFor view (sitting A x.act) refusal = subst (λ o. IsUnseatedFor view o refusal) (sitting-shown A h x.act view v f) g in
-    rw fine (unseated A x view refusal (sitting A x.act) w (λ s e. unseated-least A h view s (sitting-is A h x.act view v s e) refusal))
+    let w : IsUnseatedFor view (seat_request A x.act) refusal = subst (λ o. IsUnseatedFor view o refusal) (sitting-shown A h x.act view v f) g in
+    rw fine (unseated A x view refusal (seat_request A x.act) w (λ s e. unseated-least A h view s (sitting-is A h x.act view v s e) refusal))
 
 -- A KEY WITH A ROW
 
@@ -231,7 +232,7 @@ pub repetition : (A : History) (x : Command) (row : KeyRow) (result : Result Ver
     → IsRowRepeat row x result → IsDecision A x result
 repetition A x row (Ok verdict) there g = by_answer verdict.answer g.answer
   where
-    by_answer : (o : Option Answer) → o ≡ None → MatchOption o ((kept : Entry) × IsRepeat A x verdict kept) (IsAcceptance A x verdict)
+    by_answer : (o : Option ReplyData) → o ≡ None → MatchOption o ((kept : Entry) × IsRepeat A x verdict kept) (IsAcceptance A x verdict)
     by_answer None none =
         let w = an_entry A x.key row there in (w.0, repeated A x verdict w.0 w.1 (subst (λ (r : KeyRow). RepeatsRow r x verdict) (sym w.2) g))
     by_answer (Some answer) none = absurd (none-some answer (sym none))
@@ -248,7 +249,7 @@ pub decision : (A : History) (x : Command) (view : View) (last : ℕ) (result : 
     → IsRowDecision view last x result → IsDecision A x result
 decision A x view last (Ok verdict) h new v e g = by_answer verdict.answer g
   where
-    by_answer : (o : Option Answer) → MatchOption o ⊥ (AcceptsNew view last x verdict)
+    by_answer : (o : Option ReplyData) → MatchOption o ⊥ (AcceptsNew view last x verdict)
         → MatchOption o ((kept : Entry) × IsRepeat A x verdict kept) (IsAcceptance A x verdict)
     by_answer None none = absurd none
     by_answer (Some answer) a = accepted A x view last verdict answer h v (e ∙ greatest-keys A h) (no_entry A x.key new) a
@@ -262,11 +263,67 @@ decision A x view last (Err refusal) h new v e g = λ ne.
 
 -- what is told ahead, by the part of the rows that is read first, is a step of the machine
 pub ahead : (A : History) (x : Command) (view : View) (last : ℕ) (told : Option Refusal) → IsRegister A → row_of_key x.key (keys A) ≡ None
-    → IsViewOf (front_asks (asks_of x)) (tables A) view → last ≡ greatest_number (keys A) → IsToldAhead view (is_full_by last) x.act told
+    → IsViewOf (early_asks (asks_of x)) (tables A) view → last ≡ greatest_number (keys A) → IsEarlyRefusal view (is_full_by last) x.act told
     → IfSome told (λ refusal. IsDecision A x (Err refusal))
 ahead A x view last None h new v e g = tt
 ahead A x view last (Some refusal) h new v e g = λ ne.
-    let here : refusal_ahead_by view (is_full_by last) x.act ≡ Some refusal =
+    let here : early_refusal_by view (is_full_by last) x.act ≡ Some refusal =
     g (λ m. ne (let i : Some refusal ≡ Some Memory = m in cc)) (not_overdone-shown A h x.act view v) in
-    let known = ap (λ n. refusal_ahead_by view (nat_le 4000000000 n) x.act) (e ∙ greatest-keys A h) in
+    let known = ap (λ n. early_refusal_by view (nat_le 4000000000 n) x.act) (e ∙ greatest-keys A h) in
     rw (no_entry A x.key new) (rw (ahead-shown A h x.act view v refusal (sym known ∙ here)) (refl, refl))
+
+-- WHATEVER THE ROWS ARE
+
+seated-some : (view : View) (s : SeatRequest) (people : Option (List (List ℕ))) → IsSeatedFor view (Some s) people → IsSome people
+seated-some view s None seated = absurd seated
+seated-some view s (Some people) seated = refl
+
+some : {X : Type 0} (o : Option X) (x : X) → o ≡ Some x → IsSome o
+some o x is = subst IsSome (sym is) refl
+
+-- an answer by rows is one of the act's kind
+of-kind : (view : View) (last : ℕ) (act : Act) (answer : ReplyData) → answer ≡ reply_by view last act answer.seating
+    → IsSeatedFor view (seat_request_by view act) answer.seating → IsAnswerOf act answer
+of-kind view last (Sign c k at) answer next seated =
+    (ap (λ (a : ReplyData). a.exception) next, seated-some view _ answer.seating seated, ap (λ (a : ReplyData). a.step) next)
+of-kind view last (RecordException c text true at) answer next seated = (
+  some answer.exception _ (ap (λ (a : ReplyData). a.exception) next),
+  seated-some view _ answer.seating seated,
+  some answer.step _ (ap (λ (a : ReplyData). a.step) next),
+)
+of-kind view last (RecordException c text false at) answer next seated =
+    (some answer.exception _ (ap (λ (a : ReplyData). a.exception) next), seated, ap (λ (a : ReplyData). a.step) next)
+of-kind view last act answer next seated =
+    (ap (λ (a : ReplyData). a.exception) next, seated, ap (λ (a : ReplyData). a.step) next)
+
+reply-of-kind : (x : Command) (view : View) (last : ℕ) (verdict : Verdict) (o : Option ReplyData) → MatchOption o ⊥ (AcceptsNew view last x verdict)
+    → IsReplyOf x.act verdict.reply.text
+reply-of-kind x view last verdict None g = absurd g
+reply-of-kind x view last verdict (Some answer) g = (answer, of-kind view last x.act answer g.next g.seated, g.reply)
+
+-- a decision by rows is of the act's kind
+pub decision-kind : (x : Command) (view : View) (last : ℕ) (result : Result Verdict Refusal) → IsRowDecision view last x result
+    → IfErr result (IsOwnRefusal x) → IsOfKind x result
+decision-kind x view last (Ok verdict) g kind = reply-of-kind x view last verdict verdict.answer g
+decision-kind x view last (Err refusal) g kind = kind
+
+is_memory : (r : Refusal) → (r ≡ Memory) ⊎ (r ≢ Memory)
+is_memory Memory = inl refl
+is_memory r = inr (λ e. cc)
+
+-- every command may be refused because memory ran out, or for an I/O error
+pub fault-refused : (x : Command) (refusal : Refusal) → (refusal ≡ Memory) ⊎ (refusal ≡ Disk) → MayBeRefused x refusal
+fault-refused x refusal (inl memory) = inr (subst (IsOwnRefusal x) (sym memory) refl)
+fault-refused x refusal (inr disk) = inr (subst (IsOwnRefusal x) (sym disk) refl)
+
+-- a repeat is refused for its key, or because memory ran out
+pub repeat-kind : (x : Command) (row : KeyRow) (result : Result Verdict Refusal) → IsRowRepeat row x result → IfErr result (MayBeRefused x)
+repeat-kind x row (Ok verdict) g = tt
+repeat-kind x row (Err refusal) g = elim (is_memory refusal) [
+  | inl e ↦ fault-refused x refusal (inl e)
+  | inr ne ↦ inl (g ne).1
+]
+
+pub new-kind : (x : Command) (result : Result Verdict Refusal) → IsOfKind x result → IfErr result (MayBeRefused x)
+new-kind x (Ok verdict) g = tt
+new-kind x (Err refusal) g = inr g

@@ -44,7 +44,7 @@ unfilter P of other (x ∷ rows) a = elim (cases_Bool (of x)) [
   | inr e ↦ (other x e, unfilter P of other rows (rw e at a))
 ]
 
--- where all rows of the table that pass are one, that one is found
+-- if all rows of the table that pass are one, that one is found
 pub found-shown : {X : Type 0} (test of : X → Bool) (v : X) → Implies test of → (table rows : List X) → Shown of table rows
     → Only test v table → find test rows ≡ some_if (list_any test table) v
 found-shown {X} test of v inside table rows p only =
@@ -54,7 +54,7 @@ found-shown {X} test of v inside table rows p only =
     find-all test v rows (unfilter P of (λ x e t. absurd (both_ways (of x) e (inside x t))) rows shown)
     ∙ ap (λ b. some_if b v) (any-shown test of inside table rows p)
 
--- where all of them are the first that passes, the same one is found
+-- if all of them are the first that passes, the same one is found
 pub find-shown : {X : Type 0} (test of : X → Bool) → Implies test of → (table rows : List X) → Shown of table rows
     → ((x : X) → find test table ≡ Some x → Only test x table) → find test rows ≡ find test table
 find-shown {X} test of inside table rows p only = by_first (find test table) refl
@@ -63,7 +63,7 @@ find-shown {X} test of inside table rows p only = by_first (find test table) ref
     by_first None e = find-none test rows (any-shown test of inside table rows p ∙ none-find test table e)
     by_first (Some x) e = found-shown test of x inside table rows p (only x e) ∙ ap (λ b. some_if b x) (some-find test x table e)
 
--- what that one says is what the history says, where it is there exactly where the history says something
+-- what that one says is what the history says, if it is there if and only if the history says something
 pub said-shown : {X Y : Type 0} (test of : X → Bool) (v : X) (says : X → Y) (said : Option Y) (other : Y) → Implies test of → (table rows : List X)
     → Shown of table rows → Only test v table → list_any test table ≡ is_some said → says v ≡ unwrap_or said other
     → option_map says (find test rows) ≡ said
@@ -88,7 +88,7 @@ said-view test of row_of v says said other inside same keys rows p there own =
 pub put-new : {X : Type 0} (same : X → X → Bool) (row : X) (rows : List X) → list_any (same row) rows ≡ false → put same row rows ≡ row ∷ rows
 put-new same row rows h = rw h
 
--- where no other key changes its row
+-- if no other key changes its row
 pub put-first : {K X : Type 0} (same : X → X → Bool) (f g : K → X) (row : X) → ((k : K) → same row (f k) ≡ false → f k ≡ g k) → (ks : List K)
     → list_any (λ k. same row (f k)) ks ≡ false → put same row (map f ks) ≡ row ∷ map g ks
 put-first {K} same f g row keep ks new = put-new same row (map f ks) (any-map (same row) f ks ∙ new) ∙ ap (λ rows. row ∷ rows) (kept ks new)

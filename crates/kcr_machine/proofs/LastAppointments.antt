@@ -11,7 +11,7 @@ use Rattle.kcr_base.proofs.ListLemmas.{find-none, none-find, some-find, find-onl
 use Rattle.kcr_base.proofs.Members.{IsIn, any-in, in-any, none-in, none-passes, same-answers}
 use Rattle.kcr_base.proofs.SameLemmas.{place-same, same-is}
 use Rattle.kcr_people.specs.declared.Appointment.{Appointment}
-use Rattle.kcr_people.specs.People.{ends_after, lasts, lasts_beyond, place_held_from_by, person_holds_from_by, open_row_by, ever_put_by, stands}
+use Rattle.kcr_people.specs.People.{ends_after, lasts, lasts_beyond, place_held_from_by, person_holds_from_by, open_row_by, ever_put_by, is_open_ended}
 use Rattle.kcr_history.specs.History.{History}
 use Rattle.kcr_history.specs.Machine.{IsRegister}
 use Rattle.kcr_history.specs.Tables.{appointments}
@@ -37,7 +37,7 @@ of-each P (x ∷ xs) h = (h x (inl refl), of-each P xs (λ y i. h y (inr i)))
 
 -- ROWS THAT COME ONE AFTER THE OTHER
 
--- each row that passes the test begins where the older ones that pass have ended
+-- each row that passes the test begins if the older ones that pass have ended
 abbrev InTurn : (Appointment → Bool) → List Appointment → Type 0
 InTurn test [] = Unit {0}
 InTurn test (row ∷ rows) = (test row ≡ true → list_any (λ old. test old && lasts_beyond row.since old) rows ≡ false) × InTurn test rows
@@ -132,29 +132,29 @@ module _ (A : History) (h : IsRegister A) (place : Place) (rows : List Appointme
   pub open-last : open_row_by rows place ≡ open_row_by (appointments A) place
   open-last = by_row (open_row_by (appointments A) place) refl
     where
-      only : (r : Appointment) → open_row_by (appointments A) place ≡ Some r → (row : Appointment) → IsIn row rows → stands place row ≡ true → row ≡ r
+      only : (r : Appointment) → open_row_by (appointments A) place ≡ Some r → (row : Appointment) → IsIn row rows → is_open_ended place row ≡ true → row ≡ r
       only r e row i =
-          each-in (λ row. stands place row ≡ true → row ≡ r) row (appointments A)
-          (All-from_recursion (λ row. stands place row ≡ true → row ≡ r) (appointments A) (only-one place r (appointments A) (orderly A h).0 e)) (inside row i)
+          each-in (λ row. is_open_ended place row ≡ true → row ≡ r) row (appointments A)
+          (All-from_recursion (λ row. is_open_ended place row ≡ true → row ≡ r) (appointments A) (only-one place r (appointments A) (orderly A h).0 e)) (inside row i)
 
       no_end : (u : Option ℕ) (day : ℕ) → is_none u ≡ true → ends_after u day ≡ false → ⊥
       no_end u day p q = grind arith
 
-      one : (r : Appointment) → open_row_by (appointments A) place ≡ Some r → list_any (stands place) rows ≡ true
+      one : (r : Appointment) → open_row_by (appointments A) place ≡ Some r → list_any (is_open_ended place) rows ≡ true
       one r e =
-          let a = any-in (stands place) (appointments A) (some-find (stands place) r (appointments A) e) in
+          let a = any-in (is_open_ended place) (appointments A) (some-find (is_open_ended place) r (appointments A) e) in
           let p = and_parts (same_place a.0.place place) (is_none a.0.until) a.2 in
           let s = shown-for (is_appointment_to place) (appointments A) rows to-place (orderly A h).1 inside last a.0 a.1 p.0 in
           elim s.3 [
-            | inl same ↦ in-any (stands place) s.0 rows s.1 (sym (ap (stands place) same) ∙ a.2)
+            | inl same ↦ in-any (is_open_ended place) s.0 rows s.1 (sym (ap (is_open_ended place) same) ∙ a.2)
             | inr ended ↦ absurd (no_end a.0.until s.0.since p.1 ended)
           ]
 
       by_row : (o : Option Appointment) → open_row_by (appointments A) place ≡ o → open_row_by rows place ≡ o
       by_row None e =
-          find-none (stands place) rows
-          (none-passes (stands place) rows (λ row i. none-in (stands place) row (appointments A) (none-find (stands place) (appointments A) e) (inside row i)))
-      by_row (Some r) e = find-only (stands place) r rows (of-each (λ row. stands place row ≡ true → row ≡ r) rows (only r e)) (one r e)
+          find-none (is_open_ended place) rows
+          (none-passes (is_open_ended place) rows (λ row i. none-in (is_open_ended place) row (appointments A) (none-find (is_open_ended place) (appointments A) e) (inside row i)))
+      by_row (Some r) e = find-only (is_open_ended place) r rows (of-each (λ row. is_open_ended place row ≡ true → row ≡ r) rows (only r e)) (one r e)
 
 -- OF A PERSON
 

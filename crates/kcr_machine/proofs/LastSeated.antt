@@ -6,25 +6,25 @@ use Rattle.std.specs.List.{AllByRecursion, list_any}
 use Rattle.std.specs.Result.{result_unwrap_or}
 use Rattle.std.proofs.lemmas.Bool.{false≢true, eqb-true, eq-eqb, le-ltb, lt-ltb, ltb-true, cases_Bool}
 use Rattle.std.proofs.lemmas.List.Elements.{recursion_from_All}
-use Rattle.kcr_base.specs.Rows.{or_else}
+use Rattle.kcr_base.specs.Rows.{option_or}
 use Rattle.kcr_base.proofs.Members.{same-answers}
 use Rattle.kcr_script.specs.Reading.{script_of}
 use Rattle.kcr_script.specs.declared.seat.Seat.{Seat}
 use Rattle.kcr_script.specs.declared.script.Step.{Step}
 use Rattle.kcr_script.proofs.ScriptReading.{HasForm, steps_have_form}
 use Rattle.kcr_history.specs.declared.commands.Act.{Act}
-use Rattle.kcr_history.specs.declared.commands.Act.TheVariants.{Plan, Sign, Except}
-use Rattle.kcr_history.specs.declared.commands.Answer.{Answer}
-use Rattle.kcr_history.specs.declared.rows.SeatingRow.{SeatingRow}
-use Rattle.kcr_history.specs.declared.views.StepOf.{StepOf}
+use Rattle.kcr_history.specs.declared.commands.Act.TheVariants.{Plan, Sign, RecordException}
+use Rattle.kcr_history.specs.declared.commands.ReplyData.{ReplyData}
+use Rattle.kcr_history.specs.declared.row_types.SeatingRow.{SeatingRow}
+use Rattle.kcr_history.specs.declared.views.StepFilter.{StepFilter}
 use Rattle.kcr_history.specs.declared.views.View.{View}
-use Rattle.kcr_history.specs.History.{History, stacked_on}
+use Rattle.kcr_history.specs.History.{History, pushed_onto}
 use Rattle.kcr_history.specs.Ceremonies.{Planned, planned_as, plan_of, steps_of, step_at, does_step, steps_done, next_step}
 use Rattle.kcr_history.specs.Conditions.{fault}
-use Rattle.kcr_history.specs.Machine.{IsRegister, IsAnswerTo, CanFollow, sitting}
+use Rattle.kcr_history.specs.Machine.{IsRegister, IsAnswerTo, CanFollow, seat_request}
 use Rattle.kcr_history.specs.Seating.{is_seating}
 use Rattle.kcr_history.specs.Tables.{steps, seatings, seat_rows, seating_rows, seats_at, ceremony_of_step}
-use Rattle.kcr_history.specs.Views.{ShowsSteps, is_seating_of, is_step_at, last_seated}
+use Rattle.kcr_history.specs.Views.{IncludesStep, is_seating_of, is_step_at, last_seated}
 use Rattle.kcr_history.proofs.Piled.{filter-stacked}
 use Rattle.kcr_history.proofs.Tops.{top, top-more}
 use Rattle.kcr_rules.specs.Signing.{staff}
@@ -42,7 +42,7 @@ form_script script = by_result (script_of script) refl
     by_result (Err row) e = tt
 
 form_after : (act : Act) (c : ℕ) (plan : Option Planned) → AllByRecursion HasForm (unwrap_or (option_map (λ plan. plan.steps) plan) [])
-    → AllByRecursion HasForm (unwrap_or (option_map (λ plan. plan.steps) (or_else (planned_as c act) plan)) [])
+    → AllByRecursion HasForm (unwrap_or (option_map (λ plan. plan.steps) (option_or (planned_as c act) plan)) [])
 form_after (Plan number facility day script) c plan ih = elim (cases_Bool (number == c)) [ inl e ↦ rw e (form_script script) | inr e ↦ rw e ih ]
 form_after act c plan ih = ih
 
@@ -66,7 +66,7 @@ some_people A c t (seat ∷ seats) (who ∷ people) h l = omega arith
 
 -- THE GREATEST NUMBER OF A STEP
 
-top-stacked : (front rows : List SeatingRow) → top (stacked_on front rows) ≡ max (top front) (top rows)
+top-stacked : (front rows : List SeatingRow) → top (pushed_onto front rows) ≡ max (top front) (top rows)
 top-stacked [] rows = omega arith
 top-stacked (x ∷ front) rows = omega (arith, top-stacked front (x ∷ rows), top-more x rows, top-more x front)
 
@@ -89,9 +89,9 @@ other-seats : (c d k i : ℕ) (people : List (List ℕ)) → (d == c) ≡ false 
 other-seats c d k i [] e = refl
 other-seats c d k i (who ∷ people) e = rw e (other-seats c d k (suc i) people e)
 
--- people are seated at the next step of a ceremony, where m tells whether that is this one
+-- people are seated at the next step of a ceremony, if m tells whether that is this one
 seated-after : (c d k n : ℕ) (m : Bool) (people : List (List ℕ)) (rows : List SeatingRow) → m ≡ (d == c) → 1 ≤ length people
-    → ((d == c) ≡ true → k ≡ suc n) → last_seated rows c ≡ n → last_seated (stacked_on (seat_rows d k 0 people) rows) c ≡ one_more m n
+    → ((d == c) ≡ true → k ≡ suc n) → last_seated rows c ≡ n → last_seated (pushed_onto (seat_rows d k 0 people) rows) c ≡ one_more m n
 seated-after c d k n m people rows g some next ih =
     ap top (filter-stacked (is_seating_of c) mine rows) ∙ top-stacked (filter (is_seating_of c) mine) (filter (is_seating_of c) rows)
     ∙ elim (cases_Bool (d == c)) [ inl e ↦ rw (g, e) (own e) | inr e ↦ rw (g, e) (other e) ]
@@ -113,25 +113,25 @@ seated-after c d k n m people rows g some next ih =
 next-of : (A : History) (d c k : ℕ) → k ≡ suc (steps_done A d) → (d == c) ≡ true → k ≡ suc (steps_done A c)
 next-of A d c k e q = e ∙ ap (λ z. suc (steps_done A z)) (eqb-true d c q)
 
-by_act : (A : History) (act : Act) (answer : Answer) (c : ℕ) → fault A act ≡ None
-    → IsAnswerTo A act answer (sitting A act) → last_seated (seatings A) c ≡ steps_done A c
-    → last_seated (stacked_on (seating_rows (ceremony_of_step act) answer.step answer.seating) (seatings A)) c ≡ one_more (does_step c act) (steps_done A c)
+by_act : (A : History) (act : Act) (answer : ReplyData) (c : ℕ) → fault A act ≡ None
+    → IsAnswerTo A act answer (seat_request A act) → last_seated (seatings A) c ≡ steps_done A c
+    → last_seated (pushed_onto (seating_rows (ceremony_of_step act) answer.step answer.seating) (seatings A)) c ≡ one_more (does_step c act) (steps_done A c)
 by_act A (Sign d k at) answer c f (people, seated, e) ih =
     rw e (seated-after c d k (steps_done A c) (d == c) people (seatings A) refl
     (some_people A d at (seats_at (steps_of A d) k) people seated (some_seats (steps_of A d) k (each_form A d) (sign-there A d k at f)))
     (next-of A d c k (next_signed A d k at f)) ih)
-by_act A (Except d text true at) answer c f (people, seated, e) ih =
+by_act A (RecordException d text true at) answer c f (people, seated, e) ih =
     let two : 1 ≤ length staff = omega arith in
-    rw e (seated-after c d (next_step A d) (steps_done A c) (does_step c (Except d text true at)) people (seatings A) (grind arith)
+    rw e (seated-after c d (next_step A d) (steps_done A c) (does_step c (RecordException d text true at)) people (seatings A) (grind arith)
     (some_people A d at staff people seated two) (next-of A d c (next_step A d) refl) ih)
-by_act A (Except d text false at) answer c f e ih = rw e (ih ∙ grind arith)
+by_act A (RecordException d text false at) answer c f e ih = rw e (ih ∙ grind arith)
 by_act A act answer c f e ih = ih
 
 -- the last step that has a seating is as many steps as are done
 pub last-seated : (A : History) → IsRegister A → (c : ℕ) → last_seated (seatings A) c ≡ steps_done A c
 last-seated A h c = each_register (λ A. last_seated (seatings A) c ≡ steps_done A c) refl step A h
   where
-    step : (A : History) (key : List ℕ) (act : Act) (answer : Answer) → IsRegister A → CanFollow A (one key act answer)
+    step : (A : History) (key : List ℕ) (act : Act) (answer : ReplyData) → IsRegister A → CanFollow A (one key act answer)
         → last_seated (seatings A) c ≡ steps_done A c → last_seated (seatings (one key act answer ∷ A)) c ≡ steps_done (one key act answer ∷ A) c
     step A key act answer h a ih =
         by_act A act answer c a.no_fault a.answered ih
@@ -140,22 +140,22 @@ last-seated A h c = each_register (λ A. last_seated (seatings A) c ≡ steps_do
 -- THE ROWS THAT A VIEW SHOWS
 
 -- as many steps are done as the seatings of the view tell
-pub done-shown : (A : History) → IsRegister A → (asked : StepOf) (view : View)
-    → ShowsSteps (Some asked) (seatings A) view.seatings.items (steps A) view.steps.items
+pub done-shown : (A : History) → IsRegister A → (asked : StepFilter) (view : View)
+    → IncludesStep (Some asked) (seatings A) view.seatings.items (steps A) view.steps.items
     → last_seated view.seatings.items asked.ceremony ≡ steps_done A asked.ceremony
 done-shown A h asked view v = v.last ∙ last-seated A h asked.ceremony
 
 -- never more than a script has
-pub not_overdone : (A : History) → IsRegister A → (asked : StepOf) (view : View)
-    → ShowsSteps (Some asked) (seatings A) view.seatings.items (steps A) view.steps.items
+pub not_overdone : (A : History) → IsRegister A → (asked : StepFilter) (view : View)
+    → IncludesStep (Some asked) (seatings A) view.seatings.items (steps A) view.steps.items
     → nat_lt 400 (last_seated view.seatings.items asked.ceremony) ≡ false
 not_overdone A h asked view v =
     let c = asked.ceremony in
     le-ltb 400 (last_seated view.seatings.items c) (omega (arith, done-shown A h asked view v, done-below A h c, few-steps A c))
 
--- a step is left where not all are done
+-- a step is left if not all are done
 pub left-shown : (A : History) → IsRegister A → (c : ℕ) (view : View)
-    → ShowsSteps (Some (record { ceremony = c; step = None })) (seatings A) view.seatings.items (steps A) view.steps.items
+    → IncludesStep (Some (record { ceremony = c; step = None })) (seatings A) view.seatings.items (steps A) view.steps.items
     → list_any (is_step_at c (suc (last_seated view.seatings.items c))) view.steps.items ≡ nat_lt (steps_done A c) (length (steps_of A c))
 left-shown A h c view v =
     any_step-shown A h c (suc (last_seated view.seatings.items c)) view.steps.items v.step

@@ -9,7 +9,7 @@ use Rattle.kcr_people.specs.declared.Withdrawal.{Withdrawal}
 use Rattle.kcr_room.specs.declared.SheetRow.{SheetRow}
 use Rattle.kcr_room.specs.declared.Stay.{Stay}
 use Rattle.kcr_history.specs.declared.commands.Act.{Act}
-use Rattle.kcr_history.specs.declared.commands.Answer.{Answer}
+use Rattle.kcr_history.specs.declared.commands.ReplyData.{ReplyData}
 use Rattle.kcr_history.specs.declared.commands.Command.{Command}
 use Rattle.kcr_history.specs.declared.commands.Entry.{Entry}
 use Rattle.kcr_history.specs.declared.views.Asks.{Asks}
@@ -19,10 +19,10 @@ use Rattle.kcr_history.specs.declared.views.View.{View}
 use Rattle.kcr_history.specs.History.{History, entry_of}
 use Rattle.kcr_history.specs.Tables.{Tables, SameTables, keys, key_row, tables}
 use Rattle.kcr_history.specs.Changes.{changed, changed_by, same_key_row}
-use Rattle.kcr_history.specs.Machine.{with_command, answer_to}
+use Rattle.kcr_history.specs.Machine.{with_command, reply_to}
 use Rattle.kcr_history.specs.Views.{is_of_key, IsViewOf}
-use Rattle.kcr_history.specs.Asked.{asks_by}
-use Rattle.kcr_history.specs.Front.{front_asks}
+use Rattle.kcr_history.specs.AsksByKind.{asks_by}
+use Rattle.kcr_history.specs.Early.{early_asks}
 use Rattle.kcr_history.specs.Conditions.{fault, is_full}
 use Rattle.kcr_history.proofs.Words.{row_of_key-keys}
 use Rattle.kcr_rules.specs.ByRows.{changes_by, refusal_by, all_changes_by}
@@ -34,19 +34,19 @@ use Rattle.kcr_machine.proofs.Keyed.{put-new}
 abbrev pub command_of : List ℕ → Act → Command
 command_of key act = record { key = key; act = act }
 
-abbrev pub entry_as : List ℕ → Act → Answer → Entry
+abbrev pub entry_as : List ℕ → Act → ReplyData → Entry
 entry_as key act answer = record { command = command_of key act; answer = answer }
 
 -- the tables with the changes, and with the row of the command's key
-abbrev pub changed_with : List Change → Command → Answer → Tables → Tables
+abbrev pub changed_with : List Change → Command → ReplyData → Tables → Tables
 changed_with changes x answer t = changed_by (changes ++ PutKey (new_key_row x answer) ∷ []) t
 
 -- the changes of the act and its row of a key, made in the tables, give those of the history with the command
-abbrev pub Leads : History → View → Command → Answer → Type 0
+abbrev pub Leads : History → View → Command → ReplyData → Type 0
 Leads A view x answer = changed_with (changes_by view x.act) x answer (tables A) ≡ tables (with_command A x answer)
 
 -- a view of what is asked for is one of the part that is read first
-pub front-of : (asks : Asks) (t : Tables) (view : View) → IsViewOf asks t view → IsViewOf (front_asks asks) t view
+pub front-of : (asks : Asks) (t : Tables) (view : View) → IsViewOf asks t view → IsViewOf (early_asks asks) t view
 front-of asks t view v =
     record {
       people = v.people;
@@ -67,27 +67,27 @@ front-of asks t view v =
 
 -- by the rows of that part alone the act's first refusal is its fault
 abbrev pub FrontShown : History → Act → Type 0
-FrontShown A act = (view : View) → IsViewOf (front_asks (asks_by act)) (tables A) view → refusal_by view (is_full A) act ≡ fault A act
+FrontShown A act = (view : View) → IsViewOf (early_asks (asks_by act)) (tables A) view → refusal_by view (is_full A) act ≡ fault A act
 
 -- by the rows of any view of what the act asks for its first refusal is its fault
 abbrev pub FaultShown : History → Act → Type 0
 FaultShown A act = (view : View) → IsViewOf (asks_by act) (tables A) view → refusal_by view (is_full A) act ≡ fault A act
 
--- and where it has none, its changes lead on
+-- and if it has none, its changes lead on
 abbrev pub LeadsOn : History → Act → Type 0
 LeadsOn A act =
-    (key : List ℕ) (view : View) (answer : Answer) → IsViewOf (asks_by act) (tables A) view → entry_of A key ≡ None → fault A act ≡ None
+    (key : List ℕ) (view : View) (answer : ReplyData) → IsViewOf (asks_by act) (tables A) view → entry_of A key ≡ None → fault A act ≡ None
     → Leads A view (command_of key act) answer
 
 -- the same of an act with those who fill its seats
 abbrev pub SeatsLeadOn : History → Act → Option (List (List ℕ)) → Type 0
 SeatsLeadOn A act people =
-    (key : List ℕ) (view : View) (answer : Answer) → IsViewOf (asks_by act) (tables A) view → entry_of A key ≡ None → fault A act ≡ None
-    → answer ≡ answer_to A act people
+    (key : List ℕ) (view : View) (answer : ReplyData) → IsViewOf (asks_by act) (tables A) view → entry_of A key ≡ None → fault A act ≡ None
+    → answer ≡ reply_to A act people
     → changed_with (all_changes_by view act people) (command_of key act) answer (tables A) ≡ tables (with_command A (command_of key act) answer)
 
 -- the row of a command whose key is new is put in front
-pub new_key : (A : History) (x : Command) (answer : Answer) → entry_of A x.key ≡ None
+pub new_key : (A : History) (x : Command) (answer : ReplyData) → entry_of A x.key ≡ None
     → put same_key_row (new_key_row x answer) (keys A) ≡ new_key_row x answer ∷ keys A
 new_key A x answer k =
     put-new same_key_row (new_key_row x answer) (keys A) (none-find (is_of_key x.key) (keys A) (row_of_key-keys A x.key ∙ ap (option_map key_row) k))
@@ -98,7 +98,7 @@ pub changed-append : (xs ys : List Change) (t : Tables) → changed_by (xs ++ ys
 changed-append [] ys t = refl
 changed-append (x ∷ xs) ys t = changed-append xs ys (changed x t)
 
--- rows of one table, where `to` is the change that puts one and `with_rows` gives the table other rows
+-- rows of one table, if `to` is the change that puts one and `with_rows` gives the table other rows
 pub changed_by-rows : {X : Type 0} (to : X → Change) (same : X → X → Bool) (with_rows : List X → Tables → Tables)
     → ((row : X) (rows : List X) (t : Tables) → changed (to row) (with_rows rows t) ≡ with_rows (put same row rows) t)
     → (xs rows : List X) (rest : List Change) (t : Tables)

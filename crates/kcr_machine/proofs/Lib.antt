@@ -18,3 +18,5 @@ pub mod SheetFaults
 pub mod SheetLeads
 pub mod Ahead
 pub mod Decided
+pub mod Alike
+pub mod KeyRows

@@ -18,10 +18,10 @@ use Rattle.kcr_base.specs.declared.place.Place.{Place}
 use Rattle.kcr_people.specs.declared.Person.{Person}
 use Rattle.kcr_history.specs.declared.commands.Act.TheVariants.{Enter, Train, Withdraw, Appoint, Replace, Release}
 use Rattle.kcr_history.specs.declared.views.View.{View}
-use Rattle.kcr_history.specs.History.{History, some_command, entry_of}
+use Rattle.kcr_history.specs.History.{History, has_command, entry_of}
 use Rattle.kcr_history.specs.Training.{is_person, ever_trained, is_training}
 use Rattle.kcr_history.specs.Tables.{people, trainings, withdrawals, appointments, tables, SameTables, ended}
-use Rattle.kcr_history.specs.Asked.{asks_by}
+use Rattle.kcr_history.specs.AsksByKind.{asks_by}
 use Rattle.kcr_history.specs.Conditions.{conditions}
 use Rattle.kcr_history.specs.Machine.{IsRegister, with_command}
 use Rattle.kcr_history.proofs.Words.{is_person-people, ever_trained-trainings, is_training-trainings, ever_put-appointments}
@@ -36,7 +36,7 @@ use Rattle.kcr_base.proofs.RowsLemmas.{put_all-order}
 use Rattle.kcr_base.proofs.ListLemmas.{any-same}
 use Rattle.kcr_people.specs.Laws.{same_withdrawn}
 use Rattle.kcr_people.proofs.Keys.{same_withdrawn-keys, withdrawn_rows-apart}
-use Rattle.kcr_history.specs.declared.commands.Answer.{Answer}
+use Rattle.kcr_history.specs.declared.commands.ReplyData.{ReplyData}
 use Rattle.kcr_history.specs.declared.commands.Command.{Command}
 use Rattle.kcr_history.specs.declared.views.Change.TheVariants.{PutWithdrawal, PutKey}
 use Rattle.kcr_history.specs.Changes.{same_person, same_appointment}
@@ -196,7 +196,7 @@ enter-leads A who name key view answer v k f =
 pub train-leads : (A : History) (who : List ℕ) (role : Role) (since until : ℕ) → LeadsOn A (Train who role since until)
 train-leads A who role since until key view answer v k f =
     let new : Training = record { who = who; role = role; since = since; until = until } in
-    let absent = is_training-trainings A new ∙ unmet (some_command (is_training who role since until) A) Taken
+    let absent = is_training-trainings A new ∙ unmet (has_command (is_training who role since until) A) Taken
     (none_holds (conditions A (Train who role since until)) f).1.0 in
     rw (put-new same_training new (trainings A) absent, new_key A (command_of key (Train who role since until)) answer k)
 
@@ -212,7 +212,7 @@ withdrawals-put A h who role day us vs p q =
     (withdrawn_rows-shown who (trainings A) us (withdrawals A) vs p q role day)
     (withdrawn_rows-apart (trainings A) (withdrawals A) who role day (trainings-apart A h)))
 
-pub withdraw-leads : (A : History) → IsRegister A → (key who : List ℕ) (role : Role) (day : ℕ) (view : View) (answer : Answer)
+pub withdraw-leads : (A : History) → IsRegister A → (key who : List ℕ) (role : Role) (day : ℕ) (view : View) (answer : ReplyData)
     → IsViewOf (asks_by (Withdraw who role day)) (tables A) view → entry_of A key ≡ None
     → SameTables (changed_with (changes_by view (Withdraw who role day)) (command_of key (Withdraw who role day)) answer (tables A))
     (tables (with_command A (command_of key (Withdraw who role day)) answer))

@@ -4,29 +4,29 @@ use Rattle.std.proofs.Common.{arith}
 use Rattle.std.specs.Prelude.{is_some}
 use Rattle.std.specs.List.{list_any, cons_option}
 use Rattle.std.proofs.lemmas.Bool.{true≢false, false≢true, eqb-true, eq-eqb, and_left, false_from_ne_true}
-use Rattle.kcr_base.specs.Rows.{put, or_else}
-use Rattle.kcr_base.specs.Refuse.{is_late}
+use Rattle.kcr_base.specs.Rows.{put, option_or}
+use Rattle.kcr_base.specs.Refuse.{before_mark_refusal}
 use Rattle.kcr_base.specs.declared.refusal.Refusal.TheVariants.{Unknown, State}
 use Rattle.kcr_base.specs.declared.refusal.Thing.TheVariants as Things
 use Rattle.kcr_base.proofs.RefuseLemmas.{none_holds, met}
 use Rattle.kcr_base.proofs.ListLemmas.{some_if}
-use Rattle.kcr_custody.specs.Custody.{not_ready}
+use Rattle.kcr_custody.specs.Custody.{not_ready_refusal}
 use Rattle.kcr_history.specs.declared.commands.Act.{Act}
-use Rattle.kcr_history.specs.declared.commands.Act.TheVariants.{AddItem, Open, Sign, Except, TurnSafe, Seal, Take, Put, Cut}
+use Rattle.kcr_history.specs.declared.commands.Act.TheVariants.{AddItem, Open, Sign, RecordException, SetSafe, Seal, Take, Put, Cut}
 use Rattle.kcr_history.specs.declared.commands.Entry.{Entry}
-use Rattle.kcr_history.specs.declared.rows.CeremonyRow.{CeremonyRow}
-use Rattle.kcr_history.specs.declared.rows.MarkRow.{MarkRow}
+use Rattle.kcr_history.specs.declared.row_types.CeremonyRow.{CeremonyRow}
+use Rattle.kcr_history.specs.declared.row_types.MarkRow.{MarkRow}
 use Rattle.kcr_history.specs.declared.views.View.{View}
-use Rattle.kcr_history.specs.History.{History, all_said, greatest, max_with}
-use Rattle.kcr_history.specs.Ceremonies.{planned_as, plan_of, is_ceremony, facility_of, opening, opened, closed, is_open, marked, mark, opened_number}
+use Rattle.kcr_history.specs.History.{History, values_of_acts, greatest, max_with}
+use Rattle.kcr_history.specs.Ceremonies.{planned_as, plan_of, is_ceremony, facility_of, opening_moment, opened_at, closed_at, is_ceremony_open, marked_moment, mark, opened_number}
 use Rattle.kcr_history.specs.Tables.{planned_number, ceremony_row, ceremonies, mark_row, marks}
 use Rattle.kcr_history.specs.Changes.{same_mark}
 use Rattle.kcr_history.specs.Views.{is_of_number, is_mark_of}
-use Rattle.kcr_history.specs.Conditions.{conditions, fault, is_full, late, scene_at}
+use Rattle.kcr_history.specs.Conditions.{conditions, fault, is_full, late_refusal, ceremony_status_at}
 use Rattle.kcr_history.specs.Machine.{IsRegister}
 use Rattle.kcr_history.proofs.Steps.{took, none_ready}
 use Rattle.kcr_history.proofs.Words.{planned-number}
-use Rattle.kcr_rules.specs.Scene.{ceremony_by, facility_by, is_open_row, mark_by, scene_by}
+use Rattle.kcr_rules.specs.CeremonyStatus.{ceremony_by, facility_of_row, is_open_row, mark_by, ceremony_status_by}
 use Rattle.kcr_machine.proofs.Keyed.{Shown, find-view, put-at, said-view}
 
 pub turned : (a b : ℕ) → eqb b a ≡ false → eqb a b ≡ false
@@ -36,7 +36,7 @@ turned a b h = false_from_ne_true (eqb a b) (λ e. true≢false (sym (eq-eqb b a
 
 -- what is said only after something else was said, by one more command as before it
 pub said-then : {X Y : Type 0} (o p : Option X) (q r : Option Y) → (is_some o ≡ true → is_some r ≡ true) → (is_some p ≡ true → is_some r ≡ true)
-    → is_some (or_else o p) ≡ true → is_some (or_else q r) ≡ true
+    → is_some (option_or o p) ≡ true → is_some (option_or q r) ≡ true
 said-then o p q r new old e = grind arith
 
 pub some-where : {X : Type 0} (b : Bool) (x : X) → is_some (cond b (Some x) None) ≡ true → b ≡ true
@@ -44,36 +44,36 @@ some-where b x e = grind arith
 
 -- THE CEREMONY
 
--- the row of the ceremony, where it was planned
+-- the row of the ceremony, if it was planned
 pub ceremony-shown : (A : History) (c : ℕ) (rows : List CeremonyRow) → Shown (is_of_number c) (ceremonies A) rows
     → ceremony_by rows c ≡ some_if (is_ceremony A c) (ceremony_row A c)
 ceremony-shown A c rows p =
     find-view (is_of_number c) (is_of_number c) (ceremony_row A) (ceremony_row A c) (λ x e. e) (λ k e. ap (ceremony_row A) (eqb-true k c e))
-    (all_said planned_number A) rows p
+    (values_of_acts planned_number A) rows p
     ∙ ap (λ b. some_if b (ceremony_row A c)) (planned-number A c)
 
 -- THE STATE
 
 -- only a planned ceremony is opened
-pub opened-planned : (A : History) → IsRegister A → (c : ℕ) → is_some (opened A c) ≡ true → is_ceremony A c ≡ true
+pub opened-planned : (A : History) → IsRegister A → (c : ℕ) → is_some (opened_at A c) ≡ true → is_ceremony A c ≡ true
 opened-planned [] h c e = absurd (false≢true e)
 opened-planned (entry ∷ A) h c e =
-    said-then (opening c entry.command.act) (opened A c) (planned_as c entry.command.act) (plan_of A c) (by_act entry.command.act (took A entry h.0).no_fault)
+    said-then (opening_moment c entry.command.act) (opened_at A c) (planned_as c entry.command.act) (plan_of A c) (by_act entry.command.act (took A entry h.0).no_fault)
     (opened-planned A h.1 c) e
   where
-    by_act : (act : Act) → fault A act ≡ None → is_some (opening c act) ≡ true → is_ceremony A c ≡ true
+    by_act : (act : Act) → fault A act ≡ None → is_some (opening_moment c act) ≡ true → is_ceremony A c ≡ true
     by_act (Open d at) f e =
         subst (λ c. is_ceremony A c ≡ true) (eqb-true d c (some-where (eqb d c) at e))
         (met (is_ceremony A d) (Unknown (Things.Ceremony d)) (none_holds (conditions A (Open d at)) f).0)
     by_act act f e = absurd (false≢true e)
 
 -- the state of a row tells whether the ceremony is open
-pub open-state : (A : History) (c : ℕ) → is_open_row (Some (ceremony_row A c)) ≡ is_open A c
+pub open-state : (A : History) (c : ℕ) → is_open_row (Some (ceremony_row A c)) ≡ is_ceremony_open A c
 open-state A c = grind arith
 
-never-open : (A : History) → IsRegister A → (c : ℕ) → is_ceremony A c ≡ false → is_open A c ≡ false
+never-open : (A : History) → IsRegister A → (c : ℕ) → is_ceremony A c ≡ false → is_ceremony_open A c ≡ false
 never-open A h c e =
-    and_left (is_some (opened A c)) (is_none (closed A c)) (false_from_ne_true (is_some (opened A c)) (λ o. true≢false (sym (opened-planned A h c o) ∙ e)))
+    and_left (is_some (opened_at A c)) (is_none (closed_at A c)) (false_from_ne_true (is_some (opened_at A c)) (λ o. true≢false (sym (opened-planned A h c o) ∙ e)))
 
 module _ (A : History) (c : ℕ) (rows : List CeremonyRow) (p : Shown (is_of_number c) (ceremonies A) rows) where
   -- whether there is such a ceremony
@@ -81,11 +81,11 @@ module _ (A : History) (c : ℕ) (rows : List CeremonyRow) (p : Shown (is_of_num
   known-shown = grind (arith, ceremony-shown A c rows p)
 
   -- its facility
-  pub facility-shown : facility_by (ceremony_by rows c) ≡ facility_of A c
+  pub facility-shown : facility_of_row (ceremony_by rows c) ≡ facility_of A c
   facility-shown = grind (arith, ceremony-shown A c rows p)
 
   -- whether it is open
-  pub is_open-shown : IsRegister A → is_open_row (ceremony_by rows c) ≡ is_open A c
+  pub is_open-shown : IsRegister A → is_open_row (ceremony_by rows c) ≡ is_ceremony_open A c
   is_open-shown h = grind (arith, ceremony-shown A c rows p, open-state A c, never-open A h c)
 
 -- MARKS
@@ -100,81 +100,81 @@ greatest_with : (o : Option (ℕ × ℕ)) (c : ℕ) (ms : List (ℕ × ℕ))
 greatest_with None c ms = refl
 greatest_with (Some new) c ms = grind arith
 
-pub mark-after : (A : History) (entry : Entry) (c : ℕ) → mark (entry ∷ A) c ≡ mark_with (marked entry.command.act) c (mark A c)
-mark-after A entry c = greatest_with (marked entry.command.act) c (all_said marked A)
+pub mark-after : (A : History) (entry : Entry) (c : ℕ) → mark (entry ∷ A) c ≡ mark_with (marked_moment entry.command.act) c (mark A c)
+mark-after A entry c = greatest_with (marked_moment entry.command.act) c (values_of_acts marked_moment A)
 
 -- an act that is marked, but for an opening, is in an open ceremony and not before its mark
 abbrev pub IsReady : History → Option (ℕ × ℕ) → Option ℕ → Type 0
-IsReady A (Some new) None = (is_open A new.0 ≡ true) × (late A new.0 new.1 ≡ None)
+IsReady A (Some new) None = (is_ceremony_open A new.0 ≡ true) × (late_refusal A new.0 new.1 ≡ None)
 IsReady A m o = Unit {0}
 
 -- so is an act of custody that found its ceremony ready
-in_time : (A : History) (c at : ℕ) → not_ready (scene_at A c at) ≡ None → IsReady A (Some (c, at)) None
-in_time A c at h = let n = none_ready A c at h in (met (is_open A c) State n.0, n.1.0)
+in_time : (A : History) (c at : ℕ) → not_ready_refusal (ceremony_status_at A c at) ≡ None → IsReady A (Some (c, at)) None
+in_time A c at h = let n = none_ready A c at h in (met (is_ceremony_open A c) State n.0, n.1.0)
 
-pub ready : (A : History) (act : Act) → fault A act ≡ None → IsReady A (marked act) (opened_number act)
-ready A (Sign c k at) f = let n = none_holds (conditions A (Sign c k at)) f in (met (is_open A c) State (assumption n), assumption n)
-ready A (Except c text pass at) f = let n = none_holds (conditions A (Except c text pass at)) f in (met (is_open A c) State (assumption n), assumption n)
+pub ready : (A : History) (act : Act) → fault A act ≡ None → IsReady A (marked_moment act) (opened_number act)
+ready A (Sign c k at) f = let n = none_holds (conditions A (Sign c k at)) f in (met (is_ceremony_open A c) State (assumption n), assumption n)
+ready A (RecordException c text pass at) f = let n = none_holds (conditions A (RecordException c text pass at)) f in (met (is_ceremony_open A c) State (assumption n), assumption n)
 ready A (AddItem c item at) f = let n = none_holds (conditions A (AddItem c item at)) f in in_time A c at (assumption n)
-ready A (TurnSafe c safe state by at) f = let n = none_holds (conditions A (TurnSafe c safe state by at)) f in in_time A c at (assumption n)
+ready A (SetSafe c safe state by at) f = let n = none_holds (conditions A (SetSafe c safe state by at)) f in in_time A c at (assumption n)
 ready A (Seal c serial items at) f = let n = none_holds (conditions A (Seal c serial items at)) f in in_time A c at (assumption n)
 ready A (Take c serial at) f = let n = none_holds (conditions A (Take c serial at)) f in in_time A c at (assumption n)
 ready A (Put c serial to at) f = let n = none_holds (conditions A (Put c serial to at)) f in in_time A c at (assumption n)
 ready A (Cut c serial at) f = let n = none_holds (conditions A (Cut c serial at)) f in in_time A c at (assumption n)
 ready A act f = tt
 
-pub open-opened : (A : History) (c : ℕ) → is_open A c ≡ true → is_some (opened A c) ≡ true
+pub open-opened : (A : History) (c : ℕ) → is_ceremony_open A c ≡ true → is_some (opened_at A c) ≡ true
 open-opened A c e = grind arith
 
--- a ceremony has a mark where it was opened
-mark_stays : (A : History) (c : ℕ) (o : Option (ℕ × ℕ)) → IsReady A o None → is_some (mark A c) ≡ is_some (opened A c)
-    → is_some (mark_with o c (mark A c)) ≡ is_some (opened A c)
+-- a ceremony has a mark if it was opened
+mark_stays : (A : History) (c : ℕ) (o : Option (ℕ × ℕ)) → IsReady A o None → is_some (mark A c) ≡ is_some (opened_at A c)
+    → is_some (mark_with o c (mark A c)) ≡ is_some (opened_at A c)
 mark_stays A c None r ih = ih
 mark_stays A c (Some new) r ih = grind (arith, open-opened A new.0 r.0)
 
-marked_opened_after : (A : History) (act : Act) (c : ℕ) → fault A act ≡ None → is_some (mark A c) ≡ is_some (opened A c)
-    → is_some (mark_with (marked act) c (mark A c)) ≡ is_some (or_else (opening c act) (opened A c))
+marked_opened_after : (A : History) (act : Act) (c : ℕ) → fault A act ≡ None → is_some (mark A c) ≡ is_some (opened_at A c)
+    → is_some (mark_with (marked_moment act) c (mark A c)) ≡ is_some (option_or (opening_moment c act) (opened_at A c))
 marked_opened_after A (Open d at) c f ih = grind arith
-marked_opened_after A act c f ih = mark_stays A c (marked act) (ready A act f) ih
+marked_opened_after A act c f ih = mark_stays A c (marked_moment act) (ready A act f) ih
 
-pub marked-opened : (A : History) → IsRegister A → (c : ℕ) → is_some (mark A c) ≡ is_some (opened A c)
+pub marked-opened : (A : History) → IsRegister A → (c : ℕ) → is_some (mark A c) ≡ is_some (opened_at A c)
 marked-opened [] h c = refl
 marked-opened (entry ∷ A) h c =
     ap is_some (mark-after A entry c) ∙ marked_opened_after A entry.command.act c (took A entry h.0).no_fault (marked-opened A h.1 c)
 
--- a ceremony has a row of marks where it was opened
+-- a ceremony has a row of marks if it was opened
 opened_after : (act : Act) (c : ℕ) (numbers : List ℕ) (o : Option ℕ) → list_any (λ k. eqb k c) numbers ≡ is_some o
-    → list_any (λ k. eqb k c) (cons_option (opened_number act) numbers) ≡ is_some (or_else (opening c act) o)
+    → list_any (λ k. eqb k c) (cons_option (opened_number act) numbers) ≡ is_some (option_or (opening_moment c act) o)
 opened_after (Open d at) c numbers o ih = grind arith
 opened_after act c numbers o ih = ih
 
-pub opened-number : (A : History) (c : ℕ) → list_any (λ k. eqb k c) (all_said opened_number A) ≡ is_some (opened A c)
+pub opened-number : (A : History) (c : ℕ) → list_any (λ k. eqb k c) (values_of_acts opened_number A) ≡ is_some (opened_at A c)
 opened-number [] c = refl
-opened-number (entry ∷ A) c = opened_after entry.command.act c (all_said opened_number A) (opened A c) (opened-number A c)
+opened-number (entry ∷ A) c = opened_after entry.command.act c (values_of_acts opened_number A) (opened_at A c) (opened-number A c)
 
 -- the mark of the ceremony
 pub mark-shown : (A : History) → IsRegister A → (c : ℕ) (rows : List MarkRow) → Shown (is_mark_of c) (marks A) rows → mark_by rows c ≡ mark A c
 mark-shown A h c rows p =
     said-view (is_mark_of c) (is_mark_of c) (mark_row A) (mark_row A c) (λ row. row.at) (mark A c) 0 (λ x e. e) (λ k e. ap (mark_row A) (eqb-true k c e))
-    (all_said opened_number A) rows p
+    (values_of_acts opened_number A) rows p
     (opened-number A c ∙ sym (marked-opened A h c)) refl
 
 -- THE MARK'S ROW IS PUT
 
 -- not before the mark: the moment is the new mark
-pub mark-now : (o : Option ℕ) (at : ℕ) → is_late at o ≡ None → max_with at o ≡ at
+pub mark-now : (o : Option ℕ) (at : ℕ) → before_mark_refusal at o ≡ None → max_with at o ≡ at
 mark-now o at h = grind arith
 
 abbrev row_at : ℕ → ℕ → MarkRow
 row_at c at = record { ceremony = c; at = at }
 
 -- a marked act that is accepted, but for an opening: putting the mark's row gives the marks after it
-pub marks-put : (A : History) (entry : Entry) (c at : ℕ) → fault A entry.command.act ≡ None → marked entry.command.act ≡ Some (c, at)
+pub marks-put : (A : History) (entry : Entry) (c at : ℕ) → fault A entry.command.act ≡ None → marked_moment entry.command.act ≡ Some (c, at)
     → opened_number entry.command.act ≡ None
     → put same_mark (record { ceremony = c; at = at }) (marks A) ≡ marks (entry ∷ A)
 marks-put A entry c at f m o =
-    put-at same_mark (mark_row A) (mark_row (entry ∷ A)) (row_at c at) here elsewhere (all_said opened_number A) (opened-number A c ∙ open-opened A c go.0)
-    ∙ ap (λ n. map (mark_row (entry ∷ A)) (cons_option n (all_said opened_number A))) (sym o)
+    put-at same_mark (mark_row A) (mark_row (entry ∷ A)) (row_at c at) here elsewhere (values_of_acts opened_number A) (opened-number A c ∙ open-opened A c go.0)
+    ∙ ap (λ n. map (mark_row (entry ∷ A)) (cons_option n (values_of_acts opened_number A))) (sym o)
   where
     go : IsReady A (Some (c, at)) None
     go = subst (λ n. IsReady A (Some (c, at)) n) o (subst (λ n. IsReady A n (opened_number entry.command.act)) m (ready A entry.command.act f))
@@ -190,7 +190,7 @@ marks-put A entry c at f m o =
 -- the scene by the history, but for whether a CA is there
 pub scene-shown : (A : History) → IsRegister A → (c at : ℕ) (has_ca : Bool) (view : View) → Shown (is_of_number c) (ceremonies A) view.ceremonies.items
     → Shown (is_mark_of c) (marks A) view.marks.items
-    → scene_by view c at (is_full A) has_ca ≡ record (scene_at A c at) { has_ca = has_ca }
+    → ceremony_status_by view c at (is_full A) has_ca ≡ record (ceremony_status_at A c at) { has_ca = has_ca }
 scene-shown A h c at has_ca view p q =
     let rows = view.ceremonies.items in
     rw (known-shown A c rows p, facility-shown A c rows p, is_open-shown A c rows p h, mark-shown A h c view.marks.items q) refl

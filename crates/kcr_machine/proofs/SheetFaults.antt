@@ -5,7 +5,7 @@ use Rattle.std.specs.Prelude.{is_some, count_by}
 use Rattle.std.specs.List.Sorted.{IsPermutation}
 use Rattle.std.proofs.lemmas.Bool.{true≢false, eqb-true, ltb-true}
 use Rattle.std.proofs.lemmas.List.Sorted.{IsPermutation-reverse, sum_by-IsPermutation}
-use Rattle.kcr_base.specs.Refuse.{when, first_of, no_people, is_not_later}
+use Rattle.kcr_base.specs.Refuse.{when, first_of, unknown_people_refusal, not_after_mark_refusal}
 use Rattle.kcr_base.proofs.RefuseLemmas.{none_holds, met, behind, nested, no_first}
 use Rattle.kcr_base.specs.Same.{same_text}
 use Rattle.kcr_base.specs.declared.refusal.Refusal.{Refusal}
@@ -16,34 +16,34 @@ use Rattle.kcr_room.specs.declared.SheetRow.{SheetRow}
 use Rattle.kcr_room.specs.declared.Stay.{Stay}
 use Rattle.kcr_room.specs.declared.Way.{Way}
 use Rattle.kcr_room.specs.declared.Way.TheVariants as Ways
-use Rattle.kcr_room.specs.Room.{enters, entries_by, crowd_by, Followed, followed_rows}
-use Rattle.kcr_room.specs.Moments.{IsFirst, IsEver}
+use Rattle.kcr_room.specs.Room.{enters, in_row_count_by, headcount_by, Followed, followed_rows}
+use Rattle.kcr_room.specs.Moments.{IsFirstMoment, IsEver}
 use Rattle.kcr_room.specs.Stays.{stay_from, next_of, stays_of, stays_by, first_lone_in_by, is_crowded_in_by}
 use Rattle.kcr_room.proofs.Followed.{followed-same}
-use Rattle.kcr_room.specs.Adding.{is_out_of_turn_in, new_row, of_ceremony, stays_refusal, rows_refusal}
-use Rattle.kcr_room.specs.Adding.{entries, is_overfull_by, is_overfull as is_overfull_with}
+use Rattle.kcr_room.specs.Requests.{is_out_of_turn_in, new_row, of_ceremony, stays_refusal, rows_refusal}
+use Rattle.kcr_room.specs.Requests.{stay_count, is_overfull_by, is_overfull as is_overfull_with}
 use Rattle.kcr_base.specs.Lists.{are_apart}
-use Rattle.kcr_room.specs.Laws.{IsSheet, IsSettled}
+use Rattle.kcr_room.specs.Laws.{IsSheet, IsNeverLoneOrCrowded}
 use Rattle.kcr_room.proofs.Lists.{count-cons}
 use Rattle.kcr_room.proofs.Keeping.{turns_keep}
 use Rattle.kcr_room.proofs.Orders.{refusal-order}
 use Rattle.kcr_room.proofs.Refusals.{same_refusal}
 use Rattle.kcr_room.proofs.Lasting.{later-lasting}
 use Rattle.kcr_history.specs.declared.commands.Act.{Act}
-use Rattle.kcr_history.specs.declared.commands.Act.TheVariants.{Sheet}
+use Rattle.kcr_history.specs.declared.commands.Act.TheVariants.{RecordSheet}
 use Rattle.kcr_history.specs.History.{History}
 use Rattle.kcr_history.specs.Training.{is_person}
-use Rattle.kcr_history.specs.Ceremonies.{closed as closed_at, is_open, mark}
+use Rattle.kcr_history.specs.Ceremonies.{closed_at as closed_at, is_ceremony_open, mark}
 use Rattle.kcr_history.specs.Room.{sheet, sheet_after}
 use Rattle.kcr_history.specs.Tables.{people}
-use Rattle.kcr_history.specs.Views.{is_of_people, ShowsEntries, ShowsLast, ShowsStaysOf}
-use Rattle.kcr_history.specs.Asked.{entries_asked}
-use Rattle.kcr_history.specs.Conditions.{conditions, fault, is_full, no_ceremony, not_open, not_later, out_of_turn}
-use Rattle.kcr_history.specs.Conditions.{crowded, lone, is_overfull, full}
+use Rattle.kcr_history.specs.Views.{is_of_people, HasStayCount, ShowsLast, ShowsStaysOf}
+use Rattle.kcr_history.specs.AsksByKind.{stay_count_asked}
+use Rattle.kcr_history.specs.Conditions.{conditions, fault, is_full, no_ceremony, not_open_refusal, not_later_refusal, out_of_turn_refusal}
+use Rattle.kcr_history.specs.Conditions.{crowd_refusal, lone_room_refusal, is_overfull, full_refusal}
 use Rattle.kcr_history.specs.Machine.{IsRegister}
 use Rattle.kcr_history.proofs.Steps.{took}
 use Rattle.kcr_history.proofs.Words.{is_person-people}
-use Rattle.kcr_rules.specs.SheetRows.{named_twice, room_refusal}
+use Rattle.kcr_rules.specs.SheetRows.{named_twice_refusal, room_refusal}
 use Rattle.kcr_machine.proofs.Keyed.{Shown, any-shown}
 use Rattle.kcr_machine.proofs.Leads.{FaultShown}
 use Rattle.kcr_base.proofs.Members.{IsIn, find-same-in, in-any}
@@ -55,24 +55,24 @@ use Rattle.kcr_machine.proofs.SheetStays.{IsClear, clear-order, clear-sheet, las
 -- THE STAYS THAT A VIEW SHOWS OF A REQUEST
 
 -- of a room in which nobody was ever alone, nor too many
-pub settled : (A : History) → IsRegister A → (c : ℕ) → IsSettled (stays_by (sheet A)) c
+pub settled : (A : History) → IsRegister A → (c : ℕ) → IsNeverLoneOrCrowded (stays_by (sheet A)) c
 settled A h c =
     record {
       lone = by_moment (first_lone_in_by (stays_by (sheet A)) c) (first (sheet A) c);
       crowded = by_test (is_crowded_in_by (stays_by (sheet A)) c) (ever (sheet A) c);
     }
   where
-    by_moment : (o : Option ℕ) → IsFirst (λ t. crowd_by (sheet A) c t == 1) o → o ≡ None
+    by_moment : (o : Option ℕ) → IsFirstMoment (λ t. headcount_by (sheet A) c t == 1) o → o ≡ None
     by_moment None f = refl
-    by_moment (Some t) f = absurd ((rooms A h c t).0 (eqb-true (crowd_by (sheet A) c t) 1 f.0))
+    by_moment (Some t) f = absurd ((rooms A h c t).0 (eqb-true (headcount_by (sheet A) c t) 1 f.0))
 
-    by_test : (b : Bool) → IsEver (λ t. nat_lt 128 (crowd_by (sheet A) c t)) b → b ≡ false
-    by_test true e = let l = ltb-true 128 (crowd_by (sheet A) c e.0) e.1 in absurd (omega (arith, l, (rooms A h c e.0).1))
+    by_test : (b : Bool) → IsEver (λ t. nat_lt 128 (headcount_by (sheet A) c t)) b → b ≡ false
+    by_test true e = let l = ltb-true 128 (headcount_by (sheet A) c e.0) e.1 in absurd (omega (arith, l, (rooms A h c e.0).1))
     by_test false e = refl
 
--- how many have come is asked only where more come
-same-overfull : (table : List Stay) (c count : ℕ) (way : Way) (people : List (List ℕ)) → ShowsEntries (entries_asked way c) table count
-    → is_overfull_with count way people ≡ is_overfull_with (entries table c) way people
+-- how many have come is asked only if more come
+same-overfull : (table : List Stay) (c count : ℕ) (way : Way) (people : List (List ℕ)) → HasStayCount (stay_count_asked way c) table count
+    → is_overfull_with count way people ≡ is_overfull_with (stay_count table c) way people
 same-overfull table c count Ways.Enter people e = ap (λ n. is_overfull_with n Ways.Enter people) e
 same-overfull table c count Ways.Leave people e = refl
 
@@ -84,34 +84,34 @@ turn-shown table shown clear people last within c way at who i =
     turn-last table shown who clear within (λ s e. last-in shown who s (last-shown table shown people last who i ∙ e)) c way at
 
 -- so a request is refused by them for what it is refused for by all
-shown-refusal : (table shown : List Stay) → IsClear table → (c m count : ℕ) (full : Bool) (way : Way) (people : List (List ℕ)) (at : ℕ)
-    → ShowsStaysOf (record { ceremony = c; at = at; people = people }) table shown → ShowsEntries (entries_asked way c) table count
-    → stays_refusal shown count c m full way people at ≡ stays_refusal table (entries table c) c m full way people at
-shown-refusal table shown clear c m count full way people at v e =
+shown-refusal : (table shown : List Stay) → IsClear table → (c m count : ℕ) (full_refusal : Bool) (way : Way) (people : List (List ℕ)) (at : ℕ)
+    → ShowsStaysOf (record { ceremony = c; at = at; people = people }) table shown → HasStayCount (stay_count_asked way c) table count
+    → stays_refusal shown count c m full_refusal way people at ≡ stays_refusal table (stay_count table c) c m full_refusal way people at
+shown-refusal table shown clear c m count full_refusal way people at v e =
     rw (
       find-same-in (is_out_of_turn_in shown c way at) (is_out_of_turn_in table c way at) people
           (turn-shown table shown clear people v.last v.within c way at),
-      later-lasting table shown c at v.room way people (full || is_overfull_with count way people),
+      later-lasting table shown c at v.room way people (full_refusal || is_overfull_with count way people),
       same-overfull table c count way people e,
     )
     refl
 
 -- as many have come by the stays in another order
-entries-order : (xs ys : List Stay) → IsPermutation xs ys → (c : ℕ) → entries ys c ≡ entries xs c
+entries-order : (xs ys : List Stay) → IsPermutation xs ys → (c : ℕ) → stay_count ys c ≡ stay_count xs c
 entries-order xs ys p c = sum_by-IsPermutation (λ s. cond (of_ceremony c s) 1 0) xs ys p
 
 -- so by the rows of a view it is refused for what it is refused for by the sheet
-request-refusal : (rows : List SheetRow) → IsSheet rows → (shown : List Stay) (c m count : ℕ) (full : Bool) (way : Way) (people : List (List ℕ)) (at : ℕ)
+request-refusal : (rows : List SheetRow) → IsSheet rows → (shown : List Stay) (c m count : ℕ) (full_refusal : Bool) (way : Way) (people : List (List ℕ)) (at : ℕ)
     → ShowsStaysOf (record { ceremony = c; at = at; people = people }) (reverse (stays_by rows)) shown
-    → ShowsEntries (entries_asked way c) (reverse (stays_by rows)) count → are_apart people ≡ true → IsSettled (stays_by rows) c
-    → stays_refusal shown count c m full way people at ≡ rows_refusal rows c m full way people at
-request-refusal rows s shown c m count full way people at v e a still =
+    → HasStayCount (stay_count_asked way c) (reverse (stays_by rows)) count → are_apart people ≡ true → IsNeverLoneOrCrowded (stays_by rows) c
+    → stays_refusal shown count c m full_refusal way people at ≡ rows_refusal rows c m full_refusal way people at
+request-refusal rows s shown c m count full_refusal way people at v e a still =
     let table : List Stay = reverse (stays_by rows) in
     let turned = IsPermutation-reverse (stays_by rows) in
-    shown-refusal table shown (clear-order (stays_by rows) table turned (clear-sheet rows s)) c m count full way people at v e
-    ∙ ap (λ n. stays_refusal table n c m full way people at) (entries-order (stays_by rows) table turned c)
-    ∙ refusal-order (stays_by rows) table turned (entries (stays_by rows) c) c m full way people at
-    ∙ same_refusal rows s c m full way people at a still
+    shown-refusal table shown (clear-order (stays_by rows) table turned (clear-sheet rows s)) c m count full_refusal way people at v e
+    ∙ ap (λ n. stays_refusal table n c m full_refusal way people at) (entries-order (stays_by rows) table turned c)
+    ∙ refusal-order (stays_by rows) table turned (stay_count (stays_by rows) c) c m full_refusal way people at
+    ∙ same_refusal rows s c m full_refusal way people at a still
 
 -- HOW MANY HAVE COME
 
@@ -123,7 +123,7 @@ entries-of c (followed ∷ all) =
     let both = count-cons (enters c) row (map (λ followed. followed.row) all) (enters c row) refl in
     grind (arith, one, both, entries-of c all)
 
-entries-stays : (rows : List SheetRow) (c : ℕ) → entries (stays_by rows) c ≡ entries_by rows c
+entries-stays : (rows : List SheetRow) (c : ℕ) → stay_count (stays_by rows) c ≡ in_row_count_by rows c
 entries-stays rows c = entries-of c (followed_rows rows) ∙ ap (count_by (enters c)) (followed-same [] rows)
 
 overfull-stays : (rows : List SheetRow) (c : ℕ) (way : Way) → is_overfull_by (stays_by rows) c way ≡ is_overfull way rows c
@@ -132,30 +132,30 @@ overfull-stays rows c Ways.Leave = refl
 
 -- THE CONDITIONS
 
--- the people are in the register by their rows where they are by the history
+-- the people are in the register by their rows if they are by the history
 pub people-shown : (A : History) (rows : List Person) (all : List (List ℕ)) → Shown (is_of_people all) (people A) rows
     → (who : List ℕ) → IsIn who all → is_person_by rows who ≡ is_person A who
 people-shown A rows all p who i =
     any-shown (λ row. same_text row.who who) (is_of_people all) (λ row h. in-any (same_text row.who) who all i h) (people A) rows p ∙ is_person-people A who
 
 -- one after the other
-flat : (l t c o : Option Refusal) (full over : Bool)
-    → first_of (first_of (l ∷ t ∷ first_of (c ∷ o ∷ when (full || over) Full ∷ []) ∷ []) ∷ []) ≡ first_of (l ∷ t ∷ c ∷ o ∷ when over Full ∷ when full Full ∷ [])
-flat l t c o full over = grind arith
+flat : (l t c o : Option Refusal) (full_refusal over : Bool)
+    → first_of (first_of (l ∷ t ∷ first_of (c ∷ o ∷ when (full_refusal || over) Full ∷ []) ∷ []) ∷ []) ≡ first_of (l ∷ t ∷ c ∷ o ∷ when over Full ∷ when full_refusal Full ∷ [])
+flat l t c o full_refusal over = grind arith
 
 -- whoever is named once is named apart
-pub named_once : (people : List (List ℕ)) → named_twice people ≡ None → are_apart people ≡ true
+pub named_once : (people : List (List ℕ)) → named_twice_refusal people ≡ None → are_apart people ≡ true
 named_once [] h = refl
 named_once (who ∷ people) h = grind (arith, named_once people)
 
 -- what a request is refused for behind its mark, but for somebody named twice
 abbrev room_conditions : History → ℕ → Way → List (List ℕ) → ℕ → List (Option Refusal)
 room_conditions A c way all at =
-    out_of_turn A c way at all
-    ∷ crowded (sheet A ++ map (new_row c way at) all) c
-    ∷ lone (sheet A ++ map (new_row c way at) all) c
+    out_of_turn_refusal A c way at all
+    ∷ crowd_refusal (sheet A ++ map (new_row c way at) all) c
+    ∷ lone_room_refusal (sheet A ++ map (new_row c way at) all) c
     ∷ when (is_overfull way (sheet A ++ map (new_row c way at) all) c) Full
-    ∷ full A
+    ∷ full_refusal A
     ∷ []
 
 -- by the sheet's rows the conditions are the history's
@@ -164,15 +164,15 @@ rows-conditions : (A : History) (c m : ℕ) (way : Way) (all : List (List ℕ)) 
 rows-conditions A c m way all at =
     let more : List SheetRow = sheet A ++ map (new_row c way at) all in
     rw (overfull-stays more c way)
-    (flat (when (nat_le at m) (Late m)) (out_of_turn A c way at all) (crowded more c) (lone more c) (is_full A) (is_overfull way more c))
+    (flat (when (nat_le at m) (Late m)) (out_of_turn_refusal A c way at all) (crowd_refusal more c) (lone_room_refusal more c) (is_full A) (is_overfull way more c))
 
--- the same where nobody is named twice, and where somebody is
+-- the same if nobody is named twice, and if somebody is
 twice-first : (l n r : Option Refusal) (xs : List (Option Refusal)) → (n ≡ None → first_of (r ∷ []) ≡ first_of (l ∷ xs))
     → first_of (first_of (l ∷ n ∷ r ∷ []) ∷ []) ≡ first_of (l ∷ n ∷ xs)
 twice-first l n r xs h = grind arith
 
 -- by the rows of a view a request is refused for its fault
-pub sheet-fault : (A : History) → IsRegister A → IsSheet (sheet A) → (c : ℕ) (way : Way) (all : List (List ℕ)) (at : ℕ) → FaultShown A (Sheet c way all at)
+pub sheet-fault : (A : History) → IsRegister A → IsSheet (sheet A) → (c : ℕ) (way : Way) (all : List (List ℕ)) (at : ℕ) → FaultShown A (RecordSheet c way all at)
 sheet-fault A h s c way all at view v =
     rw (
       known-shown A c view.ceremonies.items v.ceremonies,
@@ -181,43 +181,43 @@ sheet-fault A h s c way all at view v =
       is_open-shown A c view.ceremonies.items v.ceremonies h,
       mark-shown A h c view.marks.items v.marks,
     )
-    (nested (no_ceremony A c ∷ no_people (is_person A) all ∷ not_open A c ∷ [])
-    (room_refusal view.stays.items view.entries c (mark A c) (is_full A) way all at ∷ [])
-    ∙ behind (no_ceremony A c ∷ no_people (is_person A) all ∷ []) _ _ (by_mark (mark A c) refl))
+    (nested (no_ceremony A c ∷ unknown_people_refusal (is_person A) all ∷ not_open_refusal A c ∷ [])
+    (room_refusal view.stays.items view.stay_count c (mark A c) (is_full A) way all at ∷ [])
+    ∙ behind (no_ceremony A c ∷ unknown_people_refusal (is_person A) all ∷ []) _ _ (by_mark (mark A c) refl))
   where
-    never : mark A c ≡ None → is_open A c ≡ false
+    never : mark A c ≡ None → is_ceremony_open A c ≡ false
     never e = ap (λ b. b && is_none (closed_at A c)) (sym (marked-opened A h c) ∙ ap is_some e)
 
     by_mark : (o : Option ℕ) → mark A c ≡ o
-        → first_of (not_open A c ∷ room_refusal view.stays.items view.entries c o (is_full A) way all at ∷ [])
-        ≡ first_of (not_open A c ∷ is_not_later at o ∷ named_twice all ∷ room_conditions A c way all at)
+        → first_of (not_open_refusal A c ∷ room_refusal view.stays.items view.stay_count c o (is_full A) way all at ∷ [])
+        ≡ first_of (not_open_refusal A c ∷ not_after_mark_refusal at o ∷ named_twice_refusal all ∷ room_conditions A c way all at)
     by_mark None e = rw (never e) refl
     by_mark (Some m) e =
-        behind (not_open A c ∷ []) _ _
-        (twice-first (when (nat_le at m) (Late m)) (named_twice all) (stays_refusal view.stays.items view.entries c m (is_full A) way all at)
+        behind (not_open_refusal A c ∷ []) _ _
+        (twice-first (when (nat_le at m) (Late m)) (named_twice_refusal all) (stays_refusal view.stays.items view.stay_count c m (is_full A) way all at)
         (room_conditions A c way all at)
-        (λ n. ap (λ r. first_of (r ∷ [])) (request-refusal (sheet A) s view.stays.items c m view.entries (is_full A) way all at v.stays v.entries
+        (λ n. ap (λ r. first_of (r ∷ [])) (request-refusal (sheet A) s view.stays.items c m view.stay_count (is_full A) way all at v.stays v.entries
         (named_once all n) (settled A h c)) ∙ rows-conditions A c m way all at))
 
 -- SHEETS ARE MADE IN TURN
 
 -- a request in an open ceremony, behind whose mark no condition holds, keeps the sheet in turn
-made-by : (A : History) → IsRegister A → (c : ℕ) (way : Way) (all : List (List ℕ)) (at : ℕ) → are_apart all ≡ true → is_open A c ≡ true
-    → first_of (not_later A c at ∷ room_conditions A c way all at) ≡ None
+made-by : (A : History) → IsRegister A → (c : ℕ) (way : Way) (all : List (List ℕ)) (at : ℕ) → are_apart all ≡ true → is_ceremony_open A c ≡ true
+    → first_of (not_later_refusal A c at ∷ room_conditions A c way all at) ≡ None
     → IsSheet (sheet A) → IsSheet (sheet A ++ map (new_row c way at) all)
 made-by A h c way all at a is f s = by_mark (mark A c) refl
   where
     by_mark : (o : Option ℕ) → mark A c ≡ o → IsSheet (sheet A ++ map (new_row c way at) all)
     by_mark None e = absurd (true≢false (sym is ∙ ap (λ b. b && is_none (closed_at A c)) (sym (marked-opened A h c) ∙ ap is_some e)))
     by_mark (Some m) e =
-        let none = rows-conditions A c m way all at ∙ ap (λ o. first_of (is_not_later at o ∷ room_conditions A c way all at)) (sym e) ∙ f in
+        let none = rows-conditions A c m way all at ∙ ap (λ o. first_of (not_after_mark_refusal at o ∷ room_conditions A c way all at)) (sym e) ∙ f in
         turns_keep (sheet A) c m (is_full A) way all at a (none_holds (rows_refusal (sheet A) c m (is_full A) way all at ∷ []) none).0 s
 
 made_after : (A : History) (act : Act) → IsRegister A → fault A act ≡ None → IsSheet (sheet A) → IsSheet (sheet_after act (sheet A))
-made_after A (Sheet c way all at) h f s =
-    let n = none_holds (conditions A (Sheet c way all at)) f in
-    made-by A h c way all at (named_once all (assumption n)) (met (is_open A c) State (assumption n))
-    (no_first (not_later A c at ∷ room_conditions A c way all at) (assumption n)) s
+made_after A (RecordSheet c way all at) h f s =
+    let n = none_holds (conditions A (RecordSheet c way all at)) f in
+    made-by A h c way all at (named_once all (assumption n)) (met (is_ceremony_open A c) State (assumption n))
+    (no_first (not_later_refusal A c at ∷ room_conditions A c way all at) (assumption n)) s
 made_after A act h f s = s
 
 -- the sheet of a register was made in turn

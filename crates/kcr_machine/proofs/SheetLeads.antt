@@ -1,4 +1,4 @@
--- The rows that a request of the sheet puts lead to the tables after it, where the sheet was made in turn and each person is named once.
+-- The rows that a request of the sheet puts lead to the tables after it, if the sheet was made in turn and each person is named once.
 use Rattle.std.proofs.Common.{◌≡◌, ℕ, Bool, true, false, cond, not, ◌&&◌, ◌==◌, nat_le, List, [], ◌∷◌, ◌++◌, map, filter, find, reverse, Option, None, refl}
 use Rattle.std.proofs.Common.{sym, ap, ◌∙◌, subst, arith, append_assoc, append-nil, inl, inr, ◌≤◌}
 use Rattle.std.specs.List.{list_any}
@@ -13,18 +13,18 @@ use Rattle.kcr_room.specs.declared.SheetRow.{SheetRow}
 use Rattle.kcr_room.specs.declared.Stay.{Stay}
 use Rattle.kcr_room.specs.declared.Way.{Way}
 use Rattle.kcr_room.specs.declared.Way.TheVariants.{Enter, Leave}
-use Rattle.kcr_room.specs.Room.{later, last_onto, last_row_of}
-use Rattle.kcr_room.specs.Stays.{is_lasting, stays_by}
+use Rattle.kcr_room.specs.Room.{later_row, last_onto, last_row_of}
+use Rattle.kcr_room.specs.Stays.{stay_reaches, stays_by}
 use Rattle.kcr_base.specs.Lists.{is_among}
-use Rattle.kcr_room.specs.Adding.{is_open, is_inside, is_inside_of, is_out_of_turn_in, is_out_of_turn_by, new_row, new_stay, closed}
-use Rattle.kcr_room.specs.Adding.{ends_by, changed_stays, reaches, turn_refusal}
+use Rattle.kcr_room.specs.Requests.{has_no_end, is_inside, is_inside_of, is_out_of_turn_in, is_out_of_turn_by, new_row, new_stay, with_end}
+use Rattle.kcr_room.specs.Requests.{ends_by, changed_stays, reaches, turn_refusal}
 use Rattle.kcr_base.specs.Lists.{are_apart}
 use Rattle.kcr_base.proofs.SameLemmas.{same-is, same-itself, same-turned}
 use Rattle.kcr_room.specs.Laws.{IsSheet}
 use Rattle.kcr_room.proofs.Keeping.{none-found}
 use Rattle.kcr_room.proofs.Sheets.{last_reaches, earlier-last, same-turns, added, rows-added}
-use Rattle.kcr_history.specs.declared.commands.Act.TheVariants.{Sheet}
-use Rattle.kcr_history.specs.declared.commands.Answer.{Answer}
+use Rattle.kcr_history.specs.declared.commands.Act.TheVariants.{RecordSheet}
+use Rattle.kcr_history.specs.declared.commands.ReplyData.{ReplyData}
 use Rattle.kcr_history.specs.declared.commands.Command.{Command}
 use Rattle.kcr_history.specs.declared.views.Change.{Change}
 use Rattle.kcr_history.specs.declared.views.Change.TheVariants.{PutSheet, PutStay, PutKey}
@@ -34,8 +34,8 @@ use Rattle.kcr_history.specs.Room.{sheet}
 use Rattle.kcr_history.specs.Tables.{Tables, SameTables, tables, withdrawals}
 use Rattle.kcr_history.specs.Changes.{same_sheet_row, same_stay, changed_by}
 use Rattle.kcr_history.specs.Views.{IsViewOf}
-use Rattle.kcr_history.specs.Asked.{asks_by}
-use Rattle.kcr_history.specs.Conditions.{out_of_turn}
+use Rattle.kcr_history.specs.AsksByKind.{asks_by}
+use Rattle.kcr_history.specs.Conditions.{out_of_turn_refusal}
 use Rattle.kcr_history.specs.Machine.{with_command}
 use Rattle.kcr_rules.specs.SheetRows.{sheet_changes_by}
 use Rattle.kcr_machine.specs.RowDecision.{new_key_row}
@@ -79,7 +79,7 @@ put-news same news old fresh =
     (IsPermutation-append (reverse old) old news news (IsPermutation-sym old (reverse old) (IsPermutation-reverse old)) (IsPermutation-refl news))
     (IsPermutation-reverse (old ++ news)))
 
--- where it is the turn of each of the people
+-- if it is the turn of each of the people
 pub turns-each : (p : List ℕ → Bool) (people : List (List ℕ)) → turn_refusal (find p people) ≡ None → (who : List ℕ) → IsIn who people → p who ≡ false
 turns-each p [] h who i = absurd i
 turns-each p (first ∷ people) h who (inl e) = ap p e ∙ (none-found p first people h).0
@@ -89,7 +89,7 @@ turns-each p (first ∷ people) h who (inr i) = turns-each p people (none-found 
 all-before : (at : ℕ) (rows : List SheetRow) (last : Option SheetRow) → last_reaches at (last_onto last rows) ≡ false
     → (last_reaches at last ≡ false) × (list_any (λ row. nat_le at row.at) rows ≡ false)
 all-before at [] last h = (h, refl)
-all-before at (row ∷ rows) last h = grind (arith, all-before at rows (later last row) h)
+all-before at (row ∷ rows) last h = grind (arith, all-before at rows (later_row last row) h)
 
 -- a person whose turn it is has no row of the moment
 row-fresh : (rows : List SheetRow) (c : ℕ) (way : Way) (at : ℕ) (who : List ℕ) → is_out_of_turn_by rows c way at who ≡ false
@@ -142,11 +142,11 @@ same-stay : (x : Stay) → same_stay x x ≡ true
 same-stay x = and_from (same_text x.who x.who) (x.since == x.since) (same-itself x.who) (eq-eqb x.since x.since refl)
 
 -- an open stay lasts to every moment
-open-lasts : (c at : ℕ) (r : Stay) → (r.ceremony == c) ≡ true → is_open r.until ≡ true → is_lasting c at r ≡ true
+open-lasts : (c at : ℕ) (r : Stay) → (r.ceremony == c) ≡ true → has_no_end r.until ≡ true → stay_reaches c at r ≡ true
 open-lasts c at r here o = grind arith
 
 -- those who leave get an end
-module _ (all shown : List Stay) (c at : ℕ) (people : List (List ℕ)) (clear : IsClear all) (p : Shown (is_lasting c at) all shown)
+module _ (all shown : List Stay) (c at : ℕ) (people : List (List ℕ)) (clear : IsClear all) (p : Shown (stay_reaches c at) all shown)
     (within : (x : Stay) → IsIn x shown → IsIn x all)
     (turns : (who : List ℕ) → IsIn who people → is_out_of_turn_in all c Leave at who ≡ false) where
   abbrev changed : List Stay
@@ -160,17 +160,17 @@ module _ (all shown : List Stay) (c at : ℕ) (people : List (List ℕ)) (clear 
       let q = and_parts (same_text r.who x.who) (r.since == x.since) e in
       elim (clear.apart x r i j (same-turned x.who r.who ∙ q.0) (let k = eqb-true r.since x.since q.1 in omega (arith, k))) [
         | inl same ↦ same
-        | inr later ↦ absurd (let k = eqb-true r.since x.since q.1 in omega (arith, k, later.0))
+        | inr later_row ↦ absurd (let k = eqb-true r.since x.since q.1 in omega (arith, k, later_row.0))
       ]
 
   -- an open stay of somebody who leaves is one of those that end
-  ends : (r : Stay) → IsIn r all → is_among people r.who ≡ true → is_open r.until ≡ true → list_any (λ x. same_stay x r) changed ≡ true
+  ends : (r : Stay) → IsIn r all → is_among people r.who ≡ true → has_no_end r.until ≡ true → list_any (λ x. same_stay x r) changed ≡ true
   ends r i m o =
       let w = any-in (same_text r.who) people m in
       let same : r.who ≡ w.0 = same-is r.who w.0 w.2 in
       let t = or_parts (list_any (reaches w.0 at) all) (not (list_any (is_inside_of c w.0) all)) (turns w.0 w.1) in
       let s = any-in (is_inside_of c w.0) all (not-false (list_any (is_inside_of c w.0) all) t.1) in
-      let b : (same_text s.0.who w.0 ≡ true) × (is_open s.0.until ≡ true) = (grind arith, grind arith) in
+      let b : (same_text s.0.who w.0 ≡ true) × (has_no_end s.0.until ≡ true) = (grind arith, grind arith) in
       let owner : same_text r.who s.0.who ≡ true = ap (same_text r.who) (same-is s.0.who w.0 b.0 ∙ sym same) ∙ same-itself r.who in
       let is : r ≡ s.0 = elim (cases_lt r.since s.0.since) [
         | inl l ↦ by_time r s.0 i s.1 owner o (omega (arith, l))
@@ -178,23 +178,23 @@ module _ (all shown : List Stay) (c at : ℕ) (people : List (List ℕ)) (clear 
       ] in
       let here : (r.ceremony == c) ≡ true = rw is (grind arith) in
       let fits : ends_by c people r ≡ true = grind arith in
-      let own : IsIn r (filter (is_lasting c at) shown) = in-order r (filter (is_lasting c at) shown) (filter (is_lasting c at) all)
-      (IsPermutation-sym (filter (is_lasting c at) all) (filter (is_lasting c at) shown) p) (filter-in (is_lasting c at) r all i (open-lasts c at r here o)) in
-      in-any (λ x. same_stay x r) r changed (filter-in (ends_by c people) r shown (in-filter (is_lasting c at) r shown own).0 fits) (same-stay r)
+      let own : IsIn r (filter (stay_reaches c at) shown) = in-order r (filter (stay_reaches c at) shown) (filter (stay_reaches c at) all)
+      (IsPermutation-sym (filter (stay_reaches c at) all) (filter (stay_reaches c at) shown) p) (filter-in (stay_reaches c at) r all i (open-lasts c at r here o)) in
+      in-any (λ x. same_stay x r) r changed (filter-in (ends_by c people) r shown (in-filter (stay_reaches c at) r shown own).0 fits) (same-stay r)
     where
-      by_time : (r s : Stay) → IsIn r all → IsIn s all → same_text r.who s.who ≡ true → is_open r.until ≡ true → r.since ≤ s.since → r ≡ s
-      by_time r s i j e o l = elim (clear.apart r s i j e l) [ inl same ↦ same | inr q ↦ absurd (true≢false (sym o ∙ ap is_open q.1.1)) ]
+      by_time : (r s : Stay) → IsIn r all → IsIn s all → same_text r.who s.who ≡ true → has_no_end r.until ≡ true → r.since ≤ s.since → r ≡ s
+      by_time r s i j e o l = elim (clear.apart r s i j e l) [ inl same ↦ same | inr q ↦ absurd (true≢false (sym o ∙ ap has_no_end q.1.1)) ]
 
-  leave-put : put_all same_stay (map (closed people at) changed) all ≡ map (closed people at) all
+  leave-put : put_all same_stay (map (with_end people at) changed) all ≡ map (with_end people at) all
   leave-put =
-      ap (put_all same_stay (map (closed people at) changed)) (sym (map-itself all))
-      ∙ put-rows same_stay same_stay (closed people at) (λ x r. refl) all changed (λ x i. in-any (same_stay x) x all (changed-in x i) (same-stay x))
-      (λ x r i j e. ap (closed people at) (only-one x r (changed-in x i) j e)) (λ r. r) (λ x r. refl)
-      ∙ map-same-in (λ r. cond (list_any (λ x. same_stay x r) changed) (closed people at r) r) (closed people at) all (λ r i. grind (arith, ends r i))
+      ap (put_all same_stay (map (with_end people at) changed)) (sym (map-itself all))
+      ∙ put-rows same_stay same_stay (with_end people at) (λ x r. refl) all changed (λ x i. in-any (same_stay x) x all (changed-in x i) (same-stay x))
+      (λ x r i j e. ap (with_end people at) (only-one x r (changed-in x i) j e)) (λ r. r) (λ x r. refl)
+      ∙ map-same-in (λ r. cond (list_any (λ x. same_stay x r) changed) (with_end people at r) r) (with_end people at) all (λ r i. grind (arith, ends r i))
 
 -- the stays are put
 stays-put : (rows : List SheetRow) → IsSheet rows → (shown : List Stay) (c : ℕ) (way : Way) (at : ℕ) (people : List (List ℕ)) → are_apart people ≡ true
-    → Shown (is_lasting c at) (reverse (stays_by rows)) shown → ((x : Stay) → IsIn x shown → IsIn x (reverse (stays_by rows)))
+    → Shown (stay_reaches c at) (reverse (stays_by rows)) shown → ((x : Stay) → IsIn x shown → IsIn x (reverse (stays_by rows)))
     → turn_refusal (find (is_out_of_turn_by rows c way at) people) ≡ None
     → IsPermutation (put_all same_stay (changed_stays shown c way people at) (reverse (stays_by rows)))
     (reverse (stays_by (rows ++ map (new_row c way at) people)))
@@ -213,12 +213,12 @@ stays-put rows s shown c way at people a p l h =
     by_way Enter turns = enter-put table c at people a turns
     by_way Leave turns =
         let turned = IsPermutation-reverse table in
-        subst (λ rows. IsPermutation rows (reverse (map (closed people at) table)))
+        subst (λ rows. IsPermutation rows (reverse (map (with_end people at) table)))
         (sym (leave-put (reverse table) shown c at people (clear-order table (reverse table) turned (clear-sheet rows s)) p l
         (λ who i. turn-order table (reverse table) turned c Leave at who ∙ turns who i)))
-        (IsPermutation-trans (map (closed people at) (reverse table)) (map (closed people at) table) (reverse (map (closed people at) table))
-        (IsPermutation-map (closed people at) (reverse table) table (IsPermutation-sym table (reverse table) turned))
-        (IsPermutation-reverse (map (closed people at) table)))
+        (IsPermutation-trans (map (with_end people at) (reverse table)) (map (with_end people at) table) (reverse (map (with_end people at) table))
+        (IsPermutation-map (with_end people at) (reverse table) table (IsPermutation-sym table (reverse table) turned))
+        (IsPermutation-reverse (map (with_end people at) table)))
       where
         turn-order : (xs ys : List Stay) → IsPermutation xs ys → (c : ℕ) (w : Way) (at : ℕ) (who : List ℕ)
             → is_out_of_turn_in ys c w at who ≡ is_out_of_turn_in xs c w at who
@@ -231,14 +231,14 @@ pub changed_by-stays : (rows : List Stay) (rest : List Change) (t : Tables)
     → changed_by (map PutStay rows ++ rest) t ≡ changed_by rest (record t { stays = put_all same_stay rows t.stays })
 changed_by-stays rows rest t = changed_by-rows PutStay same_stay (λ rows t. record t { stays = rows }) (λ row rows t. refl) rows t.stays rest t
 
--- where it is the turn of each of the people, the rows that a request puts lead to the tables after it
+-- if it is the turn of each of the people, the rows that a request puts lead to the tables after it
 pub sheet-leads : (A : History) → IsSheet (sheet A) → (key : List ℕ) (c : ℕ) (way : Way) (all : List (List ℕ)) (at : ℕ) → are_apart all ≡ true
-    → (view : View) (answer : Answer)
-    → IsViewOf (asks_by (Sheet c way all at)) (tables A) view → entry_of A key ≡ None → out_of_turn A c way at all ≡ None
-    → SameTables (changed_with (sheet_changes_by view c way all at) (command_of key (Sheet c way all at)) answer (tables A))
-    (tables (with_command A (command_of key (Sheet c way all at)) answer))
+    → (view : View) (answer : ReplyData)
+    → IsViewOf (asks_by (RecordSheet c way all at)) (tables A) view → entry_of A key ≡ None → out_of_turn_refusal A c way at all ≡ None
+    → SameTables (changed_with (sheet_changes_by view c way all at) (command_of key (RecordSheet c way all at)) answer (tables A))
+    (tables (with_command A (command_of key (RecordSheet c way all at)) answer))
 sheet-leads A s key c way all at a view answer v k f =
-    let x : Command = command_of key (Sheet c way all at) in
+    let x : Command = command_of key (RecordSheet c way all at) in
     let news = map (new_row c way at) all in
     let stays = changed_stays view.stays.items c way all at in
     let rest = PutKey (new_key_row x answer) ∷ [] in

@@ -13,8 +13,8 @@ use Rattle.kcr_room.specs.declared.Way.{Way}
 use Rattle.kcr_room.specs.declared.Way.TheVariants.{Enter, Leave}
 use Rattle.kcr_room.specs.Stays.{stays_by}
 use Rattle.kcr_base.specs.Lists.{is_among}
-use Rattle.kcr_room.specs.Adding.{is_open, ends_from, reaches, is_inside, is_inside_of, is_out_of_turn_in, new_stay, closed}
-use Rattle.kcr_room.specs.Adding.{new_row}
+use Rattle.kcr_room.specs.Requests.{has_no_end, ends_from, reaches, is_inside, is_inside_of, is_out_of_turn_in, new_stay, with_end}
+use Rattle.kcr_room.specs.Requests.{new_row}
 use Rattle.kcr_room.specs.Laws.{IsSheet}
 use Rattle.kcr_room.proofs.Sheets.{same-turns, added, row-added, made-in-turn}
 use Rattle.kcr_history.specs.Views.{later_stay, last_of, last_stay, ShowsLast}
@@ -97,7 +97,7 @@ before-enter stays c at who h r i e =
     let b = none-in (is_inside who) r stays p.1 i in
     by_until r.since r.until (grind arith) (grind arith) (grind arith)
   where
-    by_until : (since : ℕ) (until : Option ℕ) → nat_le at since ≡ false → ends_from at until ≡ false → is_open until ≡ false → (since < at) × EndsBy at until
+    by_until : (since : ℕ) (until : Option ℕ) → nat_le at since ≡ false → ends_from at until ≡ false → has_no_end until ≡ false → (since < at) × EndsBy at until
     by_until since None f g k = absurd (true≢false k)
     by_until since (Some u) f g k = let a = leb-false at since f in let b = leb-false at u g in (a, (u, refl, omega (arith, b)))
 
@@ -123,18 +123,18 @@ clear-enter stays c at who h clear = record { apart = λ r s i j. both r s (in-a
     both r s (inr i) (inr j) e l = inl (same_at r i ∙ sym (same_at s j))
 
 -- a stay that has an end keeps it
-closed-ended : (people : List (List ℕ)) (at : ℕ) (stay : Stay) (u : ℕ) → stay.until ≡ Some u → (closed people at stay).until ≡ Some u
+closed-ended : (people : List (List ℕ)) (at : ℕ) (stay : Stay) (u : ℕ) → stay.until ≡ Some u → (with_end people at stay).until ≡ Some u
 closed-ended people at stay u e =
-    ap (λ o. cond (is_among people stay.who && is_open o) (Some at) o) e ∙ ap (λ b. cond b (Some at) (Some u)) (and_right (is_among people stay.who) false refl)
+    ap (λ o. cond (is_among people stay.who && has_no_end o) (Some at) o) e ∙ ap (λ b. cond b (Some at) (Some u)) (and_right (is_among people stay.who) false refl)
 
-clear-leave : (stays : List Stay) (at : ℕ) (people : List (List ℕ)) → IsClear stays → IsClear (map (closed people at) stays)
-clear-leave stays at people clear = record { apart = λ r s i j. both r s (in-map (closed people at) r stays i) (in-map (closed people at) s stays j) }
+clear-leave : (stays : List Stay) (at : ℕ) (people : List (List ℕ)) → IsClear stays → IsClear (map (with_end people at) stays)
+clear-leave stays at people clear = record { apart = λ r s i j. both r s (in-map (with_end people at) r stays i) (in-map (with_end people at) s stays j) }
   where
-    both : (r s : Stay) → (x : Stay) × IsIn x stays × (r ≡ closed people at x) → (y : Stay) × IsIn y stays × (s ≡ closed people at y)
+    both : (r s : Stay) → (x : Stay) × IsIn x stays × (r ≡ with_end people at x) → (y : Stay) × IsIn y stays × (s ≡ with_end people at y)
         → same_text r.who s.who ≡ true → r.since ≤ s.since
         → (r ≡ s) ⊎ ((r.since < s.since) × EndsBy s.since r.until)
     both r s (x, i, f) (y, j, g) e l = elim (clear.apart x y i j (rw (f, g) at e) (rw (f, g) at l)) [
-      | inl same ↦ inl (f ∙ ap (closed people at) same ∙ sym g)
+      | inl same ↦ inl (f ∙ ap (with_end people at) same ∙ sym g)
       | inr q ↦ inr (rw (f, g) q.0, (q.1.0, ap (λ t. t.until) f ∙ closed-ended people at x q.1.0 q.1.1, rw g q.1.2))
     ]
 
@@ -164,17 +164,17 @@ Bounds stays row = (s : Stay) × IsIn s stays × (s.ceremony ≡ row.ceremony) �
 
 bounds-kept : (c : ℕ) (way : Way) (at : ℕ) (who : List ℕ) (stays : List Stay) (row : SheetRow) → Bounds stays row → Bounds (added c way at (who ∷ []) stays) row
 bounds-kept c Enter at who stays row (s, i, e, b) = (s, in-front s stays (new_stay c at who ∷ []) i, e, b)
-bounds-kept c Leave at who stays row (s, i, e, inl since) = (closed (who ∷ []) at s, map-in (closed (who ∷ []) at) s stays i, e, inl since)
+bounds-kept c Leave at who stays row (s, i, e, inl since) = (with_end (who ∷ []) at s, map-in (with_end (who ∷ []) at) s stays i, e, inl since)
 bounds-kept c Leave at who stays row (s, i, e, inr until) =
-    (closed (who ∷ []) at s, map-in (closed (who ∷ []) at) s stays i, e, inr (closed-ended (who ∷ []) at s row.at until))
+    (with_end (who ∷ []) at s, map-in (with_end (who ∷ []) at) s stays i, e, inr (closed-ended (who ∷ []) at s row.at until))
 
 bounds-new : (c : ℕ) (way : Way) (at : ℕ) (who : List ℕ) (stays : List Stay) → is_out_of_turn_in stays c way at who ≡ false
     → Bounds (added c way at (who ∷ []) stays) (new_row c way at who)
 bounds-new c Enter at who stays h = (new_stay c at who, in-behind (new_stay c at who) stays (new_stay c at who ∷ []) (inl refl), refl, inl refl)
 bounds-new c Leave at who stays h =
     let a = any-in (is_inside_of c who) stays (grind arith) in
-    let q : (same_text a.0.who who ≡ true) × (is_open a.0.until ≡ true) × (a.0.ceremony ≡ c) = (grind arith, grind arith, grind arith) in
-    (closed (who ∷ []) at a.0, map-in (closed (who ∷ []) at) a.0 stays a.1, q.2, inr (rw (q.0, q.1) refl))
+    let q : (same_text a.0.who who ≡ true) × (has_no_end a.0.until ≡ true) × (a.0.ceremony ≡ c) = (grind arith, grind arith, grind arith) in
+    (with_end (who ∷ []) at a.0, map-in (with_end (who ∷ []) at) a.0 stays a.1, q.2, inr (rw (q.0, q.1) refl))
 
 -- each row of a sheet made in turn begins or ends a stay
 pub row-bounds : (rows : List SheetRow) → IsSheet rows → (row : SheetRow) → IsIn row rows → Bounds (stays_by rows) row
@@ -212,7 +212,7 @@ stay-begun = stays-in-turn (λ rows. (s : Stay) → IsIn s (stays_by rows) → B
       ]
     ]
     by_way before c Leave at who old s i =
-        let m = in-map (closed (who ∷ []) at) s (stays_by before) i in
+        let m = in-map (with_end (who ∷ []) at) s (stays_by before) i in
         let r = old m.0 m.1 in
         rw m.2 (r.0, in-front r.0 before (new_row c Leave at who ∷ []) r.1, r.2, r.3)
 
@@ -222,19 +222,19 @@ stay-begun = stays-in-turn (λ rows. (s : Stay) → IsIn s (stays_by rows) → B
         → (s : Stay) → IsIn s (stays_by (before ++ row ∷ [])) → Begun (before ++ row ∷ []) s
     next before row turn e old s i = by_way before row.ceremony row.way row.at row.who old s (subst (IsIn s) e i)
 
--- where it has an end, it ended later than it began
+-- if it has an end, it ended later than it began
 abbrev pub EndsLater : Stay → Type 0
 EndsLater s = (u : ℕ) → s.until ≡ Some u → s.since < u
 
 -- whoever leaves in turn came before the moment
 closed-later : (stays : List Stay) (c at : ℕ) (who : List ℕ) → is_out_of_turn_in stays c Leave at who ≡ false → (s : Stay) → IsIn s stays → EndsLater s
-    → EndsLater (closed (who ∷ []) at s)
+    → EndsLater (with_end (who ∷ []) at s)
 closed-later stays c at who turn s i later =
     by_until (same_text s.who who) s.until
     (none-in (reaches who at) s stays (or_parts (list_any (reaches who at) stays) (not (list_any (is_inside_of c who) stays)) turn).0 i) later
   where
     by_until : (b : Bool) (until : Option ℕ) → (b && (nat_le at s.since || ends_from at until)) ≡ false → ((u : ℕ) → until ≡ Some u → s.since < u)
-        → (u : ℕ) → cond ((b || false) && is_open until) (Some at) until ≡ Some u → s.since < u
+        → (u : ℕ) → cond ((b || false) && has_no_end until) (Some at) until ≡ Some u → s.since < u
     by_until true None early old u h = omega (arith, leb-false at s.since (or_parts (nat_le at s.since) false early).0, same_Some at u h)
     by_until true (Some v) early old u h = old u h
     by_until false until early old u h = old u h
@@ -250,7 +250,7 @@ ends-later = stays-in-turn (λ rows. (s : Stay) → IsIn s (stays_by rows) → E
       | inr j ↦ elim j [ inl same ↦ (λ u e. absurd (none-some u (sym (ap (λ t. t.until) same) ∙ e))) | inr none ↦ absurd none ]
     ]
     by_way stays c Leave at who turn old s i =
-        let m = in-map (closed (who ∷ []) at) s stays i in rw m.2 (closed-later stays c at who turn m.0 m.1 (old m.0 m.1))
+        let m = in-map (with_end (who ∷ []) at) s stays i in rw m.2 (closed-later stays c at who turn m.0 m.1 (old m.0 m.1))
 
     next : (before : List SheetRow) (row : SheetRow) → is_out_of_turn_in (stays_by before) row.ceremony row.way row.at row.who ≡ false
         → stays_by (before ++ row ∷ []) ≡ added row.ceremony row.way row.at (row.who ∷ []) (stays_by before)
@@ -301,7 +301,7 @@ of-inside who test inside = (
   λ r s e l q h. let i = inside r h in absurd (grind arith),
 )
 
--- it is somebody's turn by some of the stays, the last one among them, where it is by all
+-- it is somebody's turn by some of the stays, the last one among them, if it is by all
 pub turn-last : (all some : List Stay) (who : List ℕ) → IsClear all → ((r : Stay) → IsIn r some → IsIn r all)
     → ((s : Stay) → last_stay all who ≡ Some s → IsIn s some)
     → (c : ℕ) (way : Way) (at : ℕ) → is_out_of_turn_in some c way at who ≡ is_out_of_turn_in all c way at who

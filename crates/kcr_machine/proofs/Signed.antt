@@ -1,5 +1,5 @@
 -- Signatures and exceptions: what the rows of a view say of them is what the history says, and their changes lead on.
-use Rattle.kcr_history.specs.declared.rows.StepRow.{StepRow}
+use Rattle.kcr_history.specs.declared.row_types.StepRow.{StepRow}
 use Rattle.std.proofs.Common.{◌≡◌, ℕ, zero, suc, ◌<◌, Bool, true, false, nat_lt, List, [], ◌∷◌, ◌++◌, map, length, get_or, Option, Some, None, is_none, refl}
 use Rattle.std.proofs.Common.{sym, ap, ◌∙◌, subst, arith, inl, inr, append_assoc}
 use Rattle.std.specs.Prelude.{is_some, slice_get}
@@ -15,26 +15,26 @@ use Rattle.kcr_people.specs.People.{lasts_beyond}
 use Rattle.kcr_script.specs.declared.seat.Seat.{Seat}
 use Rattle.kcr_seats.specs.Seating as Search
 use Rattle.kcr_history.specs.declared.commands.Act.{Act}
-use Rattle.kcr_history.specs.declared.commands.Act.TheVariants.{Sign, Except}
+use Rattle.kcr_history.specs.declared.commands.Act.TheVariants.{Sign, RecordException}
 use Rattle.kcr_history.specs.declared.commands.Command.{Command}
-use Rattle.kcr_history.specs.declared.rows.StepState.{StepState}
-use Rattle.kcr_history.specs.declared.rows.StepState.TheVariants.{Signed, Passed}
+use Rattle.kcr_history.specs.declared.row_types.StepState.{StepState}
+use Rattle.kcr_history.specs.declared.row_types.StepState.TheVariants.{Signed, Passed}
 use Rattle.kcr_history.specs.declared.views.Change.{Change}
 use Rattle.kcr_history.specs.declared.views.Change.TheVariants.{PutSeating, PutKey}
-use Rattle.kcr_history.specs.declared.views.StepOf.{StepOf}
+use Rattle.kcr_history.specs.declared.views.StepFilter.{StepFilter}
 use Rattle.kcr_history.specs.declared.views.View.{View}
-use Rattle.kcr_history.specs.History.{History, stacked_on}
+use Rattle.kcr_history.specs.History.{History, pushed_onto}
 use Rattle.kcr_history.specs.Ceremonies.{facility_of, steps_of, step_at, steps_done, next_step, exceptions_of}
 use Rattle.kcr_history.specs.Room.{present}
 use Rattle.kcr_history.specs.Fitting.{fits_by}
 use Rattle.kcr_history.specs.Seating.{fits, IsFirst, IsLeast}
 use Rattle.kcr_history.specs.Tables.{Tables, tables, marks, steps, step_row, seatings, seat_rows, seats_at, exceptions, trainings, withdrawals, appointments}
 use Rattle.kcr_history.specs.Changes.{changed_by, same_step, same_mark, same_exception, changed}
-use Rattle.kcr_history.specs.Views.{IsViewOf, is_step_at, lasts_to}
-use Rattle.kcr_history.specs.Asked.{asks_by}
-use Rattle.kcr_history.specs.Machine.{Sitting, answer_to, IsRegister, sitting}
-use Rattle.kcr_rules.specs.Scene.{ceremony_by, facility_by}
-use Rattle.kcr_rules.specs.Signing.{step_by, seats_by, next_by, on_seat, fits_of, room_by, IsSeatedBy, IsUnseatedBy, staff, mark_change}
+use Rattle.kcr_history.specs.Views.{IsViewOf, is_step_at, training_reaches}
+use Rattle.kcr_history.specs.AsksByKind.{asks_by}
+use Rattle.kcr_history.specs.Machine.{SeatRequest, reply_to, IsRegister, seat_request}
+use Rattle.kcr_rules.specs.CeremonyStatus.{ceremony_by, facility_of_row}
+use Rattle.kcr_rules.specs.Signing.{step_by, seats_by, next_step_by, on_seat, fits_of, room_by, IsSeatedBy, IsUnseatedBy, staff, mark_change}
 use Rattle.kcr_rules.specs.Signing.{seat_changes, exception_change}
 use Rattle.kcr_machine.specs.RowDecision.{new_key_row}
 use Rattle.kcr_laws.proofs.Alone.{rooms}
@@ -57,10 +57,10 @@ no_step-shown : (A : History) → IsRegister A → (c k : ℕ) (view : View) →
 no_step-shown A h c k view p = grind (arith, step-shown A h c k view.steps.items p)
 
 -- the step and the next one are asked for
-abbrev named : ℕ → ℕ → StepOf
+abbrev named : ℕ → ℕ → StepFilter
 named c k = record { ceremony = c; step = Some k }
 
-abbrev pub the_next : ℕ → StepOf
+abbrev pub the_next : ℕ → StepFilter
 the_next c = record { ceremony = c; step = None }
 
 pub sign-fault : (A : History) → IsRegister A → (c k at : ℕ) → FrontShown A (Sign c k at)
@@ -73,11 +73,11 @@ sign-fault A h c k at view v =
       done-shown A h (named c k) view v.steps,
     )
 
-pub except-fault : (A : History) → IsRegister A → (c : ℕ) (text : List ℕ) (pass : Bool) (at : ℕ) → FrontShown A (Except c text pass at)
+pub except-fault : (A : History) → IsRegister A → (c : ℕ) (text : List ℕ) (pass : Bool) (at : ℕ) → FrontShown A (RecordException c text pass at)
 except-fault A h c text pass at view v =
     rw (
       known-shown A c view.ceremonies.items v.ceremonies,
-      no_step-shown A h c (next_by view.seatings.items c) view v.steps.step,
+      no_step-shown A h c (next_step_by view.seatings.items c) view v.steps.step,
       is_open-shown A c view.ceremonies.items v.ceremonies h,
       mark-shown A h c view.marks.items v.marks,
       done-shown A h (the_next c) view v.steps,
@@ -93,10 +93,10 @@ pub seats-shown : (A : History) → IsRegister A → (c k : ℕ) (view : View) �
 seats-shown A h c k view p e = rw (step-shown A h c k view.steps.items p, e) refl
 
 -- who fits a seat on the day of a sitting, by the trainings that last to it, all withdrawals and the appointments that last beyond it
-abbrev by_view : History → View → Sitting → Seat → List ℕ → Bool
+abbrev by_view : History → View → SeatRequest → Seat → List ℕ → Bool
 by_view A view s = fits_by view.trainings.items view.withdrawals.items view.appointments.items (facility_of A s.ceremony) (day_of s.at)
 
-pub fits-shown : (A : History) → IsRegister A → (view : View) (day : ℕ) → Shown (lasts_to day) (trainings A) view.trainings.items
+pub fits-shown : (A : History) → IsRegister A → (view : View) (day : ℕ) → Shown (training_reaches day) (trainings A) view.trainings.items
     → IsPermutation (withdrawals A) view.withdrawals.items → Shown (lasts_beyond day) (appointments A) view.appointments.items
     → (f : Facility) (o : Option Seat) (who : List ℕ)
     → on_seat (fits_by view.trainings.items view.withdrawals.items view.appointments.items f day) o who ≡ on_seat (fits A f day) o who
@@ -106,7 +106,7 @@ fits-shown A h view day p q r f (Some seat) who =
     (trained-lasting A h view.trainings.items view.withdrawals.items day p q) f seat who
 
 -- of the seats of a passing exception trainings and withdrawals are enough
-pub staff-shown : (A : History) → IsRegister A → (view : View) (day : ℕ) → Shown (lasts_to day) (trainings A) view.trainings.items
+pub staff-shown : (A : History) → IsRegister A → (view : View) (day : ℕ) → Shown (training_reaches day) (trainings A) view.trainings.items
     → IsPermutation (withdrawals A) view.withdrawals.items
     → (f : Facility) (k : ℕ) (who : List ℕ)
     → on_seat (fits_by view.trainings.items view.withdrawals.items view.appointments.items f day) (slice_get staff k) who
@@ -116,8 +116,8 @@ staff-shown A h view day p q f (suc zero) who = trained-lasting A h view.trainin
 staff-shown A h view day p q f (suc (suc k)) who = refl
 
 -- what the seats of a sitting are filled by, the same by the rows of a view as by the history
-pub record IsShown (A : History) (view : View) (s : Sitting) : Type 0 where
-  pub facility : facility_by (ceremony_by view.ceremonies.items s.ceremony) ≡ facility_of A s.ceremony
+pub record IsShown (A : History) (view : View) (s : SeatRequest) : Type 0 where
+  pub facility : facility_of_row (ceremony_by view.ceremonies.items s.ceremony) ≡ facility_of A s.ceremony
   pub room : room_by view s ≡ present A s.ceremony s.at
   pub fit : (k : ℕ) (who : List ℕ)
       → on_seat (by_view A view s) (slice_get s.seats k) who ≡ on_seat (fits A (facility_of A s.ceremony) (day_of s.at)) (slice_get s.seats k) who
@@ -133,7 +133,7 @@ sign-sitting A h c k at view v =
     }
 
 pass-sitting : (A : History) → IsRegister A → (c : ℕ) (text : List ℕ) (at : ℕ) (view : View)
-    → IsViewOf (asks_by (Except c text true at)) (tables A) view → IsShown A view (record { ceremony = c; at = at; seats = staff })
+    → IsViewOf (asks_by (RecordException c text true at)) (tables A) view → IsShown A view (record { ceremony = c; at = at; seats = staff })
 pass-sitting A h c text at view v =
     record {
       facility = facility-shown A c view.ceremonies.items v.ceremonies;
@@ -141,15 +141,15 @@ pass-sitting A h c text at view v =
       fit = staff-shown A h view (day_of at) v.trainings v.withdrawals (facility_of A c);
     }
 
-pub sitting-is : (A : History) → IsRegister A → (act : Act) (view : View) → IsViewOf (asks_by act) (tables A) view → (s : Sitting)
-    → sitting A act ≡ Some s → IsShown A view s
+pub sitting-is : (A : History) → IsRegister A → (act : Act) (view : View) → IsViewOf (asks_by act) (tables A) view → (s : SeatRequest)
+    → seat_request A act ≡ Some s → IsShown A view s
 sitting-is A h (Sign c k at) view v s e = subst (IsShown A view) (same_Some _ s e) (sign-sitting A h c k at view v)
-sitting-is A h (Except c text true at) view v s e = subst (IsShown A view) (same_Some _ s e) (pass-sitting A h c text at view v)
-sitting-is A h (Except c text false at) view v s e = absurd (none-some s e)
+sitting-is A h (RecordException c text true at) view v s e = subst (IsShown A view) (same_Some _ s e) (pass-sitting A h c text at view v)
+sitting-is A h (RecordException c text false at) view v s e = absurd (none-some s e)
 sitting-is A h act view v s e = absurd (none-some s e)
 
 -- the people whom the search names are the first seating, and the seats that it names a least shortage
-module _ (A : History) (h : IsRegister A) (view : View) (s : Sitting) (shown : IsShown A view s) where
+module _ (A : History) (h : IsRegister A) (view : View) (s : SeatRequest) (shown : IsShown A view s) where
   abbrev relation : Facility → List (List ℕ) → ℕ → ℕ → Bool
   relation f P = fits_of (fits_by view.trainings.items view.withdrawals.items view.appointments.items f (day_of s.at)) s.seats P
 
@@ -181,7 +181,7 @@ abbrev with_seats : History → ℕ → ℕ → ℕ → StepState → List (List
 with_seats A c k at state people =
     record (tables A) {
       steps = put same_step (done_row A c k at state) (steps A);
-      seatings = stacked_on (seat_rows c k 0 people) (seatings A);
+      seatings = pushed_onto (seat_rows c k 0 people) (seatings A);
       marks = put same_mark (record { ceremony = c; at = at }) (marks A);
     }
 
@@ -214,14 +214,14 @@ put-exception A h c text at passed =
     (fresh-exception A h c (suc (exceptions_of A c)) (omega arith))
 
 -- an exception that passes a step
-pub pass-leads : (A : History) → IsRegister A → (c : ℕ) (text : List ℕ) (at : ℕ) (people : List (List ℕ)) → SeatsLeadOn A (Except c text true at) (Some people)
+pub pass-leads : (A : History) → IsRegister A → (c : ℕ) (text : List ℕ) (at : ℕ) (people : List (List ℕ)) → SeatsLeadOn A (RecordException c text true at) (Some people)
 pass-leads A h c text at people key view answer v absent f e =
-    let x : Command = command_of key (Except c text true at) in
+    let x : Command = command_of key (RecordException c text true at) in
     let k = next_step A c in
     let inside = pass-there A c text at f in
     let tell = PutKey (new_key_row x answer) ∷ [] in
     let shown = subst (λ n. Shown (is_step_at c (suc n)) (steps A) view.steps.items) (done-shown A h (the_next c) view v.steps) v.steps.step in
-    let s = put-step A h (entry_as key x.act (answer_to A x.act (Some people))) c k at Passed (λ d j. refl) (λ d. refl) refl inside in
+    let s = put-step A h (entry_as key x.act (reply_to A x.act (Some people))) c k at Passed (λ d j. refl) (λ d. refl) refl inside in
     rw (done-shown A h (the_next c) view v.steps, append_assoc (seat_changes view Passed c k at people) (exception_change view c text at (Some k) ∷ []) tell)
     (seats-changed A h view c k at Passed people shown inside (omega arith) (exception_change view c text at (Some k) ∷ tell)
     ∙ rw (
@@ -234,9 +234,9 @@ pass-leads A h c text at people key view answer v absent f e =
     ) (rw s refl))
 
 -- an exception that passes no step
-pub state-leads : (A : History) → IsRegister A → (c : ℕ) (text : List ℕ) (at : ℕ) → SeatsLeadOn A (Except c text false at) None
+pub state-leads : (A : History) → IsRegister A → (c : ℕ) (text : List ℕ) (at : ℕ) → SeatsLeadOn A (RecordException c text false at) None
 state-leads A h c text at key view answer v absent f e =
-    let x : Command = command_of key (Except c text false at) in
+    let x : Command = command_of key (RecordException c text false at) in
     rw (
       stated-shown A h c view.exceptions.items v.exceptions,
       put-exception A h c text at None,

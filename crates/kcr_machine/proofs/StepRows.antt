@@ -8,7 +8,7 @@ use Rattle.std.specs.Result.{result_unwrap_or}
 use Rattle.std.proofs.lemmas.Bool.{false≢true, eqb-true, eq-eqb, ne_eqb, and_parts, and_right, or_from}
 use Rattle.std.proofs.lemmas.List.Sorted.{length_permutation, list_any-IsPermutation, IsPermutation-sym}
 use Rattle.std.proofs.lemmas.Option.{slice_get_past}
-use Rattle.kcr_base.specs.Rows.{or_else, put}
+use Rattle.kcr_base.specs.Rows.{option_or, put}
 use Rattle.kcr_base.specs.declared.refusal.Refusal.TheVariants.{Taken, Unknown, Order}
 use Rattle.kcr_base.specs.declared.refusal.Thing.TheVariants as Things
 use Rattle.kcr_base.proofs.RefuseLemmas.{none_holds, unmet}
@@ -16,25 +16,25 @@ use Rattle.kcr_script.specs.Reading.{script_of}
 use Rattle.kcr_script.specs.declared.script.Step.{Step}
 use Rattle.kcr_script.proofs.ScriptReading.{script_has_steps}
 use Rattle.kcr_history.specs.declared.commands.Act.{Act}
-use Rattle.kcr_history.specs.declared.commands.Act.TheVariants.{Plan, Sign, Except}
-use Rattle.kcr_history.specs.declared.commands.Answer.{Answer}
-use Rattle.kcr_history.specs.declared.rows.ExceptionRow.{ExceptionRow}
-use Rattle.kcr_history.specs.declared.rows.StepRow.{StepRow}
-use Rattle.kcr_history.specs.declared.rows.StepState.{StepState}
-use Rattle.kcr_history.specs.History.{History, stacked_on}
+use Rattle.kcr_history.specs.declared.commands.Act.TheVariants.{Plan, Sign, RecordException}
+use Rattle.kcr_history.specs.declared.commands.ReplyData.{ReplyData}
+use Rattle.kcr_history.specs.declared.row_types.ExceptionRow.{ExceptionRow}
+use Rattle.kcr_history.specs.declared.row_types.StepRow.{StepRow}
+use Rattle.kcr_history.specs.declared.row_types.StepState.{StepState}
+use Rattle.kcr_history.specs.History.{History, pushed_onto}
 use Rattle.kcr_history.specs.Ceremonies.{Planned, planned_as, plan_of, is_ceremony, steps_of, step_at, does_step, steps_done, next_step, is_exception}
 use Rattle.kcr_history.specs.Ceremonies.{exceptions_of}
 use Rattle.kcr_history.specs.Conditions.{conditions, fault}
-use Rattle.kcr_history.specs.Machine.{answer_to, IsRegister}
-use Rattle.kcr_history.specs.Tables.{numbered, step_keys, step_keys_after, fate_of, step_row, steps, exceptions, Tables, seatings, seat_rows}
+use Rattle.kcr_history.specs.Machine.{reply_to, IsRegister}
+use Rattle.kcr_history.specs.Tables.{numbered, step_keys, step_keys_after, step_result, step_row, steps, exceptions, Tables, seatings, seat_rows}
 use Rattle.kcr_history.specs.Tables.{seating_rows, ceremony_of_step}
 use Rattle.kcr_history.specs.Views.{is_step_at, is_exception_of}
 use Rattle.kcr_history.proofs.Steps.{took}
 use Rattle.kcr_history.proofs.Piled.{any-stacked, filter-stacked, stacked-alone}
-use Rattle.kcr_rules.specs.Signing.{stated_by, step_by}
+use Rattle.kcr_rules.specs.Signing.{exception_count_by, step_by}
 use Rattle.kcr_laws.proofs.Done.{one_more, count-cons, next_signed, done-after}
 use Rattle.kcr_history.specs.declared.commands.Entry.{Entry}
-use Rattle.kcr_history.specs.declared.rows.SeatingRow.{SeatingRow}
+use Rattle.kcr_history.specs.declared.row_types.SeatingRow.{SeatingRow}
 use Rattle.kcr_history.specs.declared.views.Change.TheVariants.{PutSeating}
 use Rattle.kcr_history.specs.Changes.{same_step, same_seating, changed_by}
 use Rattle.kcr_base.proofs.ListLemmas.{any-same, any-map, some_if, there}
@@ -68,19 +68,19 @@ pub sign-there : (A : History) (c k at : ℕ) → fault A (Sign c k at) ≡ None
 sign-there A c k at f =
     there (step_at (steps_of A c) k) (unmet (is_none (step_at (steps_of A c) k)) (Unknown (Things.Step k)) (none_holds (conditions A (Sign c k at)) f).1.0)
 
-pub pass-there : (A : History) (c : ℕ) (text : List ℕ) (at : ℕ) → fault A (Except c text true at) ≡ None
+pub pass-there : (A : History) (c : ℕ) (text : List ℕ) (at : ℕ) → fault A (RecordException c text true at) ≡ None
     → is_some (step_at (steps_of A c) (next_step A c)) ≡ true
 pass-there A c text at f =
     there (step_at (steps_of A c) (next_step A c))
-    (unmet (is_none (step_at (steps_of A c) (next_step A c))) (Order (next_step A c)) (assumption (none_holds (conditions A (Except c text true at)) f)))
+    (unmet (is_none (step_at (steps_of A c) (next_step A c))) (Order (next_step A c)) (assumption (none_holds (conditions A (RecordException c text true at)) f)))
 
 next-there : (A : History) (act : Act) (c : ℕ) → fault A act ≡ None → does_step c act ≡ true → is_some (step_at (steps_of A c) (next_step A c)) ≡ true
 next-there A (Sign d k at) c f e =
     subst (λ c. is_some (step_at (steps_of A c) (next_step A c)) ≡ true) (eqb-true d c e)
     (subst (λ k. is_some (step_at (steps_of A d) k) ≡ true) (next_signed A d k at f) (sign-there A d k at f))
-next-there A (Except d text true at) c f e =
+next-there A (RecordException d text true at) c f e =
     subst (λ c. is_some (step_at (steps_of A c) (next_step A c)) ≡ true) (eqb-true d c (grind arith)) (pass-there A d text at f)
-next-there A (Except d text false at) c f e = absurd (grind arith)
+next-there A (RecordException d text false at) c f e = absurd (grind arith)
 next-there A act c f e = absurd (false≢true e)
 
 one_below : (b : Bool) (n : ℕ) (ss : List Step) → (b ≡ true → is_some (step_at ss (suc n)) ≡ true) → n ≤ length ss → one_more b n ≤ length ss
@@ -93,7 +93,7 @@ new_planned A number facility day script c f q =
     no_steps A c (subst (λ c. is_ceremony A c ≡ false) (eqb-true number c q)
     (unmet (is_ceremony A number) Taken (none_holds (conditions A (Plan number facility day script)) f).0))
 
-below_after : (A : History) (act : Act) (answer : Answer) (key : List ℕ) (c : ℕ) → fault A act ≡ None → steps_done A c ≤ length (steps_of A c)
+below_after : (A : History) (act : Act) (answer : ReplyData) (key : List ℕ) (c : ℕ) → fault A act ≡ None → steps_done A c ≤ length (steps_of A c)
     → one_more (does_step c act) (steps_done A c) ≤ length (steps_of (record { command = record { key = key; act = act }; answer = answer } ∷ A) c)
 below_after A (Plan number facility day script) answer key c f ih = grind (arith, new_planned A number facility day script c f)
 below_after A act answer key c f ih = one_below (does_step c act) (steps_done A c) (steps_of A c) (next-there A act c f) ih
@@ -114,7 +114,7 @@ few_script script = by_result (script_of script) refl
     by_result (Err row) e = omega arith
 
 few_after : (act : Act) (c : ℕ) (plan : Option Planned) → length (unwrap_or (option_map (λ plan. plan.steps) plan) []) ≤ 400
-    → length (unwrap_or (option_map (λ plan. plan.steps) (or_else (planned_as c act) plan)) []) ≤ 400
+    → length (unwrap_or (option_map (λ plan. plan.steps) (option_or (planned_as c act) plan)) []) ≤ 400
 few_after (Plan number facility day script) c plan ih = grind (arith, few_script script)
 few_after act c plan ih = ih
 
@@ -133,13 +133,13 @@ other-keys c d i [] e = refl
 other-keys c d i (s ∷ ss) e = rw e (other-keys c d (suc i) ss e)
 
 -- the keys of a ceremony's steps in the table are those of its script
-keys-stacked : (A : History) → IsRegister A → (c : ℕ) → filter (λ key. key.0 == c) (step_keys A) ≡ stacked_on (numbered c 0 (steps_of A c)) []
+keys-stacked : (A : History) → IsRegister A → (c : ℕ) → filter (λ key. key.0 == c) (step_keys A) ≡ pushed_onto (numbered c 0 (steps_of A c)) []
 keys-stacked [] h c = refl
 keys-stacked (entry ∷ A) h c = by_act entry.command.act (took A entry h.0).no_fault (keys-stacked A h.1 c)
   where
-    by_act : (act : Act) → fault A act ≡ None → filter (λ key. key.0 == c) (step_keys A) ≡ stacked_on (numbered c 0 (steps_of A c)) []
+    by_act : (act : Act) → fault A act ≡ None → filter (λ key. key.0 == c) (step_keys A) ≡ pushed_onto (numbered c 0 (steps_of A c)) []
         → filter (λ key. key.0 == c) (step_keys_after act (step_keys A))
-        ≡ stacked_on (numbered c 0 (steps_of (record { command = record { key = entry.command.key; act = act }; answer = entry.answer } ∷ A) c)) []
+        ≡ pushed_onto (numbered c 0 (steps_of (record { command = record { key = entry.command.key; act = act }; answer = entry.answer } ∷ A) c)) []
     by_act (Plan number facility day script) f ih =
         let ss = result_unwrap_or (script_of script) [] in
         let moved = filter-stacked (λ key. key.0 == c) (numbered number 0 ss) (step_keys A) in
@@ -149,7 +149,7 @@ keys-stacked (entry ∷ A) h c = by_act entry.command.act (took A entry h.0).no_
 keys-order : (A : History) → IsRegister A → (c : ℕ) → IsPermutation (filter (λ key. key.0 == c) (step_keys A)) (numbered c 0 (steps_of A c))
 keys-order A h c =
     let all = numbered c 0 (steps_of A c) in
-    rw (keys-stacked A h c) (IsPermutation-sym all (stacked_on all [])
+    rw (keys-stacked A h c) (IsPermutation-sym all (pushed_onto all [])
     (stacked-alone all))
 
 keys-any : (A : History) → IsRegister A → (c : ℕ) (g : ℕ → Bool)
@@ -173,7 +173,7 @@ numbered-from c i j m [] e = refl
 numbered-from c i zero m (s ∷ ss) e = rw (eq-eqb (suc i) m (omega (arith, e))) refl
 numbered-from c i (suc j) m (s ∷ ss) e = rw (ne_eqb (suc i) m (λ q. omega (arith, e, q))) (numbered-from c (suc i) j m ss (omega (arith, e)))
 
--- the table has a row of step k exactly where it is a step of the script
+-- the table has a row of step k if and only if it is a step of the script
 pub has-step : (A : History) → IsRegister A → (c k : ℕ) → list_any (λ key. key.0 == c && key.1 == k) (step_keys A) ≡ is_some (step_at (steps_of A c) k)
 has-step A h c k = keys-any A h c (λ j. j == k) ∙ by_number k
   where
@@ -183,23 +183,23 @@ has-step A h c k = keys-any A h c (λ j. j == k) ∙ by_number k
 
 -- EXCEPTIONS
 
-stated-exceptions : (A : History) → IsRegister A → (c : ℕ) → stated_by (exceptions A) c ≡ exceptions_of A c
+stated-exceptions : (A : History) → IsRegister A → (c : ℕ) → exception_count_by (exceptions A) c ≡ exceptions_of A c
 stated-exceptions [] h c = refl
 stated-exceptions (entry ∷ A) h c =
     let t = took A entry h.0 in
     by_act entry.command.act entry.answer t.people t.answer (stated-exceptions A h.1 c)
     ∙ sym (count-cons (λ entry. is_exception c entry.command.act) entry A)
   where
-    by_act : (act : Act) (answer : Answer) (people : Option (List (List ℕ))) → answer ≡ answer_to A act people → stated_by (exceptions A) c ≡ exceptions_of A c
-        → stated_by (exceptions (record { command = record { key = entry.command.key; act = act }; answer = answer } ∷ A)) c
+    by_act : (act : Act) (answer : ReplyData) (people : Option (List (List ℕ))) → answer ≡ reply_to A act people → exception_count_by (exceptions A) c ≡ exceptions_of A c
+        → exception_count_by (exceptions (record { command = record { key = entry.command.key; act = act }; answer = answer } ∷ A)) c
         ≡ one_more (is_exception c act) (exceptions_of A c)
-    by_act (Except d text true at) answer people e ih = rw e (grind arith)
-    by_act (Except d text false at) answer people e ih = rw e (grind arith)
+    by_act (RecordException d text true at) answer people e ih = rw e (grind arith)
+    by_act (RecordException d text false at) answer people e ih = rw e (grind arith)
     by_act act answer people e ih = ih
 
 -- THE ROWS THAT A VIEW SHOWS
 
--- the row of a step, where it is one of the script
+-- the row of a step, if it is one of the script
 pub step-shown : (A : History) → IsRegister A → (c k : ℕ) (rows : List StepRow) → Shown (is_step_at c k) (steps A) rows
     → step_by rows c k ≡ some_if (is_some (step_at (steps_of A c) k)) (step_row A (c, k))
 step-shown A h c k rows p =
@@ -209,7 +209,7 @@ step-shown A h c k rows p =
     (step_keys A) rows p
     ∙ ap (λ b. some_if b (step_row A (c, k))) (has-step A h c k)
 
--- it is there exactly where it is one
+-- it is there if and only if it is one
 pub any_step-shown : (A : History) → IsRegister A → (c k : ℕ) (rows : List StepRow) → Shown (is_step_at c k) (steps A) rows
     → list_any (is_step_at c k) rows ≡ is_some (step_at (steps_of A c) k)
 any_step-shown A h c k rows p =
@@ -217,7 +217,7 @@ any_step-shown A h c k rows p =
 
 -- how many exceptions are stated
 pub stated-shown : (A : History) → IsRegister A → (c : ℕ) (rows : List ExceptionRow) → Shown (is_exception_of c) (exceptions A) rows
-    → stated_by rows c ≡ exceptions_of A c
+    → exception_count_by rows c ≡ exceptions_of A c
 stated-shown A h c rows p = count-view (is_exception_of c) (is_exception_of c) (λ x e. e) (exceptions A) rows p ∙ stated-exceptions A h c
 
 -- THE ROW OF A STEP THAT IS DONE
@@ -227,7 +227,7 @@ same-number a b = same-answers (a == b) (b == a) (λ e. eq-eqb b a (sym (eqb-tru
 
 -- an act does step k of c, and leaves scripts as they are: putting the step's row gives the steps after it
 module _ (A : History) (h : IsRegister A) (entry : Entry) (c k at : ℕ) (state : StepState)
-    (fate_now : (d j : ℕ) → fate_of (entry ∷ A) d j ≡ or_else (cond (c == d && k == j) (Some (state, at)) None) (fate_of A d j))
+    (fate_now : (d j : ℕ) → step_result (entry ∷ A) d j ≡ option_or (cond (c == d && k == j) (Some (state, at)) None) (step_result A d j))
     (steps_same : (d : ℕ) → steps_of (entry ∷ A) d ≡ steps_of A d)
     (keys_same : step_keys (entry ∷ A) ≡ step_keys A)
     (inside : is_some (step_at (steps_of A c) k) ≡ true) where
@@ -251,7 +251,7 @@ abbrev is_seat_of : ℕ → ℕ → ℕ → SeatingRow → Bool
 is_seat_of c k j row = row.ceremony == c && row.step == k && row.seat == j
 
 pub put-seats : (c k i : ℕ) (people : List (List ℕ)) (t : Tables) → ((j : ℕ) → i < j → list_any (is_seat_of c k j) t.seatings ≡ false)
-    → changed_by (map PutSeating (seat_rows c k i people)) t ≡ record t { seatings = stacked_on (seat_rows c k i people) t.seatings }
+    → changed_by (map PutSeating (seat_rows c k i people)) t ≡ record t { seatings = pushed_onto (seat_rows c k i people) t.seatings }
 put-seats c k i [] t fresh = refl
 put-seats c k i (who ∷ people) t fresh =
     let row : SeatingRow = record { ceremony = c; step = k; seat = suc i; who = who } in
@@ -286,10 +286,10 @@ fresh-seats (entry ∷ A) h c k j l =
     other d s q l = let same : (d == c) ≡ true → steps_done A d ≡ steps_done A c = λ e. ap (steps_done A) (eqb-true d c e) in grind arith
 
     by_act : (act : Act) (people : Option (List (List ℕ))) → fault A act ≡ None → one_more (does_step c act) (steps_done A c) < k
-        → list_any (is_seat_of c k j) (seating_rows (ceremony_of_step act) (answer_to A act people).step (answer_to A act people).seating) ≡ false
+        → list_any (is_seat_of c k j) (seating_rows (ceremony_of_step act) (reply_to A act people).step (reply_to A act people).seating) ≡ false
     by_act (Sign d s at) people f l = rows_of d s people (other d s (next_signed A d s at f) l)
-    by_act (Except d text true at) people f l = rows_of d (next_step A d) people (other d (next_step A d) refl (grind arith))
-    by_act (Except d text false at) people f l = refl
+    by_act (RecordException d text true at) people f l = rows_of d (next_step A d) people (other d (next_step A d) refl (grind arith))
+    by_act (RecordException d text false at) people f l = refl
     by_act act people f l = refl
 
 -- EXCEPTIONS
@@ -305,9 +305,9 @@ fresh-exception (entry ∷ A) h c j l =
     let l2 : one_more (is_exception c entry.command.act) (exceptions_of A c) < j = rw (count-cons (λ entry. is_exception c entry.command.act) entry A) at l in
     by_act entry.command.act entry.answer t.people t.answer l2 (fresh-exception A h.1 c j)
   where
-    by_act : (act : Act) (answer : Answer) (people : Option (List (List ℕ))) → answer ≡ answer_to A act people
+    by_act : (act : Act) (answer : ReplyData) (people : Option (List (List ℕ))) → answer ≡ reply_to A act people
         → one_more (is_exception c act) (exceptions_of A c) < j → (exceptions_of A c < j → list_any (is_numbered c j) (exceptions A) ≡ false)
         → list_any (is_numbered c j) (exceptions (record { command = record { key = entry.command.key; act = act }; answer = answer } ∷ A)) ≡ false
-    by_act (Except d text true at) answer people e l ih = rw e (grind arith)
-    by_act (Except d text false at) answer people e l ih = rw e (grind arith)
+    by_act (RecordException d text true at) answer people e l ih = rw e (grind arith)
+    by_act (RecordException d text false at) answer people e l ih = rw e (grind arith)
     by_act act answer people e l ih = ih l

@@ -1,1 +1,2 @@
 pub mod RowDecision
+pub mod Whole

@@ -1,23 +1,24 @@
 //! How a command is decided: one whose key has a row, and one whose key is new.
-ghost use Rattle.std.specs.Prelude.{◌≡◌, Some, None, Err, IfSome};
+ghost use Rattle.std.specs.Prelude.{◌≡◌, Some, None, Err, IfErr, IfSome};
 ghost use Rattle.kcr_history.specs.History.{History};
-ghost use Rattle.kcr_history.specs.Asked.{asks_of};
-ghost use Rattle.kcr_history.specs.Front.{front_asks};
+ghost use Rattle.kcr_history.specs.AsksByKind.{asks_of};
+ghost use Rattle.kcr_history.specs.Early.{early_asks};
 ghost use Rattle.kcr_history.specs.Tables.{tables};
 ghost use Rattle.kcr_history.specs.Views.{IsViewOf, greatest_number, row_of_key};
 ghost use Rattle.kcr_history.specs.Machine.{IsRegister, IsDecision};
-ghost use Rattle.kcr_rules.specs.Ahead.{IsToldAhead};
+ghost use Rattle.kcr_rules.specs.Early.{IsEarlyRefusal};
 ghost use Rattle.kcr_machine.specs.RowDecision.{IsRowDecision, IsRowRepeat, is_full_by};
+ghost use Rattle.kcr_machine.specs.RowDecision.{IsOfKind, IsOwnRefusal};
 
 use kcr_base::Refusal;
 use kcr_history::{
-    Answer, Change, Command, KeyRow, Reply, Verdict, View, answer_text, command_text,
+    Change, Command, KeyRow, Reply, ReplyData, Verdict, View, answer_text, command_text,
 };
-use kcr_rules::{Acted, perform, refusal_ahead};
+use kcr_rules::{Effect, early_refusal, evaluate};
 use std::alloc::Global;
 
 /// At most this many commands are accepted.
-const MOST_COMMANDS: u32 = 4_000_000_000;
+const MAX_COMMANDS: u32 = 4_000_000_000;
 
 /// What becomes of a command whose key has this row, by the row.
 fn repeat_by_row(alloc: Global, row: &KeyRow, command: &Command) -> Result<Verdict, Refusal>
@@ -36,14 +37,17 @@ fn repeat_by_row(alloc: Global, row: &KeyRow, command: &Command) -> Result<Verdi
     })
 }
 
-/// Decides a command whose key has this row, as it has where a command was accepted under it.
+/// Decides a command whose key has this row, as it has if a command was accepted under it.
 ///
 /// For every history A in whose tables the row is that of the key, the result is the machine's step from A: the same
 /// command gets its kept reply again and nothing changes, another command is refused (11). Out of memory (33) may be
 /// answered in place of both; it changes nothing.
-pub fn repeat(alloc: Global, row: &KeyRow, command: &Command) -> Result<Verdict, Refusal>
-    ensures { (A : History) → row_of_key command.now.key (tables A).keys ≡ Some row.now
+pub fn decide_repeat(alloc: Global, row: &KeyRow, command: &Command) -> Result<Verdict, Refusal>
+    ensures step { (A : History) → row_of_key command.now.key (tables A).keys ≡ Some row.now
         → IsDecision A command.now result }
+
+    // Whatever the row is, the same command gets the reply that it keeps.
+    ensures by_row { IsRowRepeat row.now command.now result }
 {
     repeat_by_row(alloc, row, command)
 }
@@ -55,17 +59,18 @@ fn decide_by_rows(
     accepted: u32,
     command: &Command,
 ) -> Result<Verdict, Refusal>
-    ensures { IsRowDecision view.now accepted command.now result }
+    ensures rows { IsRowDecision view.now accepted command.now result }
+    ensures kind { IfErr result (IsOwnRefusal command.now) }
 {
-    let full = MOST_COMMANDS <= accepted;
-    let acted = perform(alloc, view, full, &command.act)?;
-    let Acted {
+    let full = MAX_COMMANDS <= accepted;
+    let acted = evaluate(alloc, view, full, &command.act)?;
+    let Effect {
         mut changes,
         exception,
         seating,
         step,
     } = acted;
-    let answer = Answer {
+    let answer = ReplyData {
         // A full register accepts no act, so there is a next number.
         accepted: accepted + 1,
         exception,
@@ -86,49 +91,48 @@ fn decide_by_rows(
     })
 }
 
-/// The refusal of a command whose key is new that is told by the part of its rows that is read first, None where that
+/// The refusal of a command whose key is new that is told by the part of its rows that is read first, `None` if that
 /// part does not tell one.
 ///
-/// For every history A that the machine leads to, and in whose tables the key has no row: where the view holds the rows
+/// For every history A that the machine leads to, and in whose tables the key has no row: if the view holds the rows
 /// of the tables of A that the command asks for, trainings, withdrawals, appointments and stays aside, and `accepted`
 /// is the number of the last command of A, a refusal is the machine's step from A. Out of memory (33) may be answered
-/// in its place. Nothing is told ahead of an act that has no ceremony.
+/// in its place. An act that has no ceremony is not refused early.
 ///
 /// And the other way round, over any view and number: a refusal that this part of the rows tells is told, out of memory
 /// aside, unless the rows tell of more steps done than a script has, which no register's rows do.
-pub fn refused_ahead(
-    alloc: Global,
-    view: &View,
-    accepted: u32,
-    command: &Command,
-) -> Option<Refusal>
+pub fn refuse_early(alloc: Global, view: &View, accepted: u32, command: &Command) -> Option<Refusal>
     ensures step { (A : History) → IsRegister A → row_of_key command.now.key (tables A).keys ≡ None
-        → IsViewOf (front_asks (asks_of command.now)) (tables A) view.now → accepted ≡ greatest_number (tables A).keys
+        → IsViewOf (early_asks (asks_of command.now)) (tables A) view.now → accepted ≡ greatest_number (tables A).keys
         → IfSome result (λ refusal. IsDecision A command.now (Err refusal)) }
-    ensures told { IsToldAhead view.now (is_full_by accepted) command.now.act result }
+    ensures told { IsEarlyRefusal view.now (is_full_by accepted) command.now.act result }
+    ensures kind { IfSome result (IsOwnRefusal command.now) }
 {
-    let full = MOST_COMMANDS <= accepted;
-    refusal_ahead(alloc, view, full, &command.act)
+    let full = MAX_COMMANDS <= accepted;
+    early_refusal(alloc, view, full, &command.act)
 }
 
 /// Decides a command whose key is new over the rows that it asks for and `accepted`, the number of the last command.
 ///
-/// For every history A that the machine leads to, and in whose tables the key has no row: where the view holds the rows
+/// For every history A that the machine leads to, and in whose tables the key has no row: if the view holds the rows
 /// of the tables of A that the command asks for, in any order, and `accepted` is the number of the last command of A, 0
-/// where there is none, the result is the machine's step from A, and the changes lead from the tables of A to those
-/// after it, up to the order of rows. The act's own refusals come in the order of their numbers, and 27 where
+/// if there is none, the result is the machine's step from A, and the changes lead from the tables of A to those
+/// after it, up to the order of rows. The act's own refusals come in the order of their numbers, and 27 if
 /// 4,000,000,000 commands have been accepted. Out of memory (33) may be answered in place of all of these; it changes
 /// nothing. Over any other view and number there is some answer. A signature and an exception that passes a step record
 /// the first seating of the people in the room, or else are refused (32) with a least shortage.
-pub fn decide(
+pub fn decide_new(
     alloc: Global,
     view: &View,
     accepted: u32,
     command: &Command,
 ) -> Result<Verdict, Refusal>
-    ensures { (A : History) → IsRegister A → row_of_key command.now.key (tables A).keys ≡ None
+    ensures step { (A : History) → IsRegister A → row_of_key command.now.key (tables A).keys ≡ None
         → IsViewOf (asks_of command.now) (tables A) view.now → accepted ≡ greatest_number (tables A).keys
         → IsDecision A command.now result }
+
+    // Whatever the rows are, the reply is of the act's kind, or the refusal is one that acts of this kind may get.
+    ensures kind { IsOfKind command.now result }
 {
     decide_by_rows(alloc, view, accepted, command)
 }

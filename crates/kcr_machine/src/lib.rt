@@ -1,11 +1,22 @@
 //! How commands are decided: over the rows that a command asks for, which rows to put into the tables and what to
 //! reply, or the first reason why it is refused.
 //!
-//! All 19 kinds are decided; what each comes to by the rows stands in `kcr_rules`. The contracts of `repeat` and
-//! `decide`, for a key that has a row and for a new one, are together the machine's step over every history that the
-//! machine leads to, and the proofs here join rows and histories.
+//! All 19 kinds are decided; `kcr_rules` decides each by the rows. `decide` is the machine's step over
+//! every history that the machine leads to. The register takes this step in parts, so that it reads fewer rows:
+//! `decide_repeat` for a key that has a row, `refuse_early` and `decide_new` for a new one. The proofs here join rows and
+//! histories.
 #![tactic(auto)]
 
 mod decision;
+mod laws;
+mod whole;
 
-pub use decision::{decide, refused_ahead, repeat};
+pub use decision::{decide_new, decide_repeat, refuse_early};
+pub use kcr_audit::audit;
+// All rows, as `decide` and `audit` take them. What `kcr_history` calls a view is the part of them in `asked`.
+pub use kcr_history::{
+    Act, Asks, Change, Command, Finding, FullView as View, Reply, Selection, Verdict, asks,
+    command_text,
+};
+pub use laws::{decisions_are_fixed, sheets_are_tested_alike};
+pub use whole::decide;

@@ -5,3 +5,4 @@ pub mod RoomTold
 pub mod Plain
 pub mod NotFull
 pub mod Told
+pub mod OwnRefusals

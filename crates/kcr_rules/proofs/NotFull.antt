@@ -2,7 +2,7 @@
 use Rattle.std.proofs.Common.{◌≡◌, Bool, false, None, arith}
 use Rattle.kcr_history.specs.declared.commands.Act.{Act}
 use Rattle.kcr_history.specs.declared.commands.Act.TheVariants.{Enter, Train, Withdraw, Appoint, Replace, Release, AddBox, AddItem, Plan, Open}
-use Rattle.kcr_history.specs.declared.commands.Act.TheVariants.{Close, Sheet, TurnSafe, Sign, Except, Seal, Take, Put, Cut}
+use Rattle.kcr_history.specs.declared.commands.Act.TheVariants.{Close, RecordSheet, SetSafe, Sign, RecordException, Seal, Take, Put, Cut}
 use Rattle.kcr_history.specs.declared.views.View.{View}
 use Rattle.kcr_rules.specs.ByRows.{refusal_by}
 
@@ -18,10 +18,10 @@ not-full view full (Plan number facility day script) h = grind (arith, h)
 not-full view full (Open ceremony at) h = grind (arith, h)
 not-full view full (Close ceremony at) h = grind (arith, h)
 not-full view full (AddItem ceremony item at) h = grind (arith, h)
-not-full view full (Sheet ceremony way people at) h = grind (arith, h)
-not-full view full (TurnSafe ceremony safe state by at) h = grind (arith, h)
+not-full view full (RecordSheet ceremony way people at) h = grind (arith, h)
+not-full view full (SetSafe ceremony safe state by at) h = grind (arith, h)
 not-full view full (Sign ceremony step at) h = grind (arith, h)
-not-full view full (Except ceremony text pass at) h = grind (arith, h)
+not-full view full (RecordException ceremony text pass at) h = grind (arith, h)
 not-full view full (Seal ceremony serial items at) h = grind (arith, h)
 not-full view full (Take ceremony serial at) h = grind (arith, h)
 not-full view full (Put ceremony serial to at) h = grind (arith, h)

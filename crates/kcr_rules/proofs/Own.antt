@@ -13,7 +13,7 @@ use Rattle.kcr_script.specs.declared.seat.Seat.{Seat}
 use Rattle.kcr_script.specs.declared.seat.Seat.TheVariants.{Staff, AnyCo, AnyRksh, Co, Rksh}
 use Rattle.kcr_history.specs.Fitting.{fits_by}
 use Rattle.kcr_history.specs.Views.{is_training_of}
-use Rattle.kcr_rules.specs.Own.{own_of}
+use Rattle.kcr_rules.specs.TrainingsByPerson.{trainings_by_person}
 use Rattle.kcr_rules.specs.Signing.{fits_of, on_seat}
 
 -- only a person's own trainings train the person
@@ -37,7 +37,7 @@ fits_own trainings withdrawals rows facility day (Rksh n) who = refl
 
 -- the trainings that stand at a person's place are the person's own
 pub own_row : {V : Type 0} (items : V → List Training) (trainings : List Training) (people : List (List ℕ)) (own : List V)
-    → map items own ≡ own_of trainings people
+    → map items own ≡ trainings_by_person trainings people
     → (person : ℕ) (d : V) → person < length people → items (get_or own person d) ≡ filter (is_training_of (get_or people person [])) trainings
 own_row items trainings people own split person d there =
     let many : length own ≡ length people = sym (length-map own items) ∙ ap length split ∙ length-map people _ in

@@ -1,7 +1,7 @@
--- What is told of an act ahead, by what its kind answers where everybody is there who has to be.
+-- What is told of an act ahead, by what its kind answers if everybody is there who has to be.
 use Rattle.std.proofs.Common.{◌≡◌, ◌≢◌, Option, Some, None, Result, Ok, Err, sym, ap, ◌∙◌}
 use Rattle.std.specs.Result.{result_err}
-use Rattle.kcr_base.specs.Refuse.{unless, Decides}
+use Rattle.kcr_base.specs.Refuse.{unless, IsValueOrRefusal}
 use Rattle.kcr_base.specs.declared.refusal.Refusal.{Refusal}
 use Rattle.kcr_base.specs.declared.refusal.Refusal.TheVariants.{Memory}
 use Rattle.kcr_rules.proofs.Unless.{refused, accepted}
@@ -16,6 +16,6 @@ module _ {X : Type 0} (f g : Option Refusal) (same : f ≡ g) (v : X) where
     told_none x is = sym same ∙ (accepted f v result x told is).0
 
   -- the same of a call that may want memory
-  pub told_unless : (result : Result X Refusal) → Decides f v result → (told : Option Refusal) → told ≡ result_err result → told ≢ Some Memory → g ≡ told
+  pub told_unless : (result : Result X Refusal) → IsValueOrRefusal f v result → (told : Option Refusal) → told ≡ result_err result → told ≢ Some Memory → g ≡ told
   told_unless (Ok x) d told e ne = sym same ∙ d.0 ∙ sym e
   told_unless (Err r) d told e ne = sym same ∙ d (λ m. ne (e ∙ ap Some m)) ∙ sym e

@@ -1,4 +1,4 @@
--- What an act comes to, by the rows of a view.
+-- The decision of an act, by the rows of a view.
 use Rattle.std.specs.Prelude.{◌≡◌, ◌≢◌, suc, ℕ, Bool, true, false, nat_lt, List, [], ◌∷◌, ◌++◌, map, Option, Some}
 use Rattle.std.specs.Prelude.{None, option_map, MatchOption, MatchResult, Result, Vec}
 use Rattle.std.specs.Global.{Global}
@@ -13,27 +13,27 @@ use Rattle.kcr_people.specs.People.{release_refusal, withdrawn_rows, open_row_by
 use Rattle.kcr_custody.specs.Custody.{add_box_refusal}
 use Rattle.kcr_history.specs.declared.commands.Act.{Act}
 use Rattle.kcr_history.specs.declared.commands.Act.TheVariants.{Enter, Train, Withdraw, Appoint, Replace, Release}
-use Rattle.kcr_history.specs.declared.commands.Act.TheVariants.{AddBox, AddItem, Plan, Open, Close, Sheet, TurnSafe}
-use Rattle.kcr_history.specs.declared.commands.Act.TheVariants.{Sign, Except, Seal, Take, Put, Cut}
-use Rattle.kcr_history.specs.declared.rows.MarkRow.{MarkRow}
-use Rattle.kcr_history.specs.declared.rows.StepState.TheVariants.{Signed, Passed}
+use Rattle.kcr_history.specs.declared.commands.Act.TheVariants.{AddBox, AddItem, Plan, Open, Close, RecordSheet, SetSafe}
+use Rattle.kcr_history.specs.declared.commands.Act.TheVariants.{Sign, RecordException, Seal, Take, Put, Cut}
+use Rattle.kcr_history.specs.declared.row_types.MarkRow.{MarkRow}
+use Rattle.kcr_history.specs.declared.row_types.StepState.TheVariants.{Signed, Passed}
 use Rattle.kcr_history.specs.declared.views.Change.{Change}
 use Rattle.kcr_history.specs.declared.views.Change.TheVariants.{PutPerson, PutTraining, PutWithdrawal, PutAppointment}
 use Rattle.kcr_history.specs.declared.views.Change.TheVariants.{PutBox}
 use Rattle.kcr_history.specs.declared.views.View.{View}
 use Rattle.kcr_history.specs.History.{greatest}
-use Rattle.kcr_history.specs.Machine.{Sitting}
+use Rattle.kcr_history.specs.Machine.{SeatRequest}
 use Rattle.kcr_history.specs.Views.{last_seated}
-use Rattle.kcr_rules.specs.declared.acts.Acted.{Acted}
-use Rattle.kcr_rules.specs.declared.premises.Premises.{Premises}
-use Rattle.kcr_rules.specs.Scene.{ceremony_by}
+use Rattle.kcr_rules.specs.declared.effects.Effect.{Effect}
+use Rattle.kcr_rules.specs.declared.context.DecisionContext.{DecisionContext}
+use Rattle.kcr_rules.specs.CeremonyStatus.{ceremony_by}
 use Rattle.kcr_rules.specs.CeremonyRows.{closing_refusal, closing_changes, opening_refusal, opening_changes}
 use Rattle.kcr_rules.specs.CeremonyRows.{plan_refusal, plan_changes}
-use Rattle.kcr_rules.specs.CustodyRows.{seal_refusal_in, take_refusal_in, put_refusal_in, cut_refusal_in}
-use Rattle.kcr_rules.specs.CustodyRows.{seal_changes_in, take_changes_in, put_changes_in, cut_changes_in}
+use Rattle.kcr_rules.specs.CustodyRows.{seal_refusal_by, take_refusal_by, put_refusal_by, cut_refusal_by}
+use Rattle.kcr_rules.specs.CustodyRows.{seal_changes_by, take_changes_by, put_changes_by, cut_changes_by}
 use Rattle.kcr_rules.specs.RoomRows.{turn_refusal_by, turn_changes_by, add_item_refusal_by, add_item_changes_by}
 use Rattle.kcr_rules.specs.SheetRows.{sheet_refusal_by, sheet_changes_by}
-use Rattle.kcr_rules.specs.Signing.{sign_refusal, except_refusal, next_by, step_by, seats_by, stated_by, staff}
+use Rattle.kcr_rules.specs.Signing.{sign_refusal, except_refusal, next_step_by, step_by, seats_by, exception_count_by, staff}
 use Rattle.kcr_rules.specs.Signing.{IsSeatedBy, IsUnseatedBy, mark_change, seat_changes, exception_change}
 
 -- the settled day: the day of the greatest mark
@@ -41,7 +41,7 @@ abbrev pub settled_by : List MarkRow → Option ℕ
 settled_by marks = option_map day_of (greatest (map (λ row. row.at) marks))
 
 -- the roster has the rows of people, trainings, withdrawals and appointments, the settled day, and whether it is full
-pub record IsRoster (premises : Premises) (roster : Roster) : Type 0 where
+pub record IsRoster (premises : DecisionContext) (roster : Roster) : Type 0 where
   pub people : roster.people.now ≡ premises.view.now.people.items
   pub trainings : roster.trainings.now ≡ premises.view.now.trainings.items
   pub withdrawals : roster.withdrawals.now ≡ premises.view.now.withdrawals.items
@@ -74,14 +74,14 @@ refusal_by view full (Open ceremony at) =
 refusal_by view full (Close ceremony at) =
     closing_refusal view full ceremony at (ceremony_by view.ceremonies.items ceremony)
 refusal_by view full (AddItem ceremony item at) = add_item_refusal_by view full ceremony item at
-refusal_by view full (Sheet ceremony way people at) = sheet_refusal_by view full ceremony way people at
-refusal_by view full (TurnSafe ceremony safe state by at) = turn_refusal_by view full ceremony safe state by at
+refusal_by view full (RecordSheet ceremony way people at) = sheet_refusal_by view full ceremony way people at
+refusal_by view full (SetSafe ceremony safe state by at) = turn_refusal_by view full ceremony safe state by at
 refusal_by view full (Sign ceremony step at) = sign_refusal view full ceremony step at
-refusal_by view full (Except ceremony text pass at) = except_refusal view full ceremony pass at
-refusal_by view full (Seal ceremony serial items at) = seal_refusal_in view full ceremony serial items at
-refusal_by view full (Take ceremony serial at) = take_refusal_in view full ceremony serial at
-refusal_by view full (Put ceremony serial to at) = put_refusal_in view full ceremony serial to at
-refusal_by view full (Cut ceremony serial at) = cut_refusal_in view full ceremony serial at
+refusal_by view full (RecordException ceremony text pass at) = except_refusal view full ceremony pass at
+refusal_by view full (Seal ceremony serial items at) = seal_refusal_by view full ceremony serial items at
+refusal_by view full (Take ceremony serial at) = take_refusal_by view full ceremony serial at
+refusal_by view full (Put ceremony serial to at) = put_refusal_by view full ceremony serial to at
+refusal_by view full (Cut ceremony serial at) = cut_refusal_by view full ceremony serial at
 
 -- an appointment without an end
 abbrev pub new_appointment : Place → List ℕ → ℕ → Appointment
@@ -107,77 +107,77 @@ changes_by view (Plan number facility day script) = plan_changes number facility
 changes_by view (Open ceremony at) = opening_changes ceremony at (ceremony_by view.ceremonies.items ceremony)
 changes_by view (Close ceremony at) = closing_changes at (ceremony_by view.ceremonies.items ceremony)
 changes_by view (AddItem ceremony item at) = add_item_changes_by view ceremony item at
-changes_by view (Sheet ceremony way people at) = sheet_changes_by view ceremony way people at
-changes_by view (TurnSafe ceremony safe state by at) = turn_changes_by view ceremony safe state at
-changes_by view (Except ceremony text pass at) =
+changes_by view (RecordSheet ceremony way people at) = sheet_changes_by view ceremony way people at
+changes_by view (SetSafe ceremony safe state by at) = turn_changes_by view ceremony safe state at
+changes_by view (RecordException ceremony text pass at) =
     mark_change ceremony at ∷ exception_change view ceremony text at None ∷ []
-changes_by view (Seal ceremony serial items at) = seal_changes_in view ceremony serial items at
-changes_by view (Take ceremony serial at) = take_changes_in view ceremony serial at
-changes_by view (Put ceremony serial to at) = put_changes_in view ceremony serial to at
-changes_by view (Cut ceremony serial at) = cut_changes_in view ceremony serial at
+changes_by view (Seal ceremony serial items at) = seal_changes_by view ceremony serial items at
+changes_by view (Take ceremony serial at) = take_changes_by view ceremony serial at
+changes_by view (Put ceremony serial to at) = put_changes_by view ceremony serial to at
+changes_by view (Cut ceremony serial at) = cut_changes_by view ceremony serial at
 changes_by view act = []
 
 -- SEATS AND ANSWERS: a signature fills the seats of its step, an exception that passes a step those of two of the
 -- staff; other acts need no seats, and are answered their number alone
 
 -- the seats that an act needs
-abbrev pub sitting_by : View → Act → Option Sitting
-sitting_by view (Sign ceremony step at) =
+abbrev pub seat_request_by : View → Act → Option SeatRequest
+seat_request_by view (Sign ceremony step at) =
     Some (record { ceremony = ceremony; at = at; seats = seats_by (step_by view.steps.items ceremony step) })
-sitting_by view (Except ceremony text true at) = Some (record { ceremony = ceremony; at = at; seats = staff })
-sitting_by view act = None
+seat_request_by view (RecordException ceremony text true at) = Some (record { ceremony = ceremony; at = at; seats = staff })
+seat_request_by view act = None
 
--- the people who are seated: by the rows where seats are needed, else none
-abbrev pub IsSeatedFor : View → Option Sitting → Option (List (List ℕ)) → Type 0
+-- the people who are seated: by the rows if seats are needed, else none
+abbrev pub IsSeatedFor : View → Option SeatRequest → Option (List (List ℕ)) → Type 0
 IsSeatedFor view None people = people ≡ None
 IsSeatedFor view (Some s) None = ⊥
 IsSeatedFor view (Some s) (Some people) = IsSeatedBy view s people
 
 -- why an act that has no other refusal is refused: its seats are not filled
-abbrev pub IsUnseatedFor : View → Option Sitting → Refusal → Type 0
+abbrev pub IsUnseatedFor : View → Option SeatRequest → Refusal → Type 0
 IsUnseatedFor view None refusal = ⊥
 IsUnseatedFor view (Some s) refusal = IsUnseatedBy view s refusal
 
 -- the rows that an act puts, with those of the people who are seated
 abbrev pub all_changes_by : View → Act → Option (List (List ℕ)) → List Change
 all_changes_by view (Sign ceremony step at) (Some people) = seat_changes view Signed ceremony step at people
-all_changes_by view (Except ceremony text true at) (Some people) =
-    seat_changes view Passed ceremony (next_by view.seatings.items ceremony) at people
-    ++ exception_change view ceremony text at (Some (next_by view.seatings.items ceremony)) ∷ []
+all_changes_by view (RecordException ceremony text true at) (Some people) =
+    seat_changes view Passed ceremony (next_step_by view.seatings.items ceremony) at people
+    ++ exception_change view ceremony text at (Some (next_step_by view.seatings.items ceremony)) ∷ []
 all_changes_by view act people = changes_by view act
 
 -- the number of the exception that an act states
 abbrev pub exception_by : View → Act → Option ℕ
-exception_by view (Except ceremony text pass at) = Some (suc (stated_by view.exceptions.items ceremony))
+exception_by view (RecordException ceremony text pass at) = Some (suc (exception_count_by view.exceptions.items ceremony))
 exception_by view act = None
 
 -- the step that an act signs or passes
-abbrev pub told_step_by : View → Act → Option ℕ
-told_step_by view (Sign ceremony step at) = Some step
-told_step_by view (Except ceremony text true at) = Some (next_by view.seatings.items ceremony)
-told_step_by view act = None
+abbrev pub reply_step_by : View → Act → Option ℕ
+reply_step_by view (Sign ceremony step at) = Some step
+reply_step_by view (RecordException ceremony text true at) = Some (next_step_by view.seatings.items ceremony)
+reply_step_by view act = None
 
 -- WHAT AN ACT COMES TO
 
 -- the act has no refusal, these people are seated, and these are its changes and what it is answered beside its number
-pub record HasActed (view : View) (full : Bool) (act : Act) (acted : Acted) : Type 0 where
+pub record IsEffect (view : View) (full : Bool) (act : Act) (acted : Effect) : Type 0 where
   pub fine : refusal_by view full act ≡ None
-  pub seated : IsSeatedFor view (sitting_by view act) acted.seating
+  pub seated : IsSeatedFor view (seat_request_by view act) acted.seating
   pub changes : acted.changes.items ≡ all_changes_by view act acted.seating
   pub exception : acted.exception ≡ exception_by view act
-  pub step : acted.step ≡ told_step_by view act
+  pub step : acted.step ≡ reply_step_by view act
 
 -- the rows tell of more steps done than a script has, which no register's rows do
-abbrev pub is_overdone : View → Act → Bool
-is_overdone view (Sign ceremony step at) = nat_lt 400 (last_seated view.seatings.items ceremony)
-is_overdone view (Except ceremony text pass at) = nat_lt 400 (last_seated view.seatings.items ceremony)
-is_overdone view act = false
+abbrev pub has_too_many_steps : View → Act → Bool
+has_too_many_steps view (Sign ceremony step at) = nat_lt 400 (last_seated view.seatings.items ceremony)
+has_too_many_steps view (RecordException ceremony text pass at) = nat_lt 400 (last_seated view.seatings.items ceremony)
+has_too_many_steps view act = false
 
 -- the act's first refusal; or it has none, and its seats are not filled
-pub record IsRefused (view : View) (full : Bool) (act : Act) (refusal : Refusal) : Type 0 where
-  pub first : is_overdone view act ≡ false
+pub record IsRefusalOf (view : View) (full : Bool) (act : Act) (refusal : Refusal) : Type 0 where
+  pub first : has_too_many_steps view act ≡ false
       → MatchOption (refusal_by view full act)
-      (IsUnseatedFor view (sitting_by view act) refusal) (λ told. refusal ≡ told)
+      (IsUnseatedFor view (seat_request_by view act) refusal) (λ told. refusal ≡ told)
 
 -- the act has no refusal, and these are its changes
 abbrev pub HasChanges : View → Bool → Act → List Change → Type 0
@@ -187,13 +187,13 @@ HasChanges view full act changes = (refusal_by view full act ≡ None) × (chang
 abbrev pub HasRefusal : View → Bool → Act → Refusal → Type 0
 HasRefusal view full act refusal = refusal ≢ Memory → refusal_by view full act ≡ Some refusal
 
--- what deciding the act comes to: its changes where it has no refusal, or its refusal, or out of memory
-abbrev pub ComesTo : Premises → Act → Result (Vec Change Global) Refusal → Type 0
-ComesTo premises act result =
+-- the result of deciding the act: its changes if it has no refusal, or its refusal, or out of memory
+abbrev pub IsChangesResult : DecisionContext → Act → Result (Vec Change Global) Refusal → Type 0
+IsChangesResult premises act result =
     MatchResult result (λ changes. HasChanges premises.view.now premises.is_full act changes.items)
     (λ refusal. HasRefusal premises.view.now premises.is_full act refusal)
 
 -- the same of any act, which may seat people or state an exception
-abbrev pub ActsBy : View → Bool → Act → Result Acted Refusal → Type 0
-ActsBy view full act result =
-    MatchResult result (HasActed view full act) (λ refusal. refusal ≢ Memory → IsRefused view full act refusal)
+abbrev pub IsEffectResult : View → Bool → Act → Result Effect Refusal → Type 0
+IsEffectResult view full act result =
+    MatchResult result (IsEffect view full act) (λ refusal. refusal ≢ Memory → IsRefusalOf view full act refusal)

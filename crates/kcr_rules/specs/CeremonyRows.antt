@@ -4,7 +4,7 @@ use Rattle.std.specs.Prelude.{Some, None, is_some}
 use Rattle.std.specs.List.{list_any}
 use Rattle.std.specs.Result.{result_unwrap_or}
 use Rattle.kcr_base.specs.Days.{day_of}
-use Rattle.kcr_base.specs.Refuse.{when, first_of, no_ceremony, is_late}
+use Rattle.kcr_base.specs.Refuse.{when, first_of, unknown_ceremony_refusal, before_mark_refusal}
 use Rattle.kcr_base.specs.Same.{same_facility}
 use Rattle.kcr_base.specs.declared.place.Facility.{Facility}
 use Rattle.kcr_base.specs.declared.refusal.Refusal.{Refusal}
@@ -14,22 +14,22 @@ use Rattle.kcr_base.specs.declared.refusal.Part.TheVariants as Parts
 use Rattle.kcr_base.specs.declared.refusal.Thing.TheVariants as Things
 use Rattle.kcr_custody.specs.declared.Bag.{Bag}
 use Rattle.kcr_custody.specs.declared.SafeNumber.TheVariants.{One, Two}
-use Rattle.kcr_custody.specs.Custody.{is_open_by, is_on_table, not_ready}
+use Rattle.kcr_custody.specs.Custody.{is_open_by, is_on_table, not_ready_refusal}
 use Rattle.kcr_room.specs.declared.Stay.{Stay}
-use Rattle.kcr_room.specs.Stays.{lasts_at}
+use Rattle.kcr_room.specs.Stays.{ends_after}
 use Rattle.kcr_script.specs.declared.script.Step.{Step}
 use Rattle.kcr_script.specs.Reading.{script_of}
-use Rattle.kcr_history.specs.declared.rows.CeremonyRow.{CeremonyRow}
-use Rattle.kcr_history.specs.declared.rows.CeremonyState.TheVariants as States
-use Rattle.kcr_history.specs.declared.rows.StepRow.{StepRow}
-use Rattle.kcr_history.specs.declared.rows.StepState.TheVariants.{Undone}
+use Rattle.kcr_history.specs.declared.row_types.CeremonyRow.{CeremonyRow}
+use Rattle.kcr_history.specs.declared.row_types.CeremonyState.TheVariants as States
+use Rattle.kcr_history.specs.declared.row_types.StepRow.{StepRow}
+use Rattle.kcr_history.specs.declared.row_types.StepState.TheVariants.{Undone}
 use Rattle.kcr_history.specs.declared.views.Change.{Change}
 use Rattle.kcr_history.specs.declared.views.Change.TheVariants.{PutCeremony, PutMark, PutStep}
 use Rattle.kcr_history.specs.declared.views.View.{View}
-use Rattle.kcr_history.specs.Conditions.{no_script}
+use Rattle.kcr_history.specs.Conditions.{script_refusal}
 use Rattle.kcr_history.specs.Views.{is_step_at}
-use Rattle.kcr_rules.specs.Scene.{ceremony_by, is_open_state, mark_by, scene_by}
-use Rattle.kcr_rules.specs.Signing.{next_by}
+use Rattle.kcr_rules.specs.CeremonyStatus.{ceremony_by, is_open_state, mark_by, ceremony_status_by}
+use Rattle.kcr_rules.specs.Signing.{next_step_by}
 
 -- OPENING
 
@@ -48,7 +48,7 @@ open_refusal rows full at row =
     ∷ when full Full
     ∷ [])
 
--- the same of a ceremony, which may be none
+-- the same for a ceremony, if there is one
 abbrev pub opening_refusal : List CeremonyRow → Bool → ℕ → ℕ → Option CeremonyRow → Option Refusal
 opening_refusal rows full ceremony at None = Some (Unknown (Things.Ceremony ceremony))
 opening_refusal rows full ceremony at (Some row) = open_refusal rows full at row
@@ -64,17 +64,17 @@ opening_changes ceremony at (Some row) =
 
 -- a stay in the ceremony's room that begins or ends later than the moment, or has no end
 abbrev pub is_unended : ℕ → ℕ → Stay → Bool
-is_unended ceremony at stay = stay.ceremony == ceremony && (nat_lt at stay.since || lasts_at at stay.until)
+is_unended ceremony at stay = stay.ceremony == ceremony && (nat_lt at stay.since || ends_after at stay.until)
 
 -- a bag on the facility's table
 abbrev pub lies_on_table : Facility → Bag → Bool
 lies_on_table facility bag = is_on_table facility (Some bag.spot)
 
--- what keeps the ceremony of the row from closing: its next step, where there is one, its room, the safes or the table
+-- what keeps the ceremony of the row from closing: its next step, if there is one, its room, the safes or the table
 abbrev pub unfinished_by : View → ℕ → ℕ → CeremonyRow → Option Refusal
 unfinished_by view ceremony at row =
     first_of
-    (when (list_any (is_step_at ceremony (next_by view.seatings.items ceremony)) view.steps.items)
+    (when (list_any (is_step_at ceremony (next_step_by view.seatings.items ceremony)) view.steps.items)
     (Unfinished Parts.Steps)
     ∷ when (list_any (is_unended ceremony at) view.stays.items) (Unfinished Parts.Room)
     ∷ when (is_open_by view.safes.items row.facility One || is_open_by view.safes.items row.facility Two)
@@ -87,12 +87,12 @@ abbrev pub close_refusal : View → Bool → ℕ → ℕ → CeremonyRow → Opt
 close_refusal view full ceremony at row =
     first_of
     (when (not (is_open_state row.state)) Refusals.State
-    ∷ is_late at (mark_by view.marks.items ceremony)
+    ∷ before_mark_refusal at (mark_by view.marks.items ceremony)
     ∷ when full Full
     ∷ unfinished_by view ceremony at row
     ∷ [])
 
--- the same of a ceremony, which may be none
+-- the same for a ceremony, if there is one
 abbrev pub closing_refusal : View → Bool → ℕ → ℕ → Option CeremonyRow → Option Refusal
 closing_refusal view full ceremony at None = Some (Unknown (Things.Ceremony ceremony))
 closing_refusal view full ceremony at (Some row) = close_refusal view full ceremony at row
@@ -101,8 +101,8 @@ closing_refusal view full ceremony at (Some row) = close_refusal view full cerem
 abbrev pub early_closing_refusal : View → Bool → ℕ → ℕ → Option Refusal
 early_closing_refusal view full ceremony at =
     first_of
-    (no_ceremony (is_some (ceremony_by view.ceremonies.items ceremony)) ceremony
-    ∷ not_ready (scene_by view ceremony at full true)
+    (unknown_ceremony_refusal (is_some (ceremony_by view.ceremonies.items ceremony)) ceremony
+    ∷ not_ready_refusal (ceremony_status_by view ceremony at full true)
     ∷ [])
 
 -- the ceremony is closed from the moment on
@@ -117,7 +117,7 @@ abbrev pub plan_refusal : List CeremonyRow → Bool → ℕ → List ℕ → Opt
 plan_refusal rows full number script =
     first_of
     (when (is_some (ceremony_by rows number)) Taken
-    ∷ no_script (script_of script)
+    ∷ script_refusal (script_of script)
     ∷ when full Full
     ∷ [])
 
@@ -127,8 +127,8 @@ planned_row number facility day =
     record { number = number; facility = facility; day = day; state = States.Planned; opened = None; closed = None }
 
 -- a step of a ceremony, neither signed nor passed, under its number
-abbrev pub undone_row : ℕ → ℕ → Step → StepRow
-undone_row ceremony number step =
+abbrev pub planned_step_row : ℕ → ℕ → Step → StepRow
+planned_step_row ceremony number step =
     record {
       ceremony = ceremony;
       step = number;
@@ -139,14 +139,14 @@ undone_row ceremony number step =
     }
 
 -- the rows of some steps, counting on from a number
-abbrev pub undone_rows : ℕ → ℕ → List Step → List StepRow
-undone_rows ceremony number [] = []
-undone_rows ceremony number (step ∷ steps) = undone_row ceremony number step ∷ undone_rows ceremony (number + 1) steps
+abbrev pub planned_step_rows : ℕ → ℕ → List Step → List StepRow
+planned_step_rows ceremony number [] = []
+planned_step_rows ceremony number (step ∷ steps) = planned_step_row ceremony number step ∷ planned_step_rows ceremony (number + 1) steps
 
 -- the ceremony, and its steps from 1 on
 abbrev pub planned_changes : ℕ → Facility → ℕ → List Step → List Change
 planned_changes number facility day steps =
-    PutCeremony (planned_row number facility day) ∷ map PutStep (undone_rows number 1 steps)
+    PutCeremony (planned_row number facility day) ∷ map PutStep (planned_step_rows number 1 steps)
 
 abbrev pub plan_changes : ℕ → Facility → ℕ → List ℕ → List Change
 plan_changes number facility day script = planned_changes number facility day (result_unwrap_or (script_of script) [])

@@ -3,65 +3,65 @@ use Rattle.std.specs.Prelude.{ℕ, Bool, false, List, [], ◌∷◌, map, Option
 use Rattle.kcr_base.specs.declared.place.Place.{Place}
 use Rattle.kcr_base.specs.declared.refusal.Refusal.{Refusal}
 use Rattle.kcr_custody.specs.declared.Spot.TheVariants.{Table, Spent}
-use Rattle.kcr_custody.specs.declared.Store.{Store}
-use Rattle.kcr_custody.specs.Custody.{spot_by, box_of, box_of_store, spot_of_store, place_of, loosened, packed}
+use Rattle.kcr_custody.specs.declared.Destination.{Destination}
+use Rattle.kcr_custody.specs.Custody.{spot_by, box_of, box_of_destination, spot_of_destination, place_of, loose_items, sealed_items}
 use Rattle.kcr_custody.specs.Custody.{seal_refusal, take_refusal, put_refusal, cut_refusal}
 use Rattle.kcr_history.specs.declared.views.Change.{Change}
 use Rattle.kcr_history.specs.declared.views.Change.TheVariants.{PutBag, PutItem, PutMark}
 use Rattle.kcr_history.specs.declared.views.View.{View}
-use Rattle.kcr_rules.specs.Scene.{has_holder_in_by, facility_in, scene_in}
+use Rattle.kcr_rules.specs.CeremonyStatus.{is_holder_present_by, facility_by, ceremony_status_with_ca_by}
 
--- the holder of the place is in the room, where a place is meant
-abbrev pub has_keeper_by : View → ℕ → ℕ → Option Place → Bool
-has_keeper_by view ceremony at None = false
-has_keeper_by view ceremony at (Some place) = has_holder_in_by view place ceremony at
+-- the holder of the place is in the room, if a place is meant
+abbrev pub is_box_holder_present_by : View → ℕ → ℕ → Option Place → Bool
+is_box_holder_present_by view ceremony at None = false
+is_box_holder_present_by view ceremony at (Some place) = is_holder_present_by view place ceremony at
 
 -- the place of the box in which the bag is
 abbrev pub place_to_take : View → ℕ → List ℕ → Option Place
 place_to_take view ceremony serial =
-    place_of view.boxes.items (facility_in view ceremony) (box_of (spot_by view.bags.items serial))
+    place_of view.boxes.items (facility_by view ceremony) (box_of (spot_by view.bags.items serial))
 
 -- the place of the box into which a bag is put
-abbrev pub place_to_put : View → ℕ → Store → Option Place
-place_to_put view ceremony to = place_of view.boxes.items (facility_in view ceremony) (box_of_store to)
+abbrev pub place_to_put : View → ℕ → Destination → Option Place
+place_to_put view ceremony to = place_of view.boxes.items (facility_by view ceremony) (box_of_destination to)
 
 -- THE FIRST REFUSAL
 
-abbrev pub seal_refusal_in : View → Bool → ℕ → List ℕ → List (List ℕ) → ℕ → Option Refusal
-seal_refusal_in view full ceremony serial codes at =
-    seal_refusal (scene_in view full ceremony at) view.bags.items view.items.items serial codes
+abbrev pub seal_refusal_by : View → Bool → ℕ → List ℕ → List (List ℕ) → ℕ → Option Refusal
+seal_refusal_by view full ceremony serial codes at =
+    seal_refusal (ceremony_status_with_ca_by view full ceremony at) view.bags.items view.items.items serial codes
 
-abbrev pub take_refusal_in : View → Bool → ℕ → List ℕ → ℕ → Option Refusal
-take_refusal_in view full ceremony serial at =
-    take_refusal (scene_in view full ceremony at) view.safes.items view.boxes.items view.bags.items serial
-    (has_keeper_by view ceremony at (place_to_take view ceremony serial))
+abbrev pub take_refusal_by : View → Bool → ℕ → List ℕ → ℕ → Option Refusal
+take_refusal_by view full ceremony serial at =
+    take_refusal (ceremony_status_with_ca_by view full ceremony at) view.safes.items view.boxes.items view.bags.items serial
+    (is_box_holder_present_by view ceremony at (place_to_take view ceremony serial))
 
-abbrev pub put_refusal_in : View → Bool → ℕ → List ℕ → Store → ℕ → Option Refusal
-put_refusal_in view full ceremony serial to at =
-    put_refusal (scene_in view full ceremony at) view.safes.items view.boxes.items view.bags.items serial to
-    (has_keeper_by view ceremony at (place_to_put view ceremony to))
+abbrev pub put_refusal_by : View → Bool → ℕ → List ℕ → Destination → ℕ → Option Refusal
+put_refusal_by view full ceremony serial to at =
+    put_refusal (ceremony_status_with_ca_by view full ceremony at) view.safes.items view.boxes.items view.bags.items serial to
+    (is_box_holder_present_by view ceremony at (place_to_put view ceremony to))
 
-abbrev pub cut_refusal_in : View → Bool → ℕ → List ℕ → ℕ → Option Refusal
-cut_refusal_in view full ceremony serial at = cut_refusal (scene_in view full ceremony at) view.bags.items serial
+abbrev pub cut_refusal_by : View → Bool → ℕ → List ℕ → ℕ → Option Refusal
+cut_refusal_by view full ceremony serial at = cut_refusal (ceremony_status_with_ca_by view full ceremony at) view.bags.items serial
 
 -- THE ROWS THAT ARE PUT: the bag, the ceremony's mark, and each item that is moved
 
-abbrev pub seal_changes_in : View → ℕ → List ℕ → List (List ℕ) → ℕ → List Change
-seal_changes_in view ceremony serial codes at =
-    PutBag (record { serial = serial; spot = Table (facility_in view ceremony) })
-    ∷ PutMark (record { ceremony = ceremony; at = at }) ∷ map PutItem (packed serial codes)
+abbrev pub seal_changes_by : View → ℕ → List ℕ → List (List ℕ) → ℕ → List Change
+seal_changes_by view ceremony serial codes at =
+    PutBag (record { serial = serial; spot = Table (facility_by view ceremony) })
+    ∷ PutMark (record { ceremony = ceremony; at = at }) ∷ map PutItem (sealed_items serial codes)
 
-abbrev pub take_changes_in : View → ℕ → List ℕ → ℕ → List Change
-take_changes_in view ceremony serial at =
-    PutBag (record { serial = serial; spot = Table (facility_in view ceremony) })
+abbrev pub take_changes_by : View → ℕ → List ℕ → ℕ → List Change
+take_changes_by view ceremony serial at =
+    PutBag (record { serial = serial; spot = Table (facility_by view ceremony) })
     ∷ PutMark (record { ceremony = ceremony; at = at }) ∷ []
 
-abbrev pub put_changes_in : View → ℕ → List ℕ → Store → ℕ → List Change
-put_changes_in view ceremony serial to at =
-    PutBag (record { serial = serial; spot = spot_of_store (facility_in view ceremony) to })
+abbrev pub put_changes_by : View → ℕ → List ℕ → Destination → ℕ → List Change
+put_changes_by view ceremony serial to at =
+    PutBag (record { serial = serial; spot = spot_of_destination (facility_by view ceremony) to })
     ∷ PutMark (record { ceremony = ceremony; at = at }) ∷ []
 
-abbrev pub cut_changes_in : View → ℕ → List ℕ → ℕ → List Change
-cut_changes_in view ceremony serial at =
+abbrev pub cut_changes_by : View → ℕ → List ℕ → ℕ → List Change
+cut_changes_by view ceremony serial at =
     PutBag (record { serial = serial; spot = Spent }) ∷ PutMark (record { ceremony = ceremony; at = at })
-    ∷ map PutItem (loosened view.items.items serial (facility_in view ceremony))
+    ∷ map PutItem (loose_items view.items.items serial (facility_by view ceremony))

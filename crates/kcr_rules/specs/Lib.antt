@@ -1,10 +1,11 @@
-pub mod Scene
+pub mod CeremonyStatus
 pub mod Signing
-pub mod Own
+pub mod TrainingsByPerson
 pub mod CeremonyRows
 pub mod CustodyRows
 pub mod RoomRows
 pub mod SheetRows
 pub mod Kinds
 pub mod ByRows
-pub mod Ahead
+pub mod Early
+pub mod Refusals

@@ -2,7 +2,7 @@
 use Rattle.std.specs.Prelude.{◌≡◌, ℕ, suc, ◌==◌, Bool, true, false, not, ◌&&◌, nat_lt, nat_le, List, [], ◌∷◌, ◌++◌, map}
 use Rattle.std.specs.Prelude.{filter, length, find, get_or, slice_get, Option, Some, None, is_some, is_none, ◌⊎◌}
 use Rattle.kcr_base.specs.Days.{day_of}
-use Rattle.kcr_base.specs.Refuse.{when, first_of, no_ceremony, is_late}
+use Rattle.kcr_base.specs.Refuse.{when, first_of, unknown_ceremony_refusal, before_mark_refusal}
 use Rattle.kcr_base.specs.declared.place.Role.TheVariants.{Ca, Iw}
 use Rattle.kcr_base.specs.declared.refusal.Refusal.{Refusal}
 use Rattle.kcr_base.specs.declared.refusal.Refusal.TheVariants as Refusals
@@ -12,18 +12,18 @@ use Rattle.kcr_room.specs.Stays.{present_in_by}
 use Rattle.kcr_script.specs.declared.seat.Seat.{Seat}
 use Rattle.kcr_script.specs.declared.seat.Seat.TheVariants.{Staff}
 use Rattle.kcr_seats.specs.Seating.{IsFirst, IsLeast}
-use Rattle.kcr_history.specs.declared.rows.StepRow.{StepRow}
-use Rattle.kcr_history.specs.declared.rows.StepState.{StepState}
-use Rattle.kcr_history.specs.declared.rows.SeatingRow.{SeatingRow}
-use Rattle.kcr_history.specs.declared.rows.ExceptionRow.{ExceptionRow}
+use Rattle.kcr_history.specs.declared.row_types.StepRow.{StepRow}
+use Rattle.kcr_history.specs.declared.row_types.StepState.{StepState}
+use Rattle.kcr_history.specs.declared.row_types.SeatingRow.{SeatingRow}
+use Rattle.kcr_history.specs.declared.row_types.ExceptionRow.{ExceptionRow}
 use Rattle.kcr_history.specs.declared.views.Change.{Change}
 use Rattle.kcr_history.specs.declared.views.Change.TheVariants.{PutMark, PutStep, PutSeating, PutException}
 use Rattle.kcr_history.specs.declared.views.View.{View}
 use Rattle.kcr_history.specs.Fitting.{fits_by}
-use Rattle.kcr_history.specs.Machine.{Sitting}
+use Rattle.kcr_history.specs.Machine.{SeatRequest}
 use Rattle.kcr_history.specs.Tables.{seat_rows}
 use Rattle.kcr_history.specs.Views.{is_step_at, is_exception_of, last_seated}
-use Rattle.kcr_rules.specs.Scene.{ceremony_by, facility_by, is_open_row, mark_by}
+use Rattle.kcr_rules.specs.CeremonyStatus.{ceremony_by, facility_of_row, is_open_row, mark_by}
 
 -- THE STEPS AND EXCEPTIONS OF A CEREMONY
 
@@ -37,35 +37,35 @@ seats_by None = []
 seats_by (Some row) = row.seats
 
 -- the step that is next: the one after the last that has a seating, since steps are signed and passed in order
-abbrev pub next_by : List SeatingRow → ℕ → ℕ
-next_by rows ceremony = suc (last_seated rows ceremony)
+abbrev pub next_step_by : List SeatingRow → ℕ → ℕ
+next_step_by rows ceremony = suc (last_seated rows ceremony)
 
 -- how many exceptions the ceremony has
-abbrev pub stated_by : List ExceptionRow → ℕ → ℕ
-stated_by rows ceremony = length (filter (is_exception_of ceremony) rows)
+abbrev pub exception_count_by : List ExceptionRow → ℕ → ℕ
+exception_count_by rows ceremony = length (filter (is_exception_of ceremony) rows)
 
 -- THE FIRST REFUSAL, but for seats that lack people
 
 abbrev pub sign_refusal : View → Bool → ℕ → ℕ → ℕ → Option Refusal
 sign_refusal view full ceremony step at =
     first_of
-    (no_ceremony (is_some (ceremony_by view.ceremonies.items ceremony)) ceremony
+    (unknown_ceremony_refusal (is_some (ceremony_by view.ceremonies.items ceremony)) ceremony
     ∷ when (is_none (step_by view.steps.items ceremony step)) (Unknown (Things.Step step))
     ∷ when (not (is_open_row (ceremony_by view.ceremonies.items ceremony))) Refusals.State
-    ∷ is_late at (mark_by view.marks.items ceremony)
-    ∷ when (not (step == next_by view.seatings.items ceremony)) (Order (next_by view.seatings.items ceremony))
+    ∷ before_mark_refusal at (mark_by view.marks.items ceremony)
+    ∷ when (not (step == next_step_by view.seatings.items ceremony)) (Order (next_step_by view.seatings.items ceremony))
     ∷ when full Full
     ∷ [])
 
 abbrev pub except_refusal : View → Bool → ℕ → Bool → ℕ → Option Refusal
 except_refusal view full ceremony pass at =
     first_of
-    (no_ceremony (is_some (ceremony_by view.ceremonies.items ceremony)) ceremony
+    (unknown_ceremony_refusal (is_some (ceremony_by view.ceremonies.items ceremony)) ceremony
     ∷ when (not (is_open_row (ceremony_by view.ceremonies.items ceremony))) Refusals.State
-    ∷ is_late at (mark_by view.marks.items ceremony)
-    ∷ when (pass && is_none (step_by view.steps.items ceremony (next_by view.seatings.items ceremony)))
-    (Order (next_by view.seatings.items ceremony))
-    ∷ when (nat_le 200 (stated_by view.exceptions.items ceremony)) Full
+    ∷ before_mark_refusal at (mark_by view.marks.items ceremony)
+    ∷ when (pass && is_none (step_by view.steps.items ceremony (next_step_by view.seatings.items ceremony)))
+    (Order (next_step_by view.seatings.items ceremony))
+    ∷ when (nat_le 200 (exception_count_by view.exceptions.items ceremony)) Full
     ∷ when full Full
     ∷ [])
 
@@ -81,30 +81,30 @@ abbrev pub fits_of : (Seat → List ℕ → Bool) → List Seat → List (List �
 fits_of fit seats people seat person = on_seat fit (slice_get seats seat) (get_or people person [])
 
 -- everybody in the room
-abbrev pub room_by : View → Sitting → List (List ℕ)
+abbrev pub room_by : View → SeatRequest → List (List ℕ)
 room_by view s = present_in_by view.stays.items s.ceremony s.at
 
 -- which of them fits which of the seats
-abbrev pub fits_in : View → Sitting → ℕ → ℕ → Bool
-fits_in view s =
+abbrev pub fits_request_by : View → SeatRequest → ℕ → ℕ → Bool
+fits_request_by view s =
     fits_of (fits_by view.trainings.items view.withdrawals.items view.appointments.items
-    (facility_by (ceremony_by view.ceremonies.items s.ceremony)) (day_of s.at))
+    (facility_of_row (ceremony_by view.ceremonies.items s.ceremony)) (day_of s.at))
     s.seats (room_by view s)
 
 -- the people are those whom the search names
-pub record IsSeatedBy (view : View) (s : Sitting) (people : List (List ℕ)) : Type 0 where
+pub record IsSeatedBy (view : View) (s : SeatRequest) (people : List (List ℕ)) : Type 0 where
   pub numbers : List ℕ
-  pub first : IsFirst (fits_in view s) (length s.seats) (length (room_by view s)) numbers
+  pub first : IsFirst (fits_request_by view s) (length s.seats) (length (room_by view s)) numbers
   pub named : people ≡ map (λ person. get_or (room_by view s) person []) numbers
 
 -- the positions are the seats that the search names, counted from 1
-pub record IsShortBy (view : View) (s : Sitting) (positions : List ℕ) : Type 0 where
+pub record IsShortBy (view : View) (s : SeatRequest) (positions : List ℕ) : Type 0 where
   pub numbers : List ℕ
-  pub least : IsLeast (fits_in view s) (length s.seats) (length (room_by view s)) numbers
+  pub least : IsLeast (fits_request_by view s) (length s.seats) (length (room_by view s)) numbers
   pub counted : positions ≡ map suc numbers
 
 -- nobody is seated: seats lack people, which the refusal names; or there are more people in the room than may be
-abbrev pub IsUnseatedBy : View → Sitting → Refusal → Type 0
+abbrev pub IsUnseatedBy : View → SeatRequest → Refusal → Type 0
 IsUnseatedBy view s refusal =
     ((positions : List ℕ) × IsShortBy view s positions × (refusal ≡ Short positions))
     ⊎ ((refusal ≡ Disk) × (nat_lt 128 (length (room_by view s)) ≡ true))
@@ -135,7 +135,7 @@ exception_change view ceremony text at passed =
     PutException
     (record {
       ceremony = ceremony;
-      exception = suc (stated_by view.exceptions.items ceremony);
+      exception = suc (exception_count_by view.exceptions.items ceremony);
       text = text;
       at = at;
       passed = passed;

@@ -1,18 +1,18 @@
 //! Boxes added, and ceremonies planned and opened, over the rows of a view.
 ghost use Rattle.std.specs.Prelude.{◌≡◌, ◌≤◌, ◌++◌, length, map, Ok, Err, IfOk};
 ghost use Rattle.std.specs.List.{list_any};
-ghost use Rattle.kcr_base.specs.Refuse.{Tests, unless};
+ghost use Rattle.kcr_base.specs.Refuse.{IsTestResult, unless};
 ghost use Rattle.kcr_custody.specs.Custody;
 ghost use Rattle.kcr_script.specs.Fault.{IfRow};
 ghost use Rattle.kcr_script.specs.Reading.{script_of};
 ghost use Rattle.kcr_history.specs.declared.commands.Act.TheVariants as Kinds;
 ghost use Rattle.kcr_history.specs.declared.views.Change.TheVariants.{PutStep};
-ghost use Rattle.kcr_rules.specs.ByRows.{ComesTo};
+ghost use Rattle.kcr_rules.specs.ByRows.{IsChangesResult};
 ghost use Rattle.kcr_rules.specs.CeremonyRows;
 
+use crate::ceremony_status::{ceremony_row, is_open_state, known_ceremony};
 use crate::changes::{only, with_mark};
-use crate::premises::Premises;
-use crate::scene::{ceremony_row, is_open_state, known};
+use crate::context::DecisionContext;
 use kcr_base::{Day, Facility, Moment, Place, Refusal, Text};
 use kcr_custody::BoxRow;
 use kcr_history::{CeremonyRow, CeremonyState, Change, StepRow, StepState};
@@ -34,8 +34,8 @@ fn is_busy(rows: &[CeremonyRow], row: CeremonyRow) -> bool
 }
 
 /// The row of a step that is neither signed nor passed, under its number.
-fn undone(ceremony: u32, number: u32, step: &Step) -> Result<StepRow, AllocError>
-    ensures { IfOk result (λ row. row ≡ CeremonyRows.undone_row ceremony number step.now) }
+fn planned_step_row(ceremony: u32, number: u32, step: &Step) -> Result<StepRow, AllocError>
+    ensures { IfOk result (λ row. row ≡ CeremonyRows.planned_step_row ceremony number step.now) }
 {
     Ok(StepRow {
         ceremony,
@@ -55,17 +55,17 @@ fn push_steps(
 ) -> Result<Vec<Change>, AllocError>
     requires { length steps.now ≤ 400 }
     ensures { IfOk result (λ all. all.items ≡ changes.items
-        ++ map PutStep (CeremonyRows.undone_rows ceremony 1 steps.now)) }
+        ++ map PutStep (CeremonyRows.planned_step_rows ceremony 1 steps.now)) }
 {
     let mut number = 1u32;
     for step in steps {
-        changes.push(Change::PutStep(undone(ceremony, number, step)?))?;
+        changes.push(Change::PutStep(planned_step_row(ceremony, number, step)?))?;
         number += 1;
     }
     Ok(changes)
 }
 
-impl Premises<'_> {
+impl DecisionContext<'_> {
     /// Adds a box.
     #[tactic(auto, using(crate::proofs::Unless::refused, crate::proofs::Unless::accepted))]
     pub fn add_box(
@@ -74,7 +74,7 @@ impl Premises<'_> {
         number: u32,
         place: Place,
     ) -> Result<Vec<Change>, Refusal>
-        ensures { ComesTo self.now (Kinds.AddBox facility number place) result }
+        ensures { IsChangesResult self.now (Kinds.AddBox facility number place) result }
     {
         let row = BoxRow {
             facility,
@@ -87,7 +87,7 @@ impl Premises<'_> {
 
     /// The ceremony of the row may be opened: its day is there, it was never opened, and no other is open beside it.
     fn check_opening(&self, at: Moment, row: CeremonyRow) -> Result<(), Refusal>
-        ensures { Tests (CeremonyRows.open_refusal self.now.view.now.ceremonies.items self.now.is_full at row) result }
+        ensures { IsTestResult (CeremonyRows.open_refusal self.now.view.now.ceremonies.items self.now.is_full at row) result }
     {
         if at.day() < row.day {
             return Err(Refusal::Range);
@@ -106,9 +106,9 @@ impl Premises<'_> {
 
     /// Opens a planned ceremony.
     pub fn open(&self, ceremony: u32, at: Moment) -> Result<Vec<Change>, Refusal>
-        ensures { ComesTo self.now (Kinds.Open ceremony at) result }
+        ensures { IsChangesResult self.now (Kinds.Open ceremony at) result }
     {
-        let row = known(self.view, ceremony)?;
+        let row = known_ceremony(self.view, ceremony)?;
         self.check_opening(at, row)?;
         let opened = CeremonyRow {
             state: CeremonyState::Open,
@@ -126,7 +126,7 @@ impl Premises<'_> {
         day: Day,
         script: &Text,
     ) -> Result<Vec<Change>, Refusal>
-        ensures { ComesTo self.now (Kinds.Plan number facility day script.now) result }
+        ensures { IsChangesResult self.now (Kinds.Plan number facility day script.now) result }
     {
         if ceremony_row(self.view, number).is_some() {
             return Err(Refusal::Taken);

@@ -1,22 +1,22 @@
 //! Ceremonies closed, over the rows of a view.
 ghost use Rattle.std.specs.Prelude.{◌≡◌, suc, IfOk, Some};
 ghost use Rattle.std.specs.List.{list_any};
-ghost use Rattle.kcr_base.specs.Refuse.{Tests};
+ghost use Rattle.kcr_base.specs.Refuse.{IsTestResult};
 ghost use Rattle.kcr_history.specs.declared.commands.Act.TheVariants as Kinds;
-ghost use Rattle.kcr_rules.specs.ByRows.{ComesTo};
+ghost use Rattle.kcr_rules.specs.ByRows.{IsChangesResult};
 ghost use Rattle.kcr_history.specs.Views.{is_step_at};
 ghost use Rattle.kcr_rules.specs.CeremonyRows;
-ghost use Rattle.kcr_rules.specs.Scene;
-ghost use Rattle.kcr_rules.specs.Signing.{next_by};
+ghost use Rattle.kcr_rules.specs.CeremonyStatus;
+ghost use Rattle.kcr_rules.specs.Signing.{next_step_by};
 
+use crate::ceremony_status::{check_running, known_ceremony};
 use crate::changes::only;
-use crate::premises::Premises;
-use crate::scene::{check_running, known};
+use crate::context::DecisionContext;
 use kcr_base::{Facility, Moment, Part, Refusal};
-use kcr_custody::rows::is_open;
+use kcr_custody::queries::is_open;
 use kcr_custody::{Bag, SafeNumber, Spot};
 use kcr_history::{CeremonyRow, CeremonyState, Change, StepRow, View, last_seated};
-use kcr_room::{Stay, lasts_at};
+use kcr_room::{Stay, ends_after};
 
 /// Whether the row is the ceremony's step after this one.
 fn is_step_after(ceremony: u32, last: u32, row: &StepRow) -> bool
@@ -27,7 +27,7 @@ fn is_step_after(ceremony: u32, last: u32, row: &StepRow) -> bool
 
 /// Whether the ceremony has a next step, neither signed nor passed.
 fn has_next_step(view: &View, ceremony: u32) -> bool
-    ensures { result ≡ list_any (is_step_at ceremony (next_by view.now.seatings.items ceremony)) view.now.steps.items }
+    ensures { result ≡ list_any (is_step_at ceremony (next_step_by view.now.seatings.items ceremony)) view.now.steps.items }
 {
     let last = last_seated(&view.seatings, ceremony);
     view.steps
@@ -39,7 +39,7 @@ fn has_next_step(view: &View, ceremony: u32) -> bool
 fn is_unended(ceremony: u32, at: Moment, stay: Stay) -> bool
     ensures { result ≡ CeremonyRows.is_unended ceremony at stay }
 {
-    stay.ceremony == ceremony && (at < stay.since || lasts_at(at, stay.until))
+    stay.ceremony == ceremony && (at < stay.since || ends_after(at, stay.until))
 }
 
 /// Whether anybody is in the ceremony's room at the moment, or comes or goes later.
@@ -70,7 +70,7 @@ fn has_bag_on_table(view: &View, facility: Facility) -> bool
 
 /// The ceremony of the row is finished: its steps, its room, the safes and the table, in this order.
 fn check_finished(view: &View, ceremony: u32, at: Moment, row: CeremonyRow) -> Result<(), Refusal>
-    ensures { Tests (CeremonyRows.unfinished_by view.now ceremony at row) result }
+    ensures { IsTestResult (CeremonyRows.unfinished_by view.now ceremony at row) result }
 {
     if has_next_step(view, ceremony) {
         return Err(Refusal::Unfinished { part: Part::Steps });
@@ -89,14 +89,14 @@ fn check_finished(view: &View, ceremony: u32, at: Moment, row: CeremonyRow) -> R
     Ok(())
 }
 
-impl Premises<'_> {
+impl DecisionContext<'_> {
     /// The row of a ceremony that may be closed once it is finished. Refused: 12 without the ceremony, 20 where it is
     /// not open, 22 before its mark, 27 full.
-    pub fn closable(&self, ceremony: u32, at: Moment) -> Result<CeremonyRow, Refusal>
-        ensures row { IfOk result (λ row. Scene.ceremony_by self.now.view.now.ceremonies.items ceremony ≡ Some row) }
-        ensures tests { Tests (CeremonyRows.early_closing_refusal self.now.view.now self.now.is_full ceremony at) result }
+    pub fn check_closing(&self, ceremony: u32, at: Moment) -> Result<CeremonyRow, Refusal>
+        ensures row { IfOk result (λ row. CeremonyStatus.ceremony_by self.now.view.now.ceremonies.items ceremony ≡ Some row) }
+        ensures tests { IsTestResult (CeremonyRows.early_closing_refusal self.now.view.now self.now.is_full ceremony at) result }
     {
-        let row = known(self.view, ceremony)?;
+        let row = known_ceremony(self.view, ceremony)?;
         check_running(self.view, ceremony, row.state, at)?;
         if self.is_full {
             return Err(Refusal::Full);
@@ -106,9 +106,9 @@ impl Premises<'_> {
 
     /// Closes an open ceremony.
     pub fn close(&self, ceremony: u32, at: Moment) -> Result<Vec<Change>, Refusal>
-        ensures { ComesTo self.now (Kinds.Close ceremony at) result }
+        ensures { IsChangesResult self.now (Kinds.Close ceremony at) result }
     {
-        let row = self.closable(ceremony, at)?;
+        let row = self.check_closing(ceremony, at)?;
         check_finished(self.view, ceremony, at, row)?;
         let closed = CeremonyRow {
             state: CeremonyState::Closed,

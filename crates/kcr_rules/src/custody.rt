@@ -2,25 +2,25 @@
 #![tactic(auto, using(crate::proofs::Unless::refused, crate::proofs::Unless::accepted))]
 
 ghost use Rattle.std.specs.Prelude.{◌≡◌, ◌∷◌, IfOk, map};
-ghost use Rattle.kcr_base.specs.Refuse.{unless, Decides};
+ghost use Rattle.kcr_base.specs.Refuse.{unless, IsValueOrRefusal};
 ghost use Rattle.kcr_custody.specs.declared.Spot.TheVariants.{Table, Spent};
 ghost use Rattle.kcr_custody.specs.Custody;
 ghost use Rattle.kcr_history.specs.declared.commands.Act.TheVariants as Kinds;
 ghost use Rattle.kcr_history.specs.declared.views.Change.TheVariants.{PutBag, PutItem, PutMark};
-ghost use Rattle.kcr_rules.specs.ByRows.{ComesTo};
+ghost use Rattle.kcr_rules.specs.ByRows.{IsChangesResult};
 ghost use Rattle.kcr_rules.specs.CustodyRows;
 
 use crate::changes::with_mark;
-use crate::premises::Premises;
+use crate::context::DecisionContext;
 use kcr_base::{Items, Moment, Place, Refusal, Role, Serial};
-use kcr_custody::{Moved, Store};
+use kcr_custody::{BagChange, Destination};
 use kcr_history::Change;
 use std::alloc::{AllocError, Global};
 
 /// The rows of a bag, of its ceremony's mark and of the items that are moved with it, as changes.
 fn moved_changes(
     alloc: Global,
-    moved: &Moved,
+    moved: &BagChange,
     ceremony: u32,
     at: Moment,
 ) -> Result<Vec<Change>, AllocError>
@@ -34,15 +34,15 @@ fn moved_changes(
     Ok(changes)
 }
 
-impl Premises<'_> {
-    /// Whether the holder of a place is in the room; false where no place is meant.
-    fn has_keeper(
+impl DecisionContext<'_> {
+    /// Whether the holder of a place is in the room; false if no place is meant.
+    fn is_box_holder_present(
         &self,
         ceremony: u32,
         at: Moment,
         place: Option<Place>,
     ) -> Result<bool, AllocError>
-        ensures { IfOk result (λ answer. answer ≡ CustodyRows.has_keeper_by self.now.view.now ceremony at place) }
+        ensures { IfOk result (λ answer. answer ≡ CustodyRows.is_box_holder_present_by self.now.view.now ceremony at place) }
     {
         let Some(place) = place else {
             return Ok(false);
@@ -61,10 +61,10 @@ impl Premises<'_> {
         items: &Items,
         at: Moment,
     ) -> Result<Vec<Change>, Refusal>
-        ensures { ComesTo self.now (Kinds.Seal ceremony serial items.now at) result }
+        ensures { IsChangesResult self.now (Kinds.Seal ceremony serial items.now at) result }
     {
-        let has_ca = self.is_attended(Role::Ca, ceremony, at)?;
-        let scene = self.scene(ceremony, at, has_ca);
+        let has_ca = self.has_trained_present(Role::Ca, ceremony, at)?;
+        let scene = self.ceremony_status(ceremony, at, has_ca);
         let moved = kcr_custody::seal(
             self.alloc,
             &scene,
@@ -78,16 +78,16 @@ impl Premises<'_> {
 
     /// Takes a bag out of a safe.
     pub fn take(&self, ceremony: u32, serial: Serial, at: Moment) -> Result<Vec<Change>, Refusal>
-        ensures { ComesTo self.now (Kinds.Take ceremony serial at) result }
+        ensures { IsChangesResult self.now (Kinds.Take ceremony serial at) result }
     {
-        let scene = self.attended_scene(ceremony, at)?;
+        let scene = self.ceremony_status_with_ca(ceremony, at)?;
         let place = kcr_custody::place_for_take(
             &self.view.boxes,
             &self.view.bags,
             scene.facility,
             serial,
         );
-        let has_holder = self.has_keeper(ceremony, at, place)?;
+        let has_holder = self.is_box_holder_present(ceremony, at, place)?;
         let bag = kcr_custody::take(
             &scene,
             &self.view.safes,
@@ -104,14 +104,14 @@ impl Premises<'_> {
         &self,
         ceremony: u32,
         serial: Serial,
-        to: Store,
+        to: Destination,
         at: Moment,
     ) -> Result<Vec<Change>, Refusal>
-        ensures { ComesTo self.now (Kinds.Put ceremony serial to at) result }
+        ensures { IsChangesResult self.now (Kinds.Put ceremony serial to at) result }
     {
-        let scene = self.attended_scene(ceremony, at)?;
+        let scene = self.ceremony_status_with_ca(ceremony, at)?;
         let place = kcr_custody::place_for_put(&self.view.boxes, scene.facility, &to);
-        let has_holder = self.has_keeper(ceremony, at, place)?;
+        let has_holder = self.is_box_holder_present(ceremony, at, place)?;
         let bag = kcr_custody::put(
             &scene,
             &self.view.safes,
@@ -126,10 +126,10 @@ impl Premises<'_> {
 
     /// Cuts a bag open.
     pub fn cut(&self, ceremony: u32, serial: Serial, at: Moment) -> Result<Vec<Change>, Refusal>
-        ensures { ComesTo self.now (Kinds.Cut ceremony serial at) result }
+        ensures { IsChangesResult self.now (Kinds.Cut ceremony serial at) result }
     {
-        let has_ca = self.is_attended(Role::Ca, ceremony, at)?;
-        let scene = self.scene(ceremony, at, has_ca);
+        let has_ca = self.has_trained_present(Role::Ca, ceremony, at)?;
+        let scene = self.ceremony_status(ceremony, at, has_ca);
         let moved = kcr_custody::cut(
             self.alloc,
             &scene,

@@ -6,11 +6,11 @@ ghost use Rattle.kcr_history.specs.declared.commands.Act.TheVariants as Kinds;
 ghost use Rattle.kcr_history.specs.declared.views.Change.TheVariants.{PutWithdrawal};
 ghost use Rattle.kcr_base.specs.Refuse.{unless};
 ghost use Rattle.kcr_people.specs.People;
-ghost use Rattle.kcr_rules.specs.ByRows.{ComesTo, IsRoster};
-ghost use Rattle.kcr_history.specs.History.{greatest, with_mark};
+ghost use Rattle.kcr_rules.specs.ByRows.{IsChangesResult, IsRoster};
+ghost use Rattle.kcr_history.specs.History.{greatest, max_option};
 
 use crate::changes::{both, only};
-use crate::premises::Premises;
+use crate::context::DecisionContext;
 use kcr_base::{Day, Initials, Moment, Name, Place, Refusal, Role};
 use kcr_history::{Change, MarkRow};
 use kcr_people::{Person, Roster, Training, Withdrawal};
@@ -18,7 +18,7 @@ use std::alloc::{AllocError, Global};
 
 /// The greater of a mark so far, if there is one, and one more.
 fn greater(found: Option<Moment>, at: Moment) -> Option<Moment>
-    ensures { result ≡ with_mark found at }
+    ensures { result ≡ max_option found at }
 {
     match found {
         Some(mark) if at <= mark => Some(mark),
@@ -26,7 +26,7 @@ fn greater(found: Option<Moment>, at: Moment) -> Option<Moment>
     }
 }
 
-/// The greatest of the marks, or None where there is none.
+/// The greatest of the marks, or `None` if there is none.
 #[tactic(auto, using(kcr_history::proofs::Marks::next_mark))]
 fn greatest_mark(marks: &[MarkRow]) -> Option<Moment>
     ensures { result ≡ greatest (map (λ row. row.at) marks.now) }
@@ -49,7 +49,7 @@ fn withdrawal_changes(alloc: Global, rows: &[Withdrawal]) -> Result<Vec<Change>,
     Ok(changes)
 }
 
-impl Premises<'_> {
+impl DecisionContext<'_> {
     /// What acts on people and places are decided by.
     fn roster(&self) -> Roster<'_>
         ensures { IsRoster self.now result }
@@ -66,7 +66,7 @@ impl Premises<'_> {
 
     /// Enters a person: the row to put, or the first refusal.
     pub fn enter(&self, who: Initials, name: &Name) -> Result<Vec<Change>, Refusal>
-        ensures { ComesTo self.now (Kinds.Enter who name.now) result }
+        ensures { IsChangesResult self.now (Kinds.Enter who name.now) result }
     {
         let person = Person {
             who,
@@ -84,7 +84,7 @@ impl Premises<'_> {
         since: Day,
         until: Day,
     ) -> Result<Vec<Change>, Refusal>
-        ensures { ComesTo self.now (Kinds.Train who role since until) result }
+        ensures { IsChangesResult self.now (Kinds.Train who role since until) result }
     {
         let training = Training {
             who,
@@ -98,7 +98,7 @@ impl Premises<'_> {
 
     /// Withdraws a person's trainings for a role.
     pub fn withdraw(&self, who: Initials, role: Role, day: Day) -> Result<Vec<Change>, Refusal>
-        ensures { ComesTo self.now (Kinds.Withdraw who role day) result }
+        ensures { IsChangesResult self.now (Kinds.Withdraw who role day) result }
     {
         let rows = kcr_people::withdraw(self.alloc, &self.roster(), who, role, day)?;
         let changes = withdrawal_changes(self.alloc, rows.as_slice())?;
@@ -107,7 +107,7 @@ impl Premises<'_> {
 
     /// Puts a person in a vacant place.
     pub fn appoint(&self, place: Place, who: Initials, day: Day) -> Result<Vec<Change>, Refusal>
-        ensures { ComesTo self.now (Kinds.Appoint place who day) result }
+        ensures { IsChangesResult self.now (Kinds.Appoint place who day) result }
     {
         let row = kcr_people::appoint(&self.roster(), place, who, day)?;
         Ok(only(self.alloc, Change::PutAppointment(row))?)
@@ -115,7 +115,7 @@ impl Premises<'_> {
 
     /// Puts a person in the place of its holder.
     pub fn replace(&self, place: Place, who: Initials, day: Day) -> Result<Vec<Change>, Refusal>
-        ensures { ComesTo self.now (Kinds.Replace place who day) result }
+        ensures { IsChangesResult self.now (Kinds.Replace place who day) result }
     {
         let (ended, row) = kcr_people::replace(&self.roster(), place, who, day)?;
         Ok(both(
@@ -127,7 +127,7 @@ impl Premises<'_> {
 
     /// Makes a place vacant.
     pub fn release(&self, place: Place, day: Day) -> Result<Vec<Change>, Refusal>
-        ensures { ComesTo self.now (Kinds.Release place day) result }
+        ensures { IsChangesResult self.now (Kinds.Release place day) result }
     {
         let ended = kcr_people::release(&self.roster(), place, day)?;
         Ok(only(self.alloc, Change::PutAppointment(ended))?)

@@ -2,30 +2,30 @@
 ghost use Rattle.std.specs.Prelude.{◌≡◌, ◌≢◌, ◌&&◌, [], ◌<◌, ◌≤◌, nat_le, MatchResult, IfOk, EachIndex, slice_index};
 ghost use Rattle.std.specs.Prelude.{get_or, length, map, filter};
 ghost use Rattle.kcr_base.specs.declared.refusal.Refusal.TheVariants.{Memory};
-ghost use Rattle.kcr_seats.specs.Outcome.{IsOutcome};
+ghost use Rattle.kcr_seats.specs.Answer.{IsAnswer};
 ghost use Rattle.kcr_history.specs.Fitting.{fits_by};
-ghost use Rattle.kcr_history.specs.Machine.{Sitting};
+ghost use Rattle.kcr_history.specs.Machine.{SeatRequest};
 ghost use Rattle.kcr_history.specs.declared.views.View.{View};
 ghost use Rattle.kcr_history.specs.Views.{is_training_of};
-ghost use Rattle.kcr_rules.specs.Own.{own_of};
+ghost use Rattle.kcr_rules.specs.TrainingsByPerson.{trainings_by_person};
 ghost use Rattle.kcr_rules.specs.Signing;
 
-use crate::premises::Premises;
-use crate::scene::{ceremony_row, facility};
+use crate::ceremony_status::{ceremony_row, facility};
+use crate::context::DecisionContext;
 use kcr_base::{Day, Facility, Initials, Moment, Positions, Refusal};
 use kcr_history::{InitialsList, fits};
 use kcr_people::{Appointment, Training, Withdrawal};
 use kcr_script::Seat;
-use kcr_seats::{Fits, Outcome};
+use kcr_seats::{Answer, Fits};
 use std::alloc::{AllocError, Global};
 
 /// At most this many people are in a room.
-const MOST_PEOPLE: usize = 128;
+const MAX_PEOPLE: usize = 128;
 
 /// The seats and people of one search, with the rows that tell who fits what. Each person's trainings stand by
 /// themselves, since the search asks for every seat and person.
 #[derive(Drop)]
-struct Room<'a> {
+struct SeatingProblem<'a> {
     seats: &'a [Seat],
     people: &'a [Initials],
     trainings: &'a [Training],
@@ -34,10 +34,10 @@ struct Room<'a> {
     rows: &'a [Appointment],
     facility: Facility,
     day: Day,
-    ghost split: { map (λ rows. rows.items) own.now ≡ own_of trainings.now people.now },
+    ghost split: { map (λ rows. rows.items) own.now ≡ trainings_by_person trainings.now people.now },
 }
 
-impl Fits for Room<'_> {
+impl Fits for SeatingProblem<'_> {
     ghost seat_count = { λ room. length room.seats.now };
 
     ghost person_count = { λ room. length room.people.now };
@@ -85,12 +85,12 @@ fn trainings_of(
 }
 
 /// The trainings of each of the people.
-fn own_trainings(
+fn trainings_of_each(
     alloc: Global,
     trainings: &[Training],
     people: &[Initials],
 ) -> Result<Vec<Vec<Training>>, AllocError>
-    ensures { IfOk result (λ own. map (λ rows. rows.items) own.items ≡ own_of trainings.now people.now) }
+    ensures { IfOk result (λ own. map (λ rows. rows.items) own.items ≡ trainings_by_person trainings.now people.now) }
 {
     let mut own = Vec::new(alloc);
     for who in people {
@@ -111,7 +111,7 @@ fn named(alloc: Global, people: &[Initials], numbers: &[usize]) -> Result<Initia
     Ok(InitialsList::new(list))
 }
 
-impl Premises<'_> {
+impl DecisionContext<'_> {
     /// Seats these people by their numbers, or names seats that too few of them fit.
     fn search(
         &self,
@@ -119,16 +119,16 @@ impl Premises<'_> {
         day: Day,
         seats: &[Seat],
         people: &[Initials],
-    ) -> Result<Outcome, AllocError>
+    ) -> Result<Answer, AllocError>
         requires seats { length seats.now ≤ 16 }
         requires people { length people.now ≤ 128 }
-        ensures { let view : View = self.now.view.now in IfOk result (λ answer. IsOutcome
+        ensures { let view : View = self.now.view.now in IfOk result (λ answer. IsAnswer
             (Signing.fits_of (fits_by view.trainings.items view.withdrawals.items view.appointments.items
             facility day) seats.now people.now)
             (length seats.now) (length people.now) answer) }
     {
-        let own = own_trainings(self.alloc, &self.view.trainings, people)?;
-        let room = Room {
+        let own = trainings_of_each(self.alloc, &self.view.trainings, people)?;
+        let room = SeatingProblem {
             seats,
             people,
             trainings: &self.view.trainings,
@@ -145,18 +145,18 @@ impl Premises<'_> {
     /// people fit. A room with more people than may be in one is no register's: then the database gave wrong rows.
     pub fn seat(&self, ceremony: u32, at: Moment, seats: &[Seat]) -> Result<InitialsList, Refusal>
         requires few { length seats.now ≤ 16 }
-        ensures { let s : Sitting = record { ceremony = ceremony; at = at; seats = seats.now } in MatchResult result
+        ensures { let s : SeatRequest = record { ceremony = ceremony; at = at; seats = seats.now } in MatchResult result
             (λ people. Signing.IsSeatedBy self.now.view.now s people × (length people ≤ 16))
             (λ refusal. refusal ≢ Memory → Signing.IsUnseatedBy self.now.view.now s refusal) }
     {
         let facility = facility(&ceremony_row(self.view, ceremony));
-        let people = self.present(ceremony, at)?;
-        if people.len() > MOST_PEOPLE {
+        let people = self.people_present(ceremony, at)?;
+        if people.len() > MAX_PEOPLE {
             return Err(Refusal::Disk);
         }
         match self.search(facility, at.day(), seats, &people)? {
-            Outcome::Seated(numbers) => Ok(named(self.alloc, &people, &numbers)?),
-            Outcome::Short(numbers) => Err(Refusal::Short {
+            Answer::Seated(numbers) => Ok(named(self.alloc, &people, &numbers)?),
+            Answer::Short(numbers) => Err(Refusal::Short {
                 seats: Positions::from_indices(&numbers),
             }),
         }

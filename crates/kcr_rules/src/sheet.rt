@@ -2,21 +2,21 @@
 ghost use Rattle.std.specs.Prelude.{◌≡◌, ◌≢◌, ◌++◌, IfOk, MatchResult, Option, Some, None, map};
 ghost use Rattle.kcr_base.specs.declared.refusal.Refusal.{Refusal};
 ghost use Rattle.kcr_base.specs.declared.refusal.Refusal.TheVariants.{Memory};
-ghost use Rattle.kcr_base.specs.Refuse.{Tests, is_not_later};
-ghost use Rattle.kcr_room.specs.Adding;
-ghost use Rattle.kcr_room.specs.declared.Request.{Request};
+ghost use Rattle.kcr_base.specs.Refuse.{IsTestResult, not_after_mark_refusal};
+ghost use Rattle.kcr_room.specs.Requests;
+ghost use Rattle.kcr_room.specs.declared.SheetRequest.{SheetRequest};
 ghost use Rattle.kcr_history.specs.declared.views.View.{View};
 ghost use Rattle.kcr_history.specs.declared.commands.Act.TheVariants as Kinds;
 ghost use Rattle.kcr_history.specs.declared.views.Change.TheVariants.{PutSheet, PutStay};
-ghost use Rattle.kcr_rules.specs.ByRows.{ComesTo};
+ghost use Rattle.kcr_rules.specs.ByRows.{IsChangesResult};
 ghost use Rattle.kcr_rules.specs.SheetRows;
 
-use crate::premises::Premises;
-use crate::scene::{is_open_state, known, mark};
+use crate::ceremony_status::{is_open_state, known_ceremony, mark};
+use crate::context::DecisionContext;
 use kcr_base::{Initials, Moment, Refusal, Thing, is_among};
 use kcr_history::{Change, View};
 use kcr_people::Person;
-use kcr_room::{Request, SheetRow, Stay};
+use kcr_room::{SheetRequest, SheetRow, Stay};
 use std::alloc::{AllocError, Global};
 
 /// The first of the people who is not in the register.
@@ -24,7 +24,7 @@ fn first_unknown(rows: &[Person], people: &[Initials]) -> Option<Initials>
     ensures { result ≡ SheetRows.first_unknown rows.now people.now }
 {
     for who in people {
-        if !kcr_people::rows::is_person(rows, *who) {
+        if !kcr_people::queries::is_person(rows, *who) {
             return Some(*who);
         }
     }
@@ -44,9 +44,9 @@ fn first_twice(people: &[Initials]) -> Option<Initials>
 }
 
 /// The rows of the sheet that a request adds, as changes.
-fn row_changes(alloc: Global, request: &Request<'_>) -> Result<Vec<Change>, AllocError>
-    ensures { let asked : Request = request.now in IfOk result (λ changes.
-        changes.items ≡ map PutSheet (map (Adding.new_row asked.ceremony asked.way asked.at) asked.people.now)) }
+fn row_changes(alloc: Global, request: &SheetRequest<'_>) -> Result<Vec<Change>, AllocError>
+    ensures { let asked : SheetRequest = request.now in IfOk result (λ changes.
+        changes.items ≡ map PutSheet (map (Requests.new_row asked.ceremony asked.way asked.at) asked.people.now)) }
 {
     let mut changes = Vec::new(alloc);
     for who in request.people {
@@ -74,9 +74,9 @@ fn with_stays(changes: Vec<Change>, stays: &[Stay]) -> Result<Vec<Change>, Alloc
 
 /// The ceremony and the people are there, and the ceremony is open.
 fn check_known(view: &View, ceremony: u32, people: &[Initials]) -> Result<(), Refusal>
-    ensures { Tests (SheetRows.early_refusal view.now ceremony people.now) result }
+    ensures { IsTestResult (SheetRows.unknown_or_state_refusal view.now ceremony people.now) result }
 {
-    let row = known(view, ceremony)?;
+    let row = known_ceremony(view, ceremony)?;
     if let Some(who) = first_unknown(&view.people, people) {
         return Err(Refusal::Unknown {
             thing: Thing::Person(who),
@@ -90,7 +90,7 @@ fn check_known(view: &View, ceremony: u32, people: &[Initials]) -> Result<(), Re
 
 /// The moment is later than the mark.
 fn check_later(at: Moment, mark: Moment) -> Result<(), Refusal>
-    ensures { Tests (is_not_later at (Some mark)) result }
+    ensures { IsTestResult (not_after_mark_refusal at (Some mark)) result }
 {
     if at <= mark {
         return Err(Refusal::Late { mark });
@@ -100,9 +100,9 @@ fn check_later(at: Moment, mark: Moment) -> Result<(), Refusal>
 
 /// The first refusal of a request before the stays are looked at: the ceremony and the people are there, the ceremony
 /// is open, and the moment is later than its mark.
-pub fn request_ahead(view: &View, request: &Request<'_>) -> Option<Refusal>
-    ensures { let asked : Request = request.now in
-        result ≡ SheetRows.timely_refusal view.now asked.ceremony asked.people.now asked.at }
+pub fn early_request_refusal(view: &View, request: &SheetRequest<'_>) -> Option<Refusal>
+    ensures { let asked : SheetRequest = request.now in
+        result ≡ SheetRows.early_request_refusal view.now asked.ceremony asked.people.now asked.at }
 {
     match check_known(view, request.ceremony, request.people) {
         Err(refusal) => Some(refusal),
@@ -113,14 +113,14 @@ pub fn request_ahead(view: &View, request: &Request<'_>) -> Option<Refusal>
     }
 }
 
-impl Premises<'_> {
+impl DecisionContext<'_> {
     /// The stays that a request changes, or the first refusal by the mark and the room.
-    fn changed_stays(&self, request: &Request<'_>) -> Result<Vec<Stay>, Refusal>
-        ensures { let asked : Request = request.now in let view : View = self.now.view.now in
-            let first : Option Refusal = SheetRows.late_refusal
+    fn changed_stays(&self, request: &SheetRequest<'_>) -> Result<Vec<Stay>, Refusal>
+        ensures { let asked : SheetRequest = request.now in let view : View = self.now.view.now in
+            let first : Option Refusal = SheetRows.room_part_refusal
             view self.now.is_full asked.ceremony asked.way asked.people.now asked.at in
             MatchResult result
-            (λ changed. (first ≡ None) × (changed.items ≡ Adding.changed_stays
+            (λ changed. (first ≡ None) × (changed.items ≡ Requests.changed_stays
             view.stays.items asked.ceremony asked.way asked.people.now asked.at))
             (λ refusal. refusal ≢ Memory → first ≡ Some refusal) }
     {
@@ -134,7 +134,7 @@ impl Premises<'_> {
         kcr_room::add_stays(
             self.alloc,
             &self.view.stays,
-            self.view.entries,
+            self.view.stay_count,
             mark,
             self.is_full,
             request,
@@ -142,9 +142,9 @@ impl Premises<'_> {
     }
 
     /// Lists people who come into the room of a ceremony, or go out of it: the rows to put, or the first refusal.
-    pub fn add_rows(&self, request: &Request<'_>) -> Result<Vec<Change>, Refusal>
-        ensures { let asked : Request = request.now in
-            ComesTo self.now (Kinds.Sheet asked.ceremony asked.way asked.people.now asked.at) result }
+    pub fn record_sheet(&self, request: &SheetRequest<'_>) -> Result<Vec<Change>, Refusal>
+        ensures { let asked : SheetRequest = request.now in
+            IsChangesResult self.now (Kinds.RecordSheet asked.ceremony asked.way asked.people.now asked.at) result }
     {
         check_known(self.view, request.ceremony, request.people)?;
         let changed = self.changed_stays(request)?;

@@ -1,11 +1,13 @@
 //! Signatures of steps and script exceptions, over the rows of a view.
 ghost use Rattle.kcr_history.specs.declared.commands.Act.TheVariants as Kinds;
-ghost use Rattle.kcr_rules.specs.ByRows.{ActsBy};
+ghost use Rattle.std.specs.Prelude.{IfErr, IsTrue};
+ghost use Rattle.kcr_rules.specs.ByRows.{IsEffectResult};
+ghost use Rattle.kcr_rules.specs.Refusals.{may_refuse};
 
-use crate::acts::Acted;
 use crate::changes::only;
-use crate::premises::Premises;
-use crate::steps::{add_exception, next, seats_of, step_row};
+use crate::context::DecisionContext;
+use crate::effects::Effect;
+use crate::steps::{add_exception, next_step, seats_of, step_row};
 use kcr_base::{Moment, Refusal, Remark, Role};
 use kcr_history::{Change, MarkRow, StepState};
 use kcr_script::Seat;
@@ -13,16 +15,17 @@ use kcr_script::Seat;
 /// The seats of an exception that passes a step.
 const STAFF: [Seat; 2] = [Seat::Staff(Role::Ca), Seat::Staff(Role::Iw)];
 
-impl Premises<'_> {
+impl DecisionContext<'_> {
     /// Signs a step.
-    pub fn sign(&self, ceremony: u32, step: u32, at: Moment) -> Result<Acted, Refusal>
-        ensures { ActsBy self.now.view.now self.now.is_full (Kinds.Sign ceremony step at) result }
+    pub fn sign(&self, ceremony: u32, step: u32, at: Moment) -> Result<Effect, Refusal>
+        ensures acts { IsEffectResult self.now.view.now self.now.is_full (Kinds.Sign ceremony step at) result }
+        ensures kind { IfErr result (λ refusal. IsTrue (may_refuse (Kinds.Sign ceremony step at) refusal)) }
     {
-        self.may_sign(ceremony, step, at)?;
+        self.check_signature(ceremony, step, at)?;
         let seats = seats_of(step_row(&self.view.steps, ceremony, step));
         let people = self.seat(ceremony, at, seats)?;
         let changes = self.seat_changes(StepState::Signed, ceremony, step, at, &people)?;
-        Ok(Acted {
+        Ok(Effect {
             changes,
             exception: None,
             seating: Some(people),
@@ -31,27 +34,29 @@ impl Premises<'_> {
     }
 
     /// States an exception, which may pass the next step.
-    pub fn except(
+    pub fn record_exception(
         &self,
         ceremony: u32,
         text: &Remark,
         pass: bool,
         at: Moment,
-    ) -> Result<Acted, Refusal>
-        ensures { ActsBy self.now.view.now self.now.is_full (Kinds.Except ceremony text.now pass at) result }
+    ) -> Result<Effect, Refusal>
+        ensures acts { IsEffectResult self.now.view.now self.now.is_full (Kinds.RecordException ceremony text.now pass at) result }
+        ensures kind { IfErr result
+            (λ refusal. IsTrue (may_refuse (Kinds.RecordException ceremony text.now pass at) refusal)) }
     {
-        let exception = self.may_except(ceremony, pass, at)?;
+        let exception = self.next_exception_number(ceremony, pass, at)?;
         if !pass {
             let mut changes = only(self.alloc, Change::PutMark(MarkRow { ceremony, at }))?;
             add_exception(&mut changes, self.view, ceremony, exception, text, at, None)?;
-            return Ok(Acted {
+            return Ok(Effect {
                 changes,
                 exception: Some(exception),
                 seating: None,
                 step: None,
             });
         }
-        let step = next(self.view, ceremony)?;
+        let step = next_step(self.view, ceremony)?;
         let people = self.seat(ceremony, at, &STAFF)?;
         let mut changes = self.seat_changes(StepState::Passed, ceremony, step, at, &people)?;
         add_exception(
@@ -63,7 +68,7 @@ impl Premises<'_> {
             at,
             Some(step),
         )?;
-        Ok(Acted {
+        Ok(Effect {
             changes,
             exception: Some(exception),
             seating: Some(people),

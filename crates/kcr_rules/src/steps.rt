@@ -1,14 +1,17 @@
 //! Steps and exceptions of a ceremony, over the rows of a view: which step is next, why a step may not be signed or an
 //! exception not be stated, their seats aside, and the rows that both put.
-ghost use Rattle.std.specs.Prelude.{◌≡◌, ◌≤◌, ◌++◌, ◌∷◌, [], None, Some, suc, length, map, option_copied, true, false};
-ghost use Rattle.std.specs.Prelude.{nat_lt, MatchResult, IfOk, OnOk};
+ghost use Rattle.std.specs.Prelude.{◌≡◌, ◌≤◌, ℕ, ◌++◌, ◌∷◌, [], None, Some, suc, length, map, option_copied, true, false};
+ghost use Rattle.std.specs.Prelude.{nat_lt, MatchResult, IfErr, IfOk, IsTrue, List, OnOk};
+ghost use Rattle.kcr_base.specs.declared.refusal.Refusal.TheVariants.{Disk};
+ghost use Rattle.kcr_history.specs.declared.commands.Act.TheVariants as Kinds;
 ghost use Rattle.kcr_history.specs.Tables.{seat_rows};
 ghost use Rattle.kcr_history.specs.Views;
 ghost use Rattle.kcr_history.specs.declared.views.Change.TheVariants as Changes;
+ghost use Rattle.kcr_rules.specs.Refusals.{may_refuse};
 ghost use Rattle.kcr_rules.specs.Signing;
 
-use crate::premises::Premises;
-use crate::scene::{check_running, known};
+use crate::ceremony_status::{check_running, known_ceremony};
+use crate::context::DecisionContext;
 use kcr_base::{Initials, Moment, Refusal, Remark, Thing};
 use kcr_history::{
     Change, ExceptionRow, InitialsList, MarkRow, SeatingRow, StepRow, StepState, View, last_seated,
@@ -17,19 +20,19 @@ use kcr_script::Seat;
 use std::alloc::AllocError;
 
 /// At most this many steps a script has.
-const MOST_STEPS: u32 = 400;
+const MAX_STEPS: u32 = 400;
 
 /// At most this many exceptions are stated in a ceremony.
-const MOST_EXCEPTIONS: usize = 200;
+const MAX_EXCEPTIONS: usize = 200;
 
 /// How many exceptions the ceremony has.
-fn stated(rows: &[ExceptionRow], ceremony: u32) -> usize
-    ensures { result ≡ Signing.stated_by rows.now ceremony }
+fn exception_count(rows: &[ExceptionRow], ceremony: u32) -> usize
+    ensures { result ≡ Signing.exception_count_by rows.now ceremony }
 {
     rows.iter().filter(|row| row.ceremony == ceremony).count()
 }
 
-/// The row of a step, counted from 1; None where the ceremony has no such step.
+/// The row of a step, counted from 1; `None` if the ceremony has no such step.
 pub fn step_row(rows: &[StepRow], ceremony: u32, step: u32) -> Option<&StepRow>
     ensures { option_copied result ≡ Signing.step_by rows.now ceremony step }
 {
@@ -38,14 +41,14 @@ pub fn step_row(rows: &[StepRow], ceremony: u32, step: u32) -> Option<&StepRow>
 }
 
 /// The number, counted from 1, of the step that is next: the one after the last that has a seating. The refusal is 34,
-/// where that one is past what a script has: no register has such rows.
-pub fn next(view: &View, ceremony: u32) -> Result<u32, Refusal>
+/// if that one is past what a script has: no register has such rows.
+pub fn next_step(view: &View, ceremony: u32) -> Result<u32, Refusal>
     ensures { MatchResult result
-        (λ step. step ≡ Signing.next_by view.now.seatings.items ceremony)
-        (λ _. nat_lt 400 (Views.last_seated view.now.seatings.items ceremony) ≡ true) }
+        (λ step. step ≡ Signing.next_step_by view.now.seatings.items ceremony)
+        (λ refusal. (nat_lt 400 (Views.last_seated view.now.seatings.items ceremony) ≡ true) × (refusal ≡ Disk)) }
 {
     let last = last_seated(&view.seatings, ceremony);
-    if last > MOST_STEPS {
+    if last > MAX_STEPS {
         return Err(Refusal::Disk);
     }
     Ok(last + 1)
@@ -96,7 +99,7 @@ fn add_seats(
     Ok(())
 }
 
-/// The seats of the step's row, 16 at most; none where there is no row.
+/// The seats of the step's row, 16 at most; none if there is no row.
 pub fn seats_of(row: Option<&StepRow>) -> &[Seat]
     ensures is { result.now ≡ Signing.seats_by (option_copied row.entry) }
     ensures few { length result.now ≤ 16 }
@@ -117,7 +120,7 @@ pub fn add_exception(
     at: Moment,
     passed: Option<u32>,
 ) -> Result<(), AllocError>
-    requires { number ≡ suc (Signing.stated_by view.now.exceptions.items ceremony) }
+    requires { number ≡ suc (Signing.exception_count_by view.now.exceptions.items ceremony) }
     ensures { OnOk result
         (changes.new.items ≡ changes.old.items ++ Signing.exception_change view.now ceremony text.now at passed ∷ []) }
 {
@@ -131,24 +134,25 @@ pub fn add_exception(
     Ok(())
 }
 
-impl Premises<'_> {
+impl DecisionContext<'_> {
     /// Whether the step may be signed, but for its seats, or the first refusal: there is no such ceremony or step (12),
     /// the ceremony is not open (20), the moment is before its mark (22), another step is next (23), or the register is
-    /// full (27). It is 34 where `next` is.
-    pub fn may_sign(&self, ceremony: u32, step: u32, at: Moment) -> Result<(), Refusal>
-        ensures { MatchResult result
+    /// full (27). It is 34 if `next_step` is.
+    pub fn check_signature(&self, ceremony: u32, step: u32, at: Moment) -> Result<(), Refusal>
+        ensures first { MatchResult result
             (λ _. Signing.sign_refusal self.now.view.now self.now.is_full ceremony step at ≡ None)
             (λ refusal. nat_lt 400 (Views.last_seated self.now.view.now.seatings.items ceremony) ≡ false
             → Signing.sign_refusal self.now.view.now self.now.is_full ceremony step at ≡ Some refusal) }
+        ensures kind { IfErr result (λ refusal. IsTrue (may_refuse (Kinds.Sign ceremony step at) refusal)) }
     {
-        let row = known(self.view, ceremony)?;
+        let row = known_ceremony(self.view, ceremony)?;
         if step_row(&self.view.steps, ceremony, step).is_none() {
             return Err(Refusal::Unknown {
                 thing: Thing::Step(step),
             });
         }
         check_running(self.view, ceremony, row.state, at)?;
-        let next = next(self.view, ceremony)?;
+        let next = next_step(self.view, ceremony)?;
         if step != next {
             return Err(Refusal::Order { next });
         }
@@ -158,25 +162,32 @@ impl Premises<'_> {
         Ok(())
     }
 
-    /// The number of the exception, counted from 1, where it may be stated, but for the seats of one that passes a
+    /// The number of the exception, counted from 1, if it may be stated, but for the seats of one that passes a
     /// step, or the first refusal: there is no such ceremony (12), it is not open (20), the moment is before its mark
     /// (22), no step is left to pass (23), or the ceremony has 200 exceptions or the register is full (27). It is 34
-    /// where `next` is.
-    pub fn may_except(&self, ceremony: u32, pass: bool, at: Moment) -> Result<u32, Refusal>
-        ensures { MatchResult result
+    /// if `next_step` is.
+    pub fn next_exception_number(
+        &self,
+        ceremony: u32,
+        pass: bool,
+        at: Moment,
+    ) -> Result<u32, Refusal>
+        ensures first { MatchResult result
             (λ number. (Signing.except_refusal self.now.view.now self.now.is_full ceremony pass at ≡ None)
-            × (number ≡ suc (Signing.stated_by self.now.view.now.exceptions.items ceremony)))
+            × (number ≡ suc (Signing.exception_count_by self.now.view.now.exceptions.items ceremony)))
             (λ refusal. nat_lt 400 (Views.last_seated self.now.view.now.seatings.items ceremony) ≡ false
             → Signing.except_refusal self.now.view.now self.now.is_full ceremony pass at ≡ Some refusal) }
+        ensures kind { (text : List ℕ)
+            → IfErr result (λ refusal. IsTrue (may_refuse (Kinds.RecordException ceremony text pass at) refusal)) }
     {
-        let row = known(self.view, ceremony)?;
+        let row = known_ceremony(self.view, ceremony)?;
         check_running(self.view, ceremony, row.state, at)?;
-        let next = next(self.view, ceremony)?;
+        let next = next_step(self.view, ceremony)?;
         if pass && step_row(&self.view.steps, ceremony, next).is_none() {
             return Err(Refusal::Order { next });
         }
-        let stated = stated(&self.view.exceptions, ceremony);
-        if self.is_full || stated >= MOST_EXCEPTIONS {
+        let stated = exception_count(&self.view.exceptions, ceremony);
+        if self.is_full || stated >= MAX_EXCEPTIONS {
             return Err(Refusal::Full);
         }
         Ok(stated as u32 + 1)

@@ -3,3 +3,4 @@ pub mod Json
 pub mod Lists
 pub mod Posted
 pub mod ShowLemmas
+mod AfterLemmas

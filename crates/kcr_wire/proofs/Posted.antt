@@ -4,12 +4,12 @@ use Rattle.serde_json.specs.Data.{Data}
 use Rattle.kcr_base.specs.declared.refusal.Refusal.{Refusal}
 use Rattle.kcr_history.specs.declared.commands.Command.{Command}
 use Rattle.kcr_wire.specs.OrMemory.{OrMemory}
-use Rattle.kcr_wire.specs.Targets.{target_of, allowed}
+use Rattle.kcr_wire.specs.Endpoints.{target_of, allow_of_endpoint}
 use Rattle.kcr_wire.specs.Members.{json_of}
 use Rattle.kcr_wire.specs.Commands.{may_post, command_by, command_of}
-use Rattle.kcr_wire.specs.declared.target.Target.{Target}
+use Rattle.kcr_wire.specs.declared.endpoint.Endpoint.{Endpoint}
 
-pub command-posted : (target body : List ℕ) (t : Target) (d : Data) (r : Result Command Refusal)
-    → target_of target ≡ Ok t → may_post (allowed t) ≡ true → json_of body ≡ Some d → OrMemory r (command_by t d) → OrMemory r (command_of target body)
+pub command-posted : (target body : List ℕ) (t : Endpoint) (d : Data) (r : Result Command Refusal)
+    → target_of target ≡ Ok t → may_post (allow_of_endpoint t) ≡ true → json_of body ≡ Some d → OrMemory r (command_by t d) → OrMemory r (command_of target body)
 unfolding command_of
 command-posted target body t d r is_target may is_json h = rw (is_target, may, is_json) h

@@ -8,7 +8,7 @@ use Rattle.kcr_history.specs.declared.questions.PersonShown.{PersonShown}
 use Rattle.kcr_history.specs.declared.questions.HolderShown.{HolderShown}
 use Rattle.kcr_history.specs.declared.questions.Shown.{Shown}
 use Rattle.kcr_history.specs.declared.questions.Shown.TheVariants as shown
-use Rattle.kcr_wire.specs.Shows.{withdrawn_member, role_json, person_json, holder_json, shown_json, shown_text}
+use Rattle.kcr_wire.specs.ShownJson.{withdrawn_member, role_json, person_json, holder_json, shown_json, shown_text}
 
 withdrawn-no_float : (o : Option ℕ) → members_have_float (withdrawn_member o) ≡ false
 withdrawn-no_float None = refl
@@ -41,6 +41,10 @@ shown-no_float (shown.People people) = rw (persons-no_float people.items) refl
 shown-no_float (shown.Custodians custodians) = rw (holders-no_float custodians.holders.items) refl
 shown-no_float (shown.Bag bag) = rw (texts-no_float bag.items.items) refl
 shown-no_float (shown.Room room) = rw (texts-no_float room.people.items) refl
+shown-no_float (shown.Steps steps) = refl
+shown-no_float (shown.Sheet stays) = refl
+shown-no_float (shown.Custody custody) = refl
+shown-no_float (shown.All view) = refl
 
 -- the text of a value that is the answer's
 pub shown-written : (answer : Shown) (d : Data) (text : List ℕ) → d ≡ shown_json answer → (has_float d ≡ false → text ≡ compact_text d)

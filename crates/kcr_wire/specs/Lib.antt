@@ -1,7 +1,7 @@
 pub mod OrMemory
 pub mod Routes
-pub mod Targets
+pub mod Endpoints
 pub mod Members
 pub mod Commands
-pub mod Inquiries
-pub mod Shows
+pub mod Questions
+pub mod ShownJson

@@ -4,9 +4,9 @@ use Rattle.std.specs.Option.{ok_or}
 use Rattle.serde_json.specs.Data.{Data, Items, no_items, item}
 use Rattle.serde_json.specs.Read.{read}
 use Rattle.serde_json.specs.Find.{get, as_str, as_bool, as_number, as_u64, as_array}
-use Rattle.kcr_wire.specs.Targets.{text_in}
+use Rattle.kcr_wire.specs.Endpoints.{text_in}
 use Rattle.kcr_forms.specs.Forms.{initials_of, key_of, item_of, name_of, remark_of, day_of, moment_of, role_of}
-use Rattle.kcr_forms.specs.Forms.{facility_of, place_of, way_of, store_of, number_to, listed_to}
+use Rattle.kcr_forms.specs.Forms.{facility_of, place_of, way_of, destination_of, number_to, listed_to}
 use Rattle.kcr_base.specs.declared.place.Facility.{Facility}
 use Rattle.kcr_base.specs.declared.place.Place.{Place}
 use Rattle.kcr_base.specs.declared.place.Role.{Role}
@@ -14,10 +14,10 @@ use Rattle.kcr_base.specs.declared.refusal.Member.{Member}
 use Rattle.kcr_base.specs.declared.refusal.Member.TheVariants as member
 use Rattle.kcr_base.specs.declared.refusal.Refusal.{Refusal}
 use Rattle.kcr_base.specs.declared.refusal.Refusal.TheVariants as refusal
-use Rattle.kcr_custody.specs.declared.Store.{Store}
+use Rattle.kcr_custody.specs.declared.Destination.{Destination}
 use Rattle.kcr_room.specs.declared.Way.{Way}
 
--- the value that a body is, where it is UTF-8 and JSON
+-- the value that a body is, if it is UTF-8 and JSON
 unfoldable pub json_of : List ℕ → Option Data
 json_of body = option_and_then read (text_in body)
 
@@ -33,7 +33,7 @@ whole_at name d = option_and_then as_u64 (option_and_then as_number (get name d)
 abbrev pub truth_at : List ℕ → Data → Option Bool
 truth_at name d = option_and_then as_bool (get name d)
 
--- the texts of an array, where each of its items is a text of this form
+-- the texts of an array, if each of its items is a text of this form
 unfoldable pub texts_in : (List ℕ → Option (List ℕ)) → Items → Option (List (List ℕ))
 texts_in read_text no_items = Some []
 texts_in read_text (item d rest) =
@@ -115,8 +115,8 @@ unfoldable pub remark_at : Data → Result (List ℕ) Refusal
 remark_at d = form_at (codes "text") member.Text remark_of d
 
 -- where a bag is put
-unfoldable pub to_at : Data → Result Store Refusal
-to_at d = form_at (codes "to") member.To store_of d
+unfoldable pub to_at : Data → Result Destination Refusal
+to_at d = form_at (codes "to") member.To destination_of d
 
 -- MEMBERS THAT ARE NUMBERS, TRUTH VALUES AND LISTS
 

@@ -10,7 +10,7 @@ use Rattle.kcr_wire.specs.declared.route.Route.{Route}
 use Rattle.kcr_wire.specs.declared.route.Route.TheVariants.{People, Roles, Withdrawals, Custodians, Replacement}
 use Rattle.kcr_wire.specs.declared.route.Route.TheVariants.{Release, Boxes, Items, Ceremonies, Opening, Closing, Sheet}
 use Rattle.kcr_wire.specs.declared.route.Route.TheVariants.{Signature, Exceptions, Safes, Seal, Take, Put, Cut}
-use Rattle.kcr_wire.specs.declared.route.Route.TheVariants.{CustodiansOn, Bag, Room, Script, Attendance}
+use Rattle.kcr_wire.specs.declared.route.Route.TheVariants.{CustodiansOn, Bag, Room, Script, Attendance, Custody, Commands}
 
 -- a route as `matchit` reads it
 abbrev pub route_text : Route → List ℕ
@@ -38,27 +38,29 @@ route_text Bag = codes "/bags/{serial}"
 route_text Room = codes "/ceremonies/{n}/room/{at}"
 route_text Script = codes "/ceremonies/{n}/script"
 route_text Attendance = codes "/ceremonies/{n}/attendance.csv"
+route_text Custody = codes "/custody"
+route_text Commands = codes "/commands/{after}"
 
 -- the routes in the order in which the router takes them
 abbrev pub all_routes : List Route
 all_routes =
     People ∷ Roles ∷ Withdrawals ∷ Custodians ∷ Replacement ∷ Release ∷ Boxes ∷ Items ∷ Ceremonies ∷ Opening ∷ Closing
     ∷ Sheet ∷ Signature ∷ Exceptions ∷ Safes ∷ Seal ∷ Take ∷ Put ∷ Cut ∷ CustodiansOn ∷ Bag ∷ Room
-    ∷ Script ∷ Attendance ∷ []
+    ∷ Script ∷ Attendance ∷ Custody ∷ Commands ∷ []
 
 -- what a router holds
-abbrev pub Held : Type 0
-Held = RowsOf (RouteOf Route)
+abbrev pub RouterState : Type 0
+RouterState = RowsOf (RouteOf Route)
 
-abbrev pub added : Result Scan InsertError → Route → Held → Held
+abbrev pub added : Result Scan InsertError → Route → RouterState → RouterState
 added (Ok s) route held = placed ((route_from s route).pattern, route_from s route) held
 added (Err e) route held = held
 
 -- one more route
-unfoldable pub add : Held → Route → Held
+unfoldable pub add : RouterState → Route → RouterState
 add held route = added (parse_route (route_text route)) route held
 
-unfoldable pub add_all : Held → List Route → Held
+unfoldable pub add_all : RouterState → List Route → RouterState
 add_all held [] = held
 add_all held (r ∷ rest) = add_all (add held r) rest
 
@@ -68,18 +70,18 @@ is_free None = true
 is_free (Some other) = false
 
 -- the route's text reads, and no route that is held conflicts with it
-abbrev pub fits : Result Scan InsertError → Held → Bool
+abbrev pub fits : Result Scan InsertError → RouterState → Bool
 fits (Ok s) held = is_free (nearest s.pattern held)
 fits (Err e) held = false
 
-unfoldable pub can_add : Held → Route → Bool
+unfoldable pub can_add : RouterState → Route → Bool
 can_add held route = fits (parse_route (route_text route)) held
 
 -- each route can be added to those before it
-unfoldable pub can_add_all : Held → List Route → Bool
+unfoldable pub can_add_all : RouterState → List Route → Bool
 can_add_all held [] = true
 can_add_all held (r ∷ rest) = can_add held r && can_add_all (add held r) rest
 
 -- all the routes
-unfoldable pub table : Held
+unfoldable pub table : RouterState
 table = add_all [] all_routes

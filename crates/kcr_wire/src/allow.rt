@@ -1,6 +1,6 @@
 //! The methods that a path takes.
 ghost use Rattle.std.specs.Prelude.{◌≡◌, ◌≤◌, length};
-ghost use Rattle.kcr_wire.specs.Targets.{allow_text};
+ghost use Rattle.kcr_wire.specs.Endpoints.{allow_text};
 
 /// The methods that a path takes: those of an inquiry, of both an inquiry and a command, or of a
 /// command.

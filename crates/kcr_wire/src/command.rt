@@ -8,12 +8,15 @@ ghost use Rattle.kcr_wire.specs.Commands.{excepting, turning_safe, sealing, taki
 ghost use Rattle.kcr_wire.specs.Commands.{act_by, command_by, command_of};
 
 use crate::allow::Allow;
-use crate::amount::{box_in, ceremony_in, items_in, number_in, open_in, pass_in, people_in};
-use crate::member::{
-    by_in, day_in, facility_in, from_in, item_in, key_in, moment_in, name_in, place_in, read_body,
-    remark_in, role_in, script_in, store_in, until_in, way_in, who_in,
+use crate::endpoint::{Endpoint, RouteTable};
+use crate::json_texts::{
+    parse_by, parse_day, parse_destination, parse_facility, parse_from, parse_item, parse_key,
+    parse_moment, parse_name, parse_place, parse_remark, parse_role, parse_script, parse_until,
+    parse_way, parse_who, read_body,
 };
-use crate::target::{Paths, Target};
+use crate::json_values::{
+    parse_box, parse_ceremony, parse_items, parse_number, parse_open, parse_pass, parse_people,
+};
 use kcr_base::{CeremonyNumber, Initials, Place, Refusal, Serial, StepNumber};
 use kcr_custody::SafeNumber;
 use kcr_history::{Act, Command};
@@ -24,8 +27,8 @@ use std::alloc::Global;
 fn enter(alloc: Global, body: &Value) -> Result<Act, Refusal>
     ensures { OrMemory result (entering (view body.now)) }
 {
-    let who = who_in(body)?;
-    let name = name_in(alloc, body)?;
+    let who = parse_who(body)?;
+    let name = parse_name(alloc, body)?;
     Ok(Act::Enter { who, name })
 }
 
@@ -33,9 +36,9 @@ fn enter(alloc: Global, body: &Value) -> Result<Act, Refusal>
 fn train(who: Initials, body: &Value) -> Result<Act, Refusal>
     ensures { result ≡ training who (view body.now) }
 {
-    let role = role_in(body)?;
-    let since = from_in(body)?;
-    let until = until_in(body)?;
+    let role = parse_role(body)?;
+    let since = parse_from(body)?;
+    let until = parse_until(body)?;
     Ok(Act::Train {
         who,
         role,
@@ -48,8 +51,8 @@ fn train(who: Initials, body: &Value) -> Result<Act, Refusal>
 fn withdraw(who: Initials, body: &Value) -> Result<Act, Refusal>
     ensures { result ≡ withdrawing who (view body.now) }
 {
-    let role = role_in(body)?;
-    let day = day_in(body)?;
+    let role = parse_role(body)?;
+    let day = parse_day(body)?;
     Ok(Act::Withdraw { who, role, day })
 }
 
@@ -57,9 +60,9 @@ fn withdraw(who: Initials, body: &Value) -> Result<Act, Refusal>
 fn appoint(body: &Value) -> Result<Act, Refusal>
     ensures { result ≡ appointing (view body.now) }
 {
-    let place = place_in(body)?;
-    let who = who_in(body)?;
-    let day = day_in(body)?;
+    let place = parse_place(body)?;
+    let who = parse_who(body)?;
+    let day = parse_day(body)?;
     Ok(Act::Appoint { place, who, day })
 }
 
@@ -67,8 +70,8 @@ fn appoint(body: &Value) -> Result<Act, Refusal>
 fn replace(place: Place, body: &Value) -> Result<Act, Refusal>
     ensures { result ≡ replacing place (view body.now) }
 {
-    let who = who_in(body)?;
-    let day = day_in(body)?;
+    let who = parse_who(body)?;
+    let day = parse_day(body)?;
     Ok(Act::Replace { place, who, day })
 }
 
@@ -76,7 +79,7 @@ fn replace(place: Place, body: &Value) -> Result<Act, Refusal>
 fn release(place: Place, body: &Value) -> Result<Act, Refusal>
     ensures { result ≡ releasing place (view body.now) }
 {
-    let day = day_in(body)?;
+    let day = parse_day(body)?;
     Ok(Act::Release { place, day })
 }
 
@@ -84,9 +87,9 @@ fn release(place: Place, body: &Value) -> Result<Act, Refusal>
 fn add_box(body: &Value) -> Result<Act, Refusal>
     ensures { result ≡ adding_box (view body.now) }
 {
-    let facility = facility_in(body)?;
-    let number = box_in(body)?;
-    let place = place_in(body)?;
+    let facility = parse_facility(body)?;
+    let number = parse_box(body)?;
+    let place = parse_place(body)?;
     Ok(Act::AddBox {
         facility,
         number,
@@ -98,9 +101,9 @@ fn add_box(body: &Value) -> Result<Act, Refusal>
 fn add_item(body: &Value) -> Result<Act, Refusal>
     ensures { result ≡ adding_item (view body.now) }
 {
-    let ceremony = ceremony_in(body)?;
-    let item = item_in(body)?;
-    let at = moment_in(body)?;
+    let ceremony = parse_ceremony(body)?;
+    let item = parse_item(body)?;
+    let at = parse_moment(body)?;
     Ok(Act::AddItem { ceremony, item, at })
 }
 
@@ -108,10 +111,10 @@ fn add_item(body: &Value) -> Result<Act, Refusal>
 fn plan(alloc: Global, body: &Value) -> Result<Act, Refusal>
     ensures { OrMemory result (planning (view body.now)) }
 {
-    let number = number_in(body)?;
-    let facility = facility_in(body)?;
-    let day = day_in(body)?;
-    let script = script_in(alloc, body)?;
+    let number = parse_number(body)?;
+    let facility = parse_facility(body)?;
+    let day = parse_day(body)?;
+    let script = parse_script(alloc, body)?;
     Ok(Act::Plan {
         number,
         facility,
@@ -124,7 +127,7 @@ fn plan(alloc: Global, body: &Value) -> Result<Act, Refusal>
 fn open(ceremony: CeremonyNumber, body: &Value) -> Result<Act, Refusal>
     ensures { result ≡ opening ceremony (view body.now) }
 {
-    let at = moment_in(body)?;
+    let at = parse_moment(body)?;
     Ok(Act::Open { ceremony, at })
 }
 
@@ -132,18 +135,18 @@ fn open(ceremony: CeremonyNumber, body: &Value) -> Result<Act, Refusal>
 fn close(ceremony: CeremonyNumber, body: &Value) -> Result<Act, Refusal>
     ensures { result ≡ closing ceremony (view body.now) }
 {
-    let at = moment_in(body)?;
+    let at = parse_moment(body)?;
     Ok(Act::Close { ceremony, at })
 }
 
 // The act that lists people on the sheet: `way`, `who`, `at`.
-fn list(alloc: Global, ceremony: CeremonyNumber, body: &Value) -> Result<Act, Refusal>
+fn record_sheet(alloc: Global, ceremony: CeremonyNumber, body: &Value) -> Result<Act, Refusal>
     ensures { OrMemory result (listing ceremony (view body.now)) }
 {
-    let way = way_in(body)?;
-    let who = people_in(alloc, body)?;
-    let at = moment_in(body)?;
-    Ok(Act::Sheet {
+    let way = parse_way(body)?;
+    let who = parse_people(alloc, body)?;
+    let at = parse_moment(body)?;
+    Ok(Act::RecordSheet {
         ceremony,
         way,
         who,
@@ -155,18 +158,18 @@ fn list(alloc: Global, ceremony: CeremonyNumber, body: &Value) -> Result<Act, Re
 fn sign(ceremony: CeremonyNumber, step: StepNumber, body: &Value) -> Result<Act, Refusal>
     ensures { result ≡ signing ceremony step (view body.now) }
 {
-    let at = moment_in(body)?;
+    let at = parse_moment(body)?;
     Ok(Act::Sign { ceremony, step, at })
 }
 
 // The act that states an exception: `text`, `pass`, `at`.
-fn except(alloc: Global, ceremony: CeremonyNumber, body: &Value) -> Result<Act, Refusal>
+fn record_exception(alloc: Global, ceremony: CeremonyNumber, body: &Value) -> Result<Act, Refusal>
     ensures { OrMemory result (excepting ceremony (view body.now)) }
 {
-    let text = remark_in(alloc, body)?;
-    let pass = pass_in(body)?;
-    let at = moment_in(body)?;
-    Ok(Act::Except {
+    let text = parse_remark(alloc, body)?;
+    let pass = parse_pass(body)?;
+    let at = parse_moment(body)?;
+    Ok(Act::RecordException {
         ceremony,
         text,
         pass,
@@ -175,13 +178,13 @@ fn except(alloc: Global, ceremony: CeremonyNumber, body: &Value) -> Result<Act, 
 }
 
 // The act that opens or shuts a safe: `open`, `by`, `at`.
-fn turn_safe(ceremony: CeremonyNumber, safe: SafeNumber, body: &Value) -> Result<Act, Refusal>
+fn set_safe(ceremony: CeremonyNumber, safe: SafeNumber, body: &Value) -> Result<Act, Refusal>
     ensures { result ≡ turning_safe ceremony safe (view body.now) }
 {
-    let is_open = open_in(body)?;
-    let by = by_in(body)?;
-    let at = moment_in(body)?;
-    Ok(Act::TurnSafe {
+    let is_open = parse_open(body)?;
+    let by = parse_by(body)?;
+    let at = parse_moment(body)?;
+    Ok(Act::SetSafe {
         ceremony,
         safe,
         is_open,
@@ -199,8 +202,8 @@ fn seal(
 ) -> Result<Act, Refusal>
     ensures { OrMemory result (sealing ceremony serial (view body.now)) }
 {
-    let items = items_in(alloc, body)?;
-    let at = moment_in(body)?;
+    let items = parse_items(alloc, body)?;
+    let at = parse_moment(body)?;
     Ok(Act::Seal {
         ceremony,
         serial,
@@ -213,7 +216,7 @@ fn seal(
 fn take(ceremony: CeremonyNumber, serial: Serial, body: &Value) -> Result<Act, Refusal>
     ensures { result ≡ taking ceremony serial (view body.now) }
 {
-    let at = moment_in(body)?;
+    let at = parse_moment(body)?;
     Ok(Act::Take {
         ceremony,
         serial,
@@ -225,8 +228,8 @@ fn take(ceremony: CeremonyNumber, serial: Serial, body: &Value) -> Result<Act, R
 fn put(ceremony: CeremonyNumber, serial: Serial, body: &Value) -> Result<Act, Refusal>
     ensures { result ≡ putting ceremony serial (view body.now) }
 {
-    let to = store_in(body)?;
-    let at = moment_in(body)?;
+    let to = parse_destination(body)?;
+    let at = parse_moment(body)?;
     Ok(Act::Put {
         ceremony,
         serial,
@@ -239,7 +242,7 @@ fn put(ceremony: CeremonyNumber, serial: Serial, body: &Value) -> Result<Act, Re
 fn cut(ceremony: CeremonyNumber, serial: Serial, body: &Value) -> Result<Act, Refusal>
     ensures { result ≡ cutting ceremony serial (view body.now) }
 {
-    let at = moment_in(body)?;
+    let at = parse_moment(body)?;
     Ok(Act::Cut {
         ceremony,
         serial,
@@ -248,38 +251,38 @@ fn cut(ceremony: CeremonyNumber, serial: Serial, body: &Value) -> Result<Act, Re
 }
 
 // The act that a body is at this path, or the refusal of a path that takes inquiries alone.
-fn act_at(alloc: Global, target: &Target, body: &Value) -> Result<Act, Refusal>
+fn act_at(alloc: Global, target: &Endpoint, body: &Value) -> Result<Act, Refusal>
     ensures { OrMemory result (act_by target.now (view body.now)) }
 {
     match *target {
-        Target::People => enter(alloc, body),
-        Target::Roles(who) => train(who, body),
-        Target::Withdrawals(who) => withdraw(who, body),
-        Target::Custodians => appoint(body),
-        Target::Replacement(place) => replace(place, body),
-        Target::Release(place) => release(place, body),
-        Target::Boxes => add_box(body),
-        Target::Items => add_item(body),
-        Target::Ceremonies => plan(alloc, body),
-        Target::Opening(ceremony) => open(ceremony, body),
-        Target::Closing(ceremony) => close(ceremony, body),
-        Target::Sheet(ceremony) => list(alloc, ceremony, body),
-        Target::Signature(ceremony, step) => sign(ceremony, step, body),
-        Target::Exceptions(ceremony) => except(alloc, ceremony, body),
-        Target::Safe(ceremony, safe) => turn_safe(ceremony, safe, body),
-        Target::Seal(ceremony, serial) => seal(alloc, ceremony, serial, body),
-        Target::Take(ceremony, serial) => take(ceremony, serial, body),
-        Target::Put(ceremony, serial) => put(ceremony, serial, body),
-        Target::Cut(ceremony, serial) => cut(ceremony, serial, body),
+        Endpoint::People => enter(alloc, body),
+        Endpoint::Roles(who) => train(who, body),
+        Endpoint::Withdrawals(who) => withdraw(who, body),
+        Endpoint::Custodians => appoint(body),
+        Endpoint::Replacement(place) => replace(place, body),
+        Endpoint::Release(place) => release(place, body),
+        Endpoint::Boxes => add_box(body),
+        Endpoint::Items => add_item(body),
+        Endpoint::Ceremonies => plan(alloc, body),
+        Endpoint::Opening(ceremony) => open(ceremony, body),
+        Endpoint::Closing(ceremony) => close(ceremony, body),
+        Endpoint::Sheet(ceremony) => record_sheet(alloc, ceremony, body),
+        Endpoint::Signature(ceremony, step) => sign(ceremony, step, body),
+        Endpoint::Exceptions(ceremony) => record_exception(alloc, ceremony, body),
+        Endpoint::Safe(ceremony, safe) => set_safe(ceremony, safe, body),
+        Endpoint::Seal(ceremony, serial) => seal(alloc, ceremony, serial, body),
+        Endpoint::Take(ceremony, serial) => take(ceremony, serial, body),
+        Endpoint::Put(ceremony, serial) => put(ceremony, serial, body),
+        Endpoint::Cut(ceremony, serial) => cut(ceremony, serial, body),
         _ => Err(Refusal::Method),
     }
 }
 
 // The command that a body is at this path: its key, and then its act.
-fn command_at(alloc: Global, target: &Target, body: &Value) -> Result<Command, Refusal>
+fn command_at(alloc: Global, target: &Endpoint, body: &Value) -> Result<Command, Refusal>
     ensures { OrMemory result (command_by target.now (view body.now)) }
 {
-    let key = key_in(body)?;
+    let key = parse_key(body)?;
     let act = act_at(alloc, target, body)?;
     Ok(Command { key, act })
 }
@@ -291,9 +294,9 @@ fn may_post(allow: Allow) -> bool
     allow != Allow::GetHead
 }
 
-impl Paths {
+impl RouteTable {
     /// The command that a POST is, or the first of the refusals that hold: `Path`, `Method` (the path
-    /// is known and takes no POST), `Json`, `Form` with the first member that is missing or not of its
+    /// is known and takes no POST), `ToJson`, `Form` with the first member that is missing or not of its
     /// form. `Memory` may come in the place of any answer. `target` is the whole target of the request
     /// line; its query is cut off. Members that the command does not name are ignored, and of a member
     /// given twice the last one counts.
@@ -306,7 +309,7 @@ impl Paths {
     ) -> Result<Command, Refusal>
         ensures { OrMemory result (command_of target.now body.now) }
     {
-        let target = self.target(target)?;
+        let target = self.resolve(target)?;
         if !may_post(target.allow()) {
             return Err(Refusal::Method);
         }

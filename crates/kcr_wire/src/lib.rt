@@ -2,18 +2,20 @@
 //! request's method, target and JSON body, and the JSON of what is answered.
 #![tactic(auto)]
 
+mod after;
 pub mod allow;
-mod amount;
 pub mod command;
-pub mod inquiry;
-pub mod member;
+pub mod endpoint;
+pub mod json_texts;
+mod json_values;
 pub mod method;
+pub mod question;
 pub mod route;
-pub mod show;
-pub mod target;
+pub mod shown_json;
 
+pub use after::After;
 pub use allow::Allow;
-pub use inquiry::Inquiry;
+pub use endpoint::RouteTable;
 pub use method::Method;
-pub use show::{write_refusal, write_shown};
-pub use target::Paths;
+pub use question::Inquiry;
+pub use shown_json::{write_refusal, write_shown};

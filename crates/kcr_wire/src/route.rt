@@ -32,10 +32,12 @@ pub enum Route {
     Room,
     Script,
     Attendance,
+    Custody,
+    Commands,
 }
 
 /// Every route, in the order in which the router takes them.
-pub const ROUTES: [Route; 24] = [
+pub const ROUTES: [Route; 26] = [
     Route::People,
     Route::Roles,
     Route::Withdrawals,
@@ -60,6 +62,8 @@ pub const ROUTES: [Route; 24] = [
     Route::Room,
     Route::Script,
     Route::Attendance,
+    Route::Custody,
+    Route::Commands,
 ];
 
 impl Route {
@@ -92,6 +96,8 @@ impl Route {
             Route::Room => "/ceremonies/{n}/room/{at}",
             Route::Script => "/ceremonies/{n}/script",
             Route::Attendance => "/ceremonies/{n}/attendance.csv",
+            Route::Custody => "/custody",
+            Route::Commands => "/commands/{after}",
         }
     }
 }

@@ -1,7 +1,7 @@
 use Rattle.std.proofs.Common.{◌≡◌, drop, find}
-use Rattle.kcr_audit.specs.Wrongs.{is_step_wrong}
+use Rattle.kcr_audit.specs.Defects.{is_step_wrong}
 use Rattle.kcr_audit.proofs.seating.first_ill_seated.Given as goal
 
 -- none of the steps so far is wrong
 abbrev pub invariant-loop-row : goal.invariant-loop-row
-invariant-loop-row l = find (is_step_wrong l.view) (drop l.row-index l.view.asked.steps.items) ≡ find (is_step_wrong l.view) l.view.asked.steps.items
+invariant-loop-row l = find (is_step_wrong l.view) (drop l.row-index l.view.view.steps.items) ≡ find (is_step_wrong l.view) l.view.view.steps.items

@@ -3,13 +3,13 @@ use Rattle.std.specs.List.{list_any}
 use Rattle.std.proofs.lemmas.Bool.{and_right}
 use Rattle.kcr_base.specs.Same.{same_text}
 use Rattle.kcr_script.specs.declared.seat.Seat.{Seat}
-use Rattle.kcr_history.specs.declared.rows.CeremonyRow.{CeremonyRow}
-use Rattle.kcr_history.specs.declared.views.WholeView.{WholeView}
+use Rattle.kcr_history.specs.declared.row_types.CeremonyRow.{CeremonyRow}
+use Rattle.kcr_history.specs.declared.views.FullView.{FullView}
 use Rattle.kcr_history.specs.Audit.{eligible_by, is_seating_by}
 use Rattle.kcr_audit.proofs.seating.is_seating.Goals as goal
 
--- where there are not as many people as seats, they are no seating
-unequal : (view : WholeView) (ceremony : CeremonyRow) (t : ℕ) (seats : List Seat) (people : List (List ℕ))
+-- if there are not as many people as seats, they are no seating
+unequal : (view : FullView) (ceremony : CeremonyRow) (t : ℕ) (seats : List Seat) (people : List (List ℕ))
     → length seats ≢ length people → is_seating_by view ceremony t seats people ≡ false
 unequal view ceremony t [] [] h = absurd (h refl)
 unequal view ceremony t [] (who ∷ people) h = refl

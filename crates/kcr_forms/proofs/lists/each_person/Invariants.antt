@@ -1,6 +1,6 @@
 use Rattle.std.proofs.Common.{◌≡◌, drop}
 use Rattle.kcr_forms.specs.Forms.{initials_of}
-use Rattle.kcr_forms.specs.Told.{each_of}
+use Rattle.kcr_forms.specs.ActTexts.{each_of}
 use Rattle.kcr_forms.proofs.Listing.{bytes_of, after_codes}
 use Rattle.kcr_forms.proofs.lists.each_person.Given as goal
 

@@ -1,5 +1,5 @@
 use Rattle.std.proofs.Common.{◌≡◌, map, take}
-use Rattle.kcr_room.specs.Adding.{new_row}
+use Rattle.kcr_room.specs.Requests.{new_row}
 use Rattle.kcr_history.specs.declared.views.Change.TheVariants.{PutSheet}
 use Rattle.kcr_rules.proofs.sheet.row_changes.Given as goal
 

@@ -1,5 +1,5 @@
 use Rattle.std.proofs.Common.{sym, ◌∙◌, ◌+◌, arith, subst, true, ◌≡◌, drop}
-use Rattle.kcr_wire.specs.Routes.{Held, can_add_all}
+use Rattle.kcr_wire.specs.Routes.{RouterState, can_add_all}
 use Rattle.kcr_wire.proofs.Tables.{add_all-turn, add_all-end, can_add_all-turn}
 use Rattle.kcr_wire.proofs.route.router_of.Goals as goal
 
@@ -13,7 +13,7 @@ loop-route-preserved c =
     let can = can_add_all-turn c.loop-route.router routes i _ (omega arith) c.loop-route.invariant.1 in
     let is = c.in_ok-add.ensures in (
       add_all-turn routes i _ c.loop-route.router c.add.new.router (omega arith) is ∙ c.loop-route.invariant.0,
-      subst (λ (held : Held). can_add_all held (drop (i + 1) routes) ≡ true) (sym is) can.1,
+      subst (λ (held : RouterState). can_add_all held (drop (i + 1) routes) ≡ true) (sym is) can.1,
     )
 
 pub returns : goal.returns

@@ -1,0 +1,10 @@
+pub mod Sent
+pub mod Seeking
+pub mod Bytes
+pub mod Values
+pub mod Reading
+pub mod Pieces
+pub mod Targets
+pub mod Again
+pub mod Paths
+pub mod Told

@@ -1,0 +1,16 @@
+use Rattle.std.proofs.Common.{string_bytes}
+use Rattle.serde_json.specs.View.{view}
+use Rattle.kcr_export.proofs.Told.{value_told}
+use Rattle.kcr_export.proofs.members.with_value.Goals as goal
+
+pub returns : goal.returns
+returns c =
+    rw (
+      c.in_ok-push_str-4.ensures.bytes,
+      c.in_ok-push_str-3.ensures.bytes,
+      c.in_ok-push_str-2.ensures.bytes,
+      c.in_ok-push_str.ensures.bytes,
+      c.as_str.ensures.value,
+      c.in_ok-written.ensures.text c.requires,
+      c.text.ensures,
+    ) (value_told (string_bytes c.args.text) c.args.name (view c.args.value.now))

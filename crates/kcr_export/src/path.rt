@@ -1,0 +1,126 @@
+//! The path to which a command is posted.
+ghost use Rattle.std.specs.Prelude.{◌≡◌, IfOk, string_bytes};
+ghost use Rattle.kcr_base.specs.Place.{place_text};
+ghost use Rattle.kcr_history.specs.Texts;
+ghost use Rattle.kcr_export.specs.Requests.{path_text};
+
+use itoa::Buffer;
+use kcr_base::{CeremonyNumber, Initials, Place, Serial, StepNumber};
+use kcr_custody::SafeNumber;
+use kcr_history::Act;
+use std::alloc::{AllocError, Global};
+
+/// `/people/`, the person, a slash, and the rest of the path.
+fn at_person(alloc: Global, who: Initials, rest: &str) -> Result<String, AllocError>
+    ensures { IfOk result (λ text. string_bytes text ≡ Texts.at_person who rest.now) }
+{
+    let mut text = String::from_str(alloc, "/people/")?;
+    text.push_str(who.as_str())?;
+    text.push_str("/")?;
+    text.push_str(rest)?;
+    Ok(text)
+}
+
+/// `/custodians/`, the place, a slash, and the rest of the path.
+fn at_place(alloc: Global, place: Place, rest: &str) -> Result<String, AllocError>
+    ensures { IfOk result (λ text. string_bytes text ≡ Texts.at_place (place_text place) rest.now) }
+{
+    let code = place.text();
+    let mut text = String::from_str(alloc, "/custodians/")?;
+    text.push_str(code.as_str())?;
+    text.push_str("/")?;
+    text.push_str(rest)?;
+    Ok(text)
+}
+
+/// `/ceremonies/`, the ceremony's number, a slash, and the rest of the path.
+fn at_ceremony(alloc: Global, ceremony: CeremonyNumber, rest: &str) -> Result<String, AllocError>
+    ensures { IfOk result (λ text. string_bytes text ≡ Texts.at_ceremony ceremony rest.now) }
+{
+    let mut number = Buffer::new();
+    let mut text = String::from_str(alloc, "/ceremonies/")?;
+    text.push_str(number.format(ceremony.get()))?;
+    text.push_str("/")?;
+    text.push_str(rest)?;
+    Ok(text)
+}
+
+/// The same for a bag: `bags/`, its serial, a slash, and the rest.
+fn at_bag(
+    alloc: Global,
+    ceremony: CeremonyNumber,
+    serial: Serial,
+    rest: &str,
+) -> Result<String, AllocError>
+    ensures { IfOk result (λ text. string_bytes text ≡ Texts.at_bag ceremony serial rest.now) }
+{
+    let mut path = String::from_str(alloc, "bags/")?;
+    path.push_str(serial.as_str())?;
+    path.push_str("/")?;
+    path.push_str(rest)?;
+    at_ceremony(alloc, ceremony, path.as_str())
+}
+
+/// The same for a step: `steps/`, its number, and `/signature`.
+fn at_step(alloc: Global, ceremony: CeremonyNumber, step: StepNumber) -> Result<String, AllocError>
+    ensures { IfOk result (λ text. string_bytes text ≡ Texts.at_step ceremony step) }
+{
+    let mut number = Buffer::new();
+    let mut text = at_ceremony(alloc, ceremony, "steps/")?;
+    text.push_str(number.format(step.get()))?;
+    text.push_str("/signature")?;
+    Ok(text)
+}
+
+/// The same for a safe: `safes/`, and its number.
+fn at_safe(alloc: Global, ceremony: CeremonyNumber, safe: SafeNumber) -> Result<String, AllocError>
+    ensures { IfOk result (λ text. string_bytes text ≡ Texts.at_safe ceremony safe) }
+{
+    match safe {
+        SafeNumber::One => at_ceremony(alloc, ceremony, "safes/1"),
+        SafeNumber::Two => at_ceremony(alloc, ceremony, "safes/2"),
+    }
+}
+
+/// The path of a command's request, as `/ceremonies/61/steps/1/signature`. The error is out of memory.
+pub(crate) fn path_of(alloc: Global, act: &Act) -> Result<String, AllocError>
+    ensures { IfOk result (λ text. string_bytes text ≡ path_text act.now) }
+{
+    match act {
+        Act::Enter { .. } => String::from_str(alloc, "/people"),
+        Act::Train { who, .. } => at_person(alloc, *who, "roles"),
+        Act::Withdraw { who, .. } => at_person(alloc, *who, "withdrawals"),
+        Act::Appoint { .. } => String::from_str(alloc, "/custodians"),
+        Act::Replace { place, .. } => at_place(alloc, *place, "replacement"),
+        Act::Release { place, .. } => at_place(alloc, *place, "release"),
+        Act::AddBox { .. } => String::from_str(alloc, "/boxes"),
+        Act::AddItem { .. } => String::from_str(alloc, "/items"),
+        Act::Plan { .. } => String::from_str(alloc, "/ceremonies"),
+        Act::Open { ceremony, .. } => at_ceremony(alloc, *ceremony, "opening"),
+        Act::Close { ceremony, .. } => at_ceremony(alloc, *ceremony, "closing"),
+        Act::RecordSheet { ceremony, .. } => at_ceremony(alloc, *ceremony, "sheet"),
+        Act::Sign { ceremony, step, .. } => at_step(alloc, *ceremony, *step),
+        Act::RecordException { ceremony, .. } => at_ceremony(alloc, *ceremony, "exceptions"),
+        Act::SetSafe { ceremony, safe, .. } => at_safe(alloc, *ceremony, *safe),
+        Act::Seal {
+            ceremony,
+            serial,
+            ..
+        } => at_bag(alloc, *ceremony, *serial, "seal"),
+        Act::Take {
+            ceremony,
+            serial,
+            ..
+        } => at_bag(alloc, *ceremony, *serial, "take"),
+        Act::Put {
+            ceremony,
+            serial,
+            ..
+        } => at_bag(alloc, *ceremony, *serial, "put"),
+        Act::Cut {
+            ceremony,
+            serial,
+            ..
+        } => at_bag(alloc, *ceremony, *serial, "cut"),
+    }
+}

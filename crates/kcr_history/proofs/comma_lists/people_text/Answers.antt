@@ -1,0 +1,15 @@
+use Rattle.std.proofs.Common.{sym, rules}
+use Rattle.kcr_history.proofs.Listed.{joined_more, separator_more}
+use Rattle.kcr_history.proofs.comma_lists.people_text.Goals as goal
+
+pub loop-who-preserved : goal.loop-who-preserved
+loop-who-preserved c =
+    let so_far = c.loop-who.invariant in
+    let below = c.loop-who-test.true in
+    record {
+      text =
+          rw (c.in_ok-push_str-2.ensures.bytes, c.as_str.ensures.value, c.in_ok-push_str.ensures.bytes, so_far.text, so_far.comma)
+          (sym (joined_more _ _ _ below c.who-item.is));
+      comma = sym (separator_more _ _ below);
+      utf8 = search rules;
+    }

@@ -1,0 +1,6 @@
+use Rattle.std.proofs.Common.{◌≡◌, map, take}
+use Rattle.serde_json.specs.View.{view}
+use Rattle.kcr_wire.proofs.shown_json.values.Given as goal
+
+abbrev pub invariant-loop-thing : goal.invariant-loop-thing
+invariant-loop-thing g l = map view l.values.items ≡ map g.T.ToJson.json (take l.thing-index l.things)
