@@ -3,7 +3,7 @@ use Rattle.std.proofs.Common.{◌≡◌, ℕ, ◌+◌, ◌<◌, List, [], ◌∷
 use Rattle.std.specs.List.{join_with_byte}
 use Rattle.std.proofs.lemmas.List.{map_more}
 
--- what stands between a list and the next word: a blank where the list is not empty
+-- what stands between a list and the next word: a blank if the list is not empty
 abbrev pub separator : {X : Type 0} → List X → List ℕ
 separator [] = []
 separator (x ∷ xs) = 32 ∷ []
@@ -24,7 +24,7 @@ pub separator_more : {X : Type 0} (xs : List X) (i : ℕ) → i < length xs → 
 separator_more [] i h = absurd (omega arith)
 separator_more (x ∷ xs) i h = rw add-one
 
--- the next word stands behind those before it, and a blank where there are any
+-- the next word stands behind those before it, and a blank if there are any
 pub words_more : {X : Type 0} (f : X → List ℕ) (xs : List X) (i : ℕ) (d : X) → i < length xs
     → join_with_byte 32 (map f (take (i + 1) xs)) ≡ join_with_byte 32 (map f (take i xs)) ++ (separator (take i xs) ++ f (get_or xs i d))
 words_more f xs i d h = rw (map_more f xs i d h, ← separator-map f (take i xs)) (joined-append (map f (take i xs)) (f (get_or xs i d)))

@@ -16,12 +16,12 @@ use Rattle.kcr_history.specs.History.{History}
 use Rattle.kcr_history.specs.Tables as machine
 use Rattle.kcr_history.specs.Tables.{ceremony_row, tables}
 use Rattle.kcr_tables.specs.Refusals.{IsFault}
-use Rattle.kcr_store.specs.Register.{Seen, IsKept}
-use Rattle.kcr_history.specs.declared.rows.CeremonyRow.{CeremonyRow}
-use Rattle.kcr_store.specs.Calls.{KeepsHistory, OfHistory, Peeks}
+use Rattle.kcr_store.specs.Register.{RegisterState, IsConsistent}
+use Rattle.kcr_history.specs.declared.row_types.CeremonyRow.{CeremonyRow}
+use Rattle.kcr_store.specs.Calls.{KeepsHistory, OfHistory, ReadsWithoutBreaking}
 use Rattle.kcr_store.specs.Rows.{Begins, IsRowOf, HasNoRow, MayHaveNoRow, IsNotPlanned, NamesCeremony}
 use Rattle.kcr_store.specs.declared.rows.Rows.{Rows}
-use Rattle.kcr_print.specs.Reports.{Stops, IsPrinted, Puts, PutsPlanned, TellsWrites}
+use Rattle.kcr_print.specs.Reports.{Stops, IsPrinted, PrintsPart, PrintsCeremonyPart, CountsWriteFaults, RefusesBetweenRows}
 use Rattle.kcr_print.specs.Written.{Writes}
 use Rattle.kcr_print.specs.declared.fault.PrintFault.{PrintFault}
 use Rattle.kcr_print.specs.declared.fault.PrintFault.TheVariants.{Refused, Write}
@@ -79,7 +79,7 @@ printed_of : (D : Refusal → Type 0) (r : Result ⊤ PrintFault) (a b : Option 
 printed_of D (Ok v) a b x p q = p
 printed_of D (Err e) a b x p q = (p, stops_weaker D e q)
 
-told_then : {W : Type 0} (x y z : Counted W) (r : Result ⊤ PrintFault) → TellsWrites x y (Ok tt) → TellsWrites y z r → TellsWrites x z r
+told_then : {W : Type 0} (x y z : Counted W) (r : Result ⊤ PrintFault) → CountsWriteFaults x y (Ok tt) → CountsWriteFaults y z r → CountsWriteFaults x z r
 told_then x y z r p q =
     let still : failures_of y ≡ failures_of x = p.calm (λ e. cc e) in
     record {
@@ -89,32 +89,32 @@ told_then x y z r p q =
 
 -- PARTS
 
-pub keeps_refl : {S : Type 0} (a : Seen S) → KeepsHistory a a
-keeps_refl a = record { accepted = refl; torn = refl; founded = refl }
+pub keeps_refl : {S : Type 0} (a : RegisterState S) → KeepsHistory a a
+keeps_refl a = record { accepted = refl; in_doubt = refl; founded = refl }
 
-pub keeps_both : {S : Type 0} (a b c : Seen S) → KeepsHistory a b → KeepsHistory b c → KeepsHistory a c
-keeps_both a b c p q = record { accepted = q.accepted ∙ p.accepted; torn = q.torn ∙ p.torn; founded = q.founded ∙ p.founded }
+pub keeps_both : {S : Type 0} (a b c : RegisterState S) → KeepsHistory a b → KeepsHistory b c → KeepsHistory a c
+keeps_both a b c p q = record { accepted = q.accepted ∙ p.accepted; in_doubt = q.in_doubt ∙ p.in_doubt; founded = q.founded ∙ p.founded }
 
 module _ {S : Type 0} (g : Ghosts S) where
   -- what is said of the history by a later call holds of it before
-  pub of_kept : (a b c : Seen S) (Says : History → Type 0) → KeepsHistory a b → OfHistory g b c Says → OfHistory g a c Says
-  of_kept a b c Says keeps says founded torn clean =
-      subst Says keeps.accepted (says (subst IsTrue (sym keeps.founded) founded) (keeps.torn ∙ torn) clean)
+  pub of_kept : (a b c : RegisterState S) (Says : History → Type 0) → KeepsHistory a b → OfHistory g b c Says → OfHistory g a c Says
+  of_kept a b c Says keeps says founded in_doubt clean =
+      subst Says keeps.accepted (says (subst IsTrue (sym keeps.founded) founded) (keeps.in_doubt ∙ in_doubt) clean)
 
   -- what is said of the history by an earlier call holds later
-  pub of_later : (a b c : Seen S) (Says : History → Type 0) → KeepsHistory a c → (HasCleanDisk (state g c.conn) → HasCleanDisk (state g b.conn))
+  pub of_later : (a b c : RegisterState S) (Says : History → Type 0) → KeepsHistory a c → (HasCleanDisk (state g c.conn) → HasCleanDisk (state g b.conn))
       → OfHistory g a b Says → OfHistory g c c Says
-  of_later a b c Says keeps clean says founded torn now =
-      subst Says (sym keeps.accepted) (says (subst IsTrue keeps.founded founded) (sym keeps.torn ∙ torn) (clean now))
+  of_later a b c Says keeps clean says founded in_doubt now =
+      subst Says (sym keeps.accepted) (says (subst IsTrue keeps.founded founded) (sym keeps.in_doubt ∙ in_doubt) (clean now))
 
 module _ {S W : Type 0} {g : Ghosts S} {contents : W → Option (List ℕ)} {D : History → Refusal → Type 0} {M : Refusal → Type 0} where
   -- one part, and then another
-  pub puts_then : {a b c : Seen S} {x y z : Counted W} {r : Result ⊤ PrintFault} {t u : History → List ℕ}
-      → Puts g contents a b x y (Ok tt) D M t → Puts g contents b c y z r D M u → Puts g contents a c x z r D M (λ A. t A ++ u A)
+  pub puts_then : {a b c : RegisterState S} {x y z : Counted W} {r : Result ⊤ PrintFault} {t u : History → List ℕ}
+      → PrintsPart g contents a b x y (Ok tt) D M t → PrintsPart g contents b c y z r D M u → PrintsPart g contents a c x z r D M (λ A. t A ++ u A)
   puts_then {a} {b} {c} {x} {y} {z} {r} {t} {u} p q = record {
-    printed = λ founded torn clean.
-        let before = p.printed founded torn (q.clean clean) in
-        let after = q.printed (subst IsTrue (sym p.keeps.founded) founded) (p.keeps.torn ∙ torn) clean in
+    printed = λ founded in_doubt clean.
+        let before = p.printed founded in_doubt (q.clean clean) in
+        let after = q.printed (subst IsTrue (sym p.keeps.founded) founded) (p.keeps.in_doubt ∙ in_doubt) clean in
         let P : History → Type 0 = λ A. IsPrinted (D A) (u A) r (contents (inner_of y)) (contents (inner_of z)) in
         printed_then (D a.accepted) r _ _ _ (t a.accepted) (u a.accepted) before (subst P p.keeps.accepted after);
     cause = q.cause;
@@ -125,50 +125,64 @@ module _ {S W : Type 0} {g : Ghosts S} {contents : W → Option (List ℕ)} {D :
   }
 
   -- the same call, of which other things are printed and denied
-  puts_as : {a b : Seen S} {x y : Counted W} {r : Result ⊤ PrintFault} {E : History → Refusal → Type 0} {N : Refusal → Type 0} {t u : History → List ℕ}
+  puts_as : {a b : RegisterState S} {x y : Counted W} {r : Result ⊤ PrintFault} {E : History → Refusal → Type 0} {N : Refusal → Type 0} {t u : History → List ℕ}
       → OfHistory g a b (λ A. IsPrinted (D A) (u A) r (contents (inner_of x)) (contents (inner_of y))) → IfErr r (Stops M)
-      → Puts g contents a b x y r E N t → Puts g contents a b x y r D M u
+      → PrintsPart g contents a b x y r E N t → PrintsPart g contents a b x y r D M u
   puts_as printed cause p = record { printed = printed; cause = cause; keeps = p.keeps; clean = p.clean; kept = p.kept; told = p.told }
 
   -- a part that stops, and what would have followed
-  pub puts_more : {a b : Seen S} {x y : Counted W} {e : PrintFault} {t : History → List ℕ} (u : History → List ℕ)
-      → Puts g contents a b x y (Err e) D M t → Puts g contents a b x y (Err e) D M (λ A. t A ++ u A)
+  pub puts_more : {a b : RegisterState S} {x y : Counted W} {e : PrintFault} {t : History → List ℕ} (u : History → List ℕ)
+      → PrintsPart g contents a b x y (Err e) D M t → PrintsPart g contents a b x y (Err e) D M (λ A. t A ++ u A)
   puts_more {a} {x = x} {y} {t = t} u p =
       puts_as
-      (λ founded torn clean.
-      let front = p.printed founded torn clean in
+      (λ founded in_doubt clean.
+      let front = p.printed founded in_doubt clean in
       (front_longer (contents (inner_of x)) (contents (inner_of y)) (t a.accepted) (u a.accepted) front.0, front.1)) p.cause p
 
   -- the error that is handed on
-  pub puts_err : {a b : Seen S} {x y : Counted W} {t : History → List ℕ} (r : Result ⊤ PrintFault) (e : PrintFault) → IsErrAnd r (λ fault. fault ≡ e)
-      → Puts g contents a b x y (Err e) D M t → Puts g contents a b x y r D M t
+  pub puts_err : {a b : RegisterState S} {x y : Counted W} {t : History → List ℕ} (r : Result ⊤ PrintFault) (e : PrintFault) → IsErrAnd r (λ fault. fault ≡ e)
+      → PrintsPart g contents a b x y (Err e) D M t → PrintsPart g contents a b x y r D M t
   puts_err (Ok v) e is p = absurd is
-  puts_err {a} {b} {x} {y} {t} (Err f) e is p = subst (λ (o : PrintFault). Puts g contents a b x y (Err o) D M t) (sym is) p
+  puts_err {a} {b} {x} {y} {t} (Err f) e is p = subst (λ (o : PrintFault). PrintsPart g contents a b x y (Err o) D M t) (sym is) p
 
   -- a part that nothing denies
-  pub puts_weaker : {a b : Seen S} {x y : Counted W} {r : Result ⊤ PrintFault} {t : History → List ℕ}
-      → Puts g contents a b x y r (λ _ _. ⊥) (λ _. ⊥) t → Puts g contents a b x y r D M t
+  pub puts_weaker : {a b : RegisterState S} {x y : Counted W} {r : Result ⊤ PrintFault} {t : History → List ℕ}
+      → PrintsPart g contents a b x y r (λ _ _. ⊥) (λ _. ⊥) t → PrintsPart g contents a b x y r D M t
   puts_weaker {a} {r = r} {t} p =
-      puts_as (λ founded torn clean. printed_weaker (D a.accepted) r _ _ (t a.accepted) (p.printed founded torn clean)) (cause_weaker M r p.cause) p
+      puts_as (λ founded in_doubt clean. printed_weaker (D a.accepted) r _ _ (t a.accepted) (p.printed founded in_doubt clean)) (cause_weaker M r p.cause) p
 
   -- the same part, its text told otherwise
-  pub puts_text : {a b : Seen S} {x y : Counted W} {r : Result ⊤ PrintFault} {t : History → List ℕ} (u : History → List ℕ)
-      → Puts g contents a b x y r D M t → OfHistory g a b (λ A. t A ≡ u A) → Puts g contents a b x y r D M u
+  pub puts_text : {a b : RegisterState S} {x y : Counted W} {r : Result ⊤ PrintFault} {t : History → List ℕ} (u : History → List ℕ)
+      → PrintsPart g contents a b x y r D M t → OfHistory g a b (λ A. t A ≡ u A) → PrintsPart g contents a b x y r D M u
   puts_text {a} {x = x} {y} {r} u p same =
       let P : List ℕ → Type 0 = λ text. IsPrinted (D a.accepted) text r (contents (inner_of x)) (contents (inner_of y)) in
-      puts_as (λ founded torn clean. subst P (same founded torn clean) (p.printed founded torn clean)) p.cause p
+      puts_as (λ founded in_doubt clean. subst P (same founded in_doubt clean) (p.printed founded in_doubt clean)) p.cause p
+
+-- rows that were written began with the register, and a refusal left whole ones written
+pub whole_rows : {S R Row : Type 0} (g : Ghosts S) {reading : R} {rows : Rows S R Row} {old last : RegisterState S} {r : Result ⊤ PrintFault}
+    (a b : Option (List ℕ)) (to_come : R → machine.Tables → List Row) (lines : Row → List ℕ) (ended : RegisterState S)
+    → Begins old reading (Ok rows) → last ≡ ended
+    → OfHistory g rows.register.now ended (λ A. RefusesBetweenRows lines (to_come rows.reading (tables A)) r a b)
+    → OfHistory g old last (λ A. RefusesBetweenRows lines (to_come reading (tables A)) r a b)
+whole_rows {S = S} {R = R} g {reading = reading} {rows = rows} {old = old} {r = r} a b to_come lines ended begins ends whole =
+    let began = rows.register.now in
+    let Says : History → Type 0 = λ A. RefusesBetweenRows lines (to_come reading (tables A)) r a b in
+    let done : OfHistory g began ended Says = λ founded in_doubt now.
+        subst (λ (at : R). RefusesBetweenRows lines (to_come at (tables began.accepted)) r a b) begins.reading (whole founded in_doubt now) in
+    let from = subst (λ (s : RegisterState S). OfHistory g s ended Says) begins.same done in
+    subst (λ (s : RegisterState S). OfHistory g old s Says) (sym ends) from
 
 module _ {S W : Type 0} {g : Ghosts S} {contents : W → Option (List ℕ)} where
   -- a call on the register, and then a text that is written
-  pub puts_line : {D : History → Refusal → Type 0} {M : Refusal → Type 0} {a b : Seen S} {x y : Counted W} {r : Result ⊤ PrintFault}
+  pub puts_line : {D : History → Refusal → Type 0} {M : Refusal → Type 0} {a b : RegisterState S} {x y : Counted W} {r : Result ⊤ PrintFault}
       {t : History → List ℕ} (line : List ℕ)
-      → OfHistory g a b (λ A. line ≡ t A) → KeepsHistory a b → (HasCleanDisk (state g b.conn) → HasCleanDisk (state g a.conn)) → IsKept g b
-      → Writes r (contents (inner_of x)) (contents (inner_of y)) line → IfErr r (Stops (λ _. ⊥)) → TellsWrites x y r
-      → Puts g contents a b x y r D M t
+      → OfHistory g a b (λ A. line ≡ t A) → KeepsHistory a b → (HasCleanDisk (state g b.conn) → HasCleanDisk (state g a.conn)) → IsConsistent g b
+      → Writes r (contents (inner_of x)) (contents (inner_of y)) line → IfErr r (Stops (λ _. ⊥)) → CountsWriteFaults x y r
+      → PrintsPart g contents a b x y r D M t
   puts_line {D} {M} {a} {b} {x} {y} {r} {t} line same keeps clean kept written cause told = record {
-    printed = λ founded torn now.
+    printed = λ founded in_doubt now.
         let P : List ℕ → Type 0 = λ text. IsPrinted (D a.accepted) text r (contents (inner_of x)) (contents (inner_of y)) in
-        subst P (same founded torn now) (printed_of (D a.accepted) r _ _ line written cause);
+        subst P (same founded in_doubt now) (printed_of (D a.accepted) r _ _ line written cause);
     cause = cause_weaker M r cause;
     keeps = keeps;
     clean = clean;
@@ -177,12 +191,12 @@ module _ {S W : Type 0} {g : Ghosts S} {contents : W → Option (List ℕ)} wher
   }
 
   -- a call on the register that was refused before anything was written
-  pub puts_nothing : {D : History → Refusal → Type 0} {M : Refusal → Type 0} {a b : Seen S} {x : Counted W} {refusal : Refusal} {t : History → List ℕ}
+  pub puts_nothing : {D : History → Refusal → Type 0} {M : Refusal → Type 0} {a b : RegisterState S} {x : Counted W} {refusal : Refusal} {t : History → List ℕ}
       → OfHistory g a b (λ A. IsFault refusal ⊎ D A refusal) → (IsFault refusal ⊎ M refusal) → KeepsHistory a b
-      → (HasCleanDisk (state g b.conn) → HasCleanDisk (state g a.conn)) → IsKept g b
-      → Puts g contents a b x x (Err (Refused refusal)) D M t
+      → (HasCleanDisk (state g b.conn) → HasCleanDisk (state g a.conn)) → IsConsistent g b
+      → PrintsPart g contents a b x x (Err (Refused refusal)) D M t
   puts_nothing {x = x} why cause keeps clean kept = record {
-    printed = λ founded torn now. ((0, appends_nothing (contents (inner_of x))), why founded torn now);
+    printed = λ founded in_doubt now. ((0, appends_nothing (contents (inner_of x))), why founded in_doubt now);
     cause = cause;
     keeps = keeps;
     clean = clean;
@@ -191,84 +205,84 @@ module _ {S W : Type 0} {g : Ghosts S} {contents : W → Option (List ℕ)} wher
   }
 
   -- rows that were written: they began with the register, and left it behind
-  pub puts_rows : {R Row : Type 0} {reading : R} {rows : Rows S R Row} {old last : Seen S} {x y : Counted W} {r : Result ⊤ PrintFault}
-      (to_come : R → machine.Tables → List Row) (lines : Row → List ℕ) (ended : Seen S) → Begins old reading (Ok rows) → last ≡ ended → old.torn ≡ None
+  pub puts_rows : {R Row : Type 0} {reading : R} {rows : Rows S R Row} {old last : RegisterState S} {x y : Counted W} {r : Result ⊤ PrintFault}
+      (to_come : R → machine.Tables → List Row) (lines : Row → List ℕ) (ended : RegisterState S) → Begins old reading (Ok rows) → last ≡ ended → old.in_doubt ≡ None
       → OfHistory g rows.register.now ended (λ A. Writes r (contents (inner_of x)) (contents (inner_of y)) (flat_map lines (to_come rows.reading (tables A))))
-      → (rows.register.now.torn ≡ None → IfErr r (Stops (λ _. ⊥))) → KeepsHistory rows.register.now ended
-      → (HasCleanDisk (state g ended.conn) → HasCleanDisk (state g rows.register.now.conn)) → IsKept g ended → TellsWrites x y r
-      → Puts g contents old last x y r (λ _ _. ⊥) (λ _. ⊥) (λ A. flat_map lines (to_come reading (tables A)))
+      → (rows.register.now.in_doubt ≡ None → IfErr r (Stops (λ _. ⊥))) → KeepsHistory rows.register.now ended
+      → (HasCleanDisk (state g ended.conn) → HasCleanDisk (state g rows.register.now.conn)) → IsConsistent g ended → CountsWriteFaults x y r
+      → PrintsPart g contents old last x y r (λ _ _. ⊥) (λ _. ⊥) (λ A. flat_map lines (to_come reading (tables A)))
   puts_rows {reading = reading} {rows} {old} {x = x} {y} {r} to_come lines ended begins ends whole written cause keeps clean kept told =
       let began = rows.register.now in
-      let why = cause (ap (λ s. s.torn) begins.same ∙ whole) in
+      let why = cause (ap (λ s. s.in_doubt) begins.same ∙ whole) in
       let text : History → List ℕ = λ A. flat_map lines (to_come reading (tables A)) in
       let P : List ℕ → Type 0 = λ text. IsPrinted (λ _. ⊥) text r (contents (inner_of x)) (contents (inner_of y)) in
-      let done : Puts g contents began ended x y r (λ _ _. ⊥) (λ _. ⊥) text = record {
-        printed = λ founded torn now.
+      let done : PrintsPart g contents began ended x y r (λ _ _. ⊥) (λ _. ⊥) text = record {
+        printed = λ founded in_doubt now.
             subst P (ap (λ at. flat_map lines (to_come at (tables began.accepted))) begins.reading)
-            (printed_of (λ _. ⊥) r _ _ _ (written founded torn now) why);
+            (printed_of (λ _. ⊥) r _ _ _ (written founded in_doubt now) why);
         cause = why;
         keeps = keeps;
         clean = clean;
         kept = kept;
         told = told;
       } in
-      let from = subst (λ (s : Seen S). Puts g contents s ended x y r (λ _ _. ⊥) (λ _. ⊥) text) begins.same done in
-      subst (λ (s : Seen S). Puts g contents old s x y r (λ _ _. ⊥) (λ _. ⊥) text) (sym ends) from
+      let from = subst (λ (s : RegisterState S). PrintsPart g contents s ended x y r (λ _ _. ⊥) (λ _. ⊥) text) begins.same done in
+      subst (λ (s : RegisterState S). PrintsPart g contents old s x y r (λ _ _. ⊥) (λ _. ⊥) text) (sym ends) from
 
   -- rows that a reading gives from its start at a ceremony, by what the report says of them
-  pub puts_reading : {D : History → Refusal → Type 0} {M : Refusal → Type 0} {a b : Seen S} {x y : Counted W} {r : Result ⊤ PrintFault} {Row : Type 0}
+  pub puts_reading : {D : History → Refusal → Type 0} {M : Refusal → Type 0} {a b : RegisterState S} {x y : Counted W} {r : Result ⊤ PrintFault} {Row : Type 0}
       {to_come : machine.Tables → List Row} {number ceremony : ℕ} (lines : Row → List ℕ) (first : ℕ → machine.Tables → List Row)
       (text : ℕ → History → List ℕ) → ((m : machine.Tables) → to_come m ≡ first number m) → number ≡ ceremony
       → OfHistory g a b (λ A. flat_map lines (first number (tables A)) ≡ text number A)
-      → Puts g contents a b x y r (λ _ _. ⊥) (λ _. ⊥) (λ A. flat_map lines (to_come (tables A))) → Puts g contents a b x y r D M (text ceremony)
+      → PrintsPart g contents a b x y r (λ _ _. ⊥) (λ _. ⊥) (λ A. flat_map lines (to_come (tables A))) → PrintsPart g contents a b x y r D M (text ceremony)
   puts_reading {a = a} lines first text starts same is p =
       let A = a.accepted in
       puts_weaker (puts_text (text _) p
-      (λ founded torn clean. ap (flat_map lines) (starts (tables A)) ∙ is founded torn clean ∙ ap (λ k. text k A) same))
+      (λ founded in_doubt clean. ap (flat_map lines) (starts (tables A)) ∙ is founded in_doubt clean ∙ ap (λ k. text k A) same))
 
   -- THE REPORT OF A CEREMONY
 
   -- one that stops is not whole, so nothing is said of its ceremony
-  pub stops_planned : {a b : Seen S} {x y : Counted W} {report : History → ℕ → List ℕ} {ceremony : ℕ} (r : Result ⊤ PrintFault) {e : PrintFault}
+  pub stops_planned : {a b : RegisterState S} {x y : Counted W} {report : History → ℕ → List ℕ} {ceremony : ℕ} (r : Result ⊤ PrintFault) {e : PrintFault}
       → IsErr r → IsErrAnd r (λ fault. fault ≡ e) → Stops (λ _. ⊥) e
-      → Puts g contents a b x y (Err e) (λ A. IsNotPlanned A ceremony) (NamesCeremony ceremony) (λ A. report A ceremony)
-      → PutsPlanned report ceremony g contents a b x y r
+      → PrintsPart g contents a b x y (Err e) (λ A. IsNotPlanned A ceremony) (NamesCeremony ceremony) (λ A. report A ceremony)
+      → PrintsCeremonyPart report ceremony g contents a b x y r
   stops_planned {ceremony = ceremony} r {e} err is cause p = record {
     puts = puts_err r e is p;
-    planned = λ founded torn clean. not_ok r _ err;
+    planned = λ founded in_doubt clean. not_ok r _ err;
     unwritten = λ refusal names eq. absurd (not_named ceremony e refusal cause names (err_is r e (Refused refusal) is eq));
   }
 
   -- likewise one that stops before anything is written
-  pub denied_planned : {a b : Seen S} {x : Counted W} {report : History → ℕ → List ℕ} {ceremony : ℕ} (r : Result ⊤ PrintFault) {e : PrintFault}
+  pub denied_planned : {a b : RegisterState S} {x : Counted W} {report : History → ℕ → List ℕ} {ceremony : ℕ} (r : Result ⊤ PrintFault) {e : PrintFault}
       → IsErr r → IsErrAnd r (λ fault. fault ≡ e)
-      → Puts g contents a b x x (Err e) (λ A. IsNotPlanned A ceremony) (NamesCeremony ceremony) (λ A. report A ceremony)
-      → PutsPlanned report ceremony g contents a b x x r
+      → PrintsPart g contents a b x x (Err e) (λ A. IsNotPlanned A ceremony) (NamesCeremony ceremony) (λ A. report A ceremony)
+      → PrintsCeremonyPart report ceremony g contents a b x x r
   denied_planned r {e} err is p =
-      record { puts = puts_err r e is p; planned = λ founded torn clean. not_ok r _ err; unwritten = λ refusal names eq. refl }
+      record { puts = puts_err r e is p; planned = λ founded in_doubt clean. not_ok r _ err; unwritten = λ refusal names eq. refl }
 
   -- one that is whole is of a ceremony whose row was read
-  pub ends_planned : {a c : Seen S} {x y : Counted W} {report : History → ℕ → List ℕ} {ceremony : ℕ} {r : Result ⊤ PrintFault} {row : CeremonyRow}
-      (b : Seen S) → OfHistory g a b (λ A. IsRowOf A ceremony row) → (HasCleanDisk (state g c.conn) → HasCleanDisk (state g b.conn))
+  pub ends_planned : {a c : RegisterState S} {x y : Counted W} {report : History → ℕ → List ℕ} {ceremony : ℕ} {r : Result ⊤ PrintFault} {row : CeremonyRow}
+      (b : RegisterState S) → OfHistory g a b (λ A. IsRowOf A ceremony row) → (HasCleanDisk (state g c.conn) → HasCleanDisk (state g b.conn))
       → IfErr r (Stops (λ _. ⊥))
-      → Puts g contents a c x y r (λ A. IsNotPlanned A ceremony) (NamesCeremony ceremony) (λ A. report A ceremony)
-      → PutsPlanned report ceremony g contents a c x y r
+      → PrintsPart g contents a c x y r (λ A. IsNotPlanned A ceremony) (NamesCeremony ceremony) (λ A. report A ceremony)
+      → PrintsCeremonyPart report ceremony g contents a c x y r
   ends_planned {ceremony = ceremony} {r = r} b row clean cause p = record {
     puts = p;
-    planned = λ founded torn now. on_ok r _ (row founded torn (clean now)).planned;
+    planned = λ founded in_doubt now. on_ok r _ (row founded in_doubt (clean now)).planned;
     unwritten = λ refusal names eq. absurd (not_named ceremony (Refused refusal) refusal (rw eq at cause) names refl);
   }
 
   -- the row of the ceremony was refused, and nothing was written
-  pub no_planned : {a b : Seen S} {x : Counted W} {ceremony : ℕ} {refusal : Refusal} {t : History → List ℕ}
-      → Peeks {A = CeremonyRow} g (MayHaveNoRow ceremony) a b (Err refusal) → OfHistory g a b (λ A. HasNoRow A ceremony refusal) → a.torn ≡ None
-      → Puts g contents a b x x (Err (Refused refusal)) (λ A. IsNotPlanned A ceremony) (NamesCeremony ceremony) t
+  pub no_planned : {a b : RegisterState S} {x : Counted W} {ceremony : ℕ} {refusal : Refusal} {t : History → List ℕ}
+      → ReadsWithoutBreaking {A = CeremonyRow} g (MayHaveNoRow ceremony) a b (Err refusal) → OfHistory g a b (λ A. HasNoRow A ceremony refusal) → a.in_doubt ≡ None
+      → PrintsPart g contents a b x x (Err (Refused refusal)) (λ A. IsNotPlanned A ceremony) (NamesCeremony ceremony) t
   no_planned peeks why whole = puts_nothing why (peeks.cause whole) peeks.same peeks.clean peeks.kept
 
   -- the row of the ceremony was read, and what it says is written
-  pub row_line : {a b : Seen S} {x y : Counted W} {r : Result ⊤ PrintFault} {ceremony : ℕ} {row : CeremonyRow} (lines : CeremonyRow → List ℕ)
-      → Peeks g (MayHaveNoRow ceremony) a b (Ok row) → OfHistory g a b (λ A. IsRowOf A ceremony row)
-      → Writes r (contents (inner_of x)) (contents (inner_of y)) (lines row) → IfErr r (Stops (λ _. ⊥)) → TellsWrites x y r
-      → Puts g contents a b x y r (λ A. IsNotPlanned A ceremony) (NamesCeremony ceremony) (λ A. lines (ceremony_row A ceremony))
+  pub row_line : {a b : RegisterState S} {x y : Counted W} {r : Result ⊤ PrintFault} {ceremony : ℕ} {row : CeremonyRow} (lines : CeremonyRow → List ℕ)
+      → ReadsWithoutBreaking g (MayHaveNoRow ceremony) a b (Ok row) → OfHistory g a b (λ A. IsRowOf A ceremony row)
+      → Writes r (contents (inner_of x)) (contents (inner_of y)) (lines row) → IfErr r (Stops (λ _. ⊥)) → CountsWriteFaults x y r
+      → PrintsPart g contents a b x y r (λ A. IsNotPlanned A ceremony) (NamesCeremony ceremony) (λ A. lines (ceremony_row A ceremony))
   row_line {row = row} lines peeks is =
-      puts_line (lines row) (λ founded torn clean. ap lines (is founded torn clean).row_is) peeks.same peeks.clean peeks.kept
+      puts_line (lines row) (λ founded in_doubt clean. ap lines (is founded in_doubt clean).row_is) peeks.same peeks.clean peeks.kept

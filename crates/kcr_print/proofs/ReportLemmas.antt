@@ -21,14 +21,15 @@ use Rattle.kcr_room.specs.Stays.{stays_by, attendance_in_by}
 use Rattle.kcr_history.specs.History.{History}
 use Rattle.kcr_history.specs.Room.{sheet}
 use Rattle.kcr_history.specs.Tables.{people, seatings, tables}
-use Rattle.kcr_history.specs.declared.rows.SeatingRow.{SeatingRow}
-use Rattle.kcr_history.specs.declared.rows.StepRow.{StepRow}
-use Rattle.kcr_history.specs.declared.rows.StepState.TheVariants.{Undone, Signed, Passed}
+use Rattle.kcr_history.specs.declared.row_types.SeatingRow.{SeatingRow}
+use Rattle.kcr_history.specs.declared.row_types.StepRow.{StepRow}
+use Rattle.kcr_history.specs.declared.row_types.StepState.TheVariants.{Undone, Signed, Passed}
 use Rattle.kcr_history.specs.Prints.{line_of, step_lines, steps_in_order, stay_line, bag_lines, items_in_order, bags_in_order, loose_line, seated_at}
-use Rattle.kcr_reading.specs.ToCome.{with_seated, seated_steps, with_name, named_stays, with_items, packed_bags, is_loose, loose_items}
-use Rattle.kcr_tables.specs.Joint.{KeepsTables}
+use Rattle.kcr_history.specs.Questions.{with_seated, with_name, with_items, is_loose}
+use Rattle.kcr_reading.specs.Remaining.{seated_steps, named_stays, packed_bags, loose_items}
+use Rattle.kcr_tables.specs.MachineTables.{TreesHoldTables}
 use Rattle.kcr_reading.proofs.StayLemmas.{one_attendance}
-use Rattle.kcr_store.specs.Register.{Seen, IsKept}
+use Rattle.kcr_store.specs.Register.{RegisterState, IsConsistent}
 use Rattle.kcr_print.specs.Lines.{seated_lines, named_line, packed_lines, code_line}
 
 -- lines that are the same row by row
@@ -73,18 +74,18 @@ loose_text A = flat_map-filter loose_line is_loose bagged (items_in_order A)
 -- THE ATTENDANCE
 
 -- by the table of stays, in whatever order it has them, it is that of the sheet
-attendance_text : (A : History) (db : Trees) → KeepsTables (tables A) db → (ceremony : ℕ)
+attendance_text : (A : History) (db : Trees) → TreesHoldTables (tables A) db → (ceremony : ℕ)
     → flat_map named_line (named_stays ceremony (tables A)) ≡ flat_map (stay_line (people A)) (attendance_in_by (stays_by (sheet A)) ceremony)
 attendance_text A db k ceremony =
     let sheets = IsPermutation-trans _ _ _ (IsPermutation-reverse (stays_by (sheet A))) k.stands.rows.stays in
     stays_text A ceremony ∙ ap (flat_map (stay_line (people A))) (one_attendance ceremony sheets k.stands.rows.stays k.kept.stays.rising)
 
 -- so it is with every register: its file holds the tables, whatever a crash may leave
-pub register_attendance : {S : Type 0} (g : Ghosts S) (r : Seen S) → IsKept g r
+pub register_attendance : {S : Type 0} (g : Ghosts S) (r : RegisterState S) → IsConsistent g r
     → (HasCleanDisk (state g r.conn) → ∥ ((db : Trees) × (state g r.conn).may_leave db) ∥₁)
-    → IsTrue r.is_founded → r.torn ≡ None → HasCleanDisk (state g r.conn) → (ceremony : ℕ)
+    → IsTrue r.is_genuine → r.in_doubt ≡ None → HasCleanDisk (state g r.conn) → (ceremony : ℕ)
     → flat_map named_line (named_stays ceremony (tables r.accepted))
     ≡ flat_map (stay_line (people r.accepted)) (attendance_in_by (stays_by (sheet r.accepted)) ceremony)
-register_attendance g r kept left founded torn clean ceremony =
-    let whole = kept.whole founded torn in
+register_attendance g r kept left founded in_doubt clean ceremony =
+    let whole = kept.whole founded in_doubt in
     ∥∥₁_elim (left clean) (Coded-set (coded_list coded_ℕ) _ _) (λ found. attendance_text r.accepted found.0 (whole.crash clean found.0 found.1).kept ceremony)

@@ -1,17 +1,18 @@
 -- Rows that are written one after the other.
-use Rattle.std.proofs.Common.{◌≡◌, ℕ, List, [], ◌∷◌, ◌++◌, refl, sym, ap, ◌∙◌, subst, append_assoc, append-nil}
+use Rattle.std.proofs.Common.{◌≡◌, ℕ, zero, suc, List, [], ◌∷◌, ◌++◌, take, drop, refl, sym, ap, ◌∙◌, subst, append_assoc, append-nil}
 use Rattle.std.specs.Prelude.{Option, Some, Result, Ok, Err, IsErr}
 use Rattle.std.specs.Io.KnownBytes.{Appends}
 use Rattle.std.specs.List.{flat_map}
 use Rattle.std.proofs.lemmas.Bool.{false≢true}
+use Rattle.std.proofs.lemmas.Grind.{flat_map-append}
 use Rattle.sqlite.specs.Store.{Ghosts}
 use Rattle.kcr_history.specs.History.{History}
 use Rattle.kcr_history.specs.Tables as machine
 use Rattle.kcr_history.specs.Tables.{tables}
-use Rattle.kcr_reading.specs.ToCome.{Gives}
-use Rattle.kcr_store.specs.Register.{Seen}
+use Rattle.kcr_reading.specs.Remaining.{IsNextOf}
+use Rattle.kcr_store.specs.Register.{RegisterState}
 use Rattle.kcr_store.specs.Calls.{KeepsHistory, OfHistory}
-use Rattle.kcr_print.specs.Written.{Writes, WritesFront}
+use Rattle.kcr_print.specs.Written.{Writes, WritesPrefix}
 use Rattle.kcr_print.proofs.PartLemmas.{of_kept}
 use Rattle.kcr_print.proofs.WrittenLemmas.{appends_both, appends_nothing, front_both, front_longer}
 
@@ -41,27 +42,56 @@ goes_end f a b whole before g e =
 
 -- a row was begun
 pub goes_front : {X : Type 0} (f : X → List ℕ) (a b c : Option (List ℕ)) (whole : List ℕ) (before after : List X) (row : X)
-    → Goes a b whole (flat_map f before) → before ≡ row ∷ after → WritesFront b c (f row) → WritesFront a c whole
+    → Goes a b whole (flat_map f before) → before ≡ row ∷ after → WritesPrefix b c (f row) → WritesPrefix a c whole
 goes_front f a b c whole before after row g e p =
-    subst (WritesFront a c) (sym (g.is ∙ ap (λ rows. g.text ++ flat_map f rows) e))
+    subst (WritesPrefix a c) (sym (g.is ∙ ap (λ rows. g.text ++ flat_map f rows) e))
     (front_both a b c g.text (f row ++ flat_map f after) g.written (front_longer b c (f row) (flat_map f after) p))
 
 -- no more is written
-pub goes_stop : (a b : Option (List ℕ)) (whole rest : List ℕ) → Goes a b whole rest → WritesFront a b whole
+pub goes_stop : (a b : Option (List ℕ)) (whole rest : List ℕ) → Goes a b whole rest → WritesPrefix a b whole
 goes_stop a b whole rest g =
-    subst (WritesFront a b) (sym g.is) (front_both a b b g.text rest g.written (0, appends_nothing b))
+    subst (WritesPrefix a b) (sym g.is) (front_both a b b g.text rest g.written (0, appends_nothing b))
+
+-- whole rows were written of those that were to come, and these are left
+pub record Gone {X : Type 0} (f : X → List ℕ) (old new : Option (List ℕ)) (whole rest : List X) : Type 0 where
+  pub count : ℕ
+  pub written : Appends old new (flat_map f (take count whole))
+  pub is : drop count whole ≡ rest
+
+pub gone_start : {X : Type 0} (f : X → List ℕ) (a : Option (List ℕ)) (whole : List X) → Gone f a a whole whole
+gone_start f a whole = record { count = zero; written = appends_nothing a; is = refl }
+
+-- one row more
+take_next : {X : Type 0} (n : ℕ) (xs : List X) (x : X) (rest : List X) → drop n xs ≡ x ∷ rest
+    → (take (suc n) xs ≡ take n xs ++ x ∷ []) × (drop (suc n) xs ≡ rest)
+take_next zero xs x rest e = (ap (take 1) e, ap (drop 1) e)
+take_next (suc n) [] x rest e = absurd (cc e)
+take_next (suc n) (y ∷ ys) x rest e = let next = take_next n ys x rest e in (ap (λ l. y ∷ l) next.0, next.1)
+
+pub gone_more : {X : Type 0} (f : X → List ℕ) (a b c : Option (List ℕ)) (whole before after : List X) (row : X)
+    → Gone f a b whole before → before ≡ row ∷ after → Appends b c (f row) → Gone f a c whole after
+gone_more f a b c whole before after row g e p =
+    let next = take_next g.count whole row after (g.is ∙ e) in
+    let text = flat_map f (take g.count whole) in
+    let more : flat_map f (take (suc g.count) whole) ≡ text ++ f row =
+    ap (flat_map f) next.0 ∙ flat_map-append f (take g.count whole) (row ∷ []) ∙ ap (λ t. text ++ t) (append-nil (f row)) in
+    record {
+      count = suc g.count;
+      written = subst (Appends a c) (sym more) (appends_both a b c text (f row) g.written p);
+      is = next.1;
+    }
 
 -- what was written before an error is a beginning
-pub writes_err : {T E : Type 0} (r : Result T E) (a b : Option (List ℕ)) (whole : List ℕ) → IsErr r → WritesFront a b whole → Writes r a b whole
+pub writes_err : {T E : Type 0} (r : Result T E) (a b : Option (List ℕ)) (whole : List ℕ) → IsErr r → WritesPrefix a b whole → Writes r a b whole
 writes_err (Ok v) a b whole h p = absurd (false≢true h)
 writes_err (Err e) a b whole h p = p
 
 -- the row that a call gave was the first of those to come, by the history that the calls before it kept
-pub row_given : {S R Row : Type 0} (g : Ghosts S) (to_come : R → machine.Tables → List Row) (a b c : Seen S)
+pub row_given : {S R Row : Type 0} (g : Ghosts S) (to_come : R → machine.Tables → List Row) (a b c : RegisterState S)
     {before after : R} {given : Option Row} {row : Row} → KeepsHistory a b
-    → OfHistory g b c (λ A. Gives (to_come before (tables A)) given (to_come after (tables A))) → given ≡ Some row
+    → OfHistory g b c (λ A. IsNextOf (to_come before (tables A)) given (to_come after (tables A))) → given ≡ Some row
     → OfHistory g a c (λ A. to_come before (tables A) ≡ row ∷ to_come after (tables A))
-row_given {Row = Row} g to_come a b c {before} {after} {given} keeps gives is founded torn clean =
-    let Says : History → Type 0 = λ A. Gives (to_come before (tables A)) given (to_come after (tables A)) in
-    subst (λ (o : Option Row). Gives (to_come before (tables a.accepted)) o (to_come after (tables a.accepted))) is
-    (of_kept g a b c Says keeps gives founded torn clean)
+row_given {Row = Row} g to_come a b c {before} {after} {given} keeps gives is founded in_doubt clean =
+    let Says : History → Type 0 = λ A. IsNextOf (to_come before (tables A)) given (to_come after (tables A)) in
+    subst (λ (o : Option Row). IsNextOf (to_come before (tables a.accepted)) o (to_come after (tables a.accepted))) is
+    (of_kept g a b c Says keeps gives founded in_doubt clean)

@@ -4,7 +4,7 @@ use Rattle.std.specs.Prelude.{Option, Some, None, Result, Ok, Err}
 use Rattle.std.specs.Io.KnownBytes.{Appends}
 use Rattle.std.proofs.lemmas.List.{append-nil, take-append-le, take_min}
 use Rattle.std.proofs.Math.Seq.{take-append-add}
-use Rattle.kcr_print.specs.Written.{WritesFront, Writes}
+use Rattle.kcr_print.specs.Written.{WritesPrefix, Writes}
 
 pub appends_both : (a b c : Option (List ℕ)) (x y : List ℕ) → Appends a b x → Appends b c y → Appends a c (x ++ y)
 appends_both None b c x y p q = tt
@@ -17,7 +17,7 @@ appends_nothing None = tt
 appends_nothing (Some a) = sym (append-nil a)
 
 -- some bytes, and then a beginning of y
-pub front_after : (a b c : Option (List ℕ)) (x y rest : List ℕ) → Appends a b x → WritesFront b c y → WritesFront a c (x ++ (y ++ rest))
+pub front_after : (a b c : Option (List ℕ)) (x y rest : List ℕ) → Appends a b x → WritesPrefix b c y → WritesPrefix a c (x ++ (y ++ rest))
 front_after a b c x y rest p q =
     let n : ℕ = min q.0 (length y) in
     let e : take n y ≡ take q.0 y = take_min q.0 y in
@@ -26,8 +26,8 @@ front_after a b c x y rest p q =
     (length x + n, subst (Appends a c) (sym f) (appends_both a b c x (take q.0 y) p q.1))
 
 -- x, and then a beginning of y
-pub front_both : (a b c : Option (List ℕ)) (x y : List ℕ) → Appends a b x → WritesFront b c y → WritesFront a c (x ++ y)
-front_both a b c x y p q = subst (λ t. WritesFront a c (x ++ t)) (append-nil y) (front_after a b c x y [] p q)
+pub front_both : (a b c : Option (List ℕ)) (x y : List ℕ) → Appends a b x → WritesPrefix b c y → WritesPrefix a c (x ++ y)
+front_both a b c x y p q = subst (λ t. WritesPrefix a c (x ++ t)) (append-nil y) (front_after a b c x y [] p q)
 
 pub writes_then : {T E : Type 0} (r : Result T E) (a b c : Option (List ℕ)) (x y : List ℕ)
     → Appends a b x → Writes r b c y → Writes r a c (x ++ y)
@@ -35,7 +35,7 @@ writes_then (Ok v) a b c x y p q = appends_both a b c x y p q
 writes_then (Err e) a b c x y p q = front_both a b c x y p q
 
 -- a beginning of x is one of x and more
-pub front_longer : (a b : Option (List ℕ)) (x y : List ℕ) → WritesFront a b x → WritesFront a b (x ++ y)
+pub front_longer : (a b : Option (List ℕ)) (x y : List ℕ) → WritesPrefix a b x → WritesPrefix a b (x ++ y)
 front_longer a b x y p =
     let n : ℕ = min p.0 (length x) in
     let e : take n (x ++ y) ≡ take p.0 x = take-append-le n x y (omega arith) ∙ take_min p.0 x in

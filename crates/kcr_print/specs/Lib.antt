@@ -1,3 +1,5 @@
 pub mod Written
 pub mod Lines
+pub mod Journal
 pub mod Reports
+pub mod Requests

@@ -5,15 +5,15 @@ use Rattle.std.specs.List.{flat_map}
 use Rattle.kcr_base.specs.Moment.{moment_text}
 use Rattle.kcr_custody.specs.Spots.{spot_text}
 use Rattle.kcr_script.specs.declared.seat.Seat.{Seat}
-use Rattle.kcr_history.specs.declared.rows.CeremonyRow.{CeremonyRow}
-use Rattle.kcr_history.specs.declared.rows.StepRow.{StepRow}
-use Rattle.kcr_history.specs.declared.rows.StepState.{StepState}
-use Rattle.kcr_history.specs.declared.rows.StepState.TheVariants.{Undone, Signed, Passed}
+use Rattle.kcr_history.specs.declared.row_types.CeremonyRow.{CeremonyRow}
+use Rattle.kcr_history.specs.declared.row_types.StepRow.{StepRow}
+use Rattle.kcr_history.specs.declared.row_types.StepState.{StepState}
+use Rattle.kcr_history.specs.declared.row_types.StepState.TheVariants.{Undone, Signed, Passed}
 use Rattle.kcr_history.specs.Prints.{ends_line, line_of, head_line, moment_line, seat_lines, seats_filled, open_lines}
 use Rattle.kcr_history.specs.Prints.{csv_line}
-use Rattle.kcr_reading.specs.declared.bags.PackedBag.{PackedBag}
-use Rattle.kcr_reading.specs.declared.stays.NamedStay.{NamedStay}
-use Rattle.kcr_reading.specs.declared.steps.SeatedStep.{SeatedStep}
+use Rattle.kcr_history.specs.declared.report_rows.BagWithItems.{BagWithItems}
+use Rattle.kcr_history.specs.declared.report_rows.StayWithName.{StayWithName}
+use Rattle.kcr_history.specs.declared.report_rows.SeatedStep.{SeatedStep}
 
 -- what stands above the steps
 abbrev pub head_lines : CeremonyRow → List ℕ
@@ -42,7 +42,7 @@ abbrev pub header_line : List ℕ
 header_line = csv_line (codes "who" ∷ codes "name" ∷ codes "in" ∷ codes "out" ∷ [])
 
 -- a stay with the person's name
-abbrev pub named_line : NamedStay → List ℕ
+abbrev pub named_line : StayWithName → List ℕ
 named_line row =
     csv_line
     (row.stay.who ∷ row.name ∷ moment_text row.stay.since ∷ unwrap_or (option_map moment_text row.stay.until) [] ∷ [])
@@ -52,5 +52,5 @@ abbrev pub code_line : List ℕ → List ℕ
 code_line code = ends_line (codes "  " ++ code)
 
 -- a bag with its items
-abbrev pub packed_lines : PackedBag → List ℕ
+abbrev pub packed_lines : BagWithItems → List ℕ
 packed_lines row = line_of (row.bag.serial ∷ spot_text row.bag.spot ∷ []) ++ flat_map code_line row.codes

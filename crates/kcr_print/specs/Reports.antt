@@ -1,6 +1,7 @@
 -- What a call that writes a report leaves.
 use Rattle.std.specs.Prelude.{◌≡◌, ◌≢◌, ◌<◌, ◌⊎◌, ◌↔◌, ⊤, ℕ, List, Option, None, Result, Err, IfErr, MatchResult}
-use Rattle.std.specs.Prelude.{IsSome, IsTrue, OnOk, unwrap_or}
+use Rattle.std.specs.Prelude.{IsSome, IsTrue, OnOk, take, unwrap_or}
+use Rattle.std.specs.List.{flat_map}
 use Rattle.std.specs.Io.KnownBytes.{Appends}
 use Rattle.sqlite.specs.Store.{Ghosts}
 use Rattle.sqlite.specs.Held.{state}
@@ -13,63 +14,73 @@ use Rattle.kcr_history.specs.Ceremonies.{is_ceremony}
 use Rattle.kcr_history.specs.History.{History}
 use Rattle.kcr_history.specs.Prints.{annotated, attendance}
 use Rattle.kcr_tables.specs.Refusals.{IsFault}
-use Rattle.kcr_store.specs.Register.{Seen, IsKept}
+use Rattle.kcr_store.specs.Register.{RegisterState, IsConsistent}
 use Rattle.kcr_store.specs.Calls.{KeepsHistory, OfHistory}
 use Rattle.kcr_store.specs.Rows.{IsNotPlanned, NamesCeremony}
-use Rattle.kcr_print.specs.Written.{WritesFront}
+use Rattle.kcr_print.specs.Written.{WritesPrefix}
 use Rattle.kcr_print.specs.declared.fault.PrintFault.{PrintFault}
 use Rattle.kcr_print.specs.declared.fault.PrintFault.TheVariants.{Refused, Write}
 use Rattle.kcr_print.specs.declared.reports.CeremonyReport.{CeremonyReport}
 use Rattle.kcr_print.specs.declared.reports.CeremonyReport.TheVariants.{Script, Attendance}
 
--- memory was wanting, the device failed, or the report is refused for what it is asked for; or a write failed
+-- memory ran out, the device failed, or the report is refused for what it is asked for; or a write failed
 abbrev pub Stops : (Refusal → Type 0) → PrintFault → Type 0
 Stops Denies (Refused refusal) = IsFault refusal ⊎ Denies refusal
 Stops Denies Write = ⊤
 
--- of a register with a history: the whole report is written, or a beginning of it and then why it stops
+-- of a register with a history: the whole report is written, or a prefix of it and then why it stops
 abbrev pub IsPrinted : (Refusal → Type 0) → List ℕ → Result ⊤ PrintFault → Option (List ℕ) → Option (List ℕ) → Type 0
 IsPrinted Denies text result old new =
-    MatchResult result (λ _. Appends old new text) (λ fault. WritesFront old new text × Stops Denies fault)
+    MatchResult result (λ _. Appends old new text) (λ fault. WritesPrefix old new text × Stops Denies fault)
 
--- a call that reads a register that is not broken: its history stays, and a fault of the device alone breaks it
-pub record Leaves {S : Type 0} (before after : Seen S) (result : Result ⊤ PrintFault) : Type 0 where
+-- a refusal leaves the writer as it was
+abbrev pub RefusesUnwritten : {W : Type 0} → Counted W → Counted W → Result ⊤ PrintFault → Type 0
+RefusesUnwritten old new result = (refusal : Refusal) → result ≡ Err (Refused refusal) → new ≡ old
+
+-- a refusal leaves whole rows written: the lines of the first N
+abbrev pub RefusesBetweenRows
+    : {Row : Type 0} → (Row → List ℕ) → List Row → Result ⊤ PrintFault → Option (List ℕ) → Option (List ℕ) → Type 0
+RefusesBetweenRows lines rows result old new =
+    (refusal : Refusal) → result ≡ Err (Refused refusal) → (n : ℕ) × Appends old new (flat_map lines (take n rows))
+
+-- a call that reads a register that is not broken: its history stays, and an I/O error alone breaks it
+pub record KeepsRegister {S : Type 0} (before after : RegisterState S) (result : Result ⊤ PrintFault) : Type 0 where
   pub same : after.accepted ≡ before.accepted
-  pub breaks : before.torn ≡ None → IsSome after.torn ↔ (result ≡ Err (Refused Refusals.Disk))
-  pub tried : before.torn ≡ None → unwrap_or after.torn after.accepted ≡ before.accepted
-  pub founded : after.is_founded ≡ before.is_founded
+  pub breaks : before.in_doubt ≡ None → IsSome after.in_doubt ↔ (result ≡ Err (Refused Refusals.Disk))
+  pub tried : before.in_doubt ≡ None → unwrap_or after.in_doubt after.accepted ≡ before.accepted
+  pub founded : after.is_genuine ≡ before.is_genuine
 
 -- the writer's count tells whether a write failed
-pub record TellsWrites {W : Type 0} (old new : Counted W) (result : Result ⊤ PrintFault) : Type 0 where
+pub record CountsWriteFaults {W : Type 0} (old new : Counted W) (result : Result ⊤ PrintFault) : Type 0 where
   pub calm : result ≢ Err Write → failures_of new ≡ failures_of old
   pub fault : result ≡ Err Write → failures_of old < failures_of new
 
 -- a part of a report over a register that is not broken: this text of its history is printed, the history stays, and a
 -- fault of the device has not broken the register yet; the part is denied only for what it is asked for
-pub record Puts {S W : Type 0} (g : Ghosts S) (contents : W → Option (List ℕ))
-    (before after : Seen S) (old new : Counted W) (result : Result ⊤ PrintFault)
+pub record PrintsPart {S W : Type 0} (g : Ghosts S) (contents : W → Option (List ℕ))
+    (before after : RegisterState S) (old new : Counted W) (result : Result ⊤ PrintFault)
     (Denies : History → Refusal → Type 0) (MayDeny : Refusal → Type 0) (text : History → List ℕ) : Type 0 where
   pub printed : OfHistory g before after
       (λ A. IsPrinted (Denies A) (text A) result (contents (inner_of old)) (contents (inner_of new)))
   pub cause : IfErr result (Stops MayDeny)
   pub keeps : KeepsHistory before after
   pub clean : HasCleanDisk (state g after.conn) → HasCleanDisk (state g before.conn)
-  pub kept : IsKept g after
-  pub told : TellsWrites old new result
+  pub kept : IsConsistent g after
+  pub told : CountsWriteFaults old new result
 
--- a report over any register: as `Puts` has it, and a fault of the device breaks the register. A broken one answers so,
+-- a report over any register: as `PrintsPart` has it, and an I/O error breaks the register. A broken one answers so,
 -- and nothing is written
 pub record Prints {S W : Type 0} (g : Ghosts S) (contents : W → Option (List ℕ))
-    (before after : Seen S) (old new : Counted W) (result : Result ⊤ PrintFault)
+    (before after : RegisterState S) (old new : Counted W) (result : Result ⊤ PrintFault)
     (Denies : History → Refusal → Type 0) (MayDeny : Refusal → Type 0) (text : History → List ℕ) : Type 0 where
-  pub broken : IsSome before.torn → (result ≡ Err (Refused Refusals.Broken)) × (after ≡ before) × (new ≡ old)
+  pub broken : IsSome before.in_doubt → (result ≡ Err (Refused Refusals.Broken)) × (after ≡ before) × (new ≡ old)
   pub printed : OfHistory g before after
       (λ A. IsPrinted (Denies A) (text A) result (contents (inner_of old)) (contents (inner_of new)))
-  pub cause : before.torn ≡ None → IfErr result (Stops MayDeny)
-  pub leaves : Leaves before after result
+  pub cause : before.in_doubt ≡ None → IfErr result (Stops MayDeny)
+  pub leaves : KeepsRegister before after result
   pub clean : HasCleanDisk (state g after.conn) → HasCleanDisk (state g before.conn)
-  pub kept : IsKept g after
-  pub told : TellsWrites old new result
+  pub kept : IsConsistent g after
+  pub told : CountsWriteFaults old new result
 
 -- the ceremony of a report
 abbrev pub ceremony_of : CeremonyReport → ℕ
@@ -82,7 +93,7 @@ text_of (Script ceremony) = annotated
 text_of (Attendance ceremony) = attendance
 
 -- what is printed whole is of a ceremony that was planned
-abbrev pub IsOfPlanned : {S : Type 0} → Ghosts S → Seen S → Seen S → Result ⊤ PrintFault → ℕ → Type 0
+abbrev pub IsOfPlanned : {S : Type 0} → Ghosts S → RegisterState S → RegisterState S → Result ⊤ PrintFault → ℕ → Type 0
 IsOfPlanned g before after result ceremony =
     OfHistory g before after (λ A. OnOk result (IsTrue (is_ceremony A ceremony)))
 
@@ -91,18 +102,18 @@ abbrev pub DeniesUnwritten : {W : Type 0} → ℕ → Counted W → Counted W �
 DeniesUnwritten ceremony old new result =
     (refusal : Refusal) → NamesCeremony ceremony refusal → result ≡ Err (Refused refusal) → new ≡ old
 
--- a part of the report of a ceremony: it is denied only where the ceremony was never planned, and before it is begun
-pub record PutsPlanned {S W : Type 0} (report : History → ℕ → List ℕ) (ceremony : ℕ) (g : Ghosts S)
-    (contents : W → Option (List ℕ)) (before after : Seen S) (old new : Counted W)
+-- a part of the report of a ceremony: it is denied only if the ceremony was never planned, and before it is begun
+pub record PrintsCeremonyPart {S W : Type 0} (report : History → ℕ → List ℕ) (ceremony : ℕ) (g : Ghosts S)
+    (contents : W → Option (List ℕ)) (before after : RegisterState S) (old new : Counted W)
     (result : Result ⊤ PrintFault) : Type 0 where
-  pub puts : Puts g contents before after old new result
+  pub puts : PrintsPart g contents before after old new result
       (λ A. IsNotPlanned A ceremony) (NamesCeremony ceremony) (λ A. report A ceremony)
   pub planned : IsOfPlanned g before after result ceremony
   pub unwritten : DeniesUnwritten ceremony old new result
 
--- the report of a ceremony: it is denied only where the ceremony was never planned, and before it is begun
+-- the report of a ceremony: it is denied only if the ceremony was never planned, and before it is begun
 pub record PrintsPlanned {S W : Type 0} (report : History → ℕ → List ℕ) (ceremony : ℕ) (g : Ghosts S)
-    (contents : W → Option (List ℕ)) (before after : Seen S) (old new : Counted W)
+    (contents : W → Option (List ℕ)) (before after : RegisterState S) (old new : Counted W)
     (result : Result ⊤ PrintFault) : Type 0 where
   pub prints : Prints g contents before after old new result
       (λ A. IsNotPlanned A ceremony) (NamesCeremony ceremony) (λ A. report A ceremony)

@@ -1,20 +1,25 @@
-//! The reports of a register as text: the annotated script of a ceremony, its attendance, and custody.
+//! The reports of a register as text: the annotated script of a ceremony, its attendance, and custody; and its accepted
+//! commands, as the stream of requests that makes it again and as a journal for people.
 //!
 //! A report is written line by line while the rows are read a few at a time, so that its length takes no memory. A
-//! refusal in the middle leaves a beginning of it written.
+//! refusal in the middle leaves a prefix of it written.
 #![tactic(auto)]
 
+mod attendance_lines;
+mod ceremony;
+mod custody_lines;
 mod fault;
+mod journal_lines;
 mod line;
 mod parts;
-mod printed;
+mod print_lines;
 mod reports;
-mod rows;
-mod script;
-mod stays;
-mod things;
+mod requests;
+mod script_lines;
+mod write_rows;
 mod writing;
 
-pub use fault::{PrintFault, Unwritten};
-pub use reports::{CeremonyReport, ceremony_report, custody};
-pub use writing::put;
+pub use ceremony::{annotated, attendance_csv};
+pub use fault::{PrintFault, WriteFailed};
+pub use reports::{CeremonyReport, ceremony_report, custody, export, exports_join, journal};
+pub use writing::write_whole;

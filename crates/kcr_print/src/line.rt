@@ -39,7 +39,7 @@ pub(crate) fn push_inner_line(out: &mut Vec<u8>, words: &[&str]) -> Result<(), A
     push_line(out, words)
 }
 
-/// Adds a line of a word and a moment, where there is one.
+/// Adds a line of a word and a moment, if there is one.
 pub(crate) fn push_moment(
     out: &mut Vec<u8>,
     word: &str,

@@ -1,21 +1,28 @@
-//! The parts of the reports. None of them breaks the register after a fault of the device.
+//! The parts of the reports. None of them breaks the register after an I/O error.
 
 ghost use Rattle.std.specs.Prelude.{◌≡◌, None};
 ghost use Rattle.std.specs.List.{flat_map};
 ghost use Rattle.kcr_history.specs.Prints as prints;
 ghost use Rattle.kcr_history.specs.Tables.{tables};
-ghost use Rattle.kcr_store.specs.Register.{IsKept};
-ghost use Rattle.kcr_print.specs.Reports.{Puts, PutsPlanned, ceremony_of, text_of};
+ghost use Rattle.kcr_store.specs.Register.{IsConsistent};
+ghost use Rattle.kcr_base.specs.Counted.{inner_of};
+ghost use Rattle.kcr_reading.specs.Commands.{commands_within};
+ghost use Rattle.kcr_store.specs.Calls.{OfHistory};
+ghost use Rattle.kcr_print.specs.Reports.{PrintsPart, PrintsCeremonyPart, RefusesBetweenRows, ceremony_of, text_of};
+ghost use Rattle.kcr_print.specs.Journal.{row_journal};
+ghost use Rattle.kcr_print.specs.Requests.{row_request, row_requests};
 
+use crate::attendance_lines::Header;
 use crate::fault::PrintFault;
-use crate::printed::Printed;
+use crate::print_lines::PrintLines;
 use crate::reports::CeremonyReport;
-use crate::rows::{put_row, put_rows};
-use crate::script::{Foot, Head};
-use crate::stays::Header;
-use kcr_base::Counted;
+use crate::script_lines::{Foot, Head};
+use crate::write_rows::{write_row, write_rows};
+use kcr_base::{CeremonyNumber, Counted};
+use kcr_journal::JournalCursor;
 use kcr_reading::{
-    BagReading, ExceptionReading, LooseReading, Reading, SafeReading, StayReading, StepReading,
+    BagCursor, CommandCursor, Cursor, ExceptionCursor, LooseCursor, SafeCursor, StayCursor,
+    StepCursor,
 };
 use kcr_store::Register;
 use sqlite::Alter;
@@ -23,31 +30,33 @@ use std::alloc::Global;
 use std::io::Write;
 
 /// Writes the rows that a reading gives.
-fn put_all<S: Alter, P: Printed, R: Reading<Row = P>, W: Write>(
+fn write_all_rows<S: Alter, P: PrintLines, R: Cursor<Row = P>, W: Write>(
     alloc: Global,
     register: &mut Register<S>,
     reading: R,
     writer: &mut Counted<W>,
 ) -> Result<(), PrintFault>
-    requires kept { IsKept S.Store register.old }
-    requires whole { register.old.torn ≡ None }
-    ensures { Puts S.Store W.contents register.old register.new writer.old writer.new result (λ _ _. ⊥) (λ _. ⊥)
-        (λ A. flat_map P.lines (R.to_come reading (tables A))) }
+    requires kept { IsConsistent S.Store register.old }
+    requires whole { register.old.in_doubt ≡ None }
+    ensures prints { PrintsPart S.Store W.contents register.old register.new writer.old writer.new result (λ _ _. ⊥)
+        (λ _. ⊥) (λ A. flat_map P.lines (R.to_come reading (tables A))) }
+    ensures whole { OfHistory S.Store register.old register.new (λ A. RefusesBetweenRows P.lines
+        (R.to_come reading (tables A)) result (W.contents (inner_of writer.old)) (W.contents (inner_of writer.new))) }
 {
     let mut rows = register.rows(reading)?;
-    put_rows(alloc, &mut rows, writer)
+    write_rows(alloc, &mut rows, writer)
 }
 
 /// Writes a report of a ceremony.
-pub(crate) fn put_planned<S: Alter, W: Write>(
+pub(crate) fn print_ceremony_report<S: Alter, W: Write>(
     alloc: Global,
     register: &mut Register<S>,
     report: CeremonyReport,
     writer: &mut Counted<W>,
 ) -> Result<(), PrintFault>
-    requires kept { IsKept S.Store register.old }
-    requires whole { register.old.torn ≡ None }
-    ensures { PutsPlanned (text_of report) (ceremony_of report) S.Store W.contents register.old register.new writer.old
+    requires kept { IsConsistent S.Store register.old }
+    requires whole { register.old.in_doubt ≡ None }
+    ensures { PrintsCeremonyPart (text_of report) (ceremony_of report) S.Store W.contents register.old register.new writer.old
         writer.new result }
 {
     let ceremony = report.ceremony();
@@ -55,30 +64,69 @@ pub(crate) fn put_planned<S: Alter, W: Write>(
     let row = register.ceremony_row(ceremony)?;
     match report {
         CeremonyReport::Script(_) => {
-            put_row(alloc, &Head { row: &row }, writer)?;
-            put_all(alloc, register, StepReading::start(number), writer)?;
-            put_all(alloc, register, ExceptionReading::start(number), writer)?;
-            put_row(alloc, &Foot { row: &row }, writer)
+            write_row(alloc, &Head { row: &row }, writer)?;
+            write_all_rows(alloc, register, StepCursor::new(number), writer)?;
+            write_all_rows(alloc, register, ExceptionCursor::new(number), writer)?;
+            write_row(alloc, &Foot { row: &row }, writer)
         }
         CeremonyReport::Attendance(_) => {
-            put_row(alloc, &Header, writer)?;
-            put_all(alloc, register, StayReading::start(number), writer)
+            write_row(alloc, &Header, writer)?;
+            write_all_rows(alloc, register, StayCursor::new(number), writer)
         }
     }
 }
 
 /// Writes custody.
-pub(crate) fn put_custody<S: Alter, W: Write>(
+pub(crate) fn print_custody<S: Alter, W: Write>(
     alloc: Global,
     register: &mut Register<S>,
     writer: &mut Counted<W>,
 ) -> Result<(), PrintFault>
-    requires kept { IsKept S.Store register.old }
-    requires whole { register.old.torn ≡ None }
-    ensures { Puts S.Store W.contents register.old register.new writer.old writer.new result
+    requires kept { IsConsistent S.Store register.old }
+    requires whole { register.old.in_doubt ≡ None }
+    ensures { PrintsPart S.Store W.contents register.old register.new writer.old writer.new result
         (λ _ _. ⊥) (λ _. ⊥) (λ A. prints.custody A) }
 {
-    put_all(alloc, register, SafeReading::start(), writer)?;
-    put_all(alloc, register, BagReading::start(), writer)?;
-    put_all(alloc, register, LooseReading::start(), writer)
+    write_all_rows(alloc, register, SafeCursor::new(), writer)?;
+    write_all_rows(alloc, register, BagCursor::new(), writer)?;
+    write_all_rows(alloc, register, LooseCursor::new(), writer)
+}
+
+/// Writes the requests of the accepted commands past the number `after`, up to the one with the number `until`.
+pub(crate) fn print_requests<S: Alter, W: Write>(
+    alloc: Global,
+    register: &mut Register<S>,
+    after: u32,
+    until: u32,
+    writer: &mut Counted<W>,
+) -> Result<(), PrintFault>
+    requires kept { IsConsistent S.Store register.old }
+    requires whole { register.old.in_doubt ≡ None }
+    ensures prints { PrintsPart S.Store W.contents register.old register.new writer.old writer.new result
+        (λ _ _. ⊥) (λ _. ⊥) (row_requests after until) }
+    ensures whole { OfHistory S.Store register.old register.new (λ A. RefusesBetweenRows row_request
+        (commands_within after until (tables A)) result
+        (W.contents (inner_of writer.old)) (W.contents (inner_of writer.new))) }
+{
+    write_all_rows(alloc, register, CommandCursor::new(after, until), writer)
+}
+
+/// Writes the journal, of all commands or of those that name a ceremony.
+pub(crate) fn print_journal<S: Alter, W: Write>(
+    alloc: Global,
+    register: &mut Register<S>,
+    asked: Option<CeremonyNumber>,
+    writer: &mut Counted<W>,
+) -> Result<(), PrintFault>
+    requires kept { IsConsistent S.Store register.old }
+    requires whole { register.old.in_doubt ≡ None }
+    ensures { PrintsPart S.Store W.contents register.old register.new writer.old writer.new result
+        (λ _ _. ⊥) (λ _. ⊥) (row_journal asked) }
+{
+    write_all_rows(
+        alloc,
+        register,
+        JournalCursor::new(0, u32::MAX, asked),
+        writer,
+    )
 }

@@ -1,12 +1,19 @@
-//! The three reports.
+//! The three reports, and the export.
 
-ghost use Rattle.std.specs.Prelude.{◌≡◌};
+ghost use Rattle.std.specs.Prelude.{◌≡◌, ◌≤◌, ◌++◌, ℕ};
+ghost use Rattle.kcr_history.specs.History.{History};
 ghost use Rattle.kcr_history.specs.Prints as prints;
-ghost use Rattle.kcr_store.specs.Register.{IsKept};
-ghost use Rattle.kcr_print.specs.Reports.{Leaves, Prints, PrintsPlanned, ceremony_of, text_of};
+ghost use Rattle.kcr_store.specs.Register.{IsConsistent};
+ghost use Rattle.kcr_base.specs.Counted.{inner_of};
+ghost use Rattle.kcr_history.specs.Tables.{tables};
+ghost use Rattle.kcr_reading.specs.Commands.{commands_within};
+ghost use Rattle.kcr_store.specs.Calls.{OfHistory};
+ghost use Rattle.kcr_print.specs.Reports.{KeepsRegister, Prints, PrintsPlanned, RefusesBetweenRows, ceremony_of, text_of};
+ghost use Rattle.kcr_print.specs.Journal.{PrintsJournal, row_journal};
+ghost use Rattle.kcr_print.specs.Requests.{Exports, requests_between, row_request, row_requests};
 
 use crate::fault::PrintFault;
-use crate::parts::{put_custody, put_planned};
+use crate::parts::{print_ceremony_report, print_custody, print_journal, print_requests};
 use kcr_base::{CeremonyNumber, Counted, Refusal};
 use kcr_store::Register;
 use sqlite::Alter;
@@ -34,16 +41,16 @@ impl CeremonyReport {
     }
 }
 
-/// Breaks the register where a report met a fault of the device, and gives the report's outcome on.
-fn settle<S: Alter>(
+/// Breaks the register if a report met an I/O error, and gives the report's outcome on.
+fn note_disk_fault<S: Alter>(
     register: &mut Register<S>,
     outcome: Result<(), PrintFault>,
 ) -> Result<(), PrintFault>
-    requires { IsKept S.Store register.old }
+    requires { IsConsistent S.Store register.old }
     ensures same { result ≡ outcome }
-    ensures leaves { Leaves register.old register.new outcome }
+    ensures leaves { KeepsRegister register.old register.new outcome }
     ensures connection { register.new.conn ≡ register.old.conn }
-    ensures kept { IsKept S.Store register.new }
+    ensures kept { IsConsistent S.Store register.new }
 {
     match outcome {
         Ok(()) => Ok(()),
@@ -56,8 +63,8 @@ fn settle<S: Alter>(
 }
 
 /// Writes a report of a ceremony. A ceremony that was never planned is refused as unknown (12), with nothing written.
-/// Out of memory (33), a fault of the device (34) or a write that fails may come at any row, and leaves a beginning of
-/// the report written. A fault of the device breaks the register; a broken one answers 35, and nothing is written.
+/// Out of memory (33), an I/O error (34) or a write that fails may come at any row, and leaves a beginning of
+/// the report written. An I/O error breaks the register; a broken one answers 35, and nothing is written.
 pub fn ceremony_report<S: Alter, W: Write>(
     alloc: Global,
     register: &mut Register<S>,
@@ -70,8 +77,8 @@ pub fn ceremony_report<S: Alter, W: Write>(
     if register.is_broken() {
         return Err(PrintFault::Refused(Refusal::Broken));
     }
-    let outcome = put_planned(alloc, register, report, writer);
-    settle(register, outcome)
+    let outcome = print_ceremony_report(alloc, register, report, writer);
+    note_disk_fault(register, outcome)
 }
 
 /// Writes custody: the four safes, then the bags by serial, each with its items by code, then the loose items by code.
@@ -87,6 +94,79 @@ pub fn custody<S: Alter, W: Write>(
     if register.is_broken() {
         return Err(PrintFault::Refused(Refusal::Broken));
     }
-    let outcome = put_custody(alloc, register, writer);
-    settle(register, outcome)
+    let outcome = print_custody(alloc, register, writer);
+    note_disk_fault(register, outcome)
+}
+
+/// Writes what the rows of accepted commands keep, as requests.
+fn export_rows<S: Alter, W: Write>(
+    alloc: Global,
+    register: &mut Register<S>,
+    after: u32,
+    until: u32,
+    writer: &mut Counted<W>,
+) -> Result<(), PrintFault>
+    ensures prints { Prints S.Store W.contents register.old register.new writer.old writer.new result
+        (λ _ _. ⊥) (λ _. ⊥) (row_requests after until) }
+    ensures whole { OfHistory S.Store register.old register.new (λ A. RefusesBetweenRows row_request
+        (commands_within after until (tables A)) result
+        (W.contents (inner_of writer.old)) (W.contents (inner_of writer.new))) }
+{
+    if register.is_broken() {
+        return Err(PrintFault::Refused(Refusal::Broken));
+    }
+    let outcome = print_requests(alloc, register, after, until, writer);
+    note_disk_fault(register, outcome)
+}
+
+/// Writes the requests of the accepted commands whose numbers are greater than `after`, up to the one with the number
+/// `until`, in the order of their numbers: row by row, with one of them in memory. `u32::MAX` stands for the end. The
+/// refusals are those of `custody`; what was written before one are whole requests.
+pub fn export<S: Alter, W: Write>(
+    alloc: Global,
+    register: &mut Register<S>,
+    after: u32,
+    until: u32,
+    writer: &mut Counted<W>,
+) -> Result<(), PrintFault>
+    ensures { Exports S.Store W.contents register.old register.new writer.old writer.new result after until }
+{
+    export_rows(alloc, register, after, until, writer)
+}
+
+/// Exports, one after the other, are the export of both.
+pub fn exports_join()
+    ensures { (A : History) (after middle until : ℕ) → after ≤ middle → middle ≤ until
+        → requests_between after until A ≡ requests_between after middle A ++ requests_between middle until A }
+{}
+
+/// Writes the lines of the journal, by the rows of accepted commands.
+fn journal_rows<S: Alter, W: Write>(
+    alloc: Global,
+    register: &mut Register<S>,
+    asked: Option<CeremonyNumber>,
+    writer: &mut Counted<W>,
+) -> Result<(), PrintFault>
+    ensures { Prints S.Store W.contents register.old register.new writer.old writer.new result
+        (λ _ _. ⊥) (λ _. ⊥) (row_journal asked) }
+{
+    if register.is_broken() {
+        return Err(PrintFault::Refused(Refusal::Broken));
+    }
+    let outcome = print_journal(alloc, register, asked, writer);
+    note_disk_fault(register, outcome)
+}
+
+/// Writes the journal: a line for each accepted command in the order of their numbers, with its number, its moment or
+/// day, and a sentence with names; with a ceremony, only the commands that name it. One line is in memory at a time. The
+/// refusals are those of `custody`.
+pub fn journal<S: Alter, W: Write>(
+    alloc: Global,
+    register: &mut Register<S>,
+    asked: Option<CeremonyNumber>,
+    writer: &mut Counted<W>,
+) -> Result<(), PrintFault>
+    ensures { PrintsJournal S.Store W.contents register.old register.new writer.old writer.new result asked }
+{
+    journal_rows(alloc, register, asked, writer)
 }

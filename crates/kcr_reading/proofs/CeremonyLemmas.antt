@@ -25,19 +25,20 @@ use Rattle.kcr_rows.specs.Rows.{exception_row, seating_row, step_row}
 use Rattle.kcr_room.proofs.Lists.{filter-and}
 use Rattle.kcr_history.specs.Prints.{in_order, seated_at, seatings_at}
 use Rattle.kcr_history.specs.Tables as machine
-use Rattle.kcr_history.specs.declared.rows.ExceptionRow.{ExceptionRow}
-use Rattle.kcr_history.specs.declared.rows.SeatingRow.{SeatingRow}
-use Rattle.kcr_history.specs.declared.rows.StepRow.{StepRow}
+use Rattle.kcr_history.specs.declared.row_types.ExceptionRow.{ExceptionRow}
+use Rattle.kcr_history.specs.declared.row_types.SeatingRow.{SeatingRow}
+use Rattle.kcr_history.specs.declared.row_types.StepRow.{StepRow}
 use Rattle.kcr_tables.specs.ExceptionsLaws as exceptions
-use Rattle.kcr_tables.specs.Held.{Tables, Holds, exceptions_place, steps_place, seatings_place}
-use Rattle.kcr_tables.specs.Joint.{KeepsTables, Stands}
+use Rattle.kcr_tables.specs.StoredTables.{StoredTables, Holds, exceptions_place, steps_place, seatings_place}
+use Rattle.kcr_tables.specs.MachineTables.{TreesHoldTables, SameRows}
 use Rattle.kcr_tables.specs.SeatingsLaws as seatings
-use Rattle.kcr_tables.specs.Statements.{key_order, Choice, ShowsRows}
+use Rattle.kcr_tables.specs.Statements.{key_order, Choice, SelectsRows}
 use Rattle.kcr_tables.specs.StepsLaws as steps
 use Rattle.kcr_tables.proofs.StatementLemmas.{rows_shown}
-use Rattle.kcr_reading.specs.First.{ShowsSome, ShowsFirst, InOrder, AreFirst, IsFirst, bound_of}
-use Rattle.kcr_reading.specs.ToCome.{Gives, GivesSeveral, IsStepWithin, is_past, is_past_until, people_at, exceptions_past, rows_past, with_people, with_seated}
-use Rattle.kcr_reading.specs.declared.steps.SeatedStep.{SeatedStep}
+use Rattle.kcr_reading.specs.FirstRows.{ShowsSome, ShowsFirst, InOrder, AreFirst, IsFirstRow, bound_of}
+use Rattle.kcr_history.specs.Questions.{with_seated}
+use Rattle.kcr_reading.specs.Remaining.{IsNextOf, IsNextBatchOf, IsStepWithin, is_past, is_past_until, people_at, exceptions_past, rows_past, with_people}
+use Rattle.kcr_history.specs.declared.report_rows.SeatedStep.{SeatedStep}
 use Rattle.kcr_reading.proofs.ChoiceLemmas.{by_test, rise, chosen_come, next_come, several_come, within_come}
 use Rattle.kcr_reading.proofs.FirstLemmas.{begin_take}
 use Rattle.kcr_reading.proofs.NumberLemmas.{behind_number, up_to_number, equal_number, one_test, with_tests, same_ceremony, same_step, number_later}
@@ -94,15 +95,15 @@ module _ {X : Type 0} (row_of : X → Row) (ceremony_of number_of : X → ℕ)
         number_test (number_params ceremony last) (chosen ceremony last)
 
     -- the first of them is the next row, and the others come behind it
-    pub next : (last : Option ℕ) (found : Option X) → IsFirst row_of (numbered ceremony last) ts found
-        → Gives (come last) found (come (moved nat_cmp nat_cmp_total number_of last found))
+    pub next : (last : Option ℕ) (found : Option X) → IsFirstRow row_of (numbered ceremony last) ts found
+        → IsNextOf (come last) found (come (moved nat_cmp nat_cmp_total number_of last found))
     next last found first =
         next_come row_of nat_cmp nat_cmp_total number_of past (number_later number_of) 2 (is_of ceremony) (among ceremony) ts up come come_is last found
         (chosen_next last (λ l. found ≡ slice_get l 0) first)
 
     -- several of them are the next rows, and the others come behind the last of them
     pub several : (last : Option ℕ) (count : ℕ) → 0 < count → (rows : List X) → AreFirst count row_of (numbered ceremony last) ts rows
-        → GivesSeveral (come last) rows (come (moved_on nat_cmp nat_cmp_total number_of last rows))
+        → IsNextBatchOf (come last) rows (come (moved_on nat_cmp nat_cmp_total number_of last rows))
     several last count low rows first =
         several_come row_of nat_cmp nat_cmp_total number_of past (number_later number_of) 2 (is_of ceremony) (among ceremony) ts up come come_is last rows
         (begin_take count low (come last) rows (chosen_next last (λ l. rows ≡ take count l) first))
@@ -124,9 +125,9 @@ unfolding understood everything
 exceptions_shown ceremony last =
     record { test = number_test; project = exceptions.project; order = key_order exceptions_place; names = exceptions.names; bare = (refl, refl); is = refl }
 
-pub next_exception : (ceremony : ℕ) (last : Option ℕ) (m : machine.Tables) {db : Trees} (k : KeepsTables m db) (found : Option ExceptionRow)
-    → IsFirst exception_row (numbered ceremony last) k.t.rows.exceptions found
-    → Gives (exceptions_past last ceremony m) found (exceptions_past (moved nat_cmp nat_cmp_total (λ (x : ExceptionRow). x.exception) last found) ceremony m)
+pub next_exception : (ceremony : ℕ) (last : Option ℕ) (m : machine.Tables) {db : Trees} (k : TreesHoldTables m db) (found : Option ExceptionRow)
+    → IsFirstRow exception_row (numbered ceremony last) k.t.rows.exceptions found
+    → IsNextOf (exceptions_past last ceremony m) found (exceptions_past (moved nat_cmp nat_cmp_total (λ (x : ExceptionRow). x.exception) last found) ceremony m)
 next_exception ceremony last m k =
     next exception_row (λ x. x.ceremony) (λ x. x.exception) (λ x. refl) ceremony k.stands.rows.exceptions k.kept.exceptions.rising last
 
@@ -140,14 +141,14 @@ unfolding understood everything
 steps_shown ceremony last =
     record { test = number_test; project = steps.project; order = key_order steps_place; names = steps.names; bare = (refl, refl); is = refl }
 
-module _ (ceremony : ℕ) (last : Option ℕ) (m : machine.Tables) {db : Trees} (k : KeepsTables m db) (rows : List StepRow) (found : Option StepRow)
+module _ (ceremony : ℕ) (last : Option ℕ) (m : machine.Tables) {db : Trees} (k : TreesHoldTables m db) (rows : List StepRow) (found : Option StepRow)
     (ends : found ≡ slice_get rows (length rows - 1)) (count : ℕ) (first : AreFirst count step_row (numbered ceremony last) k.t.rows.steps rows) where
   abbrev reached : Option ℕ
   reached = moved nat_cmp nat_cmp_total (λ (x : StepRow). x.step) last found
 
-  pub next_steps : 0 < count → GivesSeveral (rows_past last ceremony m) rows (rows_past reached ceremony m)
+  pub next_steps : 0 < count → IsNextBatchOf (rows_past last ceremony m) rows (rows_past reached ceremony m)
   next_steps low =
-      subst (λ l. GivesSeveral (rows_past last ceremony m) rows (rows_past l ceremony m))
+      subst (λ l. IsNextBatchOf (rows_past last ceremony m) rows (rows_past l ceremony m))
       (moved_to nat_cmp nat_cmp_total (λ (x : StepRow). x.step) last rows found ends)
       (several step_row (λ x. x.ceremony) (λ x. x.step) (λ x. refl) ceremony k.stands.rows.steps k.kept.steps.rising last count low rows first)
 
@@ -177,7 +178,7 @@ abbrev passes : ℕ → Option ℕ → Option ℕ → Row → Bool
 passes ceremony from until = (by_test 3 seatings_test (seatings_params ceremony from until)).passes
 
 pub seatings_shown : (ceremony : ℕ) (from until : Option ℕ)
-    → ShowsRows seatings_text seatings_place (seatings_params ceremony from until) (passes ceremony from until)
+    → SelectsRows seatings_text seatings_place (seatings_params ceremony from until) (passes ceremony from until)
 unfolding understood everything
 seatings_shown ceremony from until =
     record { test = seatings_test; project = seatings.project; order = key_order seatings_place; names = seatings.names; bare = (refl, refl); is = refl }
@@ -211,7 +212,7 @@ of_step ceremony from until step inside rows =
             ap (λ b. (x.ceremony == ceremony && b) && true) (ap (is_past_until from until) (eqb-true x.step step e) ∙ inside) ∙ settled (x.ceremony == ceremony)
         by_step false e = grind arith
 
-pub seated : (ceremony : ℕ) (from until : Option ℕ) (old new : State) (rows : List SeatingRow) (m : machine.Tables) (t : Tables) → Holds old.now t → Stands m t
+pub seated : (ceremony : ℕ) (from until : Option ℕ) (old new : State) (rows : List SeatingRow) (m : machine.Tables) (t : StoredTables) → Holds old.now t → SameRows m t
     → Shown seatings_text (seatings_params ceremony from until) old new (map seating_row rows)
     → (step : ℕ) → is_past_until from until step ≡ true → people_at step rows ≡ seated_at m.seatings ceremony step
 seated ceremony from until old new rows m t held stands h step inside =

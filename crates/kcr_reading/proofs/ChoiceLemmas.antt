@@ -13,17 +13,17 @@ use Rattle.sqlite.specs.Term.{Term, holds}
 use Rattle.sqlite.specs.Tree.{IsAscending}
 use Rattle.sqlite_trees.proofs.ListLemmas.{all_both, all_weaker, all-filter, ascending_weaker, ascending_from_map, ascending-filter, IsPermutation-same}
 use Rattle.kcr_base.specs.declared.refusal.Refusal.{Refusal}
-use Rattle.kcr_rows.specs.Keyed.{Place, by_key}
+use Rattle.kcr_rows.specs.Keyed.{TableLayout, by_key}
 use Rattle.kcr_rows.proofs.FailLemmas.{if_ok}
 use Rattle.kcr_rows.proofs.FilterLemmas.{filter_as}
 use Rattle.kcr_room.proofs.Lists.{filter-and}
 use Rattle.kcr_history.specs.Tables as machine
-use Rattle.kcr_tables.specs.Held.{Tables, Holds}
-use Rattle.kcr_tables.specs.Joint.{HoldsTables, KeepsTables}
+use Rattle.kcr_tables.specs.StoredTables.{StoredTables, Holds}
+use Rattle.kcr_tables.specs.MachineTables.{HoldsTables, TreesHoldTables}
 use Rattle.kcr_tables.proofs.HoldLemmas.{held_of}
 use Rattle.kcr_tables.specs.Statements.{Choice}
-use Rattle.kcr_reading.specs.First.{ShowsSome, InOrder}
-use Rattle.kcr_reading.specs.ToCome.{Gives, GivesSeveral, Begin}
+use Rattle.kcr_reading.specs.FirstRows.{ShowsSome, InOrder}
+use Rattle.kcr_reading.specs.Remaining.{IsNextOf, IsNextBatchOf, Begin}
 use Rattle.kcr_reading.proofs.FirstLemmas.{all_take, ascending_take}
 use Rattle.kcr_reading.proofs.NumberLemmas.{passing, rises_among}
 use Rattle.kcr_reading.proofs.OrderLemmas.{later, moved, moved_on, gives_first, gives_several, none_past}
@@ -39,21 +39,21 @@ by_test keys test params = record {
 }
 
 -- the text chooses the same by other words for its parameters
-pub shown_by : {count : ℕ} {sql : List ℕ} {place : Place} {params given : Row} {choice : Choice} → ShowsSome count sql place params choice → given ≡ params
+pub shown_by : {count : ℕ} {sql : List ℕ} {place : TableLayout} {params given : Row} {choice : Choice} → ShowsSome count sql place params choice → given ≡ params
     → ShowsSome count sql place given choice
 shown_by {count} {sql} {place} {choice = choice} shown is = subst (λ v. ShowsSome count sql place v choice) (sym is) shown
 
 -- ---- calls
 
 -- what a call says of the tables as the database has them, it says of the machine's
-pub by_tables : {A Clean : Type 0} {db : Database} (r : Result A Refusal) (Found : Tables → A → Type 0) (Says : machine.Tables → A → Type 0)
-    → (Clean → (t : Tables) → Holds db t → IfOk r (Found t)) → ((m : machine.Tables) (k : KeepsTables m db.trees) (a : A) → Found k.t a → Says m a)
+pub by_tables : {A Clean : Type 0} {db : Database} (r : Result A Refusal) (Found : StoredTables → A → Type 0) (Says : machine.Tables → A → Type 0)
+    → (Clean → (t : StoredTables) → Holds db t → IfOk r (Found t)) → ((m : machine.Tables) (k : TreesHoldTables m db.trees) (a : A) → Found k.t a → Says m a)
     → Clean → (m : machine.Tables) → HoldsTables m db → IfOk r (Says m)
 by_tables {db = db} r Found Says found says clean m h = if_ok _ _ (says m h.tables) r (found clean h.tables.t (held_of m db h))
 
 -- what is made of the rows is the next of what is made of all
-pub several_made : {X Y : Type 0} (make : X → Y) (all rows rest : List X) → GivesSeveral all rows rest → (made : List Y) → made ≡ map make rows
-    → GivesSeveral (map make all) made (map make rest)
+pub several_made : {X Y : Type 0} (make : X → Y) (all rows rest : List X) → IsNextBatchOf all rows rest → (made : List Y) → made ≡ map make rows
+    → IsNextBatchOf (map make all) made (map make rest)
 several_made make all rows rest gives made is = record {
   next = ap (map make) gives.next ∙ map-append make rows rest ∙ ap (λ l. l ++ map make rest) (sym is);
   ends = λ none. ap (map make) (gives.ends (unmade make rows (sym is ∙ none)));
@@ -64,10 +64,10 @@ several_made make all rows rest gives made is = record {
     unmade make (x ∷ xs) h = absurd (let none : make x ∷ map make xs ≡ [] = h in cc)
 
 -- what is made of the row that was found is the next of what is made of the rows
-pub gives_made : {X Y : Type 0} (make : X → Y) (all rest : List X) (found : Option X) (row : X) → found ≡ Some row → Gives all found rest
+pub gives_made : {X Y : Type 0} (make : X → Y) (all rest : List X) (found : Option X) (row : X) → found ≡ Some row → IsNextOf all found rest
     → (made : Y) → made ≡ make row → map make all ≡ made ∷ map make rest
 gives_made make all rest found row is gives made same =
-    ap (map make) (subst (λ f. Gives all f rest) is gives) ∙ ap (λ y. y ∷ map make rest) (sym same)
+    ap (map make) (subst (λ f. IsNextOf all f rest) is gives) ∙ ap (λ y. y ∷ map make rest) (sym same)
 
 -- ---- the next row
 
@@ -95,13 +95,13 @@ module _ {X K : Type 0} (row_of : X → Row) (compare : K → K → Ordering) (t
         (ascending-filter ByKey (past last) _ (ascending-filter ByKey test ts by_keys)))
 
     -- it is the next row, and the others come behind it
-    pub next_come : (found : Option X) → found ≡ slice_get (come last) 0 → Gives (come last) found (come (moved compare total key last found))
+    pub next_come : (found : Option X) → found ≡ slice_get (come last) 0 → IsNextOf (come last) found (come (moved compare total key last found))
     next_come found is =
         rw (come_is last, come_is (moved compare total key last found))
         (gives_first compare total key past behind last (filter test ts) rise found (is ∙ ap (λ l. slice_get l 0) (come_is last)))
 
     -- several of the first are the next rows, and the others come behind the last of them
-    pub several_come : (rows : List X) → Begin (come last) rows → GivesSeveral (come last) rows (come (moved_on compare total key last rows))
+    pub several_come : (rows : List X) → Begin (come last) rows → IsNextBatchOf (come last) rows (come (moved_on compare total key last rows))
     several_come rows begin =
         rw (come_is last, come_is (moved_on compare total key last rows))
         (gives_several compare total key past behind last (filter test ts) rise rows (subst (λ l. Begin l rows) (come_is last) begin))

@@ -34,12 +34,13 @@ use Rattle.kcr_custody.specs.declared.SafeRow.{SafeRow}
 use Rattle.kcr_history.specs.Prints.{in_order}
 use Rattle.kcr_history.specs.Tables as machine
 use Rattle.kcr_tables.specs.BagsLaws as bags
-use Rattle.kcr_tables.specs.Held.{bags_place, items_place}
+use Rattle.kcr_tables.specs.StoredTables.{bags_place, items_place}
 use Rattle.kcr_tables.specs.ItemsLaws as items
-use Rattle.kcr_tables.specs.Joint.{KeepsTables}
+use Rattle.kcr_tables.specs.MachineTables.{TreesHoldTables}
 use Rattle.kcr_tables.specs.Statements.{key_order, Choice}
-use Rattle.kcr_reading.specs.First.{ShowsFirst, IsFirst}
-use Rattle.kcr_reading.specs.ToCome.{Gives, is_past, is_behind, is_loose, loose_past, items_by_code, serials_past, safe_place, safes_in_order, safes_past}
+use Rattle.kcr_reading.specs.FirstRows.{ShowsFirst, IsFirstRow}
+use Rattle.kcr_history.specs.Questions.{is_loose}
+use Rattle.kcr_reading.specs.Remaining.{IsNextOf, is_past, is_behind, loose_past, items_by_code, serials_past, safe_place, safes_in_order, safes_past}
 use Rattle.kcr_reading.proofs.ChoiceLemmas.{by_test, chosen_come, next_come}
 use Rattle.kcr_reading.proofs.NumberLemmas.{behind_text, one_test, text_key, text_later, number_cmp, number_later}
 use Rattle.kcr_reading.proofs.OrderLemmas.{moved, ordered, numbers_ordered, gives_first}
@@ -85,13 +86,13 @@ module _ {X : Type 0} (row_of : X → Row) (key : X → List ℕ) (row_is : (x :
       come_is l = sym (filter-and test (past l) (those ms)) ∙ ap (λ xs. filter (past l) (filter test xs)) are
 
       pub first_behind : (terms : List Term) (params : Row) → ((x : X) → (by_test 1 terms params).passes (row_of x) ≡ (test x && past last x))
-          → (found : Option X) → IsFirst row_of (by_test 1 terms params) ts found → found ≡ slice_get (come last) 0
+          → (found : Option X) → IsFirstRow row_of (by_test 1 terms params) ts found → found ≡ slice_get (come last) 0
       first_behind terms params chosen found =
           chosen_come row_of (slice_cmp nat_cmp) nat_list_cmp_total key past (text_later key) 1 test (λ a b _ _. keyed a b) ts up come come_is last
           terms params chosen (λ l. found ≡ slice_get l 0)
 
       pub next_behind : (found : Option X) → found ≡ slice_get (come last) 0
-          → Gives (come last) found (come (moved (slice_cmp nat_cmp) nat_list_cmp_total key last found))
+          → IsNextOf (come last) found (come (moved (slice_cmp nat_cmp) nat_list_cmp_total key last found))
       next_behind = next_come row_of (slice_cmp nat_cmp) nat_list_cmp_total key past (text_later key) 1 test (λ a b _ _. keyed a b) ts up come come_is last
 
 -- ---- bags
@@ -110,19 +111,19 @@ bags_shown None =
 bags_shown (Some last) =
     record { test = behind_test (Some last); project = bags.project; order = key_order bags_place; names = bags.names; bare = (refl, refl); is = refl }
 
-pub first_bag : (last : Option (List ℕ)) (m : machine.Tables) {db : Trees} (k : KeepsTables m db) (found : Option Bag)
-    → IsFirst bag_row (bags_choice last) k.t.rows.bags found → found ≡ slice_get (serials_past last m) 0
+pub first_bag : (last : Option (List ℕ)) (m : machine.Tables) {db : Trees} (k : TreesHoldTables m db) (found : Option Bag)
+    → IsFirstRow bag_row (bags_choice last) k.t.rows.bags found → found ≡ slice_get (serials_past last m) 0
 first_bag last m k =
     first_behind bag_row (λ x. x.serial) (λ x. refl) k.stands.rows.bags k.kept.bags.rising (λ _. true) last
     (behind_test last) (behind_params last) (λ x. is_tested last x.serial _)
 
-pub next_bag : (last : Option (List ℕ)) (m : machine.Tables) {db : Trees} (k : KeepsTables m db) (found : Option Bag)
+pub next_bag : (last : Option (List ℕ)) (m : machine.Tables) {db : Trees} (k : TreesHoldTables m db) (found : Option Bag)
     → found ≡ slice_get (serials_past last m) 0
-    → Gives (serials_past last m) found (serials_past (moved (slice_cmp nat_cmp) nat_list_cmp_total (λ (x : Bag). x.serial) last found) m)
+    → IsNextOf (serials_past last m) found (serials_past (moved (slice_cmp nat_cmp) nat_list_cmp_total (λ (x : Bag). x.serial) last found) m)
 next_bag last m k = next_behind bag_row (λ x. x.serial) (λ x. refl) k.stands.rows.bags k.kept.bags.rising (λ _. true) last
 
 -- the items that lie in a bag, by code
-pub within : (serial : List ℕ) (m : machine.Tables) {db : Trees} (k : KeepsTables m db)
+pub within : (serial : List ℕ) (m : machine.Tables) {db : Trees} (k : TreesHoldTables m db)
     → filter (lies_in serial) k.t.rows.items ≡ filter (lies_in serial) (items_by_code m)
 within serial m k = ap (filter (lies_in serial)) (sym (are item_row (λ (x : Item). x.code) (λ x. refl) k.stands.rows.items k.kept.items.rising))
 
@@ -156,15 +157,15 @@ is_chosen last x = by_rest x.rest
         ap (λ o. is_true (from_truth (Some (is_eq o))) && tested) (tied_itself value_cmp_total Null) ∙ is_tested last x.code _
     by_rest (Within serial) = refl
 
-pub first_loose : (last : Option (List ℕ)) (m : machine.Tables) {db : Trees} (k : KeepsTables m db) (found : Option Item)
-    → IsFirst item_row (loose_choice last) k.t.rows.items found → found ≡ slice_get (loose_past last m) 0
+pub first_loose : (last : Option (List ℕ)) (m : machine.Tables) {db : Trees} (k : TreesHoldTables m db) (found : Option Item)
+    → IsFirstRow item_row (loose_choice last) k.t.rows.items found → found ≡ slice_get (loose_past last m) 0
 first_loose last m k =
     first_behind item_row (λ x. x.code) (λ x. refl) k.stands.rows.items k.kept.items.rising is_loose last (loose_test last)
     (behind_params last) (is_chosen last)
 
-pub next_loose : (last : Option (List ℕ)) (m : machine.Tables) {db : Trees} (k : KeepsTables m db) (found : Option Item)
+pub next_loose : (last : Option (List ℕ)) (m : machine.Tables) {db : Trees} (k : TreesHoldTables m db) (found : Option Item)
     → found ≡ slice_get (loose_past last m) 0
-    → Gives (loose_past last m) found (loose_past (moved (slice_cmp nat_cmp) nat_list_cmp_total (λ (x : Item). x.code) last found) m)
+    → IsNextOf (loose_past last m) found (loose_past (moved (slice_cmp nat_cmp) nat_list_cmp_total (λ (x : Item). x.code) last found) m)
 next_loose last m k = next_behind item_row (λ x. x.code) (λ x. refl) k.stands.rows.items k.kept.items.rising is_loose last
 
 -- ---- safes
@@ -181,17 +182,21 @@ places_rise f g s r = rw (value_cmp-Text (facility_text f) (facility_text g), nu
         ≡ nat_cmp (facility_number f * 2 + safe_digit s) (facility_number g * 2 + safe_digit r)
     by_cases f g s r = grind arith
 
-rise : {m : machine.Tables} {db : Trees} (k : KeepsTables m db) → IsAscending (λ a b. nat_cmp (safe_place a) (safe_place b) ≡ Less) k.t.rows.safes
+rise : {m : machine.Tables} {db : Trees} (k : TreesHoldTables m db) → IsAscending (λ a b. nat_cmp (safe_place a) (safe_place b) ≡ Less) k.t.rows.safes
 rise k =
     ascending_weaker (λ (a b : SafeRow). by_key 2 (safe_row a) (safe_row b) ≡ Less) _
     (λ a b h. sym (places_rise a.facility b.facility a.safe b.safe) ∙ h) k.t.rows.safes
     (ascending_from_map (λ a b. by_key 2 a b ≡ Less) safe_row k.t.rows.safes k.kept.safes.rising)
 
+-- the table has the safes in their order
+pub safes_stand : (m : machine.Tables) {db : Trees} (k : TreesHoldTables m db) → safes_in_order m ≡ k.t.rows.safes
+safes_stand m k = numbers_ordered safe_place m.safes k.t.rows.safes k.stands.rows.safes (rise k)
+
 -- the first of the table's rows past the last is the next, and the others come behind it
-pub next_safe : (last : Option ℕ) (m : machine.Tables) {db : Trees} (k : KeepsTables m db) (found : Option SafeRow)
+pub next_safe : (last : Option ℕ) (m : machine.Tables) {db : Trees} (k : TreesHoldTables m db) (found : Option SafeRow)
     → found ≡ slice_get (filter (λ row. is_past last (safe_place row)) k.t.rows.safes) 0
-    → Gives (safes_past last m) found (safes_past (moved nat_cmp nat_cmp_total safe_place last found) m)
+    → IsNextOf (safes_past last m) found (safes_past (moved nat_cmp nat_cmp_total safe_place last found) m)
 next_safe last m k found first =
-    let mine : safes_in_order m ≡ k.t.rows.safes = numbers_ordered safe_place m.safes k.t.rows.safes k.stands.rows.safes (rise k) in
+    let mine = safes_stand m k in
     gives_first nat_cmp nat_cmp_total safe_place (λ l x. is_past l (safe_place x)) (number_later safe_place) last (safes_in_order m)
     (subst (IsAscending _) (sym mine) (rise k)) found (first ∙ ap (λ l. slice_get (filter (λ row. is_past last (safe_place row)) l) 0) (sym mine))

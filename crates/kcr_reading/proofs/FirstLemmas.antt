@@ -17,13 +17,13 @@ use Rattle.sqlite.proofs.Callers.{reads_as}
 use Rattle.sqlite_sql.proofs.QueryLemmas.{output_cmp_total}
 use Rattle.sqlite_trees.proofs.ListLemmas.{map-map, filter-map, IsPermutation-filter, ascending-map, ascending_weaker, all-permutation, all-filter}
 use Rattle.sqlite_keyed.proofs.SortLemmas.{sorted_unique}
-use Rattle.kcr_rows.specs.Keyed.{cells, Place, Keeps}
+use Rattle.kcr_rows.specs.Keyed.{cells, TableLayout, TreeHolds}
 use Rattle.kcr_rows.proofs.ReadLemmas.{asking, kept_cells}
 use Rattle.kcr_rows.proofs.TableLemmas.{same_values}
 use Rattle.kcr_tables.specs.Schema.{register_schema}
 use Rattle.kcr_tables.specs.Statements.{Choice}
-use Rattle.kcr_reading.specs.First.{ShowsSome}
-use Rattle.kcr_reading.specs.ToCome.{Begin}
+use Rattle.kcr_reading.specs.FirstRows.{ShowsSome}
+use Rattle.kcr_reading.specs.Remaining.{Begin}
 
 pub all_take : {X : Type 0} (P : X → Type 0) (count : ℕ) (xs : List X) → AllByRecursion P xs → AllByRecursion P (take count xs)
 all_take P zero xs all = tt
@@ -35,7 +35,7 @@ ascending_take R zero xs up = tt
 ascending_take R (suc count) [] up = tt
 ascending_take R (suc count) (x ∷ xs) up = (all_take (R x) count xs up.0, ascending_take R count xs up.1)
 
-module _ (count : ℕ) (sql : List ℕ) (place : Place) (params : Row) (choice : Choice) (s : ShowsSome count sql place params choice) where
+module _ (count : ℕ) (sql : List ℕ) (place : TableLayout) (params : Row) (choice : Choice) (s : ShowsSome count sql place params choice) where
   abbrev q : Query
   q = asking place.tree s.test s.project s.order (pos count)
 
@@ -62,7 +62,7 @@ module _ (count : ℕ) (sql : List ℕ) (place : Place) (params : Row) (choice :
     pub shown_first : (IsRead IsStored : X → Type 0) → ((x y : X) → IsRead x → IsStored y → row_of x ≡ row_of y → x ≡ y) → (old new : State) (xs : List X)
         → old.now.schema ≡ register_schema
         → Shown sql params old new (map row_of xs) → AllByRecursion IsRead xs → (ys : List X) → AllByRecursion IsStored ys
-        → Keeps place old.now.trees (map row_of ys)
+        → TreeHolds place old.now.trees (map row_of ys)
         → (those : List X) → IsPermutation (filter (λ x. choice.passes (row_of x)) ys) those
         → IsAscending (λ a b. choice.compare (row_of a) (row_of b) ≡ Less) those → xs ≡ take count those
     shown_first IsRead IsStored one old new xs has h read ys held keeps those same up =
@@ -75,7 +75,7 @@ module _ (count : ℕ) (sql : List ℕ) (place : Place) (params : Row) (choice :
         let known : AllByRecursion IsStored those = all-permutation IsStored _ _ same (all-filter IsStored (λ x. choice.passes (row_of x)) ys held) in
         same_values row_of IsRead IsStored one xs (take count those) read (all_take IsStored count those known) (rows ∙ take-map row_of count those)
 
--- some of the first of these are a beginning of them
+-- some of the first of these are a prefix of them
 pub begin_take : {X : Type 0} (count : ℕ) → 0 < count → (all rows : List X) → rows ≡ take count all → Begin all rows
 begin_take count low all rows is = record {
   rest = drop count all;
@@ -99,7 +99,7 @@ popped xs [] (y ∷ those) (Some x) is split none = let h : y ∷ [] ≡ x ∷ [
 popped xs (r ∷ []) (y ∷ those) (Some x) is split none = absurd (let h : y ∷ [] ≡ r ∷ x ∷ [] = sym is ∙ split in cc)
 popped xs (r ∷ r2 ∷ rest) (y ∷ those) (Some x) is split none = absurd (let h : y ∷ [] ≡ r ∷ r2 ∷ (rest ++ (x ∷ [])) = sym is ∙ split in cc)
 
--- none where there is no room for one
+-- none if there is no room for one
 pub no_rows : {X : Type 0} (n : ℕ) (xs : List X) → length xs ≡ n → (0 < n → ⊥) → xs ≡ []
 no_rows n [] same none = refl
 no_rows n (x ∷ xs) same none = absurd (none (omega (arith, same)))

@@ -1,8 +1,10 @@
 mod AheadLemmas
 mod CeremonyLemmas
 mod ChoiceLemmas
-mod CustodyLemmas
+mod CommandLemmas
+pub mod CustodyLemmas
 mod FirstLemmas
 mod NumberLemmas
 mod OrderLemmas
+mod RemainingLemmas
 pub mod StayLemmas

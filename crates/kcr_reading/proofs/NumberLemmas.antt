@@ -15,8 +15,8 @@ use Rattle.sqlite_trees.proofs.ListLemmas.{all_both, ascending-filter}
 use Rattle.sqlite_value.proofs.OrderLemmas.{value_cmp-Int, value_cmp-Text, value_cmp_total, then-Equal}
 use Rattle.kcr_rows.specs.Keyed.{by_key}
 use Rattle.kcr_rows.proofs.SameLemmas.{ties_is, number_ties}
-use Rattle.kcr_reading.specs.First.{bound_of}
-use Rattle.kcr_reading.specs.ToCome.{is_past, is_behind}
+use Rattle.kcr_reading.specs.FirstRows.{bound_of}
+use Rattle.kcr_reading.specs.Remaining.{is_past, is_behind}
 use Rattle.kcr_reading.proofs.OrderLemmas.{later, lt_is, turned}
 
 int_nat : (a b : ℕ) → int_cmp (pos a) (pos b) ≡ nat_cmp a b
@@ -76,7 +76,7 @@ same_step ceremony step c s d r a b xs ys p q =
     let two = and_parts (d == ceremony) (r == step) q in
     same_number c d ceremony _ one.0 two.0 ∙ same_number s r step _ one.1 two.1 ∙ then-Equal _ ∙ number_cmp a b
 
--- those that pass rise where any two that pass do
+-- those that pass rise if any two that pass do
 
 pub passing : {X : Type 0} (p : X → Bool) (xs : List X) → AllByRecursion (λ x. p x ≡ true) (filter p xs)
 passing p [] = tt

@@ -14,7 +14,7 @@ use Rattle.sqlite_trees.proofs.ListLemmas.{all_weaker, all-filter, all-slice_get
 use Rattle.sqlite_keyed.specs.Lists.{insert_sorted, sort_by}
 use Rattle.sqlite_keyed.proofs.SortLemmas.{sorted_is-sort_by}
 use Rattle.kcr_history.specs.Prints.{put_in_order, in_order}
-use Rattle.kcr_reading.specs.ToCome.{Gives, GivesSeveral, Begin}
+use Rattle.kcr_reading.specs.Remaining.{IsNextOf, IsNextBatchOf, Begin}
 
 less : (o : Ordering) → is_lt o ≡ true → o ≡ Less
 less o h = grind arith
@@ -60,7 +60,7 @@ module _ {K : Type 0} (compare : K → K → Ordering) (total : IsTotalOrder com
   moved last (Some x) = Some (key x)
 
   gives_later : (last : Option K) (xs : List X) → IsAscending Rises xs → (found : Option X) → found ≡ slice_get (filter (later last) xs) 0
-      → Gives (filter (later last) xs) found (filter (later (moved last found)) xs)
+      → IsNextOf (filter (later last) xs) found (filter (later (moved last found)) xs)
   gives_later last [] up None is = (refl, refl)
   gives_later last [] up (Some x) is = absurd (cc)
   gives_later last (y ∷ ys) up found is = go (later last y) refl (gives_later last ys up.1 found) is
@@ -71,21 +71,21 @@ module _ {K : Type 0} (compare : K → K → Ordering) (total : IsTotalOrder com
           lt_is_gt y x ∙ ap is_gt (all-slice_get (Rises y) (filter (later last) ys) 0 x (sym is) (all-filter (Rises y) (later last) ys up.0))
 
       go : (b : Bool) → later last y ≡ b → (found ≡ slice_get (filter (later last) ys) 0
-          → Gives (filter (later last) ys) found (filter (later (moved last found)) ys))
+          → IsNextOf (filter (later last) ys) found (filter (later (moved last found)) ys))
           → found ≡ slice_get (cond b (y ∷ filter (later last) ys) (filter (later last) ys)) 0
-          → Gives (cond b (y ∷ filter (later last) ys) (filter (later last) ys)) found (filter (later (moved last found)) (y ∷ ys))
+          → IsNextOf (cond b (y ∷ filter (later last) ys) (filter (later last) ys)) found (filter (later (moved last found)) (y ∷ ys))
       go true e ih is =
           let those : filter (later last) ys ≡ ys = filter_all (later last) ys (all_weaker (Rises y) _ (λ z b. goes_on last y z e b) ys up.0) in
           let rest : filter (later (Some (key y))) ys ≡ ys = filter_all (later (Some (key y))) ys (all_weaker (Rises y) _ (λ z b. ap is_lt b) ys up.0) in
           let itself : later (Some (key y)) y ≡ false = ap is_lt (tied_itself total (key y)) in
-          subst (λ (f : Option X). Gives (y ∷ filter (later last) ys) f (filter (later (moved last f)) (y ∷ ys))) (sym is)
+          subst (λ (f : Option X). IsNextOf (y ∷ filter (later last) ys) f (filter (later (moved last f)) (y ∷ ys))) (sym is)
           (rw itself (ap (λ l. y ∷ l) (those ∙ sym rest)))
       go false e ih is = rw (skipped e found is) (ih is)
 
   -- the first of those behind the last is the next row, and behind it come the others
   pub gives_first : (past : Option K → X → Bool) → ((last : Option K) (x : X) → past last x ≡ later last x) → (last : Option K) (xs : List X)
       → IsAscending Rises xs
-      → (found : Option X) → found ≡ slice_get (filter (past last) xs) 0 → Gives (filter (past last) xs) found (filter (past (moved last found)) xs)
+      → (found : Option X) → found ≡ slice_get (filter (past last) xs) 0 → IsNextOf (filter (past last) xs) found (filter (past (moved last found)) xs)
   gives_first past same last xs up found is =
       let there : (l : Option K) → filter (past l) xs ≡ filter (later l) xs = λ l i. filter (λ x. same l x i) xs in
       rw (there last, there (moved last found)) (gives_later last xs up found (is ∙ ap (λ l. slice_get l 0) (there last)))
@@ -119,7 +119,7 @@ module _ {K : Type 0} (compare : K → K → Ordering) (total : IsTotalOrder com
 
   pub gives_several : (past : Option K → X → Bool) → ((last : Option K) (x : X) → past last x ≡ later last x) → (last : Option K) (xs : List X)
       → IsAscending Rises xs → (rows : List X) → Begin (filter (past last) xs) rows
-      → GivesSeveral (filter (past last) xs) rows (filter (past (moved_on last rows)) xs)
+      → IsNextBatchOf (filter (past last) xs) rows (filter (past (moved_on last rows)) xs)
   gives_several past same last xs up rows begin =
       let next = begin.first ∙ ap (λ l. rows ++ l) (gives_rest past same last xs up rows begin.rest begin.first) in
       record { next = next; ends = λ none. sym (next ∙ ap (λ l. l ++ filter (past (moved_on last rows)) xs) none) ∙ begin.some none }

@@ -43,13 +43,13 @@ use Rattle.kcr_room.specs.Stays.{is_listed_before, are_listed, attendance_in_by}
 use Rattle.kcr_room.specs.declared.Stay.{Stay}
 use Rattle.kcr_history.specs.Prints.{name_of}
 use Rattle.kcr_history.specs.Tables as machine
-use Rattle.kcr_tables.specs.Held.{stays_place}
-use Rattle.kcr_tables.specs.Joint.{KeepsTables}
+use Rattle.kcr_tables.specs.StoredTables.{stays_place}
+use Rattle.kcr_tables.specs.MachineTables.{TreesHoldTables}
 use Rattle.kcr_tables.specs.StaysLaws as laws
 use Rattle.kcr_tables.proofs.HasLemmas.{has_right, filter_from, filter_to, filter_is, one_key_of}
 use Rattle.kcr_tables.specs.Statements.{key_order, Choice}
-use Rattle.kcr_reading.specs.First.{ShowsSome, AreFirst, bound_of}
-use Rattle.kcr_reading.specs.ToCome.{Begin, GivesSeveral, is_behind, since_of, begins_with, begins_after, is_stay_past, listed_past}
+use Rattle.kcr_reading.specs.FirstRows.{ShowsSome, AreFirst, bound_of}
+use Rattle.kcr_reading.specs.Remaining.{Begin, IsNextBatchOf, is_behind, since_of, begins_with, begins_after, is_stay_past, listed_past}
 use Rattle.kcr_reading.proofs.ChoiceLemmas.{by_test}
 use Rattle.kcr_reading.proofs.FirstLemmas.{begin_take}
 use Rattle.kcr_reading.proofs.NumberLemmas.{number_cmp, behind_number, behind_text, equal_number, one_test, with_tests, text_key, rises_among}
@@ -128,7 +128,7 @@ one_attendance ceremony {xs} {ys} p q rising =
     (IsPermutation-trans _ _ _ (IsPermutation-sym _ _ (same_stays ceremony p)) (same_stays ceremony q))
     (sorted listed listed_total (λ (s : Stay). s) _ (rise ceremony q rising))
 
-module _ (ceremony : ℕ) (m : machine.Tables) {db : Trees} (k : KeepsTables m db) where
+module _ (ceremony : ℕ) (m : machine.Tables) {db : Trees} (k : TreesHoldTables m db) where
   rise_here : IsAscending Rises (those ceremony m)
   rise_here = rise ceremony k.stands.rows.stays k.kept.stays.rising
 
@@ -164,7 +164,7 @@ unfolding binary
 passes_together ceremony last x =
     with_tests _ _ _ _ (equal_number x.ceremony ceremony) (with_tests _ _ _ _ (equal_number x.since last.since) (one_test _ ∙ behind_text last.who x.who))
 
-pub first_together : (ceremony : ℕ) (last : Stay) (count : ℕ) → 0 < count → (m : machine.Tables) {db : Trees} (k : KeepsTables m db) (rows : List Stay)
+pub first_together : (ceremony : ℕ) (last : Stay) (count : ℕ) → 0 < count → (m : machine.Tables) {db : Trees} (k : TreesHoldTables m db) (rows : List Stay)
     → AreFirst count stay_row (together ceremony last) k.t.rows.stays rows → Begin (filter (begins_with last) (those ceremony m)) rows
 first_together ceremony last count low m k rows first =
     begin_take count low _ rows (first (filter (begins_with last) (those ceremony m))
@@ -217,7 +217,7 @@ passes_later ceremony last x = with_tests _ _ _ _ (equal_number x.ceremony cerem
 by_since : (ceremony : ℕ) (last : Option Stay) (a b : Stay) → (begins_later ceremony last).compare (stay_row a) (stay_row b) ≡ listed a b
 by_since ceremony last a b = ap₂ (λ o p. ordering_then o p) (number_cmp a.since b.since) (then-Equal _ ∙ value_cmp-Text a.who b.who)
 
-pub first_later : (ceremony : ℕ) (last : Option Stay) (count : ℕ) → 0 < count → (m : machine.Tables) {db : Trees} (k : KeepsTables m db) (rows : List Stay)
+pub first_later : (ceremony : ℕ) (last : Option Stay) (count : ℕ) → 0 < count → (m : machine.Tables) {db : Trees} (k : TreesHoldTables m db) (rows : List Stay)
     → AreFirst count stay_row (begins_later ceremony last) k.t.rows.stays rows → Begin (filter (begins_after last) (those ceremony m)) rows
 first_later ceremony last count low m k rows first =
     begin_take count low _ rows (first (filter (begins_after last) (those ceremony m))
@@ -261,8 +261,8 @@ split last (x ∷ xs) up = go (nat_lt last.since x.since) refl (is_lt (slice_cmp
         ≡ cond b (x ∷ filter (begins_with last) xs) (filter (begins_with last) xs)
         ++ filter (begins_after (Some last)) xs) [ true ↦ ap (λ l. x ∷ l) ih | false ↦ ih ])
 
--- a beginning of the first kind is one of both, and where there are none of the first kind one of the second is
-pub first_with : (ceremony : ℕ) (last : Stay) (m : machine.Tables) {db : Trees} (k : KeepsTables m db) (rows : List Stay) → (rows ≡ [] → ⊥)
+-- a prefix of the first kind is one of both, and if there are none of the first kind one of the second is
+pub first_with : (ceremony : ℕ) (last : Stay) (m : machine.Tables) {db : Trees} (k : TreesHoldTables m db) (rows : List Stay) → (rows ≡ [] → ⊥)
     → Begin (filter (begins_with last) (those ceremony m)) rows → Begin (listed_past (Some last) ceremony m) rows
 first_with ceremony last m k rows full begin = record {
   rest = begin.rest ++ filter (begins_after (Some last)) (those ceremony m);
@@ -271,24 +271,24 @@ first_with ceremony last m k rows full begin = record {
   some = λ none. absurd (full none);
 }
 
-pub first_after : (ceremony : ℕ) (last : Stay) (m : machine.Tables) {db : Trees} (k : KeepsTables m db) (none : List Stay)
+pub first_after : (ceremony : ℕ) (last : Stay) (m : machine.Tables) {db : Trees} (k : TreesHoldTables m db) (none : List Stay)
     → none ≡ [] → Begin (filter (begins_with last) (those ceremony m)) none
     → (rows : List Stay) → Begin (filter (begins_after (Some last)) (those ceremony m)) rows → Begin (listed_past (Some last) ceremony m) rows
 first_after ceremony last m k none empty together rows begin =
     subst (λ l. Begin l rows) (sym (split last (those ceremony m) (rise_here ceremony m k)
     ∙ ap (λ l. l ++ filter (begins_after (Some last)) (those ceremony m)) (together.some empty))) begin
 
-pub next_listed : (ceremony : ℕ) (last : Option Stay) (m : machine.Tables) {db : Trees} (k : KeepsTables m db) (rows : List Stay) (found : Option Stay)
+pub next_listed : (ceremony : ℕ) (last : Option Stay) (m : machine.Tables) {db : Trees} (k : TreesHoldTables m db) (rows : List Stay) (found : Option Stay)
     → found ≡ slice_get rows (length rows - 1) → Begin (listed_past last ceremony m) rows
-    → GivesSeveral (listed_past last ceremony m) rows (listed_past (moved listed listed_total (λ (s : Stay). s) last found) ceremony m)
+    → IsNextBatchOf (listed_past last ceremony m) rows (listed_past (moved listed listed_total (λ (s : Stay). s) last found) ceremony m)
 next_listed ceremony last m k rows found ends begin =
-    subst (λ l. GivesSeveral (listed_past last ceremony m) rows (listed_past l ceremony m))
+    subst (λ l. IsNextBatchOf (listed_past last ceremony m) rows (listed_past l ceremony m))
     (moved_to listed listed_total (λ (s : Stay). s) last rows found ends)
     (gives_several listed listed_total (λ (s : Stay). s) is_stay_past past_later last (those ceremony m) (rise_here ceremony m k) rows begin)
 
 -- ---- the name of the one person with these initials
 
-named : (who : List ℕ) (m : machine.Tables) {db : Trees} (k : KeepsTables m db) (rows rest : List Person) (person : Person)
+named : (who : List ℕ) (m : machine.Tables) {db : Trees} (k : TreesHoldTables m db) (rows rest : List Person) (person : Person)
     → rows ≡ filter (λ row. same_text row.who who) k.t.rows.people → rows ≡ rest ++ (person ∷ []) → person.name ≡ name_of m.people who
 named who m k rows rest person are ends =
     let mine : Person → Bool = λ row. same_text row.who who in
@@ -313,7 +313,7 @@ named who m k rows rest person are ends =
         ap is_eq (text_key x.who person.who [] [] ∙ ap (λ w. slice_cmp nat_cmp w person.who) same ∙ tied_itself nat_list_cmp_total person.who) in
         ap Some (one_key_of 1 person_row k.t.rows.people k.kept.people.rising x person in_table here tie)
 
-pub named_last : (who : List ℕ) (m : machine.Tables) {db : Trees} (k : KeepsTables m db) (rows rest : List Person) (found : Option Person) (name : List ℕ)
+pub named_last : (who : List ℕ) (m : machine.Tables) {db : Trees} (k : TreesHoldTables m db) (rows rest : List Person) (found : Option Person) (name : List ℕ)
     → rows ≡ filter (λ row. same_text row.who who) k.t.rows.people → rows ≡ rest ++ option_to_list found → option_map (λ row. row.name) found ≡ Some name
     → name ≡ name_of m.people who
 named_last who m k rows rest None name are ends is = absurd (cc)

@@ -1,2 +1,3 @@
-pub mod First
-pub mod ToCome
+pub mod Commands
+pub mod FirstRows
+pub mod Remaining

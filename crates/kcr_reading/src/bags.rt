@@ -4,59 +4,29 @@ ghost use Rattle.std.specs.Prelude.{◌≡◌, None, IfOk, map, filter, slice_ge
 ghost use Rattle.sqlite.specs.Held.{state};
 ghost use Rattle.kcr_custody.specs.Custody.{lies_in};
 ghost use Rattle.kcr_history.specs.Tables as machine;
-ghost use Rattle.kcr_tables.specs.Frame.{TellsOpen, TellsMachine, Reads};
-ghost use Rattle.kcr_reading.specs.ToCome.{Gives, serials_past, items_by_code, packed_bags, bags_past};
+ghost use Rattle.kcr_tables.specs.Frame.{ImpliesOpen, OfMachineTables, Reads};
+ghost use Rattle.kcr_reading.specs.Remaining.{IsNextOf, serials_past, items_by_code, packed_bags, bags_past};
 
-use crate::reading::Reading;
+use crate::cursor::Cursor;
 use crate::seek::first_row;
 use kcr_base::{ItemCode, Refusal, Serial};
 use kcr_custody::{Bag, Item};
+use kcr_history::{BagWithItems, ItemList};
 use kcr_rows::cells::serial_cell;
-use kcr_tables::rows_under;
+use kcr_tables::find_rows;
 use sqlite::{Alter, Transaction};
 use std::alloc::{AllocError, Global};
-use std::marker::Model;
-
-/// The codes of the items in a bag, in byte order.
-#[derive(Drop)]
-pub struct Codes {
-    list: Vec<ItemCode>,
-}
-
-impl Model for Codes {
-    ghost use Rattle.std.specs.Prelude.{List, ℕ};
-
-    ghost Value = { List (List ℕ) };
-
-    ghost view = { λ s. s.list.items };
-}
-
-impl Codes {
-    /// The codes, in byte order.
-    pub fn as_slice(&self) -> &[ItemCode]
-        ensures { result.now ≡ self.now }
-    {
-        self.list.as_slice()
-    }
-}
-
-/// A bag with its items.
-#[derive(Drop)]
-pub struct PackedBag {
-    pub bag: Bag,
-    pub codes: Codes,
-}
 
 /// The first bag behind this serial; with none, the first of all.
-fn bag_behind<S: Alter>(
+fn first_bag_after<S: Alter>(
     alloc: Global,
     tx: &mut Transaction<'_, S>,
     last: &Option<Serial>,
 ) -> Result<Option<Bag>, Refusal>
     ensures same_reference { tx.new.conn.ghost_name ≡ tx.old.conn.ghost_name }
-    ensures first { TellsMachine (state S.Store tx.old.conn.now) (state S.Store tx.new.conn.now) result
+    ensures first { OfMachineTables (state S.Store tx.old.conn.now) (state S.Store tx.new.conn.now) result
         (λ m found. found ≡ slice_get (serials_past last.now m) 0) }
-    ensures opened { TellsOpen (state S.Store tx.old.conn.now) (state S.Store tx.new.conn.now) result }
+    ensures opened { ImpliesOpen (state S.Store tx.old.conn.now) (state S.Store tx.new.conn.now) result }
     ensures frame { Reads (state S.Store tx.old.conn.now) (state S.Store tx.new.conn.now) result }
 {
     match last {
@@ -75,19 +45,19 @@ fn bag_behind<S: Alter>(
     }
 }
 
-/// The first bag behind the last one, which becomes the last; none where no more comes.
+/// The first bag behind the last one, which becomes the last; none if no more comes.
 fn next_bag<S: Alter>(
     alloc: Global,
     tx: &mut Transaction<'_, S>,
     last: &mut Option<Serial>,
 ) -> Result<Option<Bag>, Refusal>
     ensures same_reference { tx.new.conn.ghost_name ≡ tx.old.conn.ghost_name }
-    ensures gives { TellsMachine (state S.Store tx.old.conn.now) (state S.Store tx.new.conn.now) result
-        (λ m found. Gives (serials_past last.old m) found (serials_past last.new m)) }
-    ensures opened { TellsOpen (state S.Store tx.old.conn.now) (state S.Store tx.new.conn.now) result }
+    ensures gives { OfMachineTables (state S.Store tx.old.conn.now) (state S.Store tx.new.conn.now) result
+        (λ m found. IsNextOf (serials_past last.old m) found (serials_past last.new m)) }
+    ensures opened { ImpliesOpen (state S.Store tx.old.conn.now) (state S.Store tx.new.conn.now) result }
     ensures frame { Reads (state S.Store tx.old.conn.now) (state S.Store tx.new.conn.now) result }
 {
-    let found = bag_behind(alloc, tx, last)?;
+    let found = first_bag_after(alloc, tx, last)?;
     if let Some(bag) = &found {
         *last = Some(bag.serial);
     }
@@ -101,52 +71,52 @@ fn items_within<S: Alter>(
     serial: &Serial,
 ) -> Result<Vec<Item>, Refusal>
     ensures same_reference { tx.new.conn.ghost_name ≡ tx.old.conn.ghost_name }
-    ensures rows { TellsMachine (state S.Store tx.old.conn.now) (state S.Store tx.new.conn.now) result
+    ensures rows { OfMachineTables (state S.Store tx.old.conn.now) (state S.Store tx.new.conn.now) result
         (λ m rows. rows.items ≡ filter (lies_in serial.now) (items_by_code m)) }
-    ensures opened { TellsOpen (state S.Store tx.old.conn.now) (state S.Store tx.new.conn.now) result }
+    ensures opened { ImpliesOpen (state S.Store tx.old.conn.now) (state S.Store tx.new.conn.now) result }
     ensures frame { Reads (state S.Store tx.old.conn.now) (state S.Store tx.new.conn.now) result }
 {
-    rows_under(alloc, tx, serial)
+    find_rows(alloc, tx, serial)
 }
 
 /// The codes of these items, in their order.
-fn codes_of(alloc: Global, items: &[Item]) -> Result<Codes, AllocError>
-    ensures { IfOk result (λ codes. codes ≡ map (λ item. item.code) items.now) }
+fn codes_of(alloc: Global, items: &[Item]) -> Result<Vec<ItemCode>, AllocError>
+    ensures { IfOk result (λ codes. codes.items ≡ map (λ item. item.code) items.now) }
 {
-    let list = items.iter().map(|item| item.code).collect(alloc)?;
-    Ok(Codes { list })
+    items.iter().map(|item| item.code).collect(alloc)
 }
 
 /// Behind the bag that was read last.
 #[derive(Drop)]
-pub struct BagReading {
+pub struct BagCursor {
     last: Option<Serial>,
 }
 
-impl BagReading {
+impl BagCursor {
     /// Before the first bag.
-    pub fn start() -> BagReading
+    pub fn new() -> BagCursor
         ensures { (m : machine.Tables) → bags_past result.last m ≡ packed_bags m }
     {
-        BagReading { last: None }
+        BagCursor { last: None }
     }
 }
 
-impl Reading for BagReading {
-    type Row = PackedBag;
+impl Cursor for BagCursor {
+    type Row = BagWithItems;
 
     ghost to_come = { λ p m. bags_past p.last m };
 
-    fn step<S: Alter>(
+    fn next<S: Alter>(
         &mut self,
         alloc: Global,
         tx: &mut Transaction<'_, S>,
-    ) -> Result<Option<PackedBag>, Refusal> {
+    ) -> Result<Option<BagWithItems>, Refusal> {
         let Some(bag) = next_bag(alloc, tx, &mut self.last)? else {
             return Ok(None);
         };
         let items = items_within(alloc, tx, &bag.serial)?;
-        let codes = codes_of(alloc, items.as_slice())?;
-        Ok(Some(PackedBag { bag, codes }))
+        let list = codes_of(alloc, items.as_slice())?;
+        let codes = ItemList::new(list);
+        Ok(Some(BagWithItems { bag, codes }))
     }
 }

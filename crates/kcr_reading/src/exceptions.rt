@@ -3,10 +3,10 @@
 ghost use Rattle.std.specs.Prelude.{◌≡◌, None};
 ghost use Rattle.sqlite.specs.Held.{state};
 ghost use Rattle.kcr_history.specs.Tables as machine;
-ghost use Rattle.kcr_tables.specs.Frame.{TellsOpen, TellsMachine, Reads};
-ghost use Rattle.kcr_reading.specs.ToCome.{Gives, exceptions_of, exceptions_past};
+ghost use Rattle.kcr_tables.specs.Frame.{ImpliesOpen, OfMachineTables, Reads};
+ghost use Rattle.kcr_reading.specs.Remaining.{IsNextOf, exceptions_of, exceptions_past};
 
-use crate::reading::Reading;
+use crate::cursor::Cursor;
 use crate::seek::{first_row, past_cell};
 use kcr_base::Refusal;
 use kcr_history::ExceptionRow;
@@ -14,7 +14,7 @@ use kcr_rows::cells::number_cell;
 use sqlite::{Alter, Transaction};
 use std::alloc::Global;
 
-/// The first exception of the ceremony past the last one, which becomes the last; none where no more comes.
+/// The first exception of the ceremony past the last one, which becomes the last; none if no more comes.
 fn next_exception<S: Alter>(
     alloc: Global,
     tx: &mut Transaction<'_, S>,
@@ -22,9 +22,9 @@ fn next_exception<S: Alter>(
     last: &mut Option<u32>,
 ) -> Result<Option<ExceptionRow>, Refusal>
     ensures same_reference { tx.new.conn.ghost_name ≡ tx.old.conn.ghost_name }
-    ensures gives { TellsMachine (state S.Store tx.old.conn.now) (state S.Store tx.new.conn.now) result
-        (λ m found. Gives (exceptions_past last.old ceremony m) found (exceptions_past last.new ceremony m)) }
-    ensures opened { TellsOpen (state S.Store tx.old.conn.now) (state S.Store tx.new.conn.now) result }
+    ensures gives { OfMachineTables (state S.Store tx.old.conn.now) (state S.Store tx.new.conn.now) result
+        (λ m found. IsNextOf (exceptions_past last.old ceremony m) found (exceptions_past last.new ceremony m)) }
+    ensures opened { ImpliesOpen (state S.Store tx.old.conn.now) (state S.Store tx.new.conn.now) result }
     ensures frame { Reads (state S.Store tx.old.conn.now) (state S.Store tx.new.conn.now) result }
 {
     let found: Option<ExceptionRow> = first_row(
@@ -41,29 +41,29 @@ fn next_exception<S: Alter>(
 
 /// Behind the exception that was read last.
 #[derive(Drop)]
-pub struct ExceptionReading {
+pub struct ExceptionCursor {
     ceremony: u32,
     last: Option<u32>,
 }
 
-impl ExceptionReading {
+impl ExceptionCursor {
     /// Before the first exception of the ceremony.
-    pub fn start(ceremony: u32) -> ExceptionReading
+    pub fn new(ceremony: u32) -> ExceptionCursor
         ensures { (m : machine.Tables) → exceptions_past result.last result.ceremony m ≡ exceptions_of ceremony m }
     {
-        ExceptionReading {
+        ExceptionCursor {
             ceremony,
             last: None,
         }
     }
 }
 
-impl Reading for ExceptionReading {
+impl Cursor for ExceptionCursor {
     type Row = ExceptionRow;
 
     ghost to_come = { λ p m. exceptions_past p.last p.ceremony m };
 
-    fn step<S: Alter>(
+    fn next<S: Alter>(
         &mut self,
         alloc: Global,
         tx: &mut Transaction<'_, S>,

@@ -6,20 +6,24 @@
 //! in memory, or sixteen, and may be stopped at any row.
 #![tactic(auto)]
 
-mod ahead;
 mod bags;
+mod batched;
+mod commands;
+mod cursor;
 mod exceptions;
-mod loose;
-mod reading;
+mod loose_items;
+mod remaining;
 mod safes;
 mod seek;
 mod stays;
 mod steps;
 
-pub use bags::{BagReading, Codes, PackedBag};
-pub use exceptions::ExceptionReading;
-pub use loose::LooseReading;
-pub use reading::Reading;
-pub use safes::SafeReading;
-pub use stays::{NamedStay, StayReading};
-pub use steps::{Seated, SeatedStep, StepReading};
+pub use bags::BagCursor;
+pub use commands::CommandCursor;
+pub use cursor::Cursor;
+pub use exceptions::ExceptionCursor;
+pub use loose_items::LooseCursor;
+pub use remaining::remaining_rows;
+pub use safes::SafeCursor;
+pub use stays::{StayCursor, name_of};
+pub use steps::StepCursor;

@@ -3,10 +3,10 @@
 ghost use Rattle.std.specs.Prelude.{◌≡◌, None, find};
 ghost use Rattle.sqlite.specs.Held.{state};
 ghost use Rattle.kcr_history.specs.Tables as machine;
-ghost use Rattle.kcr_tables.specs.Frame.{TellsOpen, TellsMachine, Reads};
-ghost use Rattle.kcr_reading.specs.ToCome.{Gives, is_past, safe_place, safes_in_order, safes_past};
+ghost use Rattle.kcr_tables.specs.Frame.{ImpliesOpen, OfMachineTables, Reads};
+ghost use Rattle.kcr_reading.specs.Remaining.{IsNextOf, is_past, safe_place, safes_in_order, safes_past};
 
-use crate::reading::Reading;
+use crate::cursor::Cursor;
 use kcr_base::{Facility, Refusal};
 use kcr_custody::{SafeNumber, SafeRow};
 use kcr_tables::all_rows;
@@ -46,16 +46,16 @@ fn safe_past(rows: &[SafeRow], last: Option<u32>) -> Option<SafeRow>
         .find(|row| is_past(last, place_of(row)))
 }
 
-/// The first safe past the last one, which becomes the last; none where no more comes.
+/// The first safe past the last one, which becomes the last; none if no more comes.
 fn next_safe<S: Alter>(
     alloc: Global,
     tx: &mut Transaction<'_, S>,
     last: &mut Option<u32>,
 ) -> Result<Option<SafeRow>, Refusal>
     ensures same_reference { tx.new.conn.ghost_name ≡ tx.old.conn.ghost_name }
-    ensures gives { TellsMachine (state S.Store tx.old.conn.now) (state S.Store tx.new.conn.now) result
-        (λ m found. Gives (safes_past last.old m) found (safes_past last.new m)) }
-    ensures opened { TellsOpen (state S.Store tx.old.conn.now) (state S.Store tx.new.conn.now) result }
+    ensures gives { OfMachineTables (state S.Store tx.old.conn.now) (state S.Store tx.new.conn.now) result
+        (λ m found. IsNextOf (safes_past last.old m) found (safes_past last.new m)) }
+    ensures opened { ImpliesOpen (state S.Store tx.old.conn.now) (state S.Store tx.new.conn.now) result }
     ensures frame { Reads (state S.Store tx.old.conn.now) (state S.Store tx.new.conn.now) result }
 {
     let rows: Vec<SafeRow> = all_rows(alloc, tx)?;
@@ -68,25 +68,25 @@ fn next_safe<S: Alter>(
 
 /// Behind the safe at the place that was read last.
 #[derive(Drop)]
-pub struct SafeReading {
+pub struct SafeCursor {
     last: Option<u32>,
 }
 
-impl SafeReading {
+impl SafeCursor {
     /// Before the first safe.
-    pub fn start() -> SafeReading
+    pub fn new() -> SafeCursor
         ensures { (m : machine.Tables) → safes_past result.last m ≡ safes_in_order m }
     {
-        SafeReading { last: None }
+        SafeCursor { last: None }
     }
 }
 
-impl Reading for SafeReading {
+impl Cursor for SafeCursor {
     type Row = SafeRow;
 
     ghost to_come = { λ p m. safes_past p.last m };
 
-    fn step<S: Alter>(
+    fn next<S: Alter>(
         &mut self,
         alloc: Global,
         tx: &mut Transaction<'_, S>,

@@ -5,13 +5,13 @@ ghost use Rattle.sqlite.specs.Held.{state};
 ghost use Rattle.sqlite.specs.Values.{bound, bound_value};
 ghost use Rattle.sqlite.specs.Value.{owned};
 ghost use Rattle.sqlite.specs.declared.types.Value.TheVariants.{Int};
-ghost use Rattle.kcr_tables.specs.Frame.{TellsOpen, Tells, Reads};
+ghost use Rattle.kcr_tables.specs.Frame.{ImpliesOpen, OfTables, Reads};
 ghost use Rattle.kcr_tables.specs.Statements.{Choice};
-ghost use Rattle.kcr_reading.specs.First.{ShowsSome, AreFirst, ShowsFirst, IsFirst, bound_of};
+ghost use Rattle.kcr_reading.specs.FirstRows.{ShowsSome, AreFirst, ShowsFirst, IsFirstRow, bound_of};
 
 use kcr_base::Refusal;
-use kcr_rows::statements::rows_of;
-use kcr_tables::Listed;
+use kcr_rows::statements::query_rows;
+use kcr_tables::TableRow;
 use sqlite::types::ValueRef;
 use sqlite::{Alter, Transaction};
 use std::alloc::Global;
@@ -27,8 +27,8 @@ pub(crate) fn past_cell(last: Option<u32>) -> ValueRef<'static>
 }
 
 /// The first of the rows that the text chooses, as many as it shows. Nothing is changed. The error is `Memory` when out
-/// of memory, and else `Disk`: the device failed, or a row is one that no register stores.
-pub(crate) fn first_rows<S: Alter, T: Listed>(
+/// of memory, and else `Disk`: the device failed, or a row is invalid.
+pub(crate) fn first_rows<S: Alter, T: TableRow>(
     alloc: Global,
     tx: &mut Transaction<'_, S>,
     sql: &str,
@@ -36,18 +36,18 @@ pub(crate) fn first_rows<S: Alter, T: Listed>(
 ) -> Result<Vec<T>, Refusal>
     ensures same_reference { tx.new.conn.ghost_name ≡ tx.old.conn.ghost_name }
     ensures rows { (count : ℕ) → (choice : Choice) → ShowsSome count sql.now T.table.place (bound params.now) choice
-        → Tells (state S.Store tx.old.conn.now) (state S.Store tx.new.conn.now) result
+        → OfTables (state S.Store tx.old.conn.now) (state S.Store tx.new.conn.now) result
         (λ t found. AreFirst count T.row_of choice (T.table.rows_in t) found.items) }
-    ensures opened { TellsOpen (state S.Store tx.old.conn.now) (state S.Store tx.new.conn.now) result }
+    ensures opened { ImpliesOpen (state S.Store tx.old.conn.now) (state S.Store tx.new.conn.now) result }
     ensures frame { (count : ℕ) → (choice : Choice) → ShowsSome count sql.now T.table.place (bound params.now) choice
         → Reads (state S.Store tx.old.conn.now) (state S.Store tx.new.conn.now) result }
 {
-    rows_of(alloc, tx, sql, params)
+    query_rows(alloc, tx, sql, params)
 }
 
 /// The first of the rows that the text chooses, or none; the text shows one row at most. Nothing is changed. The error
-/// is `Memory` when out of memory, and else `Disk`: the device failed, or the row is one that no register stores.
-pub(crate) fn first_row<S: Alter, T: Listed>(
+/// is `Memory` when out of memory, and else `Disk`: the device failed, or the row is invalid.
+pub(crate) fn first_row<S: Alter, T: TableRow>(
     alloc: Global,
     tx: &mut Transaction<'_, S>,
     sql: &str,
@@ -55,9 +55,9 @@ pub(crate) fn first_row<S: Alter, T: Listed>(
 ) -> Result<Option<T>, Refusal>
     ensures same_reference { tx.new.conn.ghost_name ≡ tx.old.conn.ghost_name }
     ensures row { (choice : Choice) → ShowsFirst sql.now T.table.place (bound params.now) choice
-        → Tells (state S.Store tx.old.conn.now) (state S.Store tx.new.conn.now) result
-        (λ t found. IsFirst T.row_of choice (T.table.rows_in t) found) }
-    ensures opened { TellsOpen (state S.Store tx.old.conn.now) (state S.Store tx.new.conn.now) result }
+        → OfTables (state S.Store tx.old.conn.now) (state S.Store tx.new.conn.now) result
+        (λ t found. IsFirstRow T.row_of choice (T.table.rows_in t) found) }
+    ensures opened { ImpliesOpen (state S.Store tx.old.conn.now) (state S.Store tx.new.conn.now) result }
     ensures frame { (choice : Choice) → ShowsFirst sql.now T.table.place (bound params.now) choice
         → Reads (state S.Store tx.old.conn.now) (state S.Store tx.new.conn.now) result }
 {

@@ -7,29 +7,24 @@ ghost use Rattle.sqlite.specs.Values.{bound_value};
 ghost use Rattle.sqlite.specs.declared.types.Value.TheVariants.{Int};
 ghost use Rattle.kcr_room.specs.Stays.{attendance_in_by};
 ghost use Rattle.kcr_history.specs.Prints.{name_of};
+ghost use Rattle.kcr_history.specs.Questions.{with_name};
 ghost use Rattle.kcr_history.specs.Tables as machine;
-ghost use Rattle.kcr_tables.specs.Frame.{TellsOpen, TellsMachine, Reads};
-ghost use Rattle.kcr_reading.specs.First.{bound_of};
-ghost use Rattle.kcr_reading.specs.ToCome.{Begin, GivesSeveral, is_sought, since_of, listed_past, named_stays};
-ghost use Rattle.kcr_reading.specs.ToCome.{with_name, read_ahead, stays_past};
+ghost use Rattle.kcr_tables.specs.Frame.{ImpliesOpen, OfMachineTables, Reads};
+ghost use Rattle.kcr_reading.specs.FirstRows.{bound_of};
+ghost use Rattle.kcr_reading.specs.Remaining.{Begin, IsNextBatchOf, is_stay_in_range, since_of, listed_past, named_stays};
+ghost use Rattle.kcr_reading.specs.Remaining.{read_ahead, stays_past};
 
-use crate::ahead::{Ahead, Source};
+use crate::batched::{BatchSource, Batched};
 use crate::seek::{first_rows, past_cell};
 use kcr_base::{Initials, Name, Refusal};
+use kcr_history::StayWithName;
 use kcr_people::Person;
 use kcr_room::Stay;
 use kcr_rows::cells::{initials_cell, moment_cell, number_cell};
-use kcr_tables::rows_under;
+use kcr_tables::find_rows;
 use sqlite::types::ValueRef;
 use sqlite::{Alter, Transaction};
 use std::alloc::Global;
-
-/// A stay in a room, with the name of the person.
-#[derive(Drop)]
-pub struct NamedStay {
-    pub stay: Stay,
-    pub name: Name,
-}
 
 /// The moment behind which the stays are sought; -1 before the first, which is below all.
 fn past_moment(last: &Option<Stay>) -> ValueRef<'static>
@@ -43,28 +38,28 @@ fn past_moment(last: &Option<Stay>) -> ValueRef<'static>
 
 /// Among which stays of a ceremony the next ones are sought.
 #[derive(Clone, Copy)]
-enum Sought {
+enum StayRange {
     /// Those that begin with this one, behind it by initials.
-    Together(Stay),
+    SameStart(Stay),
     /// Those that begin later than this one; with none, all.
-    Later(Option<Stay>),
+    LaterStart(Option<Stay>),
 }
 
 /// The first of the stays of the ceremony among which is sought, sixteen at most.
-fn first_sought<S: Alter>(
+fn first_in_range<S: Alter>(
     alloc: Global,
     tx: &mut Transaction<'_, S>,
     ceremony: u32,
-    sought: Sought,
+    sought: StayRange,
 ) -> Result<Vec<Stay>, Refusal>
     ensures same_reference { tx.new.conn.ghost_name ≡ tx.old.conn.ghost_name }
-    ensures first { TellsMachine (state S.Store tx.old.conn.now) (state S.Store tx.new.conn.now) result
-        (λ m found. Begin (filter (is_sought sought) (attendance_in_by m.stays ceremony)) found.items) }
-    ensures opened { TellsOpen (state S.Store tx.old.conn.now) (state S.Store tx.new.conn.now) result }
+    ensures first { OfMachineTables (state S.Store tx.old.conn.now) (state S.Store tx.new.conn.now) result
+        (λ m found. Begin (filter (is_stay_in_range sought) (attendance_in_by m.stays ceremony)) found.items) }
+    ensures opened { ImpliesOpen (state S.Store tx.old.conn.now) (state S.Store tx.new.conn.now) result }
     ensures frame { Reads (state S.Store tx.old.conn.now) (state S.Store tx.new.conn.now) result }
 {
     match sought {
-        Sought::Together(last) => first_rows(
+        StayRange::SameStart(last) => first_rows(
             alloc,
             tx,
             "SELECT who, since, ceremony, until FROM stays WHERE ceremony = ?1 AND since = ?2 AND who > ?3 ORDER BY who, since LIMIT 16",
@@ -74,7 +69,7 @@ fn first_sought<S: Alter>(
                 initials_cell(&last.who),
             ],
         ),
-        Sought::Later(last) => first_rows(
+        StayRange::LaterStart(last) => first_rows(
             alloc,
             tx,
             "SELECT who, since, ceremony, until FROM stays WHERE ceremony = ?1 AND since > ?2 ORDER BY since, who LIMIT 16",
@@ -83,25 +78,25 @@ fn first_sought<S: Alter>(
     }
 }
 
-/// The first stays of the ceremony behind the last one; none where no more comes.
-fn stays_behind<S: Alter>(
+/// The first stays of the ceremony behind the last one; none if no more comes.
+fn stays_after<S: Alter>(
     alloc: Global,
     tx: &mut Transaction<'_, S>,
     ceremony: u32,
     last: &Option<Stay>,
 ) -> Result<Vec<Stay>, Refusal>
     ensures same_reference { tx.new.conn.ghost_name ≡ tx.old.conn.ghost_name }
-    ensures first { TellsMachine (state S.Store tx.old.conn.now) (state S.Store tx.new.conn.now) result
+    ensures first { OfMachineTables (state S.Store tx.old.conn.now) (state S.Store tx.new.conn.now) result
         (λ m found. Begin (listed_past last.now ceremony m) found.items) }
-    ensures opened { TellsOpen (state S.Store tx.old.conn.now) (state S.Store tx.new.conn.now) result }
+    ensures opened { ImpliesOpen (state S.Store tx.old.conn.now) (state S.Store tx.new.conn.now) result }
     ensures frame { Reads (state S.Store tx.old.conn.now) (state S.Store tx.new.conn.now) result }
 {
     match last {
-        None => first_sought(alloc, tx, ceremony, Sought::Later(None)),
+        None => first_in_range(alloc, tx, ceremony, StayRange::LaterStart(None)),
         Some(stay) => {
-            let together = first_sought(alloc, tx, ceremony, Sought::Together(*stay))?;
+            let together = first_in_range(alloc, tx, ceremony, StayRange::SameStart(*stay))?;
             if together.is_empty() {
-                first_sought(alloc, tx, ceremony, Sought::Later(*last))
+                first_in_range(alloc, tx, ceremony, StayRange::LaterStart(*last))
             } else {
                 Ok(together)
             }
@@ -110,7 +105,7 @@ fn stays_behind<S: Alter>(
 }
 
 /// The first stays of the ceremony behind the last one, sixteen at most; the last of them becomes the last one. None
-/// where no more comes.
+/// if no more comes.
 fn next_stays<S: Alter>(
     alloc: Global,
     tx: &mut Transaction<'_, S>,
@@ -118,32 +113,31 @@ fn next_stays<S: Alter>(
     last: &mut Option<Stay>,
 ) -> Result<Vec<Stay>, Refusal>
     ensures same_reference { tx.new.conn.ghost_name ≡ tx.old.conn.ghost_name }
-    ensures gives { TellsMachine (state S.Store tx.old.conn.now) (state S.Store tx.new.conn.now) result
-        (λ m found. GivesSeveral (listed_past last.old ceremony m) found.items (listed_past last.new ceremony m)) }
-    ensures opened { TellsOpen (state S.Store tx.old.conn.now) (state S.Store tx.new.conn.now) result }
+    ensures gives { OfMachineTables (state S.Store tx.old.conn.now) (state S.Store tx.new.conn.now) result
+        (λ m found. IsNextBatchOf (listed_past last.old ceremony m) found.items (listed_past last.new ceremony m)) }
+    ensures opened { ImpliesOpen (state S.Store tx.old.conn.now) (state S.Store tx.new.conn.now) result }
     ensures frame { Reads (state S.Store tx.old.conn.now) (state S.Store tx.new.conn.now) result }
 {
-    let found = stays_behind(alloc, tx, ceremony, last)?;
+    let found = stays_after(alloc, tx, ceremony, last)?;
     if let Some(stay) = found.last() {
         *last = Some(*stay);
     }
     Ok(found)
 }
 
-/// The person's name. `Disk` where nobody with these initials was entered, since then the stay is one that no register
-/// stores.
-fn name_of<S: Alter>(
+/// The person's name. `Disk` if nobody with these initials was entered: then the row that names the person is invalid.
+pub fn name_of<S: Alter>(
     alloc: Global,
     tx: &mut Transaction<'_, S>,
     who: &Initials,
 ) -> Result<Name, Refusal>
     ensures same_reference { tx.new.conn.ghost_name ≡ tx.old.conn.ghost_name }
-    ensures name { TellsMachine (state S.Store tx.old.conn.now) (state S.Store tx.new.conn.now) result
+    ensures name { OfMachineTables (state S.Store tx.old.conn.now) (state S.Store tx.new.conn.now) result
         (λ m name. name ≡ name_of m.people who.now) }
-    ensures opened { TellsOpen (state S.Store tx.old.conn.now) (state S.Store tx.new.conn.now) result }
+    ensures opened { ImpliesOpen (state S.Store tx.old.conn.now) (state S.Store tx.new.conn.now) result }
     ensures frame { Reads (state S.Store tx.old.conn.now) (state S.Store tx.new.conn.now) result }
 {
-    let mut people: Vec<Person> = rows_under(alloc, tx, who)?;
+    let mut people: Vec<Person> = find_rows(alloc, tx, who)?;
     match people.pop() {
         Some(Person { who: _, name }) => Ok(name),
         None => Err(Refusal::Disk),
@@ -155,52 +149,52 @@ fn with_names<S: Alter>(
     alloc: Global,
     tx: &mut Transaction<'_, S>,
     stays: &[Stay],
-) -> Result<Vec<NamedStay>, Refusal>
+) -> Result<Vec<StayWithName>, Refusal>
     ensures same_reference { tx.new.conn.ghost_name ≡ tx.old.conn.ghost_name }
-    ensures names { TellsMachine (state S.Store tx.old.conn.now) (state S.Store tx.new.conn.now) result
+    ensures names { OfMachineTables (state S.Store tx.old.conn.now) (state S.Store tx.new.conn.now) result
         (λ m all. all.items ≡ map (with_name m.people) stays.now) }
     ensures frame { Reads (state S.Store tx.old.conn.now) (state S.Store tx.new.conn.now) result }
 {
     let mut all = Vec::new(alloc);
     for stay in stays {
         let name = name_of(alloc, tx, &stay.who)?;
-        all.push(NamedStay { stay: *stay, name })?;
+        all.push(StayWithName { stay: *stay, name })?;
     }
     Ok(all)
 }
 
 /// The stays of a ceremony behind the one that was read last.
 #[derive(Drop)]
-pub struct Stays {
+pub struct StayBatches {
     ceremony: u32,
     last: Option<Stay>,
 }
 
-impl Source for Stays {
-    type Row = NamedStay;
+impl BatchSource for StayBatches {
+    type Row = StayWithName;
 
     ghost to_come = { λ p m. stays_past p.last p.ceremony m };
 
-    fn several<S: Alter>(
+    fn next_batch<S: Alter>(
         &mut self,
         alloc: Global,
         tx: &mut Transaction<'_, S>,
-    ) -> Result<Vec<NamedStay>, Refusal> {
+    ) -> Result<Vec<StayWithName>, Refusal> {
         let stays = next_stays(alloc, tx, self.ceremony, &mut self.last)?;
         with_names(alloc, tx, stays.as_slice())
     }
 }
 
 /// The stays of a ceremony, each with the person's name.
-pub type StayReading = Ahead<Stays>;
+pub type StayCursor = Batched<StayBatches>;
 
-impl StayReading {
+impl StayCursor {
     /// Before the first stay of the ceremony.
-    pub fn start(ceremony: u32) -> StayReading
+    pub fn new(ceremony: u32) -> StayCursor
         ensures { (m : machine.Tables) → read_ahead result.ready
             ++ stays_past result.source.last result.source.ceremony m ≡ named_stays ceremony m }
     {
-        Ahead::new(Stays {
+        Batched::from_source(StayBatches {
             ceremony,
             last: None,
         })

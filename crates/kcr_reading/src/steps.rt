@@ -5,51 +5,20 @@ ghost use Rattle.std.specs.List.{AllByRecursion};
 ghost use Rattle.sqlite.specs.Held.{state};
 ghost use Rattle.kcr_history.specs.Prints.{seated_at};
 ghost use Rattle.kcr_history.specs.Tables as machine;
-ghost use Rattle.kcr_tables.specs.Frame.{TellsOpen, TellsMachine, Reads};
-ghost use Rattle.kcr_reading.specs.ToCome.{GivesSeveral, IsStepWithin, is_past_until, people_at, rows_past};
-ghost use Rattle.kcr_reading.specs.ToCome.{with_people, read_ahead, seated_steps, steps_past};
+ghost use Rattle.kcr_tables.specs.Frame.{ImpliesOpen, OfMachineTables, Reads};
+ghost use Rattle.kcr_reading.specs.Remaining.{IsNextBatchOf, IsStepWithin, is_past_until, people_at, rows_past};
+ghost use Rattle.kcr_reading.specs.Remaining.{with_people, read_ahead, seated_steps, steps_past};
 
-use crate::ahead::{Ahead, Source};
+use crate::batched::{BatchSource, Batched};
 use crate::seek::{first_rows, past_cell};
 use kcr_base::{Initials, Refusal};
-use kcr_history::{SeatingRow, StepRow};
+use kcr_history::{InitialsList, SeatedStep, SeatingRow, StepRow};
 use kcr_rows::cells::number_cell;
-use kcr_rows::statements::rows_of;
+use kcr_rows::statements::query_rows;
 use sqlite::{Alter, Transaction};
 use std::alloc::{AllocError, Global};
-use std::marker::Model;
 
-/// The people who filled the seats of a step, seat by seat; none of a step that is not done.
-#[derive(Drop)]
-pub struct Seated {
-    list: Vec<Initials>,
-}
-
-impl Model for Seated {
-    ghost use Rattle.std.specs.Prelude.{List, ℕ};
-
-    ghost Value = { List (List ℕ) };
-
-    ghost view = { λ s. s.list.items };
-}
-
-impl Seated {
-    /// The people, in the order of the seats.
-    pub fn as_slice(&self) -> &[Initials]
-        ensures { result.now ≡ self.now }
-    {
-        self.list.as_slice()
-    }
-}
-
-/// A step of a ceremony's script, with the people who filled its seats.
-#[derive(Drop)]
-pub struct SeatedStep {
-    pub step: StepRow,
-    pub seated: Seated,
-}
-
-/// The next steps of the ceremony past the last one, sixteen at most; the last of them becomes the last one. None where
+/// The next steps of the ceremony past the last one, sixteen at most; the last of them becomes the last one. None if
 /// no more comes.
 fn next_steps<S: Alter>(
     alloc: Global,
@@ -58,11 +27,11 @@ fn next_steps<S: Alter>(
     last: &mut Option<u32>,
 ) -> Result<Vec<StepRow>, Refusal>
     ensures same_reference { tx.new.conn.ghost_name ≡ tx.old.conn.ghost_name }
-    ensures gives { TellsMachine (state S.Store tx.old.conn.now) (state S.Store tx.new.conn.now) result
-        (λ m rows. GivesSeveral (rows_past last.old ceremony m) rows.items (rows_past last.new ceremony m)) }
-    ensures within { TellsMachine (state S.Store tx.old.conn.now) (state S.Store tx.new.conn.now) result
+    ensures gives { OfMachineTables (state S.Store tx.old.conn.now) (state S.Store tx.new.conn.now) result
+        (λ m rows. IsNextBatchOf (rows_past last.old ceremony m) rows.items (rows_past last.new ceremony m)) }
+    ensures within { OfMachineTables (state S.Store tx.old.conn.now) (state S.Store tx.new.conn.now) result
         (λ m rows. AllByRecursion (IsStepWithin ceremony last.old last.new) rows.items) }
-    ensures opened { TellsOpen (state S.Store tx.old.conn.now) (state S.Store tx.new.conn.now) result }
+    ensures opened { ImpliesOpen (state S.Store tx.old.conn.now) (state S.Store tx.new.conn.now) result }
     ensures frame { Reads (state S.Store tx.old.conn.now) (state S.Store tx.new.conn.now) result }
 {
     let rows: Vec<StepRow> = first_rows(
@@ -86,12 +55,12 @@ fn seatings_within<S: Alter>(
     until: Option<u32>,
 ) -> Result<Vec<SeatingRow>, Refusal>
     ensures same_reference { tx.new.conn.ghost_name ≡ tx.old.conn.ghost_name }
-    ensures people { TellsMachine (state S.Store tx.old.conn.now) (state S.Store tx.new.conn.now) result
+    ensures people { OfMachineTables (state S.Store tx.old.conn.now) (state S.Store tx.new.conn.now) result
         (λ m rows. (step : ℕ) → is_past_until from until step ≡ true
         → people_at step rows.items ≡ seated_at m.seatings ceremony step) }
     ensures frame { Reads (state S.Store tx.old.conn.now) (state S.Store tx.new.conn.now) result }
 {
-    rows_of(
+    query_rows(
         alloc,
         tx,
         "SELECT ceremony, step, seat, who FROM seatings WHERE ceremony = ?1 AND step > ?2 AND step <= ?3 ORDER BY ceremony, step, seat",
@@ -100,15 +69,13 @@ fn seatings_within<S: Alter>(
 }
 
 /// The people of those of these rows that are of the step, in their order.
-fn people_at(alloc: Global, rows: &[SeatingRow], step: u32) -> Result<Seated, AllocError>
-    ensures { IfOk result (λ seated. seated ≡ people_at step rows.now) }
+fn people_at(alloc: Global, rows: &[SeatingRow], step: u32) -> Result<Vec<Initials>, AllocError>
+    ensures { IfOk result (λ people. people.items ≡ people_at step rows.now) }
 {
-    let list = rows
-        .iter()
+    rows.iter()
         .filter(|row| row.step == step)
         .map(|row| row.who)
-        .collect(alloc)?;
-    Ok(Seated { list })
+        .collect(alloc)
 }
 
 /// These steps, each with its people among the rows.
@@ -121,7 +88,8 @@ fn with_people(
 {
     let mut all = Vec::new(alloc);
     for step in steps {
-        let seated = people_at(alloc, rows, step.step)?;
+        let people = people_at(alloc, rows, step.step)?;
+        let seated = InitialsList::new(people);
         all.push(SeatedStep { step, seated })?;
     }
     Ok(all)
@@ -129,17 +97,17 @@ fn with_people(
 
 /// The steps of a ceremony behind the one that was read last.
 #[derive(Drop)]
-pub struct Steps {
+pub struct StepBatches {
     ceremony: u32,
     last: Option<u32>,
 }
 
-impl Source for Steps {
+impl BatchSource for StepBatches {
     type Row = SeatedStep;
 
     ghost to_come = { λ p m. steps_past p.last p.ceremony m };
 
-    fn several<S: Alter>(
+    fn next_batch<S: Alter>(
         &mut self,
         alloc: Global,
         tx: &mut Transaction<'_, S>,
@@ -155,15 +123,15 @@ impl Source for Steps {
 }
 
 /// The steps of a ceremony, each with its people.
-pub type StepReading = Ahead<Steps>;
+pub type StepCursor = Batched<StepBatches>;
 
-impl StepReading {
+impl StepCursor {
     /// Before the first step of the ceremony.
-    pub fn start(ceremony: u32) -> StepReading
+    pub fn new(ceremony: u32) -> StepCursor
         ensures { (m : machine.Tables) → read_ahead result.ready
             ++ steps_past result.source.last result.source.ceremony m ≡ seated_steps ceremony m }
     {
-        Ahead::new(Steps {
+        Batched::from_source(StepBatches {
             ceremony,
             last: None,
         })

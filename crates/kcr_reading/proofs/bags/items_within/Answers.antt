@@ -4,4 +4,4 @@ use Rattle.kcr_reading.proofs.CustodyLemmas.{within}
 use Rattle.kcr_reading.proofs.bags.items_within.Goals as goal
 
 pub returns-clause-rows : goal.returns-clause-rows
-returns-clause-rows g c = by_tables c.rows_under.result _ _ c.rows_under.ensures.rows (λ m k rows is. is ∙ within c.args.serial.now m k)
+returns-clause-rows g c = by_tables c.find_rows.result _ _ c.find_rows.ensures.rows (λ m k rows is. is ∙ within c.args.serial.now m k)

@@ -7,16 +7,16 @@ use Rattle.kcr_reading.proofs.seek.first_rows.Goals as goal
 
 pub returns-clause-rows : goal.returns-clause-rows
 returns-clause-rows g c count choice shows clean t held =
-    let T = g.T.Listed.table in
-    let laws = g.met.T.Listed.table_laws in
+    let T = g.T.TableRow.table in
+    let laws = g.met.T.TableRow.table_laws in
     let old = state g.S.Store c.args.tx.now.conn.now in
-    let new = state g.S.Store c.rows_of.new.tx.conn.now in
+    let new = state g.S.Store c.query_rows.new.tx.conn.now in
     if_both _ _ _ (λ all shown read.
-    shown_first count c.args.sql.now T.place (bound c.args.params.now) choice shows g.T.Stored.row_of g.T.Stored.is_read T.is_stored laws.one old new all.items
+    shown_first count c.args.sql.now T.place (bound c.args.params.now) choice shows g.T.FromRow.row_of g.T.FromRow.is_read T.is_stored laws.one old new all.items
     held.schema shown read (T.rows_in t) (laws.stores old.now.trees t held.kept) (laws.keeps old.now.trees t held.kept))
-    c.rows_of.result (c.rows_of.ensures.shown clean) c.rows_of.ensures.read
+    c.query_rows.result (c.query_rows.ensures.shown clean) c.query_rows.ensures.read
 
 pub returns-clause-frame : goal.returns-clause-frame
 returns-clause-frame g c count choice shows =
-    let did = c.rows_of.ensures in
-    reads_by c.args.sql.now (state g.S.Store c.args.tx.now.conn.now) (state g.S.Store c.rows_of.new.tx.conn.now) c.rows_of.result shows.bare did.same did.frame
+    let did = c.query_rows.ensures in
+    reads_by c.args.sql.now (state g.S.Store c.args.tx.now.conn.now) (state g.S.Store c.query_rows.new.tx.conn.now) c.query_rows.result shows.bare did.same did.frame

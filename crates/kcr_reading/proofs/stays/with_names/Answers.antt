@@ -3,8 +3,8 @@ use Rattle.std.proofs.lemmas.List.{take_all, take_more, map-append}
 use Rattle.sqlite.specs.Held.{state}
 use Rattle.kcr_rows.proofs.InsideLemmas.{was_clean}
 use Rattle.kcr_tables.proofs.FrameLemmas.{reads_none, reads_then, reads_to, reads_fails}
-use Rattle.kcr_reading.specs.ToCome.{with_name}
-use Rattle.kcr_reading.specs.declared.stays.NamedStay.{NamedStay}
+use Rattle.kcr_history.specs.Questions.{with_name}
+use Rattle.kcr_history.specs.declared.report_rows.StayWithName.{StayWithName}
 use Rattle.kcr_reading.proofs.stays.with_names.Goals as goal
 
 pub loop-stay-init : goal.loop-stay-init
@@ -31,7 +31,7 @@ loop-stay-preserved g c =
       frame = reads_to old new c.in_ok-name.name _ tt (reads_then old mid new tt _ had.frame step.frame);
       names = λ clean m h.
           let before = was_clean mid new _ step.frame.within.survives clean in
-          let named : List ℕ → NamedStay = λ name. record { stay = stay; name = name } in
+          let named : List ℕ → StayWithName = λ name. record { stay = stay; name = name } in
           c.in_ok-push.ensures.items
           ∙ (λ i. had.names before m h i ++ (named (step.name clean m (had.frame.tables before m h) i) ∷ []))
           ∙ sym (map-append (with_name m.people) (take at stays) (stay ∷ [])) ∙ ap (map (with_name m.people)) (sym more);

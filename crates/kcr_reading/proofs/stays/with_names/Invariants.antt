@@ -3,8 +3,8 @@ use Rattle.sqlite.specs.Held.{state}
 use Rattle.sqlite.specs.State.{HasCleanDisk}
 use Rattle.kcr_history.specs.Tables as machine
 use Rattle.kcr_tables.specs.Frame.{Reads}
-use Rattle.kcr_tables.specs.Joint.{HoldsTables}
-use Rattle.kcr_reading.specs.ToCome.{with_name}
+use Rattle.kcr_tables.specs.MachineTables.{HoldsTables}
+use Rattle.kcr_history.specs.Questions.{with_name}
 use Rattle.kcr_reading.proofs.stays.with_names.Given as goal
 
 -- the stays so far have their names

@@ -1,6 +1,6 @@
 use Rattle.std.proofs.Common.{◌∷◌, [], ◌∙◌, ◌-◌, List, length, slice_get, ap, rules, arith}
 use Rattle.std.specs.Option.{option_copied}
-use Rattle.kcr_history.specs.declared.rows.StepRow.{StepRow}
+use Rattle.kcr_history.specs.declared.row_types.StepRow.{StepRow}
 use Rattle.kcr_tables.proofs.FrameLemmas.{fails_as, reads_to}
 use Rattle.kcr_tables.proofs.HoldLemmas.{held_of}
 use Rattle.kcr_reading.proofs.ChoiceLemmas.{shown_by}

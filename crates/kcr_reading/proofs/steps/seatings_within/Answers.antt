@@ -12,13 +12,13 @@ use Rattle.kcr_reading.proofs.steps.seatings_within.Goals as goal
 pub returns-clause-people : goal.returns-clause-people
 returns-clause-people g c clean m h =
     let old = state g.S.Store c.args.tx.now.conn.now in
-    let new = state g.S.Store c.rows_of.new.tx.conn.now in
-    let shown = subst (λ (v : Row). IfOk c.rows_of.result (λ rows. Shown seatings_text v old new (map seating_row rows.items)))
-    (λ i. c.number_cell.ensures i ∷ c.past_cell.ensures i ∷ c.past_cell-2.ensures i ∷ []) (c.rows_of.ensures.shown clean) in
+    let new = state g.S.Store c.query_rows.new.tx.conn.now in
+    let shown = subst (λ (v : Row). IfOk c.query_rows.result (λ rows. Shown seatings_text v old new (map seating_row rows.items)))
+    (λ i. c.number_cell.ensures i ∷ c.past_cell.ensures i ∷ c.past_cell-2.ensures i ∷ []) (c.query_rows.ensures.shown clean) in
     if_ok _ _ (λ rows is. seated c.args.ceremony c.args.from c.args.until old new rows.items m h.tables.t (held_of m old.now h) h.tables.stands is)
-    c.rows_of.result shown
+    c.query_rows.result shown
 
 pub returns-clause-frame : goal.returns-clause-frame
 returns-clause-frame g c =
-    let did = c.rows_of.ensures in
-    reads_by seatings_text _ _ c.rows_of.result (seatings_shown c.args.ceremony c.args.from c.args.until).bare did.same did.frame
+    let did = c.query_rows.ensures in
+    reads_by seatings_text _ _ c.query_rows.result (seatings_shown c.args.ceremony c.args.from c.args.until).bare did.same did.frame

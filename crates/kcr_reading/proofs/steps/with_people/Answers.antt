@@ -1,8 +1,8 @@
 use Rattle.std.proofs.Common.{◌≡◌, ℕ, List, ◌++◌, ◌∷◌, [], ◌∙◌, length, map, sym, ap, arith, append_assoc}
 use Rattle.std.proofs.lemmas.List.{map-append, append-nil, nil_from_length}
 use Rattle.std.specs.Vec.Iter.{into_iter_items}
-use Rattle.kcr_reading.specs.ToCome.{with_people}
-use Rattle.kcr_reading.specs.declared.steps.SeatedStep.{SeatedStep}
+use Rattle.kcr_reading.specs.Remaining.{with_people}
+use Rattle.kcr_history.specs.declared.report_rows.SeatedStep.{SeatedStep}
 use Rattle.kcr_reading.proofs.steps.with_people.Goals as goal
 
 pub loop-step-preserved : goal.loop-step-preserved
@@ -11,7 +11,7 @@ loop-step-preserved c =
     let x = c.in-Some.step in
     let steps : into_iter_items at.step-iterator ≡ x ∷ into_iter_items c.next.new.self = c.in-Some.ensures.steps.0 in
     let seated : List (List ℕ) → SeatedStep = λ people. record { step = x; seated = people } in record {
-      made = c.in_ok-push.ensures.items ∙ (λ i. at.invariant.made i ++ (seated (c.in_ok-seated.ensures i) ∷ []))
+      made = c.in_ok-push.ensures.items ∙ (λ i. at.invariant.made i ++ (seated ((c.new-seated.ensures ∙ c.in_ok-people.ensures) i) ∷ []))
           ∙ sym (map-append (with_people c.args.rows.now) at.yielded (x ∷ []));
       left = append_assoc at.yielded (x ∷ []) _ ∙ rw (← steps) at.invariant.left;
       len =

@@ -1,0 +1,5 @@
+mod Commas
+pub mod EntryLemmas
+mod Initials
+mod ReplyLemmas
+mod SeatedLemmas

@@ -1,0 +1,18 @@
+use Rattle.std.proofs.Common.{◌≡◌, Ok, map, take}
+use Rattle.sqlite.specs.Held.{state}
+use Rattle.sqlite.specs.State.{HasCleanDisk}
+use Rattle.kcr_history.specs.Tables as machine
+use Rattle.kcr_tables.specs.Frame.{Reads}
+use Rattle.kcr_tables.specs.MachineTables.{HoldsTables}
+use Rattle.kcr_journal.specs.Journal.{with_name}
+use Rattle.kcr_journal.proofs.cursor.with_names.Given as goal
+
+-- the people so far have their names
+abbrev pub invariant-loop-who : goal.invariant-loop-who
+invariant-loop-who g l =
+    let old = state g.S.Store l.fn.tx.conn.now in
+    let now = state g.S.Store l.tx.conn.now in record {
+      same_reference : l.tx.conn.ghost_name ≡ l.fn.tx.conn.ghost_name;
+      frame : Reads {A = Unit {0}} old now (Ok tt);
+      names : HasCleanDisk now → (m : machine.Tables) → HoldsTables m old.now → l.all.items ≡ map (with_name m.people) (take l.who-index l.people);
+    }

@@ -1,0 +1,67 @@
+-- The lines that the rows of accepted commands keep are those of the commands.
+use Rattle.std.proofs.Common.{◌≡◌, ℕ, ◌-◌, ◌⊎◌, List, [], map, take, drop, reverse, Option, None, inl, inr, sym, ap, subst, ◌∙◌}
+use Rattle.std.specs.Prelude.{IsTrue, Result, ⊤, unwrap_or}
+use Rattle.std.specs.Coded.{coded_ℕ, coded_list}
+use base.Stored.{Coded-set}
+use Rattle.std.proofs.Math.Logic.{∥∥₁_elim}
+use Rattle.std.specs.List.{AllByRecursion, flat_map}
+use Rattle.std.proofs.lemmas.List.{take-map}
+use Rattle.std.proofs.lemmas.List.Sorted.{IsPermutation-reverse}
+use Rattle.sqlite.specs.Held.{state}
+use Rattle.sqlite.specs.State.{HasCleanDisk}
+use Rattle.sqlite.specs.Store.{Ghosts}
+use Rattle.sqlite.specs.Tree.{Trees}
+use Rattle.sqlite_trees.proofs.ListLemmas.{all-permutation}
+use Rattle.kcr_base.specs.Counted.{inner_of}
+use Rattle.kcr_base.specs.declared.counted.Counted.{Counted}
+use Rattle.kcr_forms.specs.Values.{AreValues}
+use Rattle.kcr_history.specs.History.{History}
+use Rattle.kcr_history.specs.Machine.{IsRegister}
+use Rattle.kcr_history.specs.Tables.{key_row, people}
+use Rattle.kcr_history.specs.declared.commands.Entry.{Entry}
+use Rattle.kcr_history.specs.declared.row_types.KeyRow.{KeyRow}
+use Rattle.kcr_journal.specs.Journal.{journal, row_line}
+use Rattle.kcr_journal.proofs.EntryLemmas.{IsGood, good-entries, rows-are}
+use Rattle.kcr_store.specs.Register.{RegisterState}
+use Rattle.kcr_store.specs.Stored.{IsTables}
+use Rattle.kcr_print.specs.Journal.{PrintsJournal, row_journal}
+use Rattle.kcr_print.specs.Reports.{IsPrinted, Prints}
+use Rattle.kcr_print.specs.declared.fault.PrintFault.{PrintFault}
+use Rattle.kcr_print.proofs.RequestLemmas.{past_is, all_take}
+
+none : KeyRow
+none = record { key = []; accepted = 0; command = []; reply = [] }
+
+rows_tell : (asked : Option ℕ) (A : History) → IsRegister A → AreValues A → row_journal asked A ≡ journal asked A
+rows_tell asked A is values =
+    let f = row_line asked (people A) in
+    let good : AllByRecursion IsGood (take 4294967295 (reverse A)) =
+    all_take IsGood 4294967295 (reverse A) (all-permutation IsGood A (reverse A) (IsPermutation-reverse A) (good-entries A is values)) in
+    ap (λ (l : List KeyRow). flat_map (λ (line : List ℕ). line) (map f l)) (past_is A is none 4294967295 0 ∙ take-map key_row 4294967295 (reverse A))
+    ∙ rows-are asked (people A) (take 4294967295 (reverse A)) good
+
+-- so it is with every register: its file holds the tables, whatever a crash may leave
+pub journal_lines : {S W : Type 0} (g : Ghosts S) {contents : W → Option (List ℕ)} {before now : RegisterState S} {x y : Counted W} {r : Result ⊤ PrintFault}
+    (asked : Option ℕ) → (HasCleanDisk (state g now.conn) → ∥ ((db : Trees) × (state g now.conn).may_leave db) ∥₁)
+    → Prints g contents before now x y r (λ _ _. ⊥) (λ _. ⊥) (row_journal asked) → PrintsJournal g contents before now x y r asked
+journal_lines {S} g {contents = contents} {before = before} {now = now} {x = x} {y = y} {r = r} asked left prints = record {
+  prints = prints;
+  lines = λ founded in_doubt clean values.
+      subst (λ (text : List ℕ). IsPrinted (λ _. ⊥) text r (contents (inner_of x)) (contents (inner_of y))) (same founded in_doubt clean values)
+      (prints.printed founded in_doubt clean);
+}
+  where
+    tell : IsRegister before.accepted → AreValues before.accepted → row_journal asked before.accepted ≡ journal asked before.accepted
+    tell is values = rows_tell asked before.accepted is values
+
+    by_either : (db : Trees) → before.in_doubt ≡ None → AreValues before.accepted
+        → IsTables now.accepted db ⊎ IsTables (unwrap_or now.in_doubt now.accepted) db
+        → row_journal asked before.accepted ≡ journal asked before.accepted
+    by_either db in_doubt values (inl tables) = tell (subst IsRegister prints.leaves.same tables.register) values
+    by_either db in_doubt values (inr tables) = tell (subst IsRegister (prints.leaves.tried in_doubt) tables.register) values
+
+    same : IsTrue before.is_genuine → before.in_doubt ≡ None → HasCleanDisk (state g now.conn) → AreValues before.accepted
+        → row_journal asked before.accepted ≡ journal asked before.accepted
+    same founded in_doubt clean values =
+        ∥∥₁_elim (left clean) (Coded-set (coded_list coded_ℕ) _ _)
+        (λ found. by_either found.0 in_doubt values (prints.kept.crash (subst IsTrue (sym prints.leaves.founded) founded) clean found.0 found.1))

@@ -1,0 +1,14 @@
+use Rattle.std.proofs.Common.{IsSome, true≢false, sym, subst}
+use Rattle.std.specs.Vec.Iter.{into_iter_items}
+use Rattle.kcr_reading.specs.Remaining.{IsNextOf, read_ahead}
+use Rattle.kcr_reading.proofs.AheadLemmas.{gives_taken}
+use Rattle.kcr_reading.proofs.FirstLemmas.{no_rows}
+use Rattle.kcr_reading.proofs.batched.take_first.Goals as goal
+
+pub returns-in-Some : goal.returns-in-Some
+returns-in-Some g c =
+    let rows = c.in-Some.rows in
+    let left = into_iter_items c.next.new.self in
+    subst (λ o. IsNextOf (read_ahead o) c.next.result left) (sym c.in-Some.is) (gives_taken (into_iter_items rows) left c.next.result c.next.ensures.items
+    (λ none. no_rows rows.rest.len (into_iter_items rows) (sym rows.rest.ok.0)
+    (λ low. true≢false (sym (subst IsSome none (c.next.ensures.variant.1 low))))))

@@ -1,0 +1,34 @@
+use Rattle.std.proofs.Common.{rules, ◌≡◌, ◌==◌, [], ◌∷◌, List, filter, map, IfOk, subst, IsPermutation, refl, sym}
+use Rattle.std.proofs.lemmas.List.Sorted.{IsPermutation-trans}
+use Rattle.sqlite.specs.Order.{Row}
+use Rattle.sqlite.specs.Held.{state}
+use Rattle.sqlite.specs.State.{HasCleanDisk, Shown}
+use Rattle.sqlite_trees.proofs.ListLemmas.{IsPermutation-filter}
+use Rattle.kcr_rows.specs.Rows.{key_row}
+use Rattle.kcr_rows.proofs.FailLemmas.{if_ok}
+use Rattle.kcr_history.specs.declared.row_types.KeyRow.{KeyRow}
+use Rattle.kcr_tables.specs.KeysLaws as laws
+use Rattle.kcr_tables.proofs.FrameLemmas.{reads_by}
+use Rattle.kcr_tables.proofs.HoldLemmas.{held_of}
+use Rattle.kcr_tables.proofs.StatementLemmas.{passing_told}
+use Rattle.kcr_reading.proofs.CommandLemmas.{number_text, number_shown, is_numbered}
+use Rattle.kcr_reading.proofs.commands.rows_numbered.Goals as goal
+
+pub returns : goal.returns
+returns g c =
+    let number = c.args.number in
+    let old = state g.S.Store c.args.tx.now.conn.now in
+    let new = state g.S.Store c.query_rows.new.tx.conn.now in
+    let did = c.query_rows.ensures in
+    let text = number_shown number in
+    let shown = λ (clean : HasCleanDisk new). subst (λ (v : Row). IfOk c.query_rows.result (λ all. Shown number_text v old new (map key_row all.items)))
+    (λ i. c.number_cell.ensures i ∷ []) (did.shown clean) in
+    let told = passing_told text key_row laws.one old new c.query_rows.result shown laws.table.rows_in (laws.table_laws.keeps old.now.trees)
+    (λ (row : KeyRow). row.accepted == number) (is_numbered number) in record {
+      same_reference = search rules;
+      rows = λ clean m h. if_ok _ _ (λ all same.
+          IsPermutation-trans _ _ _ (IsPermutation-filter (λ (row : KeyRow). row.accepted == number) _ _ h.tables.stands.rows.keys) same) c.query_rows.result
+          (told clean h.tables.t (held_of m old.now h));
+      opened = search rules;
+      frame = reads_by number_text old new c.query_rows.result text.bare did.same did.frame;
+    }

@@ -1,5 +1,0 @@
-use Rattle.kcr_rows.proofs.TableLemmas.{filter_every}
-use Rattle.kcr_reading.proofs.exceptions.ExceptionReading.start.Goals as goal
-
-pub returns : goal.returns
-returns c m = filter_every _

@@ -1,0 +1,9 @@
+use Rattle.std.proofs.Common.{rules}
+use Rattle.kcr_reading.proofs.CustodyLemmas.{next_loose}
+use Rattle.kcr_reading.proofs.loose_items.next_loose.Goals as goal
+use Rattle.kcr_reading.proofs.loose_items.next_loose.Goals.{in-Some, in_default}
+
+pub returns-clause-gives : goal.returns-clause-gives
+returns-clause-gives g c clean m h =
+    let next = next_loose c.args.last.now m h.tables c.in_ok-found.found (c.in_ok-found.ensures.first clean m h) in
+    elim c.match-found.branch [ in-Some w ↦ search (rules, next) | in_default w ↦ search (rules, next) ]

@@ -1,0 +1,5 @@
+use Rattle.kcr_rows.proofs.TableLemmas.{filter_every}
+use Rattle.kcr_reading.proofs.safes.SafeCursor.new.Goals as goal
+
+pub returns : goal.returns
+returns c m = filter_every _

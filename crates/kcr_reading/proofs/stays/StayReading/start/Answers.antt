@@ -1,9 +1,0 @@
-use Rattle.std.proofs.Common.{◌++◌, ◌∙◌, map, ap}
-use Rattle.kcr_rows.proofs.TableLemmas.{filter_every}
-use Rattle.kcr_reading.specs.ToCome.{with_name, stays_past}
-use Rattle.kcr_reading.proofs.stays.StayReading.start.Goals as goal
-
-pub returns : goal.returns
-returns c m =
-    (λ i. c.new.ensures.ready i ++ stays_past (c.new.ensures.source i).last (c.new.ensures.source i).ceremony m)
-    ∙ ap (map (with_name m.people)) (filter_every _)

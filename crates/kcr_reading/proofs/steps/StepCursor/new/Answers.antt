@@ -1,0 +1,10 @@
+use Rattle.std.proofs.Common.{◌++◌, ◌∙◌, map, ap}
+use Rattle.kcr_rows.proofs.TableLemmas.{filter_every}
+use Rattle.kcr_history.specs.Questions.{with_seated}
+use Rattle.kcr_reading.specs.Remaining.{steps_past}
+use Rattle.kcr_reading.proofs.steps.StepCursor.new.Goals as goal
+
+pub returns : goal.returns
+returns c m =
+    (λ i. c.from_source.ensures.ready i ++ steps_past (c.from_source.ensures.source i).last (c.from_source.ensures.source i).ceremony m)
+    ∙ ap (map (with_seated m.seatings)) (filter_every _)
