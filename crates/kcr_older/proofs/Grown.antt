@@ -6,14 +6,14 @@ use Rattle.sqlite.specs.Change.{KeepsRows, created, next_tree}
 use Rattle.sqlite.specs.Effect.{Database}
 use Rattle.sqlite_catalog.specs.Listing.{IsSound}
 use Rattle.sqlite.specs.Order.{Row}
-use Rattle.kcr_rows.specs.Keyed.{Keeps, Place}
+use Rattle.kcr_rows.specs.Keyed.{TreeHolds, TableLayout}
 use Rattle.kcr_rows.proofs.CreateLemmas.{bare}
 use Rattle.kcr_rows.proofs.TableLemmas.{keeps_on}
 use Rattle.kcr_rows.specs.Rows.{stay_row, withdrawal_row}
 use Rattle.kcr_tables.specs.Schema.{all_tables, register_schema, stays, withdrawals}
-use Rattle.kcr_tables.specs.Held.{Tables, Kept, Holds, stays_place, withdrawals_place}
-use Rattle.kcr_older.specs.Growth.{Gains}
-use Rattle.kcr_older.specs.Older.{HoldsUpTo}
+use Rattle.kcr_tables.specs.StoredTables.{StoredTables, TreesHold, Holds, stays_place, withdrawals_place}
+use Rattle.kcr_older.specs.NewTable.{Gains}
+use Rattle.kcr_older.specs.OldFiles.{HoldsFirst}
 use Rattle.sqlite.specs.Command.TheVariants.{CreateTable}
 use Rattle.sqlite.specs.Compile.{table_defined_by}
 use Rattle.sqlite.specs.Does.{Tally, lacks_sequence}
@@ -21,43 +21,43 @@ use Rattle.sqlite.specs.State.{State, Executes, Writes}
 use Rattle.sqlite.specs.Listing.{understood}
 use Rattle.sqlite.proofs.Callers.{IsPlain, command_of, statement_of, runs_as}
 use Rattle.kcr_rows.proofs.WriteLemmas.{went, same_value}
-use Rattle.kcr_tables.specs.Made.{text_at, first}
+use Rattle.kcr_tables.specs.Creation.{text_at, schema_prefix}
 use Rattle.kcr_tables.proofs.MakeLemmas.{is_15, defines_15, is_16, defines_16}
 
 -- ---- one more table
 
 -- the rows of the tables that were there stay, and the new one has none
 module _ (at : ℕ) (table : Table)
-    (is : command_of (understood (first at) (text_at at)) ≡ CreateTable)
-    (whole : statement_of (text_at at) (understood (first at) (text_at at)) ≡ text_at at)
-    (plain : IsPlain (understood (first at) (text_at at)))
-    (after_is : (found : Table) → table_defined_by (text_at at) ≡ Ok found → created (first at) found ≡ first (at + 1))
-    (tree_is : next_tree (first at) ≡ table.tree)
-    (uncounted : lacks_sequence (first (at + 1)) ≡ false) where
-  creates_over : (old new : State) (count : ℕ) → old.now.schema ≡ first at → Executes (text_at at) [] old new (Ok count) → Gains at table old.now new.now
+    (is : command_of (understood (schema_prefix at) (text_at at)) ≡ CreateTable)
+    (whole : statement_of (text_at at) (understood (schema_prefix at) (text_at at)) ≡ text_at at)
+    (plain : IsPlain (understood (schema_prefix at) (text_at at)))
+    (after_is : (found : Table) → table_defined_by (text_at at) ≡ Ok found → created (schema_prefix at) found ≡ schema_prefix (at + 1))
+    (tree_is : next_tree (schema_prefix at) ≡ table.tree)
+    (uncounted : lacks_sequence (schema_prefix (at + 1)) ≡ false) where
+  creates_over : (old new : State) (count : ℕ) → old.now.schema ≡ schema_prefix at → Executes (text_at at) [] old new (Ok count) → Gains at table old.now new.now
   creates_over old new count has h =
-      let w = subst (λ t. Writes old new None CreateTable t [] count) whole (runs_as (text_at at) [] old new (first at) has CreateTable is plain count h) in
+      let w = subst (λ t. Writes old new None CreateTable t [] count) whole (runs_as (text_at at) [] old new (schema_prefix at) has CreateTable is plain count h) in
       let all = went w.changed in
       let made_as = went all.1 in
       let made = made_as.1 in
-      let schema_is : made_as.0.schema ≡ first (at + 1) = made.is ∙ ap (λ s. created s made.table) has ∙ after_is made.table made.defined in
+      let schema_is : made_as.0.schema ≡ schema_prefix (at + 1) = made.is ∙ ap (λ s. created s made.table) has ∙ after_is made.table made.defined in
       let lacks : lacks_sequence made_as.0.schema ≡ false = ap lacks_sequence schema_is ∙ uncounted in
       let now : new.now ≡ made_as.0 = ap (λ (p : Tally × Database). p.1) (same_value all.2) ∙ same_value (rw lacks at made_as.2) in
       let trees : new.now.trees ≡ made_as.0.trees = ap (λ (d : Database). d.trees) now in
-      let schema : new.now.schema ≡ first (at + 1) = ap (λ (d : Database). d.schema) now ∙ schema_is in
-      let kept : KeepsRows (first at).tables old.now.trees made_as.0.trees = subst (λ s. KeepsRows s.tables old.now.trees made_as.0.trees) has made.others in
+      let schema : new.now.schema ≡ schema_prefix (at + 1) = ap (λ (d : Database). d.schema) now ∙ schema_is in
+      let kept : KeepsRows (schema_prefix at).tables old.now.trees made_as.0.trees = subst (λ s. KeepsRows s.tables old.now.trees made_as.0.trees) has made.others in
       let bare : made_as.0.trees table.tree ≡ [] = subst (λ t. made_as.0.trees t ≡ []) (ap next_tree has ∙ tree_is) made.empty in
       record {
         schema = schema;
-        shared = subst (λ (n : Trees). KeepsRows (first at).tables old.now.trees n) (sym trees) kept;
+        shared = subst (λ (n : Trees). KeepsRows (schema_prefix at).tables old.now.trees n) (sym trees) kept;
         empty = subst (λ (n : Trees). n table.tree ≡ []) (sym trees) bare;
         sound = subst (λ s. IsSound s new.now.trees) schema w.sound;
       }
 
-pub creates_stays : (old new : State) (count : ℕ) → old.now.schema ≡ first 15 → Executes (text_at 15) [] old new (Ok count) → Gains 15 stays old.now new.now
+pub creates_stays : (old new : State) (count : ℕ) → old.now.schema ≡ schema_prefix 15 → Executes (text_at 15) [] old new (Ok count) → Gains 15 stays old.now new.now
 creates_stays = creates_over 15 stays is_15.0 is_15.1 is_15.2 defines_15 refl refl
 
-pub creates_withdrawals : (old new : State) (count : ℕ) → old.now.schema ≡ first 16 → Executes (text_at 16) [] old new (Ok count)
+pub creates_withdrawals : (old new : State) (count : ℕ) → old.now.schema ≡ schema_prefix 16 → Executes (text_at 16) [] old new (Ok count)
     → Gains 16 withdrawals old.now new.now
 creates_withdrawals = creates_over 16 withdrawals is_16.0 is_16.1 is_16.2 defines_16 refl refl
 
@@ -78,17 +78,17 @@ behind (suc count) [] a b k = tt
 behind (suc count) (t ∷ tables) a b k = behind count tables a b k.1
 
 -- trees that share the first 15 tables with those of a register keep its rows in them, beside stays and withdrawals of their own
-shares_kept : (whole db : Trees) (t u : Tables) → Kept whole t → KeepsRows (take 15 all_tables) whole db → IsSound register_schema db
-    → Keeps stays_place db (map stay_row u.rows.stays) → Keeps withdrawals_place db (map withdrawal_row u.rows.withdrawals)
-    → Kept db (record t { rows = record t.rows { stays = u.rows.stays; withdrawals = u.rows.withdrawals } })
+shares_kept : (whole db : Trees) (t u : StoredTables) → TreesHold whole t → KeepsRows (take 15 all_tables) whole db → IsSound register_schema db
+    → TreeHolds stays_place db (map stay_row u.rows.stays) → TreeHolds withdrawals_place db (map withdrawal_row u.rows.withdrawals)
+    → TreesHold db (record t { rows = record t.rows { stays = u.rows.stays; withdrawals = u.rows.withdrawals } })
 shares_kept whole db t u k s sound own_stays own_withdrawals =
-    let still : (place : Place) (rows : List Row) → db place.tree ≡ whole place.tree → Keeps place whole rows → Keeps place db rows
+    let still : (place : TableLayout) (rows : List Row) → db place.tree ≡ whole place.tree → TreeHolds place whole rows → TreeHolds place db rows
     = λ place rows. keeps_on place whole db rows in
     -- the tables behind the first seven, which the search does not reach from the front
     let later = behind 7 (take 15 all_tables) whole db s in
     search (rules, still, own_stays, own_withdrawals)
 
-pub grown_from_1 : (old mid new : Database) (t : Tables) → HoldsUpTo 15 old t → Gains 15 stays old mid → Gains 16 withdrawals mid new
+pub grown_from_1 : (old mid new : Database) (t : StoredTables) → HoldsFirst 15 old t → Gains 15 stays old mid → Gains 16 withdrawals mid new
     → Holds new (record t { rows = record t.rows { stays = []; withdrawals = [] } })
 grown_from_1 old mid new t held one two =
     let k = held.kept in
@@ -104,7 +104,7 @@ grown_from_1 old mid new t held one two =
           (bare stays_place new.trees none) (bare withdrawals_place new.trees two.empty);
     }
 
-pub grown_from_2 : (old new : Database) (t : Tables) → HoldsUpTo 16 old t → Gains 16 withdrawals old new
+pub grown_from_2 : (old new : Database) (t : StoredTables) → HoldsFirst 16 old t → Gains 16 withdrawals old new
     → Holds new (record t { rows = record t.rows { withdrawals = [] } })
 grown_from_2 old new t held two =
     let k = held.kept in

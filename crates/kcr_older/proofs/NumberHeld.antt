@@ -13,25 +13,25 @@ use Rattle.sqlite.specs.Change.{KeepsRows}
 use Rattle.sqlite.specs.Tree.{Trees}
 use Rattle.sqlite_trees.specs.View.{IsShaped}
 use Rattle.sqlite_trees.specs.declared.store.Shape.TheVariants as shape
-use Rattle.kcr_rows.specs.Keyed.{Keeps, Place, cells}
+use Rattle.kcr_rows.specs.Keyed.{TreeHolds, TableLayout, cells}
 use Rattle.kcr_rows.specs.Rows.{version_row}
-use Rattle.kcr_rows.specs.declared.rows.Version.{Version}
-use Rattle.kcr_tables.specs.Held.{Tables, versions_place}
-use Rattle.kcr_tables.specs.Made.{first}
+use Rattle.kcr_rows.specs.declared.row_impls.Version.{Version}
+use Rattle.kcr_tables.specs.StoredTables.{StoredTables, versions_place}
+use Rattle.kcr_tables.specs.Creation.{schema_prefix}
 use Rattle.kcr_tables.specs.Schema.{all_tables, versions}
-use Rattle.kcr_older.specs.Older.{HoldsUpTo, numbered}
-use Rattle.kcr_older.specs.Standing.{numbered_table, numbers_in, only_number, version_in}
+use Rattle.kcr_older.specs.OldFiles.{HoldsFirst, numbered}
+use Rattle.kcr_older.specs.Kind.{numbered_table, numbers_in, only_number, version_in}
 use Rattle.kcr_older.proofs.NumberLemmas.{same_number}
 
 abbrev pub IsKnown : ℕ → Type 0
 IsKnown version = (version ≡ 1) ⊎ ((version ≡ 2) ⊎ (version ≡ 3))
 
 -- every version has the table of its number
-pub has_versions : (version : ℕ) → IsKnown version → numbered_table (first (14 + version)) ≡ Some versions
+pub has_versions : (version : ℕ) → IsKnown version → numbered_table (schema_prefix (14 + version)) ≡ Some versions
 unfolding same_name
-has_versions version (inl one) = subst (λ v. numbered_table (first (14 + v)) ≡ Some versions) (sym one) refl
-has_versions version (inr (inl two)) = subst (λ v. numbered_table (first (14 + v)) ≡ Some versions) (sym two) refl
-has_versions version (inr (inr three)) = subst (λ v. numbered_table (first (14 + v)) ≡ Some versions) (sym three) refl
+has_versions version (inl one) = subst (λ v. numbered_table (schema_prefix (14 + v)) ≡ Some versions) (sym one) refl
+has_versions version (inr (inl two)) = subst (λ v. numbered_table (schema_prefix (14 + v)) ≡ Some versions) (sym two) refl
+has_versions version (inr (inr three)) = subst (λ v. numbered_table (schema_prefix (14 + v)) ≡ Some versions) (sym three) refl
 
 -- the number in the one row
 abbrev pub only_version : List Version → Option ℤ
@@ -44,8 +44,8 @@ by_number [] = refl
 by_number (version ∷ []) = refl
 by_number (version ∷ next ∷ more) = refl
 
-pub held_version : (version : ℕ) → IsKnown version → (db : Database) (rows : List Version) → db.schema ≡ first (14 + version)
-    → Keeps versions_place db.trees (map version_row rows) → version_in db ≡ only_version rows
+pub held_version : (version : ℕ) → IsKnown version → (db : Database) (rows : List Version) → db.schema ≡ schema_prefix (14 + version)
+    → TreeHolds versions_place db.trees (map version_row rows) → version_in db ≡ only_version rows
 held_version version known db rows schema keeps =
     let head = λ (r : Row). column r 0 in
     let number = λ (v : Version). Int (pos v.number) in
@@ -56,7 +56,7 @@ held_version version known db rows schema keeps =
     (rw there refl) ∙ sym (same_number (map number rows) (numbers_in versions db.trees) (subst₂ IsPermutation mine theirs same)) ∙ by_number rows
 
 -- so a file of an older version that holds rows
-keeps_at : (place : Place) (old new : Trees) (rows : List Row) → new place.tree ≡ old place.tree → Keeps place old rows → Keeps place new rows
+keeps_at : (place : TableLayout) (old new : Trees) (rows : List Row) → new place.tree ≡ old place.tree → TreeHolds place old rows → TreeHolds place new rows
 keeps_at place old new rows is k = record {
   same = subst (λ l. IsPermutation rows (map (cells place) l)) (sym is) k.same;
   rising = k.rising;
@@ -72,7 +72,7 @@ shares_versions version (inr (inl two)) old new s =
 shares_versions version (inr (inr three)) old new s =
     (subst (λ v. KeepsRows (take (14 + v) all_tables) old new) three s).1.1.1.1.1.1.1.1.1.1.1.1.1.0
 
-pub older_version : (version : ℕ) → IsKnown version → (db : Database) (t : Tables) → HoldsUpTo (14 + version) db t → version_in db ≡ only_version t.versions
+pub older_version : (version : ℕ) → IsKnown version → (db : Database) (t : StoredTables) → HoldsFirst (14 + version) db t → version_in db ≡ only_version t.versions
 older_version version known db t h =
     held_version version known db t.versions h.schema
     (keeps_at versions_place h.kept.whole db.trees _ (shares_versions version known h.kept.whole db.trees h.kept.shared) h.kept.kept.versions)

@@ -28,7 +28,7 @@ use Rattle.sqlite_trees.specs.Objects.{catalog_tree}
 use Rattle.sqlite_schema.specs.Names.{table_named, place_of}
 use Rattle.sqlite_schema.specs.declared.schema.Column.{Column}
 use Rattle.sqlite_trees.proofs.ListLemmas.{map-map}
-use Rattle.kcr_older.specs.Standing.{is_number, if_number, numbered_table, numbers_in, only_number, version_in}
+use Rattle.kcr_older.specs.Kind.{is_number, if_number, numbered_table, numbers_in, only_number, version_in}
 use Rattle.kcr_rows.proofs.FailLemmas.{shown_same}
 use Rattle.kcr_rows.proofs.ReadLemmas.{asking, kept_from}
 use Rattle.kcr_older.proofs.NumberText.{text, read_it, answered, plain}
@@ -48,7 +48,7 @@ picked (Some t) table h = elim (cases_Bool (is_number t.columns)) [
   | inr other ↦ absurd (let e = rw other at h in cc)
 ]
 
--- where the table stands in the schema, and its column
+-- if the table stands in the schema, and its column
 pub record Stands (schema : Schema) (table : Table) : Type 0 where
   pub at : ℕ
   pub finds : table_named schema (codes "versions") ≡ Some at

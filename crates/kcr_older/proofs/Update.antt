@@ -34,15 +34,15 @@ use Rattle.sqlite_rules.specs.Edit.{Applies}
 use Rattle.sqlite_rules.specs.Calls.{ids_of}
 use Rattle.sqlite_rules.proofs.TableLemmas.{int_is}
 use Rattle.sqlite_catalog.specs.Listing.{IsSound}
-use Rattle.kcr_rows.specs.Keyed.{cells, Keeps, Place}
+use Rattle.kcr_rows.specs.Keyed.{cells, TreeHolds, TableLayout}
 use Rattle.kcr_rows.proofs.ReadLemmas.{reading, matched, map_same}
 use Rattle.kcr_rows.proofs.WriteLemmas.{went, same_value, cast_int}
 use Rattle.kcr_rows.proofs.TableLemmas.{filter_every, keeps_still}
 use Rattle.kcr_rows.specs.Rows.{version_row}
-use Rattle.kcr_rows.specs.declared.rows.Version.{Version}
+use Rattle.kcr_rows.specs.declared.row_impls.Version.{Version}
 use Rattle.kcr_tables.specs.Schema.{register_schema, versions}
-use Rattle.kcr_tables.specs.Held.{Tables, Holds, versions_place}
-use Rattle.kcr_older.specs.Older.{numbered}
+use Rattle.kcr_tables.specs.StoredTables.{StoredTables, Holds, versions_place}
+use Rattle.kcr_older.specs.OldFiles.{numbered}
 
 -- ---- what a query with no test shows of each entry
 
@@ -139,7 +139,7 @@ set_tree trees next e i one id s =
     ∙ ap (λ l. put_row (cast_row versions (Int i ∷ Int (pos 3) ∷ [])) l) (gone_one i e id)
     ∙ (λ j. (cast_int i j ∷ cast_int (pos 3) j ∷ []) ∷ [])
 
-pub sets : (n : ℕ) (old new : State) (count : ℕ) (t : Tables) → t.versions ≡ numbered n → Holds old.now t
+pub sets : (n : ℕ) (old new : State) (count : ℕ) (t : StoredTables) → t.versions ≡ numbered n → Holds old.now t
     → Executes (codes "UPDATE versions SET number = 3") [] old new (Ok count) → Holds new.now (record t { versions = numbered 3 })
 sets n old new count t one held h =
     let o = old.now.trees in
@@ -150,17 +150,17 @@ sets n old new count t one held h =
     let u =
     updates old.step_limit o text w.tally new.now
     (subst (λ s. Does old.step_limit (mode_of old) [] (record old.now { schema = s }) text None Sets (Ok (w.tally, new.now))) held.schema w.changed) in
-    let kept : Keeps versions_place o ((Int (pos n) ∷ []) ∷ []) = subst (λ (vs : List Version). Keeps versions_place o (map version_row vs)) one k.versions in
+    let kept : TreeHolds versions_place o ((Int (pos n) ∷ []) ∷ []) = subst (λ (vs : List Version). TreeHolds versions_place o (map version_row vs)) one k.versions in
     let e = one_entry (cells versions_place) (o versions_place.tree) (Int (pos n) ∷ []) (one_permutation _ _ kept.same) in
     let shaped = subst (IsShaped shape.Table) e.1 kept.shaped in
     let id : rowid e.0 ≡ Int (id_in (rowid e.0)) = int_is (rowid e.0) shaped.1.0 in
     let tree : m versions_place.tree ≡ (Int (id_in (rowid e.0)) ∷ Int (pos 3) ∷ []) ∷ [] = set_tree o m e.0 (id_in (rowid e.0)) e.1 id u.1 in
-    let still : (place : Place) (rows : List Row) → (place.tree == versions_place.tree) ≡ false
+    let still : (place : TableLayout) (rows : List Row) → (place.tree == versions_place.tree) ≡ false
     → list_all (λ i. not (i.tree == place.tree)) register_schema.indexes ≡ true
-    → Keeps place o rows → Keeps place m rows
+    → TreeHolds place o rows → TreeHolds place m rows
     = λ place rows. keeps_still register_schema versions_place.tree place o m rows u.1.applies.others in
     let sound : IsSound register_schema m = subst (λ s. IsSound s m) u.0 w.sound in
-    let number : Keeps versions_place m ((Int (pos 3) ∷ []) ∷ []) = record {
+    let number : TreeHolds versions_place m ((Int (pos 3) ∷ []) ∷ []) = record {
       same = subst (λ l. IsPermutation ((Int (pos 3) ∷ []) ∷ []) (map (cells versions_place) l)) (sym tree) (IsPermutation-refl ((Int (pos 3) ∷ []) ∷ []));
       rising = (tt, tt);
       full = (refl, tt);

@@ -1,7 +1,7 @@
-pub mod Older
-pub mod Standing
+pub mod OldFiles
+pub mod Kind
 pub mod Plain
 pub mod Versions
-pub mod Growth
-pub mod Filled
-pub mod Brought
+pub mod NewTable
+pub mod Backfilled
+pub mod Migrated

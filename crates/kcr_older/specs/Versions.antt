@@ -1,8 +1,8 @@
 -- The number of a version before this one.
 use Rattle.std.specs.Prelude.{ℕ}
-use Rattle.kcr_older.specs.declared.renewal.Older.{Older}
-use Rattle.kcr_older.specs.declared.renewal.Older.TheVariants.{First, Second}
+use Rattle.kcr_older.specs.declared.migration.OldVersion.{OldVersion}
+use Rattle.kcr_older.specs.declared.migration.OldVersion.TheVariants.{V1, V2}
 
-abbrev pub number_of : Older → ℕ
-number_of First = 1
-number_of Second = 2
+abbrev pub number_of : OldVersion → ℕ
+number_of V1 = 1
+number_of V2 = 2

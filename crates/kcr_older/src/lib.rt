@@ -1,15 +1,15 @@
-//! Registers of older versions, brought to this one, and what a database is.
+//! Registers of older versions, migrated to this version, and what a database is.
 #![tactic(auto)]
 
-mod fill;
-mod grow;
+mod backfill;
+mod kind;
 mod laws;
+mod migration;
+mod missing_tables;
 mod number;
-mod renewal;
 mod schemas;
-mod standing;
 
-pub use laws::stays_meet_the_sheet;
+pub use kind::{DatabaseKind, database_kind};
+pub use laws::stays_follow_from_sheet;
+pub use migration::{OldVersion, migrate};
 pub use number::version_in;
-pub use renewal::{Older, bring};
-pub use standing::{Standing, standing_of};

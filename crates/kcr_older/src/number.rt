@@ -4,13 +4,13 @@ ghost use Rattle.std.specs.Prelude.{◌≡◌, [], ◌∷◌, ⊤, IsTrue, is_so
 ghost use Rattle.sqlite.specs.Held.{state};
 ghost use Rattle.sqlite.specs.State.{HasCleanDisk, IsLive, IsUnchanged};
 ghost use Rattle.kcr_rows.specs.Refusals.{IsFault};
-ghost use Rattle.kcr_rows.specs.Frame.{StaysWithin};
-ghost use Rattle.kcr_older.specs.Standing as spec;
-ghost use Rattle.kcr_older.specs.Standing.{numbered_table};
+ghost use Rattle.kcr_rows.specs.Frame.{StaysInTransaction};
+ghost use Rattle.kcr_older.specs.Kind as spec;
+ghost use Rattle.kcr_older.specs.Kind.{numbered_table};
 
 use kcr_base::Refusal;
-use kcr_rows::statements::rows_of;
-use kcr_rows::stored::Stored;
+use kcr_rows::from_row::FromRow;
+use kcr_rows::statements::query_rows;
 use sqlite::types::Value;
 use sqlite::{Alter, Row, Transaction};
 use std::alloc::Global;
@@ -21,12 +21,12 @@ struct Cell {
     value: Value,
 }
 
-impl Stored for Cell {
+impl FromRow for Cell {
     ghost row_of = { λ cell. cell.value ∷ [] };
 
     ghost is_read = { λ _. ⊤ };
 
-    fn decode(_alloc: Global, row: &Row) -> Result<Cell, Refusal> {
+    fn from_row(_alloc: Global, row: &Row) -> Result<Cell, Refusal> {
         if row.column_count() != 1 {
             return Err(Refusal::Disk);
         }
@@ -37,7 +37,7 @@ impl Stored for Cell {
     }
 }
 
-/// The whole number of the one cell, where there is exactly one, and that is a whole number.
+/// The whole number of the one cell, if there is exactly one, and that is a whole number.
 fn only_number(cells: &[Cell]) -> Option<i64>
     ensures { result ≡ spec.only_number (map (λ cell. cell.value) cells.now) }
 {
@@ -50,7 +50,7 @@ fn only_number(cells: &[Cell]) -> Option<i64>
     }
 }
 
-/// The number in the one row of the table `versions`, which has the one column `number`; None where that table has no
+/// The number in the one row of the table `versions`, which has the one column `number`; `None` if that table has no
 /// row, or several, or the row has no whole number. Nothing is changed. The error is `Memory` when out of memory, and
 /// else `Disk`: the device failed, or there is no such table.
 pub fn version_in<S: Alter>(
@@ -66,8 +66,8 @@ pub fn version_in<S: Alter>(
         → OnOk result (IsUnchanged (state S.Store tx.old.conn.now) (state S.Store tx.new.conn.now)) }
     ensures opened { HasCleanDisk (state S.Store tx.new.conn.now)
         → OnOk result (IsTrue (state S.Store tx.old.conn.now).is_open) }
-    ensures frame { StaysWithin IsFault (state S.Store tx.old.conn.now) (state S.Store tx.new.conn.now) result }
+    ensures frame { StaysInTransaction IsFault (state S.Store tx.old.conn.now) (state S.Store tx.new.conn.now) result }
 {
-    let cells = rows_of::<_, Cell>(alloc, tx, "SELECT number FROM versions", &[])?;
+    let cells = query_rows::<_, Cell>(alloc, tx, "SELECT number FROM versions", &[])?;
     Ok(only_number(cells.as_slice()))
 }

@@ -1,4 +1,4 @@
-//! Whether a schema is that of some tables and their indexes.
+//! Whether a schema consists of some tables and their indexes.
 
 ghost use Rattle.std.specs.Prelude.{◌≡◌, ◌↔◌, [], IsTrue};
 ghost use Rattle.std.specs.List.{AllByRecursion};

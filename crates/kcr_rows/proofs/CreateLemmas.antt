@@ -18,7 +18,7 @@ use Rattle.sqlite_trees.proofs.ListLemmas.{all-append, IsPermutation-same}
 use Rattle.sqlite_trees.specs.View.{IsShaped}
 use Rattle.sqlite_trees.specs.declared.store.Shape.TheVariants as shape
 use Rattle.kcr_rows.specs.Columns.{AreEmpty}
-use Rattle.kcr_rows.specs.Keyed.{cells, Place, Keeps}
+use Rattle.kcr_rows.specs.Keyed.{cells, TableLayout, TreeHolds}
 use Rattle.kcr_rows.proofs.WriteLemmas.{went, same_value}
 
 keeps_empty : (tables : List Table) (old new : Trees) → KeepsRows tables old new → AreEmpty tables old → AreEmpty tables new
@@ -52,7 +52,7 @@ module _ (schema : Schema) (text : List ℕ) (table : Table) (after : Schema)
       )
 
 -- a tree without entries keeps no rows
-pub bare : (place : Place) (db : Trees) → db place.tree ≡ [] → Keeps place db []
+pub bare : (place : TableLayout) (db : Trees) → db place.tree ≡ [] → TreeHolds place db []
 bare place db none = record {
   same = IsPermutation-same [] _ (sym (ap (map (cells place)) none));
   rising = tt;

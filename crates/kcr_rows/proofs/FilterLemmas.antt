@@ -19,7 +19,7 @@ has_value at v row = equal Binary (column row at) v && true
 and_true : (b : Bool) → (b && true) ≡ b
 and_true b = grind arith
 
--- values that are there are equal where they tie
+-- values that are there are equal if they tie
 pub value_is : (a v : Value) → is_null a ≡ false → is_null v ≡ false → (equal Binary a v && true) ≡ ties a v
 value_is a v there here = and_true _ ∙ equal_is a v there here ∙ sym (ties_is a v)
 

@@ -26,14 +26,14 @@ use Rattle.sqlite_value.proofs.OrderLemmas.{value_cmp-Int, then-Equal}
 use Rattle.sqlite_rules.proofs.ListLemmas.{all_has, all_from}
 use Rattle.sqlite_rules.proofs.ProbeLemmas.{mapped_has}
 use Rattle.sqlite_trees.proofs.ListLemmas.{filter-map, IsPermutation-filter}
-use Rattle.kcr_rows.specs.Keyed.{cells, Place, Keeps}
+use Rattle.kcr_rows.specs.Keyed.{cells, TableLayout, TreeHolds}
 use Rattle.kcr_rows.specs.Greatest.{IsGreatest}
 use Rattle.kcr_rows.proofs.ReadLemmas.{asking, kept_cells}
 use Rattle.kcr_rows.proofs.TableLemmas.{same_values, each_is}
 use Rattle.kcr_rows.proofs.PutLemmas.{mapped_from, has_same}
 
 -- the query on one table that shows the row with the greatest number in a column, counted from 0
-abbrev pub greatest : Place → List Term → List Term → ℕ → Query
+abbrev pub greatest : TableLayout → List Term → List Term → ℕ → Query
 greatest place test project at =
     asking place.tree test project ((col 1 (slice_index_or place.at at 0), record { collation = Binary; descending = true }) ∷ []) (pos 1)
 
@@ -59,7 +59,7 @@ number_order a b h = grind (arith, nat_tests)
 none_from : {X Y : Type 0} (f : X → Y) (xs : List X) → map f xs ≡ [] → xs ≡ []
 none_from f xs h = nil_from_length xs (sym (length-map xs f) ∙ ap length h)
 
-module _ (place : Place) (schema : Schema) (sql : List ℕ) (params : Row) (test project : List Term) (at : ℕ) (names : List (List ℕ)) (passes : Row → Bool)
+module _ (place : TableLayout) (schema : Schema) (sql : List ℕ) (params : Row) (test project : List Term) (at : ℕ) (names : List (List ℕ)) (passes : Row → Bool)
     (is : (command_of (understood schema sql) ≡ Select (record { lets = []; body = greatest place test project at }) names)
     × (reads_listing schema sql ≡ false))
     (bare : IsPlain (understood schema sql))
@@ -108,7 +108,7 @@ module _ (place : Place) (schema : Schema) (sql : List ℕ) (params : Row) (test
       )
 
   pub shown_greatest : (old new : State) (xs : List X) → old.now.schema ≡ schema → Shown sql params old new (map row_of xs) → (ys : List X)
-      → Keeps place old.now.trees (map row_of ys)
+      → TreeHolds place old.now.trees (map row_of ys)
       → IsGreatest number (filter (λ y. passes (row_of y)) ys) xs
   shown_greatest old new xs has h ys keeps =
       let read = reads_as sql params old new schema has _ is.0 bare is.1 (map row_of xs) h in

@@ -15,7 +15,7 @@ use Rattle.sqlite_value.specs.Keys.{plain, first_key, rising}
 use Rattle.sqlite_value.proofs.KeyLemmas.{first_key-plain}
 use Rattle.sqlite_rules.specs.Lists.{Has}
 use Rattle.sqlite_rules.specs.Edit.{id_in, is_taken}
-use Rattle.kcr_rows.specs.Keyed.{Place, cells, by_key, is_full}
+use Rattle.kcr_rows.specs.Keyed.{TableLayout, cells, by_key, is_full}
 
 abbrev pub places_from : ℕ → ℕ → List ℕ
 places_from at zero = []
@@ -62,8 +62,8 @@ not_any p (y ∷ xs) x none (inr more) = not_any p xs x (or_parts _ _ none).1 mo
 alone : (a b : Bool) → (a && b) ≡ false → b ≡ true → a ≡ false
 alone a b none h = grind arith
 
--- an entry agrees with one of these values on the columns of the key where it has their key
-module _ (place : Place) (entry values : Row)
+-- an entry agrees with one of these values on the columns of the key if it has their key
+module _ (place : TableLayout) (entry values : Row)
     (compares : (a b : Row) → by_key place.keys (cells place a) (cells place b) ≡ key_cmp 1 (rising place.keys []) a b)
     (fulls : (a : Row) → is_full place.keys (cells place a) ≡ full 1 place.keys a)
     (shown : cells place entry ≡ values) where
@@ -84,7 +84,7 @@ same_is zero at a b = refl
 same_is (suc count) at a b = rw first_key-plain (ap (λ more. equal Binary (column a at) (column b at) && more) (same_is count (suc at) a b))
 
 -- a row that does not clash with the new one has another key
-module _ (place : Place) (entries : List Row) (entry : Row) (id : ℤ) (values : Row)
+module _ (place : TableLayout) (entries : List Row) (entry : Row) (id : ℤ) (values : Row)
     (compares : (a b : Row) → by_key place.keys (cells place a) (cells place b) ≡ key_cmp 1 (rising place.keys []) a b)
     (fulls : (a : Row) → is_full place.keys (cells place a) ≡ full 1 place.keys a)
     (numbered : rowid entry ≡ Int id)

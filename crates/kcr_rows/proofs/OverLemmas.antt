@@ -28,7 +28,7 @@ use Rattle.sqlite_rules.specs.Lists.{Has}
 use Rattle.sqlite_trees.proofs.ListLemmas.{filter-map, filter_none, filter_same, IsPermutation-filter}
 use Rattle.sqlite_value.proofs.OrderLemmas.{value_cmp_total}
 use Rattle.kcr_rows.specs.Columns.{simple_as}
-use Rattle.kcr_rows.specs.Keyed.{cells, by_key, is_full, Place, Keeps, put}
+use Rattle.kcr_rows.specs.Keyed.{cells, by_key, is_full, TableLayout, TreeHolds, put}
 use Rattle.kcr_rows.proofs.PutLemmas.{keeps_put}
 use Rattle.kcr_rows.proofs.ReadLemmas.{reading, kept_from}
 use Rattle.kcr_rows.proofs.SameLemmas.{key_total}
@@ -89,7 +89,7 @@ module _ (p : Row → Bool) (r : Row) where
       rw out (only rows up.1 later is (λ x h. one x (inr h)))
 
 -- the row that has the key, among the entries that a tree keeps
-module _ (place : Place) (db : Trees) (rows : List Row) (keeps : Keeps place db rows) (values : Row) where
+module _ (place : TableLayout) (db : Trees) (rows : List Row) (keeps : TreeHolds place db rows) (values : Row) where
   abbrev has : Row → Bool
   has r = has_key place.keys values (cells place r)
 
@@ -107,7 +107,7 @@ module _ (place : Place) (db : Trees) (rows : List Row) (keeps : Keeps place db 
 
 -- ---- an update that finds it
 
-module _ (place : Place) (db : Trees) (test sets : List Term) (params : Row) (low : nat_le (2 ^ 31) place.tree ≡ false) where
+module _ (place : TableLayout) (db : Trees) (test sets : List Term) (params : Row) (low : nat_le (2 ^ 31) place.tree ≡ false) where
   abbrev q : Query
   q = finding place.tree test sets
 
@@ -117,8 +117,8 @@ module _ (place : Place) (db : Trees) (test sets : List Term) (params : Row) (lo
   abbrev made : Row → Output
   made x = output q (params ∷ x ∷ [])
 
-  -- where one entry passes the test, the answer is what is made of it
-  pub found_one : (rows : List Row) → Keeps place db rows → (r : Row) → Has (db place.tree) r → is_found r ≡ true
+  -- if one entry passes the test, the answer is what is made of it
+  pub found_one : (rows : List Row) → TreeHolds place db rows → (r : Row) → Has (db place.tree) r → is_found r ≡ true
       → ((x : Row) → Has (db place.tree) x → is_found x ≡ true → x ≡ r) → (answer : List Row)
       → IsAnswer q (overlay db []) params answer → answer ≡ eval_all sets (params ∷ r ∷ []) ∷ []
   found_one rows keeps r h passes one answer a =
@@ -129,17 +129,17 @@ module _ (place : Place) (db : Trees) (test sets : List Term) (params : Row) (lo
       a.shown ∙ ap (map (λ (o : Output). o.1)) ordered
 
 -- an edit of the entry that has the key, which gets the new values and keeps its rowid
-module _ (place : Place) (like : Table) (values : Row)
+module _ (place : TableLayout) (like : Table) (values : Row)
     (casts : cast_all like.columns values ≡ values)
     (shown_as : (id : ℤ) → cells place (Int id ∷ values) ≡ values)
     (filled : is_full place.keys values ≡ true) where
   abbrev that : Table
   that = simple_as place.tree like
 
-  pub keeps_changed : (old new : Trees) (rows : List Row) → Keeps place old rows → (r : Row) → Has (old place.tree) r
+  pub keeps_changed : (old new : Trees) (rows : List Row) → TreeHolds place old rows → (r : Row) → Has (old place.tree) r
       → has_key place.keys values (cells place r) ≡ true → (answer : List Row) → answer ≡ (rowid r ∷ rowid r ∷ values) ∷ []
       → are_fresh (left_by old (rewriting old that answer)) (rewriting old that answer).news ≡ true
-      → new place.tree ≡ edited old (rewriting old that answer) → Keeps place new (put place.keys values rows)
+      → new place.tree ≡ edited old (rewriting old that answer) → TreeHolds place new (put place.keys values rows)
   keeps_changed old new rows keeps r h has_it found answer news_fresh tree_is =
       let entries = old place.tree in
       let id = id_in (rowid r) in

@@ -19,7 +19,7 @@ use Rattle.sqlite_rules.specs.Edit.{is_taken}
 use Rattle.sqlite_rules.proofs.ListLemmas.{all_has, all_from}
 use Rattle.sqlite_rules.proofs.ProbeLemmas.{has_mapped}
 use Rattle.kcr_rows.proofs.SameLemmas.{key_total}
-use Rattle.kcr_rows.specs.Keyed.{cells, by_key, is_full, Place, Keeps, put}
+use Rattle.kcr_rows.specs.Keyed.{cells, by_key, is_full, TableLayout, TreeHolds, put}
 
 module _ (keys : ℕ) (new : Row) where
   abbrev Put : Ordering → Row → List Row → List Row
@@ -85,14 +85,14 @@ mapped_from = has_mapped
 pub has_same : {X : Type 0} (xs ys : List X) (x : X) → IsPermutation xs ys → Has xs x → Has ys x
 has_same xs ys x same h = all_has (Has ys) xs x (all-permutation (Has ys) ys xs (IsPermutation-sym _ _ same) (all_from (Has ys) ys (λ y there. there))) h
 
--- the rows of another key are left, and the new one goes in where its rowid is free
-module _ (place : Place) (db : Trees) (new : Row) (values : Row) (rest : List Row) (shaped : IsShaped shape.Table (db place.tree)) where
+-- the rows of another key are left, and the new one goes in if its rowid is free
+module _ (place : TableLayout) (db : Trees) (new : Row) (values : Row) (rest : List Row) (shaped : IsShaped shape.Table (db place.tree)) where
   abbrev others : List Row
   others = filter (λ r. not (is_eq (by_key place.keys (cells place r) values))) (db place.tree)
 
-  pub keeps_put : rest ≡ others → (rows : List Row) → Keeps place db rows → (next : Trees) → is_full place.keys values ≡ true → cells place new ≡ values
+  pub keeps_put : rest ≡ others → (rows : List Row) → TreeHolds place db rows → (next : Trees) → is_full place.keys values ≡ true → cells place new ≡ values
       → IsTrue (is_int (rowid new))
-      → is_taken rest new ≡ false → next place.tree ≡ put_row new rest → Keeps place next (put place.keys values rows)
+      → is_taken rest new ≡ false → next place.tree ≡ put_row new rest → TreeHolds place next (put place.keys values rows)
   keeps_put left_is rows keeps next whole shown keyed free is =
       let shows = cells place in
       let now : next place.tree ≡ put_row new others = is ∙ ap (put_row new) left_is in

@@ -15,9 +15,9 @@ use Rattle.sqlite_sql.proofs.QueryLemmas.{output_cmp_total}
 use Rattle.sqlite_trees.proofs.ListLemmas.{map-map, filter-map, IsPermutation-filter, ascending-filter, ascending-map, ascending_weaker}
 use Rattle.sqlite_keyed.proofs.SortLemmas.{sorted_unique}
 use Rattle.sqlite.specs.Program.{overlay}
-use Rattle.kcr_rows.specs.Keyed.{cells, by_key, Place, Keeps}
+use Rattle.kcr_rows.specs.Keyed.{cells, by_key, TableLayout, TreeHolds}
 
--- the query on one table that shows these terms, in this order, of at most so many rows, or of all where that is negative
+-- the query on one table that shows these terms, in this order, of at most N rows, or of all if N is negative
 abbrev pub asking : ℕ → List Term → List Term → List (Term × Key) → ℤ → Query
 asking tree test project order limit = record {
   from = inner tree end;
@@ -63,8 +63,8 @@ kept_from tree test project order limit params low db rows a =
     (a.grouped ∙ matched p (λ r. params ∷ r ∷ []) (overlay db [] tree) ∙ ap (λ l. map (λ r. params ∷ r ∷ []) (filter p l)) over)
     ∙ map-map (output (asking tree test project order limit)) (λ r. params ∷ r ∷ []) (filter p (db tree))
 
--- the same where the test and what is made of an entry are told of its cells
-pub kept_cells : (place : Place) (test project : List Term) (order : List (Term × Key)) (limit : ℤ) (params : Row) (passes : Row → Bool) (out : Row → Output)
+-- the same if the test and what is made of an entry are told of its cells
+pub kept_cells : (place : TableLayout) (test project : List Term) (order : List (Term × Key)) (limit : ℤ) (params : Row) (passes : Row → Bool) (out : Row → Output)
     → ((r : Row) → output (asking place.tree test project order limit) (params ∷ r ∷ []) ≡ out (cells place r))
     → ((r : Row) → list_all (holds (params ∷ r ∷ [])) test ≡ passes (cells place r)) → nat_le (2 ^ 31) place.tree ≡ false
     → (db : Trees) (rows : List Row) → (a : IsAnswer (asking place.tree test project order limit) (overlay db []) params rows)
@@ -77,7 +77,7 @@ kept_cells place test project order limit params passes out shows tests low db r
     ∙ sym (map-map out shown (filter (λ r. passes (shown r)) (db place.tree)))
     ∙ ap (map out) (sym (filter-map passes shown (db place.tree)))
 
-module _ (place : Place) (test : List Term) (project : List Term) (order : List (Term × Key)) (params : Row) (passes : Row → Bool)
+module _ (place : TableLayout) (test : List Term) (project : List Term) (order : List (Term × Key)) (params : Row) (passes : Row → Bool)
     (shows : (r : Row) → output (reading place.tree test project order) (params ∷ r ∷ []) ≡ with_key place.keys (cells place r))
     (tests : (r : Row) → list_all (holds (params ∷ r ∷ [])) test ≡ passes (cells place r))
     (sorts : (a b : Row) → output_cmp (reading place.tree test project order) (with_key place.keys a) (with_key place.keys b) ≡ by_key place.keys a b)
@@ -92,7 +92,7 @@ module _ (place : Place) (test : List Term) (project : List Term) (order : List 
       → a.kept ≡ map (with_key place.keys) (filter passes (map (cells place) (db place.tree)))
   outs = kept_cells place test project order (negsuc 0) params passes (with_key place.keys) shows tests low
 
-  pub reads_rows : (db : Trees) (rows kept : List Row) → Keeps place db kept → IsAnswer q (overlay db []) params rows → rows ≡ filter passes kept
+  pub reads_rows : (db : Trees) (rows kept : List Row) → TreeHolds place db kept → IsAnswer q (overlay db []) params rows → rows ≡ filter passes kept
   reads_rows db rows kept keeps a =
       let same = IsPermutation-map (with_key place.keys) _ _ (IsPermutation-filter passes _ _ keeps.same) in
       let strict : IsAscending (λ x y. output_cmp q x y ≡ Less) (map (with_key place.keys) (filter passes kept)) =

@@ -23,10 +23,10 @@ use Rattle.kcr_room.specs.declared.Way.{Way}
 use Rattle.kcr_room.specs.declared.Way.TheVariants.{Enter, Leave}
 use Rattle.kcr_script.specs.declared.seat.Seat.{Seat}
 use Rattle.kcr_script.specs.Seats.{StandsFor, written}
-use Rattle.kcr_history.specs.declared.rows.CeremonyState.{CeremonyState}
-use Rattle.kcr_history.specs.declared.rows.CeremonyState.TheVariants.{Planned, Open, Closed}
-use Rattle.kcr_history.specs.declared.rows.StepState.{StepState}
-use Rattle.kcr_history.specs.declared.rows.StepState.TheVariants.{Undone, Signed, Passed}
+use Rattle.kcr_history.specs.declared.row_types.CeremonyState.{CeremonyState}
+use Rattle.kcr_history.specs.declared.row_types.CeremonyState.TheVariants.{Planned, Open, Closed}
+use Rattle.kcr_history.specs.declared.row_types.StepState.{StepState}
+use Rattle.kcr_history.specs.declared.row_types.StepState.TheVariants.{Undone, Signed, Passed}
 use Rattle.kcr_rows.specs.Values.{int_or_null, truth_number}
 use Rattle.kcr_rows.proofs.WriteLemmas.{cast_null, cast_int}
 use Rattle.kcr_rows.proofs.SameLemmas.{ties, text_ties, number_ties, one_facility}

@@ -39,15 +39,15 @@ use Rattle.sqlite_rules.specs.Action.{works}
 use Rattle.sqlite_rules.proofs.ListLemmas.{all_has, all_from}
 use Rattle.sqlite_rules.proofs.TableLemmas.{int_is}
 use Rattle.kcr_rows.specs.Columns.{simple_as}
-use Rattle.kcr_rows.specs.Keyed.{cells, by_key, is_full, Place, Keeps, put, put_in}
+use Rattle.kcr_rows.specs.Keyed.{cells, by_key, is_full, TableLayout, TreeHolds, put, put_in}
 use Rattle.kcr_rows.proofs.ReadLemmas.{reading, with_key, reads_rows, reads_exact}
 use Rattle.kcr_rows.proofs.PutLemmas.{keeps_put, put_row_same, has_same}
 use Rattle.kcr_rows.proofs.KeyLemmas.{places_from, full, fresh_key, not_any}
 use Rattle.kcr_rows.proofs.WriteLemmas.{IsInserted, entered, inserts}
 
 -- one row was put, and what lies in other trees is as it was
-pub record Changes (place : Place) (schema : Schema) (values : Row) (old new : Trees) : Type 0 where
-  pub rows : (rows : List Row) → Keeps place old rows → Keeps place new (put place.keys values rows)
+pub record Changes (place : TableLayout) (schema : Schema) (values : Row) (old new : Trees) : Type 0 where
+  pub rows : (rows : List Row) → TreeHolds place old rows → TreeHolds place new (put place.keys values rows)
   pub sound : IsSound schema new
   pub others : (t : ℕ) → t ≢ place.tree → IsNoIndex schema t → new t ≡ old t
 
@@ -63,7 +63,7 @@ rule_of rule schema db at table here kept = all_at
     (λ (t : Table). AllByRecursion (λ row. passes rule schema db t row ≡ true) (db t.tree)) schema.tables at table here kept
 
 -- the entries that a tree keeps have integers as rowids, and no NULL in their keys
-module _ (place : Place) (db : Trees) (rows : List Row) (keeps : Keeps place db rows) (r : Row) (h : Has (db place.tree) r) where
+module _ (place : TableLayout) (db : Trees) (rows : List Row) (keeps : TreeHolds place db rows) (r : Row) (h : Has (db place.tree) r) where
   pub own_id : rowid r ≡ Int (id_in (rowid r))
   own_id = int_is (rowid r) (all_has (λ x. IsTrue (is_int (rowid x))) (db place.tree) r keeps.shaped.1 h)
 
@@ -73,8 +73,8 @@ module _ (place : Place) (db : Trees) (rows : List Row) (keeps : Keeps place db 
       (all_from_map (λ row. is_full place.keys row ≡ true) (cells place) (db place.tree)
       (all-permutation (λ row. is_full place.keys row ≡ true) _ _ keeps.same keeps.full)) h
 
--- INSERT of a row, which is refused where a row has the key or the rowid
-module _ (place : Place) (schema : Schema) (at : ℕ) (like : Table)
+-- INSERT of a row, which is refused if a row has the key or the rowid
+module _ (place : TableLayout) (schema : Schema) (at : ℕ) (like : Table)
     (here : slice_get schema.tables at ≡ Some (simple_as place.tree like))
     (alone : (olds news : List Row) → works schema Enforced 0 place.tree olds news ≡ [])
     (compares : (a b : Row) → by_key place.keys (cells place a) (cells place b) ≡ key_cmp 1 (rising place.keys []) a b)
@@ -102,7 +102,7 @@ module _ (place : Place) (schema : Schema) (at : ℕ) (like : Table)
   IsIn old new = IsInserted schema place.tree old new (entered (old place.tree) given)
 
   -- no row that was there has the key
-  other_key : (old new : Trees) → IsIn old new → (rows : List Row) → Keeps place old rows → (r : Row) → Has (old place.tree) r
+  other_key : (old new : Trees) → IsIn old new → (rows : List Row) → TreeHolds place old rows → (r : Row) → Has (old place.tree) r
       → is_eq (by_key place.keys (cells place r) values) ≡ false
   other_key old new p rows keeps r h =
       let entries = old place.tree in
@@ -117,7 +117,7 @@ module _ (place : Place) (schema : Schema) (at : ℕ) (like : Table)
       (own_id place old rows keeps r h) (whole place old rows keeps r h) filled
       (not_any (λ other. agree plain target other target entry && differ (rowid other) (rowid entry)) (new place.tree) r clash (there r (inr h)))
 
-  insert_keeps : (old new : Trees) → IsIn old new → (rows : List Row) → Keeps place old rows → Keeps place new (put place.keys values rows)
+  insert_keeps : (old new : Trees) → IsIn old new → (rows : List Row) → TreeHolds place old rows → TreeHolds place new (put place.keys values rows)
   insert_keeps old new p rows keeps =
       let entries = old place.tree in
       let none = all_from _ entries (λ r h. ap not (other_key old new p rows keeps r h)) in
@@ -144,7 +144,7 @@ no_index_in t [] h = tt
 no_index_in t (i ∷ more) h = let parts = and_parts _ _ h in ((λ e. true≢false (sym (eq-eqb i.tree t e) ∙ not-true _ parts.0)), no_index_in t more parts.1)
 
 -- a tree that is no index and not the changed one keeps what it has
-pub keeps_on : (place : Place) (old new : Trees) (rows : List Row) → new place.tree ≡ old place.tree → Keeps place old rows → Keeps place new rows
+pub keeps_on : (place : TableLayout) (old new : Trees) (rows : List Row) → new place.tree ≡ old place.tree → TreeHolds place old rows → TreeHolds place new rows
 keeps_on place old new rows same k = record {
   same = subst (λ l. IsPermutation rows (map (cells place) l)) (sym same) k.same;
   rising = k.rising;
@@ -152,8 +152,8 @@ keeps_on place old new rows same k = record {
   shaped = subst (IsShaped shape.Table) (sym same) k.shaped;
 }
 
-pub keeps_still : (schema : Schema) (tree : ℕ) (place : Place) (old new : Trees) (rows : List Row) → ((t : ℕ) → t ≢ tree → IsNoIndex schema t → new t ≡ old t)
-    → (place.tree == tree) ≡ false → list_all (λ i. not (i.tree == place.tree)) schema.indexes ≡ true → Keeps place old rows → Keeps place new rows
+pub keeps_still : (schema : Schema) (tree : ℕ) (place : TableLayout) (old new : Trees) (rows : List Row) → ((t : ℕ) → t ≢ tree → IsNoIndex schema t → new t ≡ old t)
+    → (place.tree == tree) ≡ false → list_all (λ i. not (i.tree == place.tree)) schema.indexes ≡ true → TreeHolds place old rows → TreeHolds place new rows
 keeps_still schema tree place old new rows others apart bare =
     keeps_on place old new rows (others place.tree (λ e. true≢false (sym (eq-eqb place.tree tree e) ∙ apart)) (no_index_in place.tree schema.indexes bare))
 
@@ -187,7 +187,7 @@ each_is [] = tt
 each_is (x ∷ xs) = (tt, each_is xs)
 
 -- what a query on one table shows, as values
-module _ (place : Place) (schema : Schema) (sql : List ℕ) (params : Row) (test project : List Term) (order : List (Term × Key)) (names : List (List ℕ))
+module _ (place : TableLayout) (schema : Schema) (sql : List ℕ) (params : Row) (test project : List Term) (order : List (Term × Key)) (names : List (List ℕ))
     (passes : Row → Bool)
     (is : (command_of (understood schema sql) ≡ Select (record { lets = []; body = reading place.tree test project order }) names)
     × (reads_listing schema sql ≡ false))
@@ -199,7 +199,7 @@ module _ (place : Place) (schema : Schema) (sql : List ℕ) (params : Row) (test
     {X : Type 0} (row_of : X → Row) where
   pub shown_checked : (IsRead IsStored : X → Type 0) → ((x y : X) → IsRead x → IsStored y → row_of x ≡ row_of y → x ≡ y) → (old new : State) (xs : List X)
       → old.now.schema ≡ schema → Shown sql params old new (map row_of xs)
-      → AllByRecursion IsRead xs → (ys : List X) → AllByRecursion IsStored ys → Keeps place old.now.trees (map row_of ys)
+      → AllByRecursion IsRead xs → (ys : List X) → AllByRecursion IsStored ys → TreeHolds place old.now.trees (map row_of ys)
       → xs ≡ filter (λ y. passes (row_of y)) ys
   shown_checked IsRead IsStored one old new xs has h read ys held keeps =
       let it = reads_as sql params old new schema has _ is.0 bare is.1 (map row_of xs) h in
@@ -207,7 +207,7 @@ module _ (place : Place) (schema : Schema) (sql : List ℕ) (params : Row) (test
       same_values row_of IsRead IsStored one xs (filter (λ y. passes (row_of y)) ys) read (all_filter IsStored (λ y. passes (row_of y)) ys held)
       (rows ∙ filter-map passes row_of ys)
 
-  -- also where the tree is no register's
+  -- also if the tree is no register's
   pub shown_exact : (old new : State) (xs : List X) → old.now.schema ≡ schema → Shown sql params old new (map row_of xs)
       → IsPermutation (filter passes (map (cells place) (old.now.trees place.tree))) (map row_of xs)
   shown_exact old new xs has h =

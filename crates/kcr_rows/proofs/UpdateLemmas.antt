@@ -1,4 +1,4 @@
--- What UPDATE does to a table with a key, where it finds the row that has the key and sets each column.
+-- What UPDATE does to a table with a key, if it finds the row that has the key and sets each column.
 use Rattle.std.proofs.Common.{◌≡◌, ◌≢◌, inl, ℕ, ℤ, pos, zero, suc, ◌^◌, nat_le, Bool, true, false, List, [], ◌∷◌, map, filter, length, slice_get}
 use Rattle.std.proofs.Common.{unwrap_or, Some, None, Ok, refl, sym, ap, subst, ◌∙◌, arith}
 use Rattle.std.specs.List.{list_all}
@@ -29,7 +29,7 @@ use Rattle.sqlite_rules.specs.Lists.{Has}
 use Rattle.sqlite_schema.specs.declared.schema.Keys.TheVariants.{Enforced}
 use Rattle.sqlite_value.specs.Keys.{rising}
 use Rattle.kcr_rows.specs.Columns.{simple_as}
-use Rattle.kcr_rows.specs.Keyed.{cells, by_key, is_full, Place, Keeps, put}
+use Rattle.kcr_rows.specs.Keyed.{cells, by_key, is_full, TableLayout, TreeHolds, put}
 use Rattle.kcr_rows.proofs.KeyLemmas.{full, agrees, same_from, same_is}
 use Rattle.kcr_rows.proofs.OverLemmas.{finding, rewriting, has_key, one_row, is_found, found_one, keeps_changed}
 use Rattle.kcr_rows.proofs.ReadLemmas.{kept_from}
@@ -37,22 +37,22 @@ use Rattle.kcr_rows.proofs.TableLemmas.{Changes, keeps_on, whole}
 use Rattle.kcr_rows.proofs.WriteLemmas.{went, same_value}
 
 -- the tree is as it was, and what lies in other trees
-pub record Stays (place : Place) (schema : Schema) (old new : Trees) : Type 0 where
+pub record Stays (place : TableLayout) (schema : Schema) (old new : Trees) : Type 0 where
   pub rows : new place.tree ≡ old place.tree
   pub others : (t : ℕ) → t ≢ place.tree → IsNoIndex schema t → new t ≡ old t
 
--- where no row changed all is as it was, and else one row was put
-abbrev pub Updated : Place → Schema → Row → Trees → Trees → ℕ → Type 0
+-- if no row changed all is as it was, and else one row was put
+abbrev pub Updated : TableLayout → Schema → Row → Trees → Trees → ℕ → Type 0
 Updated place schema values old new zero = Stays place schema old new
 Updated place schema values old new (suc more) = Changes place schema values old new
 
-pub row_changed : (place : Place) (schema : Schema) (values : Row) (old new : Trees) (count : ℕ) → count ≢ 0 → Updated place schema values old new count
+pub row_changed : (place : TableLayout) (schema : Schema) (values : Row) (old new : Trees) (count : ℕ) → count ≢ 0 → Updated place schema values old new count
     → Changes place schema values old new
 row_changed place schema values old new zero some u = absurd (some refl)
 row_changed place schema values old new (suc more) some u = u
 
--- a row that is put where all is as it was before
-pub changes_then : (place : Place) (schema : Schema) (values : Row) (old mid new : Trees) → Stays place schema old mid → Changes place schema values mid new
+-- a row that is put if all is as it was before
+pub changes_then : (place : TableLayout) (schema : Schema) (values : Row) (old mid new : Trees) → Stays place schema old mid → Changes place schema values mid new
     → Changes place schema values old new
 changes_then place schema values old mid new one two = record {
   rows = λ rows keeps. two.rows rows (keeps_on place old mid rows one.rows keeps);
@@ -69,7 +69,7 @@ pub record IsUpdated (schema : Schema) (table : Table) (tree : ℕ) (test sets :
   pub rows : new tree ≡ edited old (rewriting old table answer)
   pub others : (t : ℕ) → t ≢ tree → IsNoIndex schema t → new t ≡ old t
 
-module _ (place : Place) (schema : Schema) (at : ℕ) (like : Table)
+module _ (place : TableLayout) (schema : Schema) (at : ℕ) (like : Table)
     (here : slice_get schema.tables at ≡ Some (simple_as place.tree like))
     (alone : (olds news : List Row) → works schema Enforced 0 place.tree olds news ≡ [])
     (compares : (a b : Row) → by_key place.keys (cells place a) (cells place b) ≡ key_cmp 1 (rising place.keys []) a b)
@@ -123,8 +123,8 @@ module _ (place : Place) (schema : Schema) (at : ℕ) (like : Table)
         ),
       )
 
-  -- an entry is found where it has the key
-  found_is : (db : Trees) (rows : List Row) → Keeps place db rows → (r : Row) → Has (db place.tree) r
+  -- an entry is found if it has the key
+  found_is : (db : Trees) (rows : List Row) → TreeHolds place db rows → (r : Row) → Has (db place.tree) r
       → is_found place db test sets values low r ≡ has_key place.keys values (cells place r)
   found_is db rows keeps r h =
       tests r ∙ same_is place.keys 1 r (Int (pos 0) ∷ values)
@@ -146,8 +146,8 @@ module _ (place : Place) (schema : Schema) (at : ℕ) (like : Table)
           let shown : length answer ≡ length a.ordered = ap length a.shown ∙ length-map a.ordered _ in
           absurd (omega (arith, none, shown, ap length some))
 
-  changed : (old new : Trees) (count : ℕ) (u : Is old new count) (y : Row) (more : List Row) → u.answer ≡ y ∷ more → (rows : List Row) → Keeps place old rows
-      → Keeps place new (put place.keys values rows)
+  changed : (old new : Trees) (count : ℕ) (u : Is old new count) (y : Row) (more : List Row) → u.answer ≡ y ∷ more → (rows : List Row) → TreeHolds place old rows
+      → TreeHolds place new (put place.keys values rows)
   changed old new count u y more some rows keeps =
       let s = some_found old u.answer u.found y more some in
       let it = has_filtered (is_found place old test sets values low) (old place.tree) s.0 s.1 in
@@ -167,7 +167,7 @@ module _ (place : Place) (schema : Schema) (at : ℕ) (like : Table)
   updated old new sound (suc n) u (y ∷ more) some =
       record { sound = sound; rows = changed old new (suc n) u y more some; others = u.others }
 
-  -- the statement changes the row that has the key, or none where it says so
+  -- the statement changes the row that has the key, or none if it says so
   pub executes_update : (old new : State) (count : ℕ) → old.now.schema ≡ schema → Executes sql values old new (Ok count)
       → (new.now.schema ≡ schema) × Updated place schema values old.now.trees new.now.trees count
   executes_update old new count has h =

@@ -55,7 +55,7 @@ pub record IsInserted (schema : Schema) (tree : ℕ) (old new : Trees) (entry : 
   pub fits : Fits schema new
   pub others : (t : ℕ) → t ≢ tree → IsNoIndex schema t → new t ≡ old t
 
--- a statement gives one row to a table, which gets a rowid where it has NULL in place of one
+-- a statement gives one row to a table, which gets a rowid if it has NULL in place of one
 module _ (schema : Schema) (at : ℕ) (tree : ℕ) (like : Table) (terms : List Term) (width : ℕ) (values given : Row)
     (here : slice_get schema.tables at ≡ Some (simple_as tree like))
     (alone : (olds news : List Row) → works schema Enforced 0 tree olds news ≡ [])

@@ -6,4 +6,4 @@ pub mod Refusals
 pub mod States
 pub mod Rows
 pub mod Frame
-pub mod Count
+pub mod CountRow

@@ -3,7 +3,7 @@ use Rattle.std.specs.Prelude.{ℕ, Bool, true, false, Option, Some, None, pos}
 use Rattle.sqlite.specs.declared.types.Value.{Value}
 use Rattle.sqlite.specs.declared.types.Value.TheVariants.{Null, Int}
 
--- a number, or NULL where there is none
+-- a number, or NULL if there is none
 abbrev pub int_or_null : Option ℕ → Value
 int_or_null None = Null
 int_or_null (Some n) = Int (pos n)

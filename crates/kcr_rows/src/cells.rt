@@ -1,5 +1,5 @@
 //! One value of a row: read from a column, counted from 0, and made into a parameter of a statement; plain values
-//! first, then those of the register's own kinds. Each reader's error is `Disk` where the column has no such value;
+//! first, then those of the register's own kinds. Each reader's error is `Disk` if the column has no such value;
 //! those that take an allocator answer `Memory` when out of memory.
 
 ghost use Rattle.std.specs.Prelude.{⊤, ◌≡◌, ◌≢◌, ◌+◌, ◌<◌, ◌^◌, ℕ, List, length, IsUtf8, pos, Err, IfOk, IfErr, OnOk};
@@ -242,7 +242,7 @@ fn is_null(row: &Row, at: usize) -> bool
     matches!(row.get_ref(at), Ok(ValueRef::Null))
 }
 
-/// The whole number in a column, or None where it is NULL.
+/// The whole number in a column, or `None` if it is NULL.
 pub fn number_or_null_at(row: &Row, at: usize) -> Result<Option<u32>, Refusal>
     ensures value { IfOk result (λ found. column row.now at ≡ int_or_null found) }
     ensures null { OnErr result (at < length row.now → column row.now at ≢ Null) }
@@ -258,7 +258,7 @@ pub fn number_or_null_at(row: &Row, at: usize) -> Result<Option<u32>, Refusal>
     }
 }
 
-/// The day in a column, or None where it is NULL.
+/// The day in a column, or `None` if it is NULL.
 pub fn day_or_null_at(row: &Row, at: usize) -> Result<Option<Day>, Refusal>
     ensures value { IfOk result (λ found. column row.now at ≡ int_or_null found) }
     ensures null { OnErr result (at < length row.now → column row.now at ≢ Null) }
@@ -274,7 +274,7 @@ pub fn day_or_null_at(row: &Row, at: usize) -> Result<Option<Day>, Refusal>
     }
 }
 
-/// The moment in a column, or None where it is NULL.
+/// The moment in a column, or `None` if it is NULL.
 pub fn moment_or_null_at(row: &Row, at: usize) -> Result<Option<Moment>, Refusal>
     ensures value { IfOk result (λ found. column row.now at ≡ int_or_null found) }
     ensures null { OnErr result (at < length row.now → column row.now at ≢ Null) }
@@ -381,7 +381,7 @@ pub fn truth_cell(truth: bool) -> ValueRef<'static>
     ValueRef::Int(i64::from(truth))
 }
 
-/// The value of a number, or NULL where there is none.
+/// The value of a number, or NULL if there is none.
 pub fn number_or_null_cell(number: Option<u32>) -> ValueRef<'static>
     ensures { bound_value (owned result) ≡ int_or_null number }
 {
@@ -391,7 +391,7 @@ pub fn number_or_null_cell(number: Option<u32>) -> ValueRef<'static>
     }
 }
 
-/// The value of a day, or NULL where there is none.
+/// The value of a day, or NULL if there is none.
 pub fn day_or_null_cell(day: Option<Day>) -> ValueRef<'static>
     ensures { bound_value (owned result) ≡ int_or_null day }
 {
@@ -401,7 +401,7 @@ pub fn day_or_null_cell(day: Option<Day>) -> ValueRef<'static>
     }
 }
 
-/// The value of a moment, or NULL where there is none.
+/// The value of a moment, or NULL if there is none.
 pub fn moment_or_null_cell(moment: Option<Moment>) -> ValueRef<'static>
     ensures { bound_value (owned result) ≡ int_or_null moment }
 {

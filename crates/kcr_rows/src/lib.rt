@@ -2,14 +2,14 @@
 //! as a list of rows in the order of their keys, and what one statement on such a table shows and does. `statements`
 //! alone calls the database.
 //!
-//! `rows` is written by the program `tools/tables.py`.
+//! `row_impls` is written by the program `tools/tables.py`.
 #![tactic(auto)]
 
 pub mod cells;
-mod count;
-mod rows;
+mod count_row;
+pub mod from_row;
+mod row_impls;
 pub mod statements;
-pub mod stored;
 
-pub use count::Count;
-pub use rows::Version;
+pub use count_row::CountRow;
+pub use row_impls::Version;

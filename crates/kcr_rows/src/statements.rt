@@ -10,9 +10,9 @@ ghost use Rattle.sqlite.specs.Given.{IsPlain};
 ghost use Rattle.sqlite.specs.State.{HasCleanDisk, IsUnchanged, Executes, Shown};
 ghost use Rattle.std.specs.List.{AllByRecursion};
 ghost use Rattle.kcr_rows.specs.Refusals.{IsFault};
-ghost use Rattle.kcr_rows.specs.Frame.{StaysWithin};
+ghost use Rattle.kcr_rows.specs.Frame.{StaysInTransaction};
 
-use crate::stored::Stored;
+use crate::from_row::FromRow;
 use kcr_base::Refusal;
 use sqlite::types::ValueRef;
 use sqlite::{Alter, Error, ErrorCode, Row, Transaction};
@@ -31,20 +31,20 @@ fn refusal_of(error: Error) -> Refusal
 }
 
 /// The values of rows that a query gave, in their order.
-fn decode_all<T: Stored>(alloc: Global, rows: &[Row]) -> Result<Vec<T>, Refusal>
+fn decode_all<T: FromRow>(alloc: Global, rows: &[Row]) -> Result<Vec<T>, Refusal>
     ensures rows { IfOk result (λ all. map T.row_of all.items ≡ rows.now) }
     ensures read { IfOk result (λ all. AllByRecursion T.is_read all.items) }
     ensures cause { IfErr result IsFault }
 {
     let mut all = Vec::new(alloc);
     for row in rows {
-        all.push(T::decode(alloc, row)?)?;
+        all.push(T::from_row(alloc, row)?)?;
     }
     Ok(all)
 }
 
-/// The rows that a query shows, as values. The error is `Disk` also where a row is no value's.
-pub fn rows_of<S: Alter, T: Stored>(
+/// The rows that a query shows, as values. The error is `Disk` also if a row is no value's.
+pub fn query_rows<S: Alter, T: FromRow>(
     alloc: Global,
     tx: &mut Transaction<'_, S>,
     sql: &str,
@@ -60,7 +60,7 @@ pub fn rows_of<S: Alter, T: Stored>(
         → OnOk result (IsUnchanged (state S.Store tx.old.conn.now) (state S.Store tx.new.conn.now)) }
     ensures opened { HasCleanDisk (state S.Store tx.new.conn.now)
         → OnOk result (IsTrue (state S.Store tx.old.conn.now).is_open) }
-    ensures frame { StaysWithin IsFault (state S.Store tx.old.conn.now) (state S.Store tx.new.conn.now) result }
+    ensures frame { StaysInTransaction IsFault (state S.Store tx.old.conn.now) (state S.Store tx.new.conn.now) result }
 {
     match tx.query_all(sql, params) {
         Ok(rows) => decode_all(alloc, rows.as_slice()),
@@ -68,9 +68,9 @@ pub fn rows_of<S: Alter, T: Stored>(
     }
 }
 
-/// Runs a statement that writes, and answers how many rows it changed or put in. The error is `Disk` also where the
+/// Runs a statement that writes, and answers how many rows it changed or put in. The error is `Disk` also if the
 /// statement is refused, as for a key that is taken.
-pub fn changed_rows<S: Alter>(
+pub fn execute<S: Alter>(
     tx: &mut Transaction<'_, S>,
     sql: &str,
     params: &[ValueRef<'_>],
@@ -79,7 +79,7 @@ pub fn changed_rows<S: Alter>(
     ensures runs { HasCleanDisk (state S.Store tx.new.conn.now)
         → IfOk result (λ count. Executes sql.now (bound params.now) (state S.Store tx.old.conn.now)
         (state S.Store tx.new.conn.now) (Ok count)) }
-    ensures frame { StaysWithin IsFault (state S.Store tx.old.conn.now) (state S.Store tx.new.conn.now) result }
+    ensures frame { StaysInTransaction IsFault (state S.Store tx.old.conn.now) (state S.Store tx.new.conn.now) result }
 {
     match tx.execute(sql, params) {
         Ok(count) => Ok(count),
@@ -87,8 +87,8 @@ pub fn changed_rows<S: Alter>(
     }
 }
 
-/// Runs a statement that writes, as `changed_rows` does.
-pub fn write<S: Alter>(
+/// Runs a statement that writes, as `execute` does.
+pub fn run_statement<S: Alter>(
     tx: &mut Transaction<'_, S>,
     sql: &str,
     params: &[ValueRef<'_>],
@@ -99,8 +99,8 @@ pub fn write<S: Alter>(
         ((count : ℕ)
         × Executes sql.now (bound params.now) (state S.Store tx.old.conn.now) (state S.Store tx.new.conn.now)
         (Ok count)) }
-    ensures frame { StaysWithin IsFault (state S.Store tx.old.conn.now) (state S.Store tx.new.conn.now) result }
+    ensures frame { StaysInTransaction IsFault (state S.Store tx.old.conn.now) (state S.Store tx.new.conn.now) result }
 {
-    changed_rows(tx, sql, params)?;
+    execute(tx, sql, params)?;
     Ok(())
 }

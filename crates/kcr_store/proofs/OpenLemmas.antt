@@ -1,5 +1,5 @@
 -- What an opening finds.
-use Rattle.std.proofs.Common.{arith, refl, Bool, false, true, ◌≡◌, ◌≢◌, ◌⊎◌, inl, inr, ℕ, ◌+◌, ℤ, pos, [], length, Option, Some, None, Result, Ok, Err, IsTrue, sym, ap, subst, ◌∙◌}
+use Rattle.std.proofs.Common.{arith, refl, false, true, ◌≡◌, ◌≢◌, ◌⊎◌, inl, inr, ℕ, ◌+◌, ℤ, pos, [], length, Option, Some, None, Result, Ok, Err, IsTrue, sym, ap, subst, ◌∙◌}
 use Rattle.std.specs.Prelude.{IfErr, is_some}
 use Rattle.sqlite.specs.Schema.{Schema}
 use Rattle.sqlite.specs.Table.{Table}
@@ -12,20 +12,20 @@ use Rattle.sqlite.specs.Tree.{Trees}
 use Rattle.sqlite.specs.Held.{Held, state}
 use Rattle.kcr_history.specs.History.{History}
 use Rattle.kcr_history.specs.Tables.{tables}
-use Rattle.kcr_tables.specs.Schema.{register_schema, all_tables}
-use Rattle.kcr_tables.specs.Made.{first}
-use Rattle.kcr_tables.specs.Joint.{HoldsTables}
+use Rattle.kcr_tables.specs.Schema.{register_schema}
+use Rattle.kcr_tables.specs.Creation.{schema_prefix}
+use Rattle.kcr_tables.specs.MachineTables.{HoldsTables}
 use Rattle.kcr_tables.proofs.OpenLemmas.{one_schema}
-use Rattle.kcr_older.specs.Older.{IsTablesAs, StoresAs}
+use Rattle.kcr_older.specs.OldFiles.{AreTablesAs, HoldsHistoryAs}
 use Rattle.kcr_older.specs.Versions.{number_of}
-use Rattle.kcr_older.specs.declared.renewal.Older.{Older}
-use Rattle.kcr_older.specs.declared.renewal.Older.TheVariants as older
-use Rattle.kcr_older.specs.Standing.{IsForeign, IsOfOtherVersion, IsOfVersion, IsStrange, IsTaken, no_schema, numbered_table, version_in}
+use Rattle.kcr_older.specs.declared.migration.OldVersion.{OldVersion}
+use Rattle.kcr_older.specs.declared.migration.OldVersion.TheVariants as older
+use Rattle.kcr_older.specs.Kind.{IsForeign, IsOfOtherVersion, IsOfVersion, IsForeignSchema, IsTaken, no_schema, numbered_table, version_in}
 use Rattle.kcr_older.proofs.NumberHeld.{IsKnown, has_versions, held_version, older_version, only_version}
 use Rattle.kcr_store.specs.Stored.{Stores, IsTables}
-use Rattle.kcr_store.specs.Register.{Shows, IsWhole}
+use Rattle.kcr_store.specs.Register.{IsSynced, IsDurable}
 use Rattle.sqlite_wal.specs.Recovery.{Image}
-use Rattle.kcr_store.specs.Opening.{IsAnswer, IsAnswerBy, IsBrought, IsFounded, IsHeld, IsHeldIn, IsOpened, RefusesAs}
+use Rattle.kcr_store.specs.Opening.{IsAnswer, IsAnswerBy, IsMigrated, IsGenuine, HoldsHistory, FilesHoldHistory, IsOpened, RefusesAs}
 use Rattle.kcr_store.specs.declared.«open».OpenFault.{OpenFault}
 use Rattle.kcr_store.specs.declared.«open».OpenFault.TheVariants as fault
 use Rattle.kcr_store.specs.Frame.{StaysOutside}
@@ -39,26 +39,26 @@ pub apart : {s a b : Schema} → s ≡ a → s ≡ b → count a ≡ count b
 apart one other = ap count (sym one ∙ other)
 
 module _ {S : Type 0} (g : Ghosts S) (settled : (s : S) (db : Trees) → IsTrue (g.view s).is_open → g.recovers s db → db ≡ (g.view s).committed) where
-  pub adopted : (accepted : History) (old : State) (new : Held S) → IsFounded accepted old
-      → (HasCleanDisk (state g new) → (all : History) → IsFounded all old → Shows all (state g new) × IsTrue (state g new).is_open)
-      → IsWhole accepted (state g new)
+  pub adopted : (accepted : History) (old : State) (new : Held S) → IsGenuine accepted old
+      → (HasCleanDisk (state g new) → (all : History) → IsGenuine all old → IsSynced all (state g new) × IsTrue (state g new).is_open)
+      → IsDurable accepted (state g new)
   adopted accepted old new founded found = record {
     shows = λ clean _. (found clean accepted founded).0;
     crash = λ clean db may.
         let it = found clean accepted founded in subst (IsTables accepted) (sym (settled new.store db it.1 may)) it.0.committed.tables;
   }
 
-pub opened_with : {accepted : History} {count : ℕ} {s : State} → IsOpened accepted count s → Shows accepted s × IsTrue s.is_open
+pub opened_with : {accepted : History} {count : ℕ} {s : State} → IsOpened accepted count s → IsSynced accepted s × IsTrue s.is_open
 opened_with opened = (opened.shows, opened.live)
 
 -- ---- the schema of a version, or of none
 
-pub none_strange : (version : ℕ) (s : Schema) → IsStrange s → s ≡ first (14 + version) → IsKnown version → ⊥
-none_strange version s strange is (inl one) = strange.first (subst (λ v. s ≡ first (14 + v)) one is)
-none_strange version s strange is (inr (inl two)) = strange.second (subst (λ v. s ≡ first (14 + v)) two is)
-none_strange version s strange is (inr (inr three)) = strange.third (subst (λ v. s ≡ first (14 + v)) three is)
+pub none_strange : (version : ℕ) (s : Schema) → IsForeignSchema s → s ≡ schema_prefix (14 + version) → IsKnown version → ⊥
+none_strange version s strange is (inl one) = strange.first (subst (λ v. s ≡ schema_prefix (14 + v)) one is)
+none_strange version s strange is (inr (inl two)) = strange.second (subst (λ v. s ≡ schema_prefix (14 + v)) two is)
+none_strange version s strange is (inr (inr three)) = strange.third (subst (λ v. s ≡ schema_prefix (14 + v)) three is)
 
-never_taken : (db : Database) → IsStrange db.schema → ¬ IsTaken db
+never_taken : (db : Database) → IsForeignSchema db.schema → ¬ IsTaken db
 never_taken db strange (inl none) = strange.something none
 never_taken db strange (inr (inl one)) = strange.first one.0
 never_taken db strange (inr (inr (inl two))) = strange.second two.0
@@ -95,30 +95,30 @@ taken_at version (inr (inl two)) db h = inr (inr (inl (subst (λ v. IsOfVersion 
 taken_at version (inr (inr three)) db h = inr (inr (inr (subst (λ v. IsOfVersion v db) three h)))
 
 -- of a database with the schema of a version no other number is taken
-only_own : (version : ℕ) → IsKnown version → (db : Database) → db.schema ≡ first (14 + version) → version_in db ≢ Some (pos version) → ¬ IsTaken db
+only_own : (version : ℕ) → IsKnown version → (db : Database) → db.schema ≡ schema_prefix (14 + version) → version_in db ≢ Some (pos version) → ¬ IsTaken db
 only_own version (inl one) db schema other (inl none) =
-    absurd (let e = apart none (subst (λ v. db.schema ≡ first (14 + v)) one schema) in omega (arith, e))
+    absurd (let e = apart none (subst (λ v. db.schema ≡ schema_prefix (14 + v)) one schema) in omega (arith, e))
 only_own version (inl one) db schema other (inr (inl h)) = other (h.1 ∙ ap (λ v. Some (pos v)) (sym one))
 only_own version (inl one) db schema other (inr (inr (inl h))) =
-    absurd (let e = apart h.0 (subst (λ v. db.schema ≡ first (14 + v)) one schema) in omega (arith, e))
+    absurd (let e = apart h.0 (subst (λ v. db.schema ≡ schema_prefix (14 + v)) one schema) in omega (arith, e))
 only_own version (inl one) db schema other (inr (inr (inr h))) =
-    absurd (let e = apart h.0 (subst (λ v. db.schema ≡ first (14 + v)) one schema) in omega (arith, e))
+    absurd (let e = apart h.0 (subst (λ v. db.schema ≡ schema_prefix (14 + v)) one schema) in omega (arith, e))
 only_own version (inr (inl two)) db schema other (inl none) =
-    absurd (let e = apart none (subst (λ v. db.schema ≡ first (14 + v)) two schema) in omega (arith, e))
+    absurd (let e = apart none (subst (λ v. db.schema ≡ schema_prefix (14 + v)) two schema) in omega (arith, e))
 only_own version (inr (inl two)) db schema other (inr (inl h)) =
-    absurd (let e = apart h.0 (subst (λ v. db.schema ≡ first (14 + v)) two schema) in omega (arith, e))
+    absurd (let e = apart h.0 (subst (λ v. db.schema ≡ schema_prefix (14 + v)) two schema) in omega (arith, e))
 only_own version (inr (inl two)) db schema other (inr (inr (inl h))) = other (h.1 ∙ ap (λ v. Some (pos v)) (sym two))
 only_own version (inr (inl two)) db schema other (inr (inr (inr h))) =
-    absurd (let e = apart h.0 (subst (λ v. db.schema ≡ first (14 + v)) two schema) in omega (arith, e))
+    absurd (let e = apart h.0 (subst (λ v. db.schema ≡ schema_prefix (14 + v)) two schema) in omega (arith, e))
 only_own version (inr (inr three)) db schema other (inl none) =
-    absurd (let e = apart none (subst (λ v. db.schema ≡ first (14 + v)) three schema) in omega (arith, e))
+    absurd (let e = apart none (subst (λ v. db.schema ≡ schema_prefix (14 + v)) three schema) in omega (arith, e))
 only_own version (inr (inr three)) db schema other (inr (inl h)) =
-    absurd (let e = apart h.0 (subst (λ v. db.schema ≡ first (14 + v)) three schema) in omega (arith, e))
+    absurd (let e = apart h.0 (subst (λ v. db.schema ≡ schema_prefix (14 + v)) three schema) in omega (arith, e))
 only_own version (inr (inr three)) db schema other (inr (inr (inl h))) =
-    absurd (let e = apart h.0 (subst (λ v. db.schema ≡ first (14 + v)) three schema) in omega (arith, e))
+    absurd (let e = apart h.0 (subst (λ v. db.schema ≡ schema_prefix (14 + v)) three schema) in omega (arith, e))
 only_own version (inr (inr three)) db schema other (inr (inr (inr h))) = other (h.1 ∙ ap (λ v. Some (pos v)) (sym three))
 
-pub number_answer : {A : Type 0} (version : ℕ) → IsKnown version → (db : Database) (result : Result A OpenFault) → db.schema ≡ first (14 + version)
+pub number_answer : {A : Type 0} (version : ℕ) → IsKnown version → (db : Database) (result : Result A OpenFault) → db.schema ≡ schema_prefix (14 + version)
     → IsAnswerBy (pos version) db result → IsAnswer db result
 number_answer version known db (Ok x) schema h = taken_at version known db (schema, h)
 number_answer version known db (Err fault.Version) schema h = h
@@ -126,30 +126,30 @@ number_answer version known db (Err fault.Foreign) schema h = (only_own version 
 number_answer version known db (Err fault.Memory) schema h = tt
 number_answer version known db (Err fault.Disk) schema h = tt
 
-pub stranger_answer : (db : Database) (e : OpenFault) → IsStrange db.schema
+pub stranger_answer : (db : Database) (e : OpenFault) → IsForeignSchema db.schema
     → (e ≡ fault.Version → IsOfOtherVersion db) × (e ≡ fault.Foreign → ¬ IsOfOtherVersion db) → RefusesAs db e
 stranger_answer db fault.Version strange h = h.0 refl
 stranger_answer db fault.Foreign strange h = (never_taken db strange, h.1 refl)
 stranger_answer db fault.Memory strange h = tt
 stranger_answer db fault.Disk strange h = tt
 
-pub foreign_answer : (db : Database) → IsStrange db.schema → is_some (numbered_table db.schema) ≡ false → IsForeign db
+pub foreign_answer : (db : Database) → IsForeignSchema db.schema → is_some (numbered_table db.schema) ≡ false → IsForeign db
 foreign_answer db strange none = (never_taken db strange, numberless db.schema db.trees _ refl none)
 
 -- ---- a database that is one of a register
 
 module _ (accepted : History) (old : State) (settled : IsTrue old.is_open → old.now ≡ old.committed) (lives : IsLive old) (clean : HasCleanDisk old)
-    (live : IsTrue old.is_open) (f : IsFounded accepted old) where
+    (live : IsTrue old.is_open) (f : IsGenuine accepted old) where
   now_is : old.now ≡ old.committed
   now_is = settled live
 
   stored : IsTables accepted old.committed.trees → Stores accepted old.committed
   stored t = record { schema = one_schema old.committed.schema register_schema old.committed.trees refl (lives live).1 t.kept.kept.sound; tables = t }
 
-  stored_as : (version : ℕ) → IsTablesAs version accepted old.committed.trees → StoresAs version accepted old.now
+  stored_as : (version : ℕ) → AreTablesAs version accepted old.committed.trees → HoldsHistoryAs version accepted old.now
   stored_as version t =
-      subst (StoresAs version accepted) (sym now_is)
-      (record { schema = one_schema old.committed.schema (first (14 + version)) old.committed.trees refl (lives live).1 t.kept.sound; tables = t })
+      subst (HoldsHistoryAs version accepted) (sym now_is)
+      (record { schema = one_schema old.committed.schema (schema_prefix (14 + version)) old.committed.trees refl (lives live).1 t.kept.sound; tables = t })
 
   schema_is : IsTables accepted old.committed.trees → old.now.schema ≡ register_schema
   schema_is t = ap (λ (d : Database). d.schema) now_is ∙ (stored t).schema
@@ -162,13 +162,13 @@ module _ (accepted : History) (old : State) (settled : IsTrue old.is_open → ol
     | inr (inr (inr two)) ↦ absurd (let e : 0 ≡ 16 = ap count (sym none ∙ (stored_as 2 two).schema) in omega (arith, e))
   ]
 
-  pub of_empty : (new : State) → old.now.schema ≡ no_schema → Shows [] new → Shows accepted new
-  of_empty new none made = subst (λ l. Shows l new) (sym (nothing_accepted none)) made
+  pub of_empty : (new : State) → old.now.schema ≡ no_schema → IsSynced [] new → IsSynced accepted new
+  of_empty new none made = subst (λ l. IsSynced l new) (sym (nothing_accepted none)) made
 
   now_stores : IsTables accepted old.committed.trees → Stores accepted old.now
   now_stores t = subst (Stores accepted) (sym now_is) (stored t)
 
-  pub of_ours : old.now.schema ≡ first 17 → Shows accepted old
+  pub of_ours : old.now.schema ≡ schema_prefix 17 → IsSynced accepted old
   of_ours is = elim (f clean live) [
     | inl nothing ↦ absurd (let e : 0 ≡ 17 = apart nothing.0 is in omega (arith, e))
     | inr (inl t) ↦ record { now = now_stores t; committed = stored t }
@@ -176,7 +176,7 @@ module _ (accepted : History) (old : State) (settled : IsTrue old.is_open → ol
     | inr (inr (inr two)) ↦ absurd (let e : 16 ≡ 17 = apart (stored_as 2 two).schema is in omega (arith, e))
   ]
 
-  pub of_first_version : old.now.schema ≡ first 15 → StoresAs 1 accepted old.now
+  pub of_first_version : old.now.schema ≡ schema_prefix 15 → HoldsHistoryAs 1 accepted old.now
   of_first_version is = elim (f clean live) [
     | inl nothing ↦ absurd (let e : 0 ≡ 15 = apart nothing.0 is in omega (arith, e))
     | inr (inl t) ↦ absurd (let e : 17 ≡ 15 = apart (schema_is t) is in omega (arith, e))
@@ -184,7 +184,7 @@ module _ (accepted : History) (old : State) (settled : IsTrue old.is_open → ol
     | inr (inr (inr two)) ↦ absurd (let e : 16 ≡ 15 = apart (stored_as 2 two).schema is in omega (arith, e))
   ]
 
-  pub of_second_version : old.now.schema ≡ first 16 → StoresAs 2 accepted old.now
+  pub of_second_version : old.now.schema ≡ schema_prefix 16 → HoldsHistoryAs 2 accepted old.now
   of_second_version is = elim (f clean live) [
     | inl nothing ↦ absurd (let e : 0 ≡ 16 = apart nothing.0 is in omega (arith, e))
     | inr (inl t) ↦ absurd (let e : 17 ≡ 16 = apart (schema_is t) is in omega (arith, e))
@@ -198,7 +198,7 @@ module _ (accepted : History) (old : State) (settled : IsTrue old.is_open → ol
     held_version 3 (inr (inr refl)) old.now _ s.schema s.tables.kept.kept.versions ∙ ap only_version s.tables.kept.stands.versions,
   )
 
-  older_stored : (version : ℕ) → IsKnown version → StoresAs version accepted old.now → IsOfVersion version old.now
+  older_stored : (version : ℕ) → IsKnown version → HoldsHistoryAs version accepted old.now → IsOfVersion version old.now
   older_stored version known s = (s.schema, older_version version known old.now _ (record { schema = s.schema; kept = s.tables.kept }))
 
   pub founded_taken : IsTaken old.now
@@ -209,7 +209,7 @@ module _ (accepted : History) (old : State) (settled : IsTrue old.is_open → ol
     | inr (inr (inr two)) ↦ inr (inr (inl (older_stored 2 (inr (inl refl)) (stored_as 2 two))))
   ]
 
-  pub of_strange : ¬ IsStrange old.now.schema
+  pub of_strange : ¬ IsForeignSchema old.now.schema
   of_strange strange = never_taken old.now strange founded_taken
 
   -- so it is not refused
@@ -224,7 +224,7 @@ module _ (accepted : History) (old : State) (settled : IsTrue old.is_open → ol
 -- ---- the number is read, and nothing else is changed
 
 -- every version has the table of the number
-pub there : (version : ℕ) → IsKnown version → (s : Schema) → s ≡ first (14 + version) → IsTrue (is_some (numbered_table s))
+pub there : (version : ℕ) → IsKnown version → (s : Schema) → s ≡ schema_prefix (14 + version) → IsTrue (is_some (numbered_table s))
 there version known s is = ap (λ (t : Schema). is_some (numbered_table t)) is ∙ ap is_some (has_versions version known)
 
 pub known_1 : IsKnown 1
@@ -236,9 +236,9 @@ known_2 = inr (inl refl)
 pub known_3 : IsKnown 3
 known_3 = inr (inr refl)
 
-pub is_known : (from : Older) → IsKnown (number_of from)
-is_known older.First = inl refl
-is_known older.Second = inr (inl refl)
+pub is_known : (from : OldVersion) → IsKnown (number_of from)
+is_known older.V1 = inl refl
+is_known older.V2 = inr (inl refl)
 
 -- what the database had it has still
 pub still_has : (P : Database → Type 0) (old mid : State) → IsUnchanged old mid → P old.now → P mid.now
@@ -249,7 +249,7 @@ pub still_stores : (A : History) (old mid : State) → (IsTrue old.is_open → S
 still_stores A old mid had live same =
     let was = had live in still_has (Stores A) old mid (same (there 3 (inr (inr refl)) old.now.schema was.schema)) was
 
-pub still_shows : (A : History) (old new : State) → IsUnchanged old new → Shows A old → Shows A new
+pub still_shows : (A : History) (old new : State) → IsUnchanged old new → IsSynced A old → IsSynced A new
 still_shows A old new same s = record {
   now = subst (Stores A) (sym same.0.now_is) s.now;
   committed = subst (Stores A) (sym same.0.committed_is) s.committed;
@@ -266,31 +266,31 @@ module _ {S : Type 0} (g : Ghosts S) (old begun : Held S) (is : begun ≡ record
       → IsLive (state g old) → (state g old).now.schema ≡ schema → P (state g old).now
   begun_says P schema h = rw is at h
 
-  pub begun_shows : (accepted : History) → (IsTrue (state g old).is_open → Shows accepted (state g old)) → IsTrue (state g begun).is_open
-      → Shows accepted (state g begun)
+  pub begun_shows : (accepted : History) → (IsTrue (state g old).is_open → IsSynced accepted (state g old)) → IsTrue (state g begun).is_open
+      → IsSynced accepted (state g begun)
   begun_shows accepted shows = rw is (λ live. let s = shows live in record { now = s.now; committed = s.committed })
 
--- ---- a register of an older version, brought to this one
+-- ---- a register of an older version, migrated to this version
 
-brought_tables : {version : ℕ} {before : Database} (db : Database) → ((A : History) → StoresAs version A before → HoldsTables (tables A) db)
-    → IsBrought version before db.trees
+brought_tables : {version : ℕ} {before : Database} (db : Database) → ((A : History) → HoldsHistoryAs version A before → HoldsTables (tables A) db)
+    → IsMigrated version before db.trees
 brought_tables db holds = record { tables = λ A s. record { register = s.tables.register; kept = (holds A s).tables } }
 
 -- and a crash leaves what was there or such tables, whether the commit came or not
 pub renewed_outside : {S : Type 0} (g : Ghosts S) (old begun : Held S) → begun ≡ record old { in_transaction = true } → (mid : State)
     → Survives (state g begun) mid (λ _. ⊥) → (version : ℕ)
-    → (HasCleanDisk mid → (A : History) → StoresAs version A (state g begun).now → HoldsTables (tables A) mid.now)
+    → (HasCleanDisk mid → (A : History) → HoldsHistoryAs version A (state g begun).now → HoldsTables (tables A) mid.now)
     → (end : Held S) → Survives mid (state g end) (λ db. db ≡ mid.now.trees) → end.in_transaction ≡ false
-    → StaysOutside g (IsBrought version (state g old).now) old end
+    → StaysOutside g (IsMigrated version (state g old).now) old end
 renewed_outside g old begun is mid within version brought end then out =
-    made_outside g old begun is mid within end (IsBrought version (state g old).now) then
-    (λ clean. brought_tables mid.now (λ A stored. brought clean A (begun_has g old begun (StoresAs version A) is stored))) out
+    made_outside g old begun is mid within end (IsMigrated version (state g old).now) then
+    (λ clean. brought_tables mid.now (λ A stored. brought clean A (begun_has g old begun (HoldsHistoryAs version A) is stored))) out
 
 -- ---- what the files held is what the connection shows
 
-pub founded_in : (accepted : History) (image : Image) (s : State) → IsHeldIn accepted image → FindsIn image s → Opens s → IsLive s
-    → ((s.now.schema ≡ no_schema) × (accepted ≡ [])) ⊎ IsHeld accepted s.committed.trees
-founded_in accepted image s (inl held) finds opens lives = inr (subst (IsHeld accepted) (sym (finds.holds held.0 held.1)) held.2)
+pub founded_in : (accepted : History) (image : Image) (s : State) → FilesHoldHistory accepted image → FindsIn image s → Opens s → IsLive s
+    → ((s.now.schema ≡ no_schema) × (accepted ≡ [])) ⊎ HoldsHistory accepted s.committed.trees
+founded_in accepted image s (inl held) finds opens lives = inr (subst (HoldsHistory accepted) (sym (finds.holds held.0 held.1)) held.2)
 founded_in accepted image s (inr nothing) finds opens lives =
     let bare = nothing.1 s.committed.trees finds.reads in
     let none : s.committed.schema ≡ no_schema =

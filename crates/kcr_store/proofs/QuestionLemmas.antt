@@ -1,34 +1,37 @@
 -- What is shown of custodians, of a bag, of a ceremony and of a room, out of the rows of the tables.
 use Rattle.std.proofs.Common.{◌≡◌, ℕ, ◌==◌, Bool, true, false, not, ◌||◌, cond, List, [], ◌∷◌, map, filter, reverse, length, Option, Some, refl}
-use Rattle.std.proofs.Common.{inr, sym, ap, ◌∙◌, subst, arith}
-use Rattle.std.specs.Prelude.{AllPairs, IsTrue, slice_get, MatchResult}
+use Rattle.std.proofs.Common.{◌⊎◌, inl, inr, sym, ap, ◌∙◌, subst, arith}
+use Rattle.std.specs.Prelude.{AllPairs, IsTrue, slice_get, MatchResult, Result, Ok, Err, IfOk, IfErr}
 use Rattle.std.specs.Option.{ok_or}
 use Rattle.std.specs.List.{list_any, find}
 use Rattle.std.specs.List.Sorted.{IsPermutation}
-use Rattle.std.proofs.lemmas.List.Sorted.{IsPermutation-map, IsPermutation-trans, list_any-IsPermutation}
+use Rattle.std.proofs.lemmas.List.Sorted.{IsPermutation-map, IsPermutation-reverse, IsPermutation-trans, list_any-IsPermutation}
+use Rattle.sqlite.specs.Tree.{Trees}
 use Rattle.sqlite_trees.proofs.ListLemmas.{ascending-filter, ascending-map}
 use Rattle.sqlite_keyed.proofs.ListLemmas.{slice_get-filter}
 use Rattle.kcr_base.specs.Same.{is_before}
+use Rattle.kcr_base.specs.declared.refusal.Refusal.{Refusal}
 use Rattle.kcr_base.specs.declared.refusal.Refusal.TheVariants.{Unknown}
 use Rattle.kcr_base.specs.declared.refusal.Thing.TheVariants as Things
 use Rattle.kcr_base.proofs.RowsLemmas.{filter-order}
+use Rattle.kcr_base.proofs.SameLemmas.{same-itself}
 use Rattle.kcr_base.proofs.ListLemmas.{any-map}
 use Rattle.kcr_people.specs.declared.Appointment.{Appointment}
 use Rattle.kcr_people.specs.People.{holder_by, lasts_beyond}
 use Rattle.kcr_custody.specs.declared.Bag.{Bag}
-use Rattle.kcr_custody.specs.Custody.{spot_by, lies_in}
+use Rattle.kcr_custody.specs.Custody.{spot_by, lies_in, sealed_items}
 use Rattle.kcr_room.specs.declared.Stay.{Stay}
-use Rattle.kcr_room.specs.Stays.{present_in_by, stays_by}
-use Rattle.kcr_history.specs.declared.rows.CeremonyRow.{CeremonyRow}
-use Rattle.kcr_history.specs.declared.views.Selection.TheVariants.{Under}
-use Rattle.kcr_history.specs.History.{History, all_said}
+use Rattle.kcr_room.specs.Stays.{attendance_in_by, present_in_by, stays_by}
+use Rattle.kcr_history.specs.declared.row_types.CeremonyRow.{CeremonyRow}
+use Rattle.kcr_history.specs.declared.views.Selection.TheVariants.{Matching}
+use Rattle.kcr_history.specs.History.{History, values_of_acts}
 use Rattle.kcr_history.specs.Ceremonies.{is_ceremony}
 use Rattle.kcr_history.specs.Custody.{spot}
 use Rattle.kcr_history.specs.Machine.{IsRegister}
 use Rattle.kcr_history.specs.Room.{sheet, present}
-use Rattle.kcr_history.specs.Tables.{Tables, SameTables, tables, appointments, items, bags, ceremonies, ceremony_row, planned_number}
+use Rattle.kcr_history.specs.Tables.{Tables, SameTables, tables, people, appointments, items, bags, ceremonies, ceremony_row, planned_number}
 use Rattle.kcr_history.specs.Views.{is_of_serial, is_of_number}
-use Rattle.kcr_room.specs.Stays.{is_lasting}
+use Rattle.kcr_room.specs.Stays.{stay_reaches}
 use Rattle.kcr_machine.proofs.BagsWords.{spot-shown}
 use Rattle.kcr_machine.proofs.InRoom.{present-shown, holder-lasting}
 use Rattle.kcr_machine.proofs.Keyed.{Shown}
@@ -37,12 +40,16 @@ use Rattle.kcr_tables.proofs.JointLemmas.{Rises}
 use Rattle.kcr_tables.proofs.NamedLemmas.{passing}
 use Rattle.kcr_tables.proofs.ViewLemmas.{asked_shows}
 use Rattle.kcr_history.specs.declared.questions.BagShown.{BagShown}
-use Rattle.kcr_history.specs.Questions.{holders_by, holders_on, IsBagShown}
+use Rattle.kcr_history.specs.Questions.{holders_by, holders_on, IsBagShown, with_name}
 use Rattle.kcr_history.proofs.Words.{planned-number}
+use Rattle.kcr_reading.specs.Remaining.{named_stays}
+use Rattle.kcr_reading.proofs.StayLemmas.{one_attendance}
+use Rattle.kcr_tables.specs.MachineTables.{TreesHoldTables}
+use Rattle.kcr_tables.specs.Refusals.{IsFault}
 use Rattle.kcr_store.specs.Rows.{IsRowOf, HasNoRow}
 use Rattle.kcr_store.proofs.StoreLemmas.{all_pairs, by_code}
 
--- a test keeps something where something passes it
+-- a test keeps something if something passes it
 some_kept : {X : Type 0} (test : X → Bool) (xs : List X) → list_any test xs ≡ not (length (filter test xs) == 0)
 some_kept test [] = refl
 some_kept test (x ∷ xs) = by_test (test x) (some_kept test xs)
@@ -51,6 +58,34 @@ some_kept test (x ∷ xs) = by_test (test x) (some_kept test xs)
         → (b || list_any test xs) ≡ not (length (cond b (x ∷ filter test xs) (filter test xs)) == 0)
     by_test true ih = grind arith
     by_test false ih = ih
+
+-- ---- what some rows show
+
+-- a row of the ceremony is one
+pub one_planned : (ceremony : ℕ) → IsTrue (list_any (is_of_number ceremony) (ceremony_row [] ceremony ∷ []))
+one_planned ceremony = grind arith
+
+-- what is put in a bag is in it
+pub codes_packed : (serial : List ℕ) (codes : List (List ℕ))
+    → map (λ item. item.code) (filter (lies_in serial) (sealed_items serial codes)) ≡ codes
+codes_packed serial [] = refl
+codes_packed serial (code ∷ codes) =
+    rw (same-itself serial) (ap (λ l. code ∷ l) (codes_packed serial codes))
+
+-- ---- lists
+
+-- what is said of a list that is read, and a reading is refused for a fault alone
+pub shown_or_fault : {X : Type 0} (IsRead IsShown : X → Type 0) (IsMissing : Refusal → Type 0) (result : Result X Refusal) → ((x : X) → IsRead x → IsShown x)
+    → IfOk result IsRead → IfErr result IsFault → MatchResult result IsShown (λ refusal. IsFault refusal ⊎ IsMissing refusal)
+shown_or_fault IsRead IsShown IsMissing (Ok x) shows read fault = shows x read
+shown_or_fault IsRead IsShown IsMissing (Err e) shows read fault = inl fault
+
+-- the stays of a file give the attendance of the sheet, in whatever order the history has them
+pub sheet_shown : (A : History) {db : Trees} → TreesHoldTables (tables A) db → (ceremony : ℕ)
+    → named_stays ceremony (tables A) ≡ map (with_name (people A)) (attendance_in_by (stays_by (sheet A)) ceremony)
+sheet_shown A k ceremony =
+    let sheets = IsPermutation-trans _ _ _ (IsPermutation-reverse (stays_by (sheet A))) k.stands.rows.stays in
+    ap (map (with_name (people A))) (one_attendance ceremony sheets k.stands.rows.stays k.kept.stays.rising)
 
 -- ---- what the rows of a register's tables show
 
@@ -69,7 +104,7 @@ module _ (A : History) (register : IsRegister A) (t : Tables) (same : SameTables
 
   -- where the bag lies
   pub spot_shown : (serial : List ℕ) (rows : List Bag) → rows ≡ filter (is_of_serial serial) t.bags → spot_by rows serial ≡ spot A serial
-  spot_shown serial rows is = spot-shown A register serial rows (asked_shows is_of_serial (Under serial) (bags A) t.bags rows same.bags is)
+  spot_shown serial rows is = spot-shown A register serial rows (asked_shows is_of_serial (Matching serial) (bags A) t.bags rows same.bags is)
 
   -- the bag with its items
   pub bag_shown : (rises : Rises t) (serial : List ℕ) (bag : BagShown) → bag.serial ≡ serial → spot A serial ≡ Some bag.spot
@@ -85,17 +120,17 @@ module _ (A : History) (register : IsRegister A) (t : Tables) (same : SameTables
         (ascending-filter _ (lies_in serial) t.items (by_code t.items rises.items))));
   }
 
-  -- the ceremony is planned where it has a row
+  -- the ceremony is planned if it has a row
   pub planned_shown : (ceremony : ℕ) (rows : List CeremonyRow) → rows ≡ filter (is_of_number ceremony) t.ceremonies
       → is_ceremony A ceremony ≡ not (length rows == 0)
   planned_shown ceremony rows is =
       sym (planned-number A ceremony)
-      ∙ sym (any-map (is_of_number ceremony) (ceremony_row A) (all_said planned_number A))
+      ∙ sym (any-map (is_of_number ceremony) (ceremony_row A) (values_of_acts planned_number A))
       ∙ list_any-IsPermutation (is_of_number ceremony) (ceremonies A) t.ceremonies same.ceremonies
       ∙ some_kept (is_of_number ceremony) t.ceremonies
       ∙ ap (λ l. not (length l == 0)) (sym is)
 
-  -- the first of the rows of the ceremony is its row, and where there is none it was never planned
+  -- the first of the rows of the ceremony is its row, and if there is none it was never planned
   pub row_shown : (ceremony : ℕ) (rows : List CeremonyRow) → rows ≡ filter (is_of_number ceremony) t.ceremonies
       → MatchResult (ok_or (slice_get rows 0) (Unknown (Things.Ceremony ceremony))) (IsRowOf A ceremony) (HasNoRow A ceremony)
   row_shown ceremony rows is = says (is_ceremony A ceremony) refl
@@ -114,7 +149,7 @@ module _ (A : History) (register : IsRegister A) (t : Tables) (same : SameTables
       says false e = subst Says (sym (first ∙ rw e at (ceremony-shown A ceremony t.ceremonies ordered))) (inr (e, refl))
 
   -- who is in the room
-  pub present_shown : (ceremony at : ℕ) (rows : List Stay) → IsPermutation (filter (is_lasting ceremony at) t.stays) rows
+  pub present_shown : (ceremony at : ℕ) (rows : List Stay) → IsPermutation (filter (stay_reaches ceremony at) t.stays) rows
       → present_in_by rows ceremony at ≡ present A ceremony at
   present_shown ceremony at rows are =
-      present-shown A ceremony at rows (passing_shown (is_lasting ceremony at) (reverse (stays_by (sheet A))) t.stays rows same.stays are)
+      present-shown A ceremony at rows (passing_shown (stay_reaches ceremony at) (reverse (stays_by (sheet A))) t.stays rows same.stays are)

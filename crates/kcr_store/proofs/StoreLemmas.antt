@@ -1,6 +1,6 @@
 -- What a decision makes of the tables, and what a reading of them shows.
-use Rattle.std.proofs.Common.{◌≡◌, inl, inr, ℕ, List, [], ◌∷◌, map, Option, Some, None, Ok, Err, Less, IsTrue, refl, sym, ap, subst, ◌∙◌}
-use Rattle.std.specs.Prelude.{MatchOption, AllPairs, IsPermutation, Result, IfOk, IfErr, length}
+use Rattle.std.proofs.Common.{◌≡◌, false, true, inl, inr, ℕ, List, [], ◌∷◌, map, Option, Some, None, Ok, Err, Less, IsTrue, refl, sym, ap, subst, ◌∙◌}
+use Rattle.std.specs.Prelude.{MatchOption, AllPairs, IsPermutation, Result, IfOk, IfErr, IsErr, IsErrAnd, length}
 use Rattle.std.specs.Ordering.{is_lt}
 use Rattle.sqlite.specs.declared.types.Value.TheVariants.{Text}
 use Rattle.sqlite.specs.Effect.{Database}
@@ -13,13 +13,14 @@ use Rattle.kcr_base.specs.Same.{is_before}
 use Rattle.kcr_base.specs.declared.refusal.Refusal.{Refusal}
 use Rattle.kcr_custody.specs.declared.Item.{Item}
 use Rattle.kcr_people.specs.declared.Person.{Person}
-use Rattle.kcr_history.specs.declared.commands.Answer.{Answer}
+use Rattle.kcr_history.specs.declared.commands.ReplyData.{ReplyData}
 use Rattle.kcr_history.specs.declared.commands.Command.{Command}
 use Rattle.kcr_history.specs.declared.commands.Entry.{Entry}
+use Rattle.kcr_history.specs.declared.row_types.KeyRow.{KeyRow}
 use Rattle.kcr_history.specs.declared.views.Change.{Change}
 use Rattle.kcr_history.specs.declared.views.Finding.{Finding}
 use Rattle.kcr_history.specs.declared.views.Verdict.{Verdict}
-use Rattle.kcr_history.specs.declared.views.WholeView.{WholeView}
+use Rattle.kcr_history.specs.declared.views.FullView.{FullView}
 use Rattle.kcr_history.specs.Audit.{IsAudit}
 use Rattle.kcr_history.specs.History.{History}
 use Rattle.kcr_history.specs.Tables.{Tables, SameTables, tables}
@@ -29,16 +30,19 @@ use Rattle.kcr_history.proofs.Steps.{follows, numbers}
 use Rattle.kcr_tables.specs.Keyed.{by_key}
 use Rattle.kcr_rows.specs.Rows.{person_row, item_row}
 use Rattle.kcr_rows.specs.States.{loose_value, within_value}
-use Rattle.kcr_tables.specs.Held as held
-use Rattle.kcr_tables.specs.Held.{Holds}
-use Rattle.kcr_tables.specs.Joint.{HoldsTables, Stands}
-use Rattle.kcr_tables.specs.Table.{Table, machine_rows}
+use Rattle.kcr_tables.specs.StoredTables as held
+use Rattle.kcr_tables.specs.StoredTables.{Holds}
+use Rattle.kcr_tables.specs.MachineTables.{HoldsTables, SameRows}
+use Rattle.kcr_tables.specs.Table.{TableSpec, machine_rows}
 use Rattle.kcr_tables.proofs.JointLemmas.{same_holds}
 use Rattle.kcr_tables.specs.Refusals.{IsFault}
 use Rattle.kcr_history.specs.Questions.{IsByInitials}
-use Rattle.kcr_store.specs.Steps.{Steps, with_answer, number_after}
+use Rattle.kcr_machine.specs.RowDecision.{IsOfKind, IsRowRepeat, MayBeRefused}
+use Rattle.kcr_machine.proofs.Decided.{fault-refused, repeat-kind}
+use Rattle.kcr_store.specs.TransactionResult.{ends_with}
+use Rattle.kcr_store.specs.Commands.{AppliesCommand, MayBeReplied, with_answer, number_after}
 use Rattle.kcr_store.specs.Stored.{Stores, OfStored}
-use Rattle.kcr_store.specs.Whole.{AreRows, IsListed, Lists}
+use Rattle.kcr_store.specs.FullView.{AreRows, IsListed, Lists}
 
 -- the tables that the database holds
 pub holds_in : (A : History) (db : Database) (s : Stores A db) → Holds db s.tables.kept.t
@@ -48,32 +52,32 @@ pub held_in : (A : History) (db : Database) → Stores A db → HoldsTables (tab
 held_in A db s = record { schema = s.schema; tables = s.tables.kept }
 
 -- a decision that answers, by its answer
-abbrev Decides : History → Command → Verdict → Option Answer → Type 0
+abbrev Decides : History → Command → Verdict → Option ReplyData → Type 0
 Decides A x v answer = MatchOption answer ((kept : Entry) × IsRepeat A x v kept) (IsAcceptance A x v)
 
 module _ (A : History) (x : Command) (v : Verdict) where
-  pub steps : (answer : Option Answer) → Decides A x v answer → Steps A x (Ok v.reply) (with_answer A x answer)
+  pub steps : (answer : Option ReplyData) → Decides A x v answer → AppliesCommand A x (Ok v.reply) (with_answer A x answer)
   steps (Some a) d = (a, d.step, d.reply)
   steps None d = (d.0.answer, d.1.step, d.1.reply)
 
-  next_register : (answer : Option Answer) → Decides A x v answer → IsRegister A → IsRegister (with_answer A x answer)
+  next_register : (answer : Option ReplyData) → Decides A x v answer → IsRegister A → IsRegister (with_answer A x answer)
   next_register (Some a) d r = (follows A x a d.step, r)
   next_register None d r = r
 
   -- the tables with the changes are those of the history after the command, up to the order of their rows
-  next_holds : (answer : Option Answer) (new : Database) → Decides A x v answer → HoldsTables (changed_by v.changes.items (tables A)) new
+  next_holds : (answer : Option ReplyData) (new : Database) → Decides A x v answer → HoldsTables (changed_by v.changes.items (tables A)) new
       → HoldsTables (tables (with_answer A x answer)) new
   next_holds (Some a) new d h = same_holds (changed_by v.changes.items (tables A)) (tables (with_answer A x (Some a))) new d.tables h
   next_holds None new d h = subst (λ (l : List Change). HoldsTables (changed_by l (tables A)) new) d.1.changes h
 
-  pub next_stores : (answer : Option Answer) (old new : Database) → Stores A old → Decides A x v answer
+  pub next_stores : (answer : Option ReplyData) (old new : Database) → Stores A old → Decides A x v answer
       → HoldsTables (changed_by v.changes.items (tables A)) new → Stores (with_answer A x answer) new
   next_stores answer old new s d h =
       let after = next_holds answer new d h in
       record { schema = after.schema; tables = record { register = next_register answer d s.tables.register; kept = after.tables } }
 
 -- the number of the last command after a decision is that of the history after it
-pub counts_after : (A : History) (x : Command) (answer : Option Answer) (count : ℕ) → count ≡ length A → IsRegister (with_answer A x answer)
+pub counts_after : (A : History) (x : Command) (answer : Option ReplyData) (count : ℕ) → count ≡ length A → IsRegister (with_answer A x answer)
     → number_after count answer ≡ length (with_answer A x answer)
 counts_after A x None count is h = is
 counts_after A x (Some answer) count is h = numbers A (record { command = x; answer = answer }) h
@@ -89,19 +93,41 @@ module _ (old new : State) (count : ℕ) (x : Command) where
   decided (Err e) d = λ clean A had is. tt
 
   -- the refusal of a decision is the machine's
-  pub refused : (r : Result Verdict Refusal) → IsDecided old new count x r → IfErr r (λ e. OfStored old new (λ A. count ≡ length A → Steps A x (Err e) A))
+  pub refused : (r : Result Verdict Refusal) → IsDecided old new count x r → IfErr r (λ e. OfStored old new (λ A. count ≡ length A → AppliesCommand A x (Err e) A))
   refused (Ok v) d = tt
   refused (Err e) d = λ clean A had is. (refl, λ memory disk. (d clean A had is).0 memory)
 
--- out of memory and a fault of the device leave the history
-pub fault_steps : (A : History) (x : Command) (e : Refusal) → IsFault e → Steps A x (Err e) A
+-- out of memory and an I/O error leave the history
+pub fault_steps : (A : History) (x : Command) (e : Refusal) → IsFault e → AppliesCommand A x (Err e) A
 fault_steps A x e (inl memory) = (refl, λ no_memory no_disk. absurd (no_memory memory))
 fault_steps A x e (inr disk) = (refl, λ no_memory no_disk. absurd (no_disk disk))
 
 pub faults : {T : Type 0} (old new : State) (x : Command) (count : ℕ) (r : Result T Refusal) → IfErr r IsFault
-    → IfErr r (λ e. OfStored old new (λ A. count ≡ length A → Steps A x (Err e) A))
+    → IfErr r (λ e. OfStored old new (λ A. count ≡ length A → AppliesCommand A x (Err e) A))
 faults old new x count (Ok v) fault = tt
 faults old new x count (Err e) fault = λ clean A had is. fault_steps A x e fault
+
+-- ---- what a command may get, whatever the tables hold
+
+pub repeat_replied : (x : Command) (row : KeyRow) (r : Result Verdict Refusal) → IsRowRepeat row x r → MayBeReplied x (ends_with r)
+repeat_replied x row (Ok v) is = (Some row, (is.same, is.reply))
+repeat_replied x row (Err e) is = repeat-kind x row (Err e) is
+
+pub new_replied : (x : Command) (r : Result Verdict Refusal) → IsOfKind x r → MayBeReplied x (ends_with r)
+new_replied x (Ok v) is = (None, is)
+new_replied x (Err e) is = inr is
+
+-- a refusal that is handed on
+pub handed_replied : (x : Command) (e : Refusal) (r : Result Verdict Refusal) → MayBeRefused x e → IsErrAnd r (λ y. y ≡ e) → MayBeReplied x (ends_with r)
+handed_replied x e (Ok v) may is = absurd is
+handed_replied x e (Err y) may is = subst (MayBeRefused x) (sym is) may
+
+pub fault_replied : (x : Command) (e : Refusal) (r : Result Verdict Refusal) → IsFault e → IsErrAnd r (λ y. y ≡ e) → MayBeReplied x (ends_with r)
+fault_replied x e r fault is = handed_replied x e r (fault-refused x e fault) is
+
+pub faults_replied : (x : Command) (r : Result Verdict Refusal) → IfErr r IsFault → IsErr r → MayBeReplied x (ends_with r)
+faults_replied x (Ok v) fault is = absurd (let g : false ≡ true = is in cc)
+faults_replied x (Err e) fault is = fault-refused x e fault
 
 -- the tables of a history, in the database of a register
 pub brought_stores : (A : History) (db : Database) → IsRegister A → HoldsTables (tables A) db → Stores A db
@@ -113,18 +139,18 @@ first_stores db h = record { schema = h.schema; tables = record { register = tt;
 
 -- ---- rows as a database has them
 
--- where nothing is to be found, nothing is found
-pub none_found : (view : WholeView) (found : Option Finding) → IsAudit view None → IsAudit view found → found ≡ None
+-- if nothing is to be found, nothing is found
+pub none_found : (view : FullView) (found : Option Finding) → IsAudit view None → IsAudit view found → found ≡ None
 none_found view None clean found = refl
 none_found view (Some finding) clean found = absurd (clean finding found.0)
 
 -- rows of one table as a database has them are the machine's, in the order of their keys
-pub in_table : {X : Type 0} (table : Table X) {m : Tables} {db : Trees} {t : held.Tables} {rows : List X} → held.Kept db t → rows ≡ table.rows_in t
+pub in_table : {X : Type 0} (table : TableSpec X) {m : Tables} {db : Trees} {t : held.StoredTables} {rows : List X} → held.TreesHold db t → rows ≡ table.rows_in t
     → IsPermutation (machine_rows table m) rows → AreRows table m rows
 in_table table kept is same = record { same = same; db = _; t = _; kept = kept; lists = is }
 
 -- rows as a database has them are the machine's, in the order of their keys
-pub listed : {m : Tables} {db : Trees} {t : held.Tables} {view : WholeView} → held.Kept db t → Stands m t → Lists t view → IsListed m view
+pub listed : {m : Tables} {db : Trees} {t : held.StoredTables} {view : FullView} → held.TreesHold db t → SameRows m t → Lists t view → IsListed m view
 listed kept s l = record { same = subst (SameTables _) (sym l) s.rows; db = _; t = _; kept = kept; lists = l }
 
 -- ---- rows in the order of their keys

@@ -12,30 +12,30 @@ use Rattle.sqlite.specs.Steps.{FailsToCommit}
 use Rattle.sqlite.specs.Held.{Held, state}
 use Rattle.kcr_history.specs.declared.commands.Command.{Command}
 use Rattle.kcr_rows.proofs.InsideLemmas.{was_clean, survives_on}
-use Rattle.kcr_rows.specs.Frame.{StaysWithin}
-use Rattle.kcr_store.specs.Steps.{Steps, with_answer, number_after}
+use Rattle.kcr_rows.specs.Frame.{StaysInTransaction}
+use Rattle.kcr_store.specs.Commands.{AppliesCommand, with_answer, number_after}
 use Rattle.kcr_history.specs.declared.views.Verdict.{Verdict}
 use Rattle.kcr_store.proofs.StoreLemmas.{counts_after}
 use Rattle.kcr_store.specs.Stored.{IsTables, Stores}
 use Rattle.kcr_history.specs.History.{History}
-use Rattle.kcr_store.specs.Register.{IsCounted, IsKept, IsKeptWith, IsWhole, Leaves, LeavesEither, Seen}
+use Rattle.kcr_store.specs.Register.{IsDurableWith, IsConsistent, IsConsistentWith, IsDurable, CrashKeeps, AfterCrash, RegisterState}
 use Rattle.kcr_store.specs.Register as register
 use Rattle.std.proofs.lemmas.Bool.{true≢false}
 use Rattle.std.proofs.lemmas.Option.{none-some}
 use Rattle.std.specs.Prelude.{◌↔◌, IsSome, is_some, unwrap_or}
 use Rattle.kcr_base.specs.declared.refusal.Refusal.{Refusal}
 use Rattle.kcr_base.specs.declared.refusal.Refusal.TheVariants.{Disk}
-use Rattle.kcr_store.specs.Calls.{Looks, Peeks, Settles, after_fault}
+use Rattle.kcr_store.specs.Calls.{ReadsHistory, ReadsWithoutBreaking, BreaksOnFault, after_fault}
 use Rattle.kcr_store.specs.Frame.{OnlyReads, StaysOutside}
 
 -- within the transaction
 pub record Began (accepted : History) (s : State) : Type 0 where
   pub inside : IsTrue s.in_transaction
-  pub shows : HasCleanDisk s → IsTrue s.is_open → register.Shows accepted s
-  pub crash : Leaves accepted s
+  pub shows : HasCleanDisk s → IsTrue s.is_open → register.IsSynced accepted s
+  pub crash : CrashKeeps accepted s
 
 pub begins : {S : Type 0} (g : Ghosts S) (accepted : History) (old begun : Held S) → begun ≡ record old { in_transaction = true }
-    → IsWhole accepted (state g old) → Began accepted (state g begun)
+    → IsDurable accepted (state g old) → Began accepted (state g begun)
 begins g accepted old begun is w =
     rw is (record {
       inside = refl;
@@ -52,12 +52,12 @@ pub begun_has : {S : Type 0} (g : Ghosts S) (old begun : Held S) (P : Database �
     → P (state g begun).now
 begun_has g old begun P is has = rw is has
 
-leaves : (accepted : History) (old new : State) → Leaves accepted old → Survives old new (λ _. ⊥) → Leaves accepted new
+leaves : (accepted : History) (old new : State) → CrashKeeps accepted old → Survives old new (λ _. ⊥) → CrashKeeps accepted new
 leaves accepted old new had s clean db may = elim (s.crash clean db may) [ inl before ↦ had (was_clean old new _ s clean) db before | inr none ↦ absurd none ]
 
 -- a rollback goes back to the tables that were shown
-pub undone_shows : (accepted : History) (begun mid end : State) → (IsTrue begun.is_open → register.Shows accepted begun) → KeepsCommit begun mid
-    → IsRolledBack mid end → IsTrue end.is_open → register.Shows accepted end
+pub undone_shows : (accepted : History) (begun mid end : State) → (IsTrue begun.is_open → register.IsSynced accepted begun) → KeepsCommit begun mid
+    → IsRolledBack mid end → IsTrue end.is_open → register.IsSynced accepted end
 undone_shows accepted begun mid end shows k r live =
     let was = subst (Stores accepted) (sym (k.committed (r.was_open live))) (shows (k.was_open (r.was_open live))).committed in
     let is = r.undone live in
@@ -65,17 +65,17 @@ undone_shows accepted begun mid end shows k r live =
 
 module _ (accepted : History) (begun mid : State) (b : Began accepted begun) (kept : Survives begun mid (λ _. ⊥))
     (keeps : HasCleanDisk mid → IsTrue begun.in_transaction → KeepsCommit begun mid) where
-  undone : (end : State) → HasCleanDisk mid → IsRolledBack mid end → IsTrue end.is_open → register.Shows accepted end
+  undone : (end : State) → HasCleanDisk mid → IsRolledBack mid end → IsTrue end.is_open → register.IsSynced accepted end
   undone end clean r = undone_shows accepted begun mid end (b.shows (was_clean begun mid _ kept clean)) (keeps clean b.inside) r
 
-  whole_undone : (end : State) → Survives mid end (λ _. ⊥) → (HasCleanDisk end → IsRolledBack mid end) → IsWhole accepted end
+  whole_undone : (end : State) → Survives mid end (λ _. ⊥) → (HasCleanDisk end → IsRolledBack mid end) → IsDurable accepted end
   whole_undone end then back = record {
     shows = λ clean live. undone end (was_clean mid end _ then clean) (back clean) live;
     crash = leaves accepted mid end (leaves accepted begun mid b.crash kept) then;
   }
 
   module _ (after : History) (end : State) (then : Survives mid end (λ db. db ≡ mid.now.trees)) where
-    pub either : (HasCleanDisk mid → Stores after mid.now) → LeavesEither accepted after end
+    pub either : (HasCleanDisk mid → Stores after mid.now) → AfterCrash accepted after end
     either done clean db may =
         let before = was_clean mid end _ then clean in
         elim (then.crash clean db may) [
@@ -85,7 +85,7 @@ module _ (accepted : History) (begun mid : State) (b : Began accepted begun) (ke
 
     -- the store says that it stands
     pub whole_done : ((db : Trees) → IsTrue end.is_open → end.may_leave db → db ≡ end.committed.trees) → (HasCleanDisk mid → Stores after mid.now)
-        → (HasCleanDisk end → Shows mid end mid.now mid.now false) → IsWhole after end
+        → (HasCleanDisk end → Shows mid end mid.now mid.now false) → IsDurable after end
     whole_done settled done shown = record {
       shows = λ clean live.
           let is = done (was_clean mid end _ then clean) in
@@ -98,15 +98,15 @@ module _ (accepted : History) (begun mid : State) (b : Began accepted begun) (ke
     }
 
     module _ (last : State) (probed : Survives end last (λ _. ⊥)) where
-      pub either_last : (HasCleanDisk mid → Stores after mid.now) → LeavesEither accepted after last
+      pub either_last : (HasCleanDisk mid → Stores after mid.now) → AfterCrash accepted after last
       either_last done clean db may =
           elim (probed.crash clean db may) [ inl before ↦ either done (was_clean end last _ probed clean) db before | inr none ↦ absurd none ]
 
-      -- memory was wanting at the commit, and the store that is open still shows what was there
+      -- memory ran out at the commit, and the store that is open still shows what was there
       pub whole_stands : ((db : Trees) → IsTrue last.is_open → last.may_leave db → db ≡ last.committed.trees) → (e : Error) → e ≡ SqliteFailure OutOfMemory
-          → (HasCleanDisk end → FailsToCommit mid end e) → (HasCleanDisk last → IsUnchanged end last) → IsWhole accepted last
+          → (HasCleanDisk end → FailsToCommit mid end e) → (HasCleanDisk last → IsUnchanged end last) → IsDurable accepted last
       whole_stands settled e is failed same =
-          let shown : HasCleanDisk last → IsTrue last.is_open × register.Shows accepted last =
+          let shown : HasCleanDisk last → IsTrue last.is_open × register.IsSynced accepted last =
           λ clean. let mine = was_clean end last _ probed clean in let u = same clean in
           elim (failed mine) [
             | inl f ↦ (let s = undone end (was_clean mid end _ then mine) f.3 u.0.was_open in (
@@ -126,24 +126,24 @@ module _ {S : Type 0} (g : Ghosts S) (old begun : Held S) (is : begun ≡ record
       → after ≡ with_answer A x v.answer
       → (HasCleanDisk mid → IsTrue (state g begun).in_transaction → (B : History) → count ≡ length B
       → (IsTrue (state g begun).is_open → Stores B (state g begun).now)
-      → Steps B x (Ok v.reply) (with_answer B x v.answer) × Stores (with_answer B x v.answer) mid.now × IsTrue mid.in_transaction)
-      → IsCounted count A (state g old) → HasCleanDisk mid → Steps A x (Ok v.reply) after × Stores after mid.now × (number_after count v.answer ≡ length after)
+      → AppliesCommand B x (Ok v.reply) (with_answer B x v.answer) × Stores (with_answer B x v.answer) mid.now × IsTrue mid.in_transaction)
+      → IsDurableWith count A (state g old) → HasCleanDisk mid → AppliesCommand A x (Ok v.reply) after × Stores after mid.now × (number_after count v.answer ≡ length after)
   made_by mid kept {A} {after} x count v after_is said was clean =
       let b = begins g A old begun is was.whole in
       let before = was_clean (state g begun) mid _ kept clean in
       let number : count ≡ length A = was.counts (begun_clean g old begun is before) in
       let done = said clean b.inside A number (λ live. (b.shows before live).now) in
-      subst (λ B. Steps A x (Ok v.reply) B × Stores B mid.now × (number_after count v.answer ≡ length B)) (sym after_is)
+      subst (λ B. AppliesCommand A x (Ok v.reply) B × Stores B mid.now × (number_after count v.answer ≡ length B)) (sym after_is)
       (done.0, done.1, counts_after A x v.answer count number done.1.tables.register)
 
   -- a transaction that reads and is rolled back, or dropped
   module _ (mid end : State) (kept : Survives (state g begun) mid (λ _. ⊥)) (then : Survives mid end (λ _. ⊥)) where
     -- it began over the tables of the history
-    pub read_stores : (A : History) → IsWhole A (state g old) → HasCleanDisk end → IsTrue (state g begun).is_open → Stores A (state g begun).now
+    pub read_stores : (A : History) → IsDurable A (state g old) → HasCleanDisk end → IsTrue (state g begun).is_open → Stores A (state g begun).now
     read_stores A was clean live = ((begins g A old begun is was).shows (was_clean (state g begun) mid _ kept (was_clean mid end _ then clean)) live).now
 
-  -- and where it is rolled back, the call over the connection only reads
-  pub read_back : {A E : Type 0} {MayFail : E → Type 0} {r : Result A E} {mid : State} (end : Held S) → StaysWithin MayFail (state g begun) mid r
+  -- and if it is rolled back, the call over the connection only reads
+  pub read_back : {A E : Type 0} {MayFail : E → Type 0} {r : Result A E} {mid : State} (end : Held S) → StaysInTransaction MayFail (state g begun) mid r
       → Survives mid (state g end) (λ _. ⊥) → (HasCleanDisk (state g end) → IsRolledBack mid (state g end)) → end.in_transaction ≡ false
       → OnlyReads g MayFail old end r
   read_back {mid = mid} end left then back out = record {
@@ -172,7 +172,7 @@ module _ {S : Type 0} (g : Ghosts S) (old begun : Held S) (is : begun ≡ record
           (λ clean db same. subst P (sym same) (done (was_clean mid (state g end) _ then clean))) within then;
     }
 
-    -- nothing was committed, where the store that met out of memory at the commit is still open
+    -- nothing was committed, if the store that met out of memory at the commit is still open
     pub nothing_made : (HasCleanDisk mid → IsTrue (state g begun).in_transaction → KeepsCommit (state g begun) mid)
         → ((db : Trees) → IsTrue (state g old).is_open → db ≡ (state g old).committed.trees → (state g old).may_leave db)
         → (end : State) → Survives mid end (λ db. db ≡ mid.now.trees) → (e : Error) → e ≡ SqliteFailure OutOfMemory
@@ -213,17 +213,17 @@ outside_then g P old mid end one two = record {
 }
 
 -- what is whole, with its number
-pub counted_as : {count : ℕ} {accepted : History} {s : State} → IsWhole accepted s → (HasCleanDisk s → count ≡ length accepted) → IsCounted count accepted s
+pub counted_as : {count : ℕ} {accepted : History} {s : State} → IsDurable accepted s → (HasCleanDisk s → count ≡ length accepted) → IsDurableWith count accepted s
 counted_as whole counts = record { whole = whole; counts = counts }
 
 -- a call that only reads leaves both
 pub still_counted : {S A E : Type 0} {g : Ghosts S} {MayFail : E → Type 0} {r : Result A E} {old new : Held S} {count : ℕ} {accepted : History}
-    → OnlyReads g MayFail old new r → IsCounted count accepted (state g old) → IsCounted count accepted (state g new)
+    → OnlyReads g MayFail old new r → IsDurableWith count accepted (state g old) → IsDurableWith count accepted (state g new)
 still_counted left was = record { whole = left.whole _ was.whole; counts = λ clean. was.counts (left.clean clean) }
 
 -- a register whose connection is whole
-pub kept_as : {S : Type 0} {g : Ghosts S} {conn : Held S} {count : ℕ} {founded : Bool} {H : History} {torn : Option History} → conn.in_transaction ≡ false
-    → (IsTrue founded → IsCounted count H (state g conn)) → IsKeptWith g count (record { conn = conn; is_founded = founded; accepted = H; torn = torn })
+pub kept_as : {S : Type 0} {g : Ghosts S} {conn : Held S} {count : ℕ} {founded : Bool} {H : History} {in_doubt : Option History} → conn.in_transaction ≡ false
+    → (IsTrue founded → IsDurableWith count H (state g conn)) → IsConsistentWith g count (record { conn = conn; is_genuine = founded; accepted = H; in_doubt = in_doubt })
 kept_as out counted = record {
   kept = record {
     autocommit = out;
@@ -235,8 +235,8 @@ kept_as out counted = record {
 
 -- a register that a fault has broken
 pub torn_as : {S : Type 0} {g : Ghosts S} {conn : Held S} {count : ℕ} {founded : Bool} {H tried : History} → conn.in_transaction ≡ false
-    → (IsTrue founded → LeavesEither H tried (state g conn))
-    → IsKeptWith g count (record { conn = conn; is_founded = founded; accepted = H; torn = Some tried })
+    → (IsTrue founded → AfterCrash H tried (state g conn))
+    → IsConsistentWith g count (record { conn = conn; is_genuine = founded; accepted = H; in_doubt = Some tried })
 torn_as {tried = tried} out crash = record {
   kept = record { autocommit = out; whole = λ yes intact. absurd (none-some tried (sym intact)); crash = crash };
   counted = λ yes intact. absurd (none-some tried (sym intact));
@@ -244,62 +244,62 @@ torn_as {tried = tried} out crash = record {
 
 -- a call that only reads leaves the register so
 pub read_kept : {S A E : Type 0} {g : Ghosts S} {MayFail : E → Type 0} {r : Result A E} {old new : Held S} {count : ℕ} {founded : Bool} {H : History}
-    {torn : Option History} → IsKeptWith g count (record { conn = old; is_founded = founded; accepted = H; torn = torn }) → OnlyReads g MayFail old new r
-    → torn ≡ None → IsKeptWith g count (record { conn = new; is_founded = founded; accepted = H; torn = torn })
+    {in_doubt : Option History} → IsConsistentWith g count (record { conn = old; is_genuine = founded; accepted = H; in_doubt = in_doubt }) → OnlyReads g MayFail old new r
+    → in_doubt ≡ None → IsConsistentWith g count (record { conn = new; is_genuine = founded; accepted = H; in_doubt = in_doubt })
 read_kept was left none = kept_as left.autocommit (λ yes. still_counted left (was.counted yes none))
 
 -- a register that is not broken is none that is
-pub not_broken : {S : Type 0} (seen : Seen S) → seen.torn ≡ None → IsSome seen.torn → ⊥
+pub not_broken : {S : Type 0} (seen : RegisterState S) → seen.in_doubt ≡ None → IsSome seen.in_doubt → ⊥
 not_broken seen whole some = true≢false (sym some ∙ ap is_some whole)
 
 -- a call that only reads over the connection of a register that is not broken
-pub peeked : {S A : Type 0} {g : Ghosts S} {MayFail : Refusal → Type 0} {r : Result A Refusal} {old new : Seen S} → old.torn ≡ None
-    → new ≡ record old { conn = new.conn } → OnlyReads g MayFail old.conn new.conn r → IsKept g new → Peeks g MayFail old new r
+pub peeked : {S A : Type 0} {g : Ghosts S} {MayFail : Refusal → Type 0} {r : Result A Refusal} {old new : RegisterState S} → old.in_doubt ≡ None
+    → new ≡ record old { conn = new.conn } → OnlyReads g MayFail old.conn new.conn r → IsConsistent g new → ReadsWithoutBreaking g MayFail old new r
 peeked {old = old} whole is left kept = record {
   broken = λ some. absurd (not_broken old whole some);
   cause = λ _. left.cause;
-  same = record { accepted = ap (λ s. s.accepted) is; torn = ap (λ s. s.torn) is; founded = ap (λ s. s.is_founded) is };
+  same = record { accepted = ap (λ s. s.accepted) is; in_doubt = ap (λ s. s.in_doubt) is; founded = ap (λ s. s.is_genuine) is };
   clean = left.clean;
   kept = kept;
 }
 
--- the same where a fault of the device then breaks the register
-module _ {S A : Type 0} {r : Result A Refusal} (old mid new : Seen S) (whole : old.torn ≡ None) (is : mid ≡ record old { conn = mid.conn })
-    (settled : Settles mid new r) where
+-- the same if an I/O error then breaks the register
+module _ {S A : Type 0} {r : Result A Refusal} (old mid new : RegisterState S) (whole : old.in_doubt ≡ None) (is : mid ≡ record old { conn = mid.conn })
+    (settled : BreaksOnFault mid new r) where
   -- beside whether it is broken, all is as it was
-  pub handed : {X : Type 0} (f : Seen S → X) → f (after_fault mid) ≡ f mid → f new ≡ f mid
-  handed f same = elim settled [ inl torn ↦ ap f torn.1 ∙ same | inr other ↦ ap f other.1 ]
+  pub handed : {X : Type 0} (f : RegisterState S → X) → f (after_fault mid) ≡ f mid → f new ≡ f mid
+  handed f same = elim settled [ inl in_doubt ↦ ap f in_doubt.1 ∙ same | inr other ↦ ap f other.1 ]
 
-  was_same : {X : Type 0} (f : Seen S → X) → f (after_fault mid) ≡ f mid → f new ≡ f (record old { conn = mid.conn })
+  was_same : {X : Type 0} (f : RegisterState S → X) → f (after_fault mid) ≡ f mid → f new ≡ f (record old { conn = mid.conn })
   was_same f same = handed f same ∙ ap f is
 
-  breaks : IsSome new.torn ↔ (r ≡ Err Disk)
+  breaks : IsSome new.in_doubt ↔ (r ≡ Err Disk)
   breaks = elim settled [
-    | inl torn ↦ (λ _. torn.0, λ _. ap (λ (s : Seen S). is_some s.torn) torn.1)
+    | inl in_doubt ↦ (λ _. in_doubt.0, λ _. ap (λ (s : RegisterState S). is_some s.in_doubt) in_doubt.1)
     | inr other ↦ (
-      λ some. absurd (not_broken old whole (ap (λ (s : Seen S). is_some s.torn) (sym is ∙ sym other.1) ∙ some)),
+      λ some. absurd (not_broken old whole (ap (λ (s : RegisterState S). is_some s.in_doubt) (sym is ∙ sym other.1) ∙ some)),
       λ disk. absurd (other.0 disk),
     )
   ]
 
-  still_kept : (g : Ghosts S) → IsKept g mid → IsKept g new
+  still_kept : (g : Ghosts S) → IsConsistent g mid → IsConsistent g new
   still_kept g kept = elim settled [
-    | inl torn ↦ subst (IsKept g) (sym torn.1) (record {
+    | inl in_doubt ↦ subst (IsConsistent g) (sym in_doubt.1) (record {
       autocommit = kept.autocommit;
-      whole = λ _ intact. absurd (none-some (unwrap_or mid.torn mid.accepted) (sym intact));
+      whole = λ _ intact. absurd (none-some (unwrap_or mid.in_doubt mid.accepted) (sym intact));
       crash = kept.crash;
     })
-    | inr other ↦ subst (IsKept g) (sym other.1) kept
+    | inr other ↦ subst (IsConsistent g) (sym other.1) kept
   ]
 
-  pub looked : {g : Ghosts S} {MayFail : Refusal → Type 0} → OnlyReads g MayFail old.conn mid.conn r → IsKept g mid → Looks g MayFail old new r
+  pub looked : {g : Ghosts S} {MayFail : Refusal → Type 0} → OnlyReads g MayFail old.conn mid.conn r → IsConsistent g mid → ReadsHistory g MayFail old new r
   looked {g = g} left kept = record {
     broken = λ some. absurd (not_broken old whole some);
     cause = λ _. left.cause;
     breaks = λ _. breaks;
     same = was_same (λ s. s.accepted) refl;
-    tried = λ _. was_same (λ s. unwrap_or s.torn s.accepted) refl ∙ ap (λ t. unwrap_or t old.accepted) whole;
-    founded = was_same (λ s. s.is_founded) refl;
+    tried = λ _. was_same (λ s. unwrap_or s.in_doubt s.accepted) refl ∙ ap (λ t. unwrap_or t old.accepted) whole;
+    founded = was_same (λ s. s.is_genuine) refl;
     clean = λ clean. left.clean (subst (λ (h : Held S). HasCleanDisk (state g h)) (handed (λ s. s.conn) refl) clean);
     kept = still_kept g kept;
   }
@@ -309,7 +309,7 @@ pub if_ok : {T E : Type 0} (P : Type 0) (Q : T → Type 0) (r : Result T E) → 
 if_ok P Q (Ok x) p f = f p
 if_ok P Q (Err e) p f = tt
 
--- what is said of a value, and what holds where there is one
+-- what is said of a value, and what holds if there is one
 pub both_ok : {T E : Type 0} (Q : T → Type 0) (P : Type 0) (r : Result T E) → IfOk r Q → OnOk r P → IfOk r (λ x. Q x × P)
 both_ok Q P (Ok x) q p = (q, p)
 both_ok Q P (Err e) q p = tt

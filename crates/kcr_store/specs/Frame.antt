@@ -5,7 +5,7 @@ use Rattle.sqlite.specs.Tree.{Trees}
 use Rattle.sqlite.specs.State.{HasCleanDisk, Survives}
 use Rattle.sqlite.specs.Held.{Held, state}
 use Rattle.kcr_history.specs.History.{History}
-use Rattle.kcr_store.specs.Register.{IsWhole}
+use Rattle.kcr_store.specs.Register.{IsDurable}
 
 -- it ends outside of a transaction, and a crash leaves what was there or one of these
 pub record StaysOutside {S : Type 0} (g : Ghosts S) (MayLeave : Trees → Type 0) (old new : Held S) : Type 0 where
@@ -18,5 +18,5 @@ pub record OnlyReads {A E : Type 0} {S : Type 0} (g : Ghosts S) (MayFail : E →
     (result : Result A E) : Type 0 where
   pub autocommit : new.in_transaction ≡ false
   pub clean : HasCleanDisk (state g new) → HasCleanDisk (state g old)
-  pub whole : (A : History) → IsWhole A (state g old) → IsWhole A (state g new)
+  pub whole : (A : History) → IsDurable A (state g old) → IsDurable A (state g new)
   pub cause : IfErr result MayFail

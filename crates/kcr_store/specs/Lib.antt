@@ -1,11 +1,12 @@
-pub mod Steps
+pub mod Commands
 pub mod Shown
 pub mod Stored
 pub mod Register
 pub mod Frame
 pub mod Calls
-pub mod Performed
+pub mod TransactionResult
 pub mod Opening
 pub mod Rows
-pub mod Whole
-pub mod Listing
+pub mod FullView
+pub mod DatabaseRows
+pub mod NamedRows

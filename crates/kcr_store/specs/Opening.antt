@@ -6,15 +6,15 @@ use Rattle.sqlite.specs.State.{State, HasCleanDisk}
 use Rattle.sqlite.specs.Tree.{Trees}
 use Rattle.sqlite_wal.specs.Recovery.{Image}
 use Rattle.kcr_history.specs.History.{History}
-use Rattle.kcr_tables.specs.Made.{first}
-use Rattle.kcr_older.specs.Older.{IsTablesAs, StoresAs}
-use Rattle.kcr_older.specs.Standing.{IsForeign, IsOfOtherVersion, IsTaken, no_schema, version_in}
+use Rattle.kcr_tables.specs.Creation.{schema_prefix}
+use Rattle.kcr_older.specs.OldFiles.{AreTablesAs, HoldsHistoryAs}
+use Rattle.kcr_older.specs.Kind.{IsForeign, IsOfOtherVersion, IsTaken, no_schema, version_in}
 use Rattle.kcr_store.specs.declared.«open».OpenFault.{OpenFault}
 use Rattle.kcr_store.specs.declared.«open».OpenFault.TheVariants.{Foreign, Version}
-use Rattle.kcr_store.specs.Register.{Shows}
+use Rattle.kcr_store.specs.Register.{IsSynced}
 use Rattle.kcr_store.specs.Stored.{IsTables}
 
--- why a database is refused: for its version where it has the number of another one, and as foreign where it is neither
+-- why a database is refused: for its version if it has the number of another one, and as foreign if it is neither
 -- taken nor that
 abbrev pub RefusesAs : Database → OpenFault → Type 0
 RefusesAs db Version = IsOfOtherVersion db
@@ -35,36 +35,36 @@ abbrev pub IsAnswerBy : {A : Type 0} → ℤ → Database → Result A OpenFault
 IsAnswerBy number db result = MatchResult result (λ _. version_in db ≡ Some number) (RefusesBy number db)
 
 -- the trees hold the tables of the history, as a file of any version has them that is taken
-abbrev pub IsHeld : History → Trees → Type 0
-IsHeld accepted db = IsTables accepted db ⊎ (IsTablesAs 1 accepted db ⊎ IsTablesAs 2 accepted db)
+abbrev pub HoldsHistory : History → Trees → Type 0
+HoldsHistory accepted db = IsTables accepted db ⊎ (AreTablesAs 1 accepted db ⊎ AreTablesAs 2 accepted db)
 
 -- the database was empty, or holds the tables of the history
-abbrev pub IsFounded : History → State → Type 0
-IsFounded accepted s =
+abbrev pub IsGenuine : History → State → Type 0
+IsGenuine accepted s =
     HasCleanDisk s → IsTrue s.is_open → ((s.now.schema ≡ no_schema) × (accepted ≡ []))
-    ⊎ IsHeld accepted s.committed.trees
+    ⊎ HoldsHistory accepted s.committed.trees
 
 -- the connection shows the tables of the history, and this is the number of its last command
 pub record IsOpened (accepted : History) (count : ℕ) (s : State) : Type 0 where
-  pub shows : Shows accepted s
+  pub shows : IsSynced accepted s
   pub live : IsTrue s.is_open
   pub counts : count ≡ length accepted
 
--- where a register of the older version held the tables of a history, these are that history's tables
-pub record IsBrought (version : ℕ) (before : Database) (db : Trees) : Type 0 where
-  pub tables : (A : History) → StoresAs version A before → IsTables A db
+-- if a register of the older version held the tables of a history, these are that history's tables
+pub record IsMigrated (version : ℕ) (before : Database) (db : Trees) : Type 0 where
+  pub tables : (A : History) → HoldsHistoryAs version A before → IsTables A db
 
 -- what an opening makes of a database, so that a crash may leave it in place of what was there: of an empty one the
 -- tables of a new register, of an older one the tables of the same history
-abbrev pub IsMadeOf : Database → Trees → Type 0
-IsMadeOf before db =
+abbrev pub IsOpeningOf : Database → Trees → Type 0
+IsOpeningOf before db =
     ((before.schema ≡ no_schema) × IsTables [] db)
-    ⊎ (((before.schema ≡ first 15) × IsBrought 1 before db) ⊎ ((before.schema ≡ first 16) × IsBrought 2 before db))
+    ⊎ (((before.schema ≡ schema_prefix 15) × IsMigrated 1 before db) ⊎ ((before.schema ≡ schema_prefix 16) × IsMigrated 2 before db))
 
 -- the files held the tables of the history, or, before the first command, no entry at all
-abbrev pub IsHeldIn : History → Image → Type 0
-IsHeldIn accepted image =
-    ((db : Trees) × HoldsDatabase image db × IsHeld accepted db)
+abbrev pub FilesHoldHistory : History → Image → Type 0
+FilesHoldHistory accepted image =
+    ((db : Trees) × HoldsDatabase image db × HoldsHistory accepted db)
     ⊎ ((accepted ≡ []) × ((db : Trees) → AreFoundIn image db → IsEmpty db))
 
 -- what is known of an empty database: it has no history

@@ -9,33 +9,33 @@ use Rattle.kcr_history.specs.Ceremonies.{is_ceremony}
 use Rattle.kcr_history.specs.History.{History}
 use Rattle.kcr_history.specs.Tables as machine
 use Rattle.kcr_history.specs.Tables.{tables, ceremony_row}
-use Rattle.kcr_history.specs.declared.rows.CeremonyRow.{CeremonyRow}
-use Rattle.kcr_reading.specs.ToCome.{Gives}
+use Rattle.kcr_history.specs.declared.row_types.CeremonyRow.{CeremonyRow}
+use Rattle.kcr_reading.specs.Remaining.{IsNextOf}
 use Rattle.kcr_tables.specs.Refusals.{IsFault}
-use Rattle.kcr_store.specs.Register.{Seen, IsKept}
+use Rattle.kcr_store.specs.Register.{RegisterState, IsConsistent}
 use Rattle.kcr_store.specs.contracts.register.Register as register
 use Rattle.kcr_store.specs.declared.rows.Rows.{Rows}
 
 -- ROWS
 
 -- rows that stand where the reading does: the register is whole and as it was; there are no rows of a broken one
-pub record Begins {S R Row : Type 0} (old : Seen S) (given : R) (result : Result (Rows S R Row) Refusal) : Type 0 where
+pub record Begins {S R Row : Type 0} (old : RegisterState S) (given : R) (result : Result (Rows S R Row) Refusal) : Type 0 where
   pub same : IfOk result (λ rows. rows.register.now ≡ old)
-  pub whole : IfOk result (λ _. old.torn ≡ None)
+  pub whole : IfOk result (λ _. old.in_doubt ≡ None)
   pub reading : IfOk result (λ rows. rows.reading ≡ given)
-  pub broken : OnErr result ((result ≡ Err Refusals.Broken) × IsSome old.torn)
+  pub broken : OnErr result ((result ≡ Err Refusals.Broken) × IsSome old.in_doubt)
 
--- the rows hold the register until they are gone; where there are none it is as it was
+-- the rows hold the register until they are gone; if there are none it is as it was
 abbrev pub Lent : (S : RattleType) (g : Ghosts S.Denot) {R Row : Type 0}
-    → MutBor (Seen S.Denot) → Result (Rows S.Denot R Row) Refusal → Fml
+    → MutBor (RegisterState S.Denot) → Result (Rows S.Denot R Row) Refusal → Fml
 Lent S g lender result =
     RestsIfErr (register.the_row S g) lender (λ rows. rows.register.ghost_name) result
-    (λ last. (last ≡ lender.now) × IsKept g last)
+    (λ last. (last ≡ lender.now) × IsConsistent g last)
 
 -- the next of the rows that are to come of the history, or none past the last
 abbrev pub GivesNext : {R Row : Type 0}
     → (R → machine.Tables → List Row) → R → R → Result (Option Row) Refusal → History → Type 0
-GivesNext to_come old new result A = IfOk result (λ row. Gives (to_come old (tables A)) row (to_come new (tables A)))
+GivesNext to_come old new result A = IfOk result (λ row. IsNextOf (to_come old (tables A)) row (to_come new (tables A)))
 
 -- THE ROW OF A CEREMONY
 
@@ -52,7 +52,7 @@ pub record IsRowOf (A : History) (ceremony : ℕ) (row : CeremonyRow) : Type 0 w
   pub planned : IsTrue (is_ceremony A ceremony)
   pub row_is : row ≡ ceremony_row A ceremony
 
--- why there is no row: out of memory or a fault of the device, or the ceremony was never planned
+-- why there is no row: out of memory or an I/O error, or the ceremony was never planned
 abbrev pub HasNoRow : History → ℕ → Refusal → Type 0
 HasNoRow A ceremony refusal = IsFault refusal ⊎ IsNotPlanned A ceremony refusal
 

@@ -9,16 +9,18 @@
 //! The history of accepted commands, of which the clauses speak, is ghost data: nothing in memory holds it.
 #![tactic(auto)]
 
-mod listing;
+mod database_rows;
+mod full_view;
+mod ghost_history;
+mod lists;
+mod named_rows;
 mod open;
-mod past;
-mod perform;
 mod register;
 mod rows;
 mod shown;
-mod whole;
+mod transaction;
 
-pub use listing::tables_of;
+pub use database_rows::read_tables;
 pub use open::{OpenFault, connect};
 pub use register::{FileRegister, Register};
 pub use rows::Rows;

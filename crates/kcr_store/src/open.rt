@@ -9,22 +9,22 @@ ghost use Rattle.sqlite.specs.Start.{FindsIn};
 ghost use Rattle.sqlite.specs.WalFiles.{image_at};
 ghost use Rattle.kcr_history.specs.History.{History};
 ghost use Rattle.kcr_history.specs.Tables.{tables};
-ghost use Rattle.kcr_rows.specs.Frame.{StaysWithin};
+ghost use Rattle.kcr_rows.specs.Frame.{StaysInTransaction};
 ghost use Rattle.kcr_tables.specs.Frame.{Reads};
-ghost use Rattle.kcr_tables.specs.Joint.{HoldsTables};
-ghost use Rattle.kcr_tables.specs.Made.{first};
-ghost use Rattle.kcr_older.specs.Older.{StoresAs};
-ghost use Rattle.kcr_older.specs.Standing.{IsOfOtherVersion, IsOtherNumber, IsStrange, StandsAs, no_schema};
-ghost use Rattle.kcr_older.specs.Standing.{numbered_table};
+ghost use Rattle.kcr_tables.specs.MachineTables.{HoldsTables};
+ghost use Rattle.kcr_tables.specs.Creation.{schema_prefix};
+ghost use Rattle.kcr_older.specs.OldFiles.{HoldsHistoryAs};
+ghost use Rattle.kcr_older.specs.Kind.{IsOfOtherVersion, IsOtherNumber, IsForeignSchema, IsOfKind, no_schema};
+ghost use Rattle.kcr_older.specs.Kind.{numbered_table};
 ghost use Rattle.kcr_older.specs.Versions.{number_of};
 ghost use Rattle.kcr_tables.specs.Refusals.{IsFault};
 ghost use Rattle.kcr_store.specs.Frame.{StaysOutside};
 ghost use Rattle.kcr_store.specs.Stored.{IsTables, OfStored};
-ghost use Rattle.kcr_store.specs.Register.{Shows};
-ghost use Rattle.kcr_store.specs.Opening.{IsFounded, IsHeldIn, IsBrought, IsMadeOf, IsOpened, IsAnswer, IsAnswerBy};
+ghost use Rattle.kcr_store.specs.Register.{IsSynced};
+ghost use Rattle.kcr_store.specs.Opening.{IsGenuine, FilesHoldHistory, IsMigrated, IsOpeningOf, IsOpened, IsAnswer, IsAnswerBy};
 
 use kcr_base::Refusal;
-use kcr_older::{Older, Standing, bring, standing_of, version_in};
+use kcr_older::{DatabaseKind, OldVersion, database_kind, migrate, version_in};
 use kcr_tables::{last_key_row, make};
 use sqlite::{Alter, Connection, Error, ErrorCode, FileFrom, FileStore, Start, Transaction};
 use std::alloc::Global;
@@ -67,8 +67,8 @@ fn fault_of_error(error: Error) -> OpenFault
 }
 
 /// Connects to the file at the path and its log beside it; a file that is not there is made. `start` stands for what
-/// the two held, which no code can read: where that was a history's tables, or nothing, so is what the connection
-/// finds, and `Register::adopt` may be told so. `Disk` comes also where another process has the file open, where it is
+/// the two held, which no code can read: if that was a history's tables, or nothing, so is what the connection
+/// finds, and `Register::adopt` may be told so. `Disk` comes also if another process has the file open, if it is
 /// no database, and for the name `:memory:`.
 pub fn connect<S: Start>(
     rt: &HostRuntime,
@@ -83,8 +83,8 @@ pub fn connect<S: Start>(
         → FindsIn (image_at S.Start) (file_state connection)) }
 
     // Where that was a history's tables, or nothing, so is what it finds.
-    ensures founded { IfOk result (λ connection. (A : History) → IsHeldIn A (image_at S.Start)
-        → IsFounded A (file_state connection)) }
+    ensures founded { IfOk result (λ connection. (A : History) → FilesHoldHistory A (image_at S.Start)
+        → IsGenuine A (file_state connection)) }
     ensures kind { IfErr result (λ e. (e ≡ OpenFault.Memory) ⊎ (e ≡ OpenFault.Disk)) }
 {
     match Connection::open_from(rt, path, false, start) {
@@ -94,20 +94,23 @@ pub fn connect<S: Start>(
 }
 
 /// What the database is.
-pub(crate) fn inspect<S: Alter>(alloc: Global, conn: &Connection<S>) -> Result<Standing, OpenFault>
-    ensures stands { IfOk result (StandsAs (state S.Store conn.now).now.schema) }
+pub(crate) fn inspect<S: Alter>(
+    alloc: Global,
+    conn: &Connection<S>,
+) -> Result<DatabaseKind, OpenFault>
+    ensures stands { IfOk result (IsOfKind (state S.Store conn.now).now.schema) }
     ensures kind { IfErr result (λ e. (e ≡ OpenFault.Memory) ⊎ (e ≡ OpenFault.Disk)) }
     ensures live { IsLive (state S.Store conn.now) }
 {
-    match standing_of(alloc, conn.schema()) {
+    match database_kind(alloc, conn.schema()) {
         Ok(standing) => Ok(standing),
         Err(refusal) => Err(fault_of(refusal)),
     }
 }
 
-/// What a commit that met out of memory is told as: `Memory` where the store is still open, so that nothing was
+/// What a commit that met out of memory is told as: `Memory` if the store is still open, so that nothing was
 /// committed, and else `Disk`, since the commit may stand.
-fn told_of_commit<S: Alter>(conn: &mut Connection<S>) -> OpenFault
+fn commit_fault<S: Alter>(conn: &mut Connection<S>) -> OpenFault
     requires autocommit { conn.old.in_transaction ≡ false }
     ensures kind { (result ≡ OpenFault.Memory) ⊎ (result ≡ OpenFault.Disk) }
     ensures same { HasCleanDisk (state S.Store conn.new) → result ≡ OpenFault.Memory
@@ -122,12 +125,12 @@ fn told_of_commit<S: Alter>(conn: &mut Connection<S>) -> OpenFault
 
 /// Makes the tables of an empty register, in a transaction of its own; it has no command.
 #[tactic(auto, using(crate::proofs::StoreLemmas::first_stores))]
-fn found<S: Alter>(conn: &mut Connection<S>) -> Result<(), OpenFault>
+fn create_tables<S: Alter>(conn: &mut Connection<S>) -> Result<(), OpenFault>
     requires autocommit { conn.old.in_transaction ≡ false }
     requires empty { (state S.Store conn.old).now.schema ≡ no_schema }
     ensures made { HasCleanDisk (state S.Store conn.new)
         → OnOk result
-        (Shows [] (state S.Store conn.new) × IsTrue (state S.Store conn.new).is_open
+        (IsSynced [] (state S.Store conn.new) × IsTrue (state S.Store conn.new).is_open
         × IsTrue (state S.Store conn.old).is_open) }
     ensures kind { IfErr result (λ e. (e ≡ OpenFault.Memory) ⊎ (e ≡ OpenFault.Disk)) }
     ensures left { IfErr result (λ e. e ≡ OpenFault.Memory
@@ -140,7 +143,7 @@ fn found<S: Alter>(conn: &mut Connection<S>) -> Result<(), OpenFault>
     }
     match tx.commit() {
         Ok(()) => Ok(()),
-        Err(Error::SqliteFailure(ErrorCode::OutOfMemory)) => Err(told_of_commit(conn)),
+        Err(Error::SqliteFailure(ErrorCode::OutOfMemory)) => Err(commit_fault(conn)),
         Err(_) => Err(OpenFault::Disk),
     }
 }
@@ -170,7 +173,7 @@ fn refused_by(number: Option<i64>) -> OpenFault
     }
 }
 
-/// Goes on where this is the number of the database, and else tells why that is refused. Nothing is changed.
+/// Goes on if this is the number of the database, and else tells why that is refused. Nothing is changed.
 pub(crate) fn expect_number<S: Alter>(
     alloc: Global,
     tx: &mut Transaction<'_, S>,
@@ -185,7 +188,7 @@ pub(crate) fn expect_number<S: Alter>(
         → OnOk result (IsUnchanged (state S.Store tx.old.conn.now) (state S.Store tx.new.conn.now)) }
     ensures opened { HasCleanDisk (state S.Store tx.new.conn.now)
         → OnOk result (IsTrue (state S.Store tx.old.conn.now).is_open) }
-    ensures frame { StaysWithin (λ _. Unit {0}) (state S.Store tx.old.conn.now) (state S.Store tx.new.conn.now) result }
+    ensures frame { StaysInTransaction (λ _. Unit {0}) (state S.Store tx.old.conn.now) (state S.Store tx.new.conn.now) result }
 {
     match version_in(alloc, tx) {
         Ok(Some(found)) if found == i64::from(number) => Ok(()),
@@ -194,7 +197,7 @@ pub(crate) fn expect_number<S: Alter>(
     }
 }
 
-/// The number of the last command, 0 where there is none. Nothing is changed.
+/// The number of the last command, 0 if there is none. Nothing is changed.
 fn last_number<S: Alter>(alloc: Global, tx: &mut Transaction<'_, S>) -> Result<u32, Refusal>
     ensures same_reference { tx.new.conn.ghost_name ≡ tx.old.conn.ghost_name }
     ensures count { OfStored (state S.Store tx.old.conn.now) (state S.Store tx.new.conn.now)
@@ -208,15 +211,15 @@ fn last_number<S: Alter>(alloc: Global, tx: &mut Transaction<'_, S>) -> Result<u
     }
 }
 
-/// The number of the last command of a register of this version, where the database has its number. Nothing is changed.
+/// The number of the last command of a register of this version, if the database has its number. Nothing is changed.
 fn count_in<S: Alter>(alloc: Global, tx: &mut Transaction<'_, S>) -> Result<u32, OpenFault>
     ensures same_reference { tx.new.conn.ghost_name ≡ tx.old.conn.ghost_name }
     ensures answer { HasCleanDisk (state S.Store tx.new.conn.now) → IsLive (state S.Store tx.old.conn.now)
-        → (state S.Store tx.old.conn.now).now.schema ≡ first 17
+        → (state S.Store tx.old.conn.now).now.schema ≡ schema_prefix 17
         → IsAnswerBy (pos 3) (state S.Store tx.old.conn.now).now result }
     ensures count { OfStored (state S.Store tx.old.conn.now) (state S.Store tx.new.conn.now)
         (λ A. IfOk result (λ count. count ≡ length A)) }
-    ensures frame { StaysWithin (λ _. Unit {0}) (state S.Store tx.old.conn.now) (state S.Store tx.new.conn.now) result }
+    ensures frame { StaysInTransaction (λ _. Unit {0}) (state S.Store tx.old.conn.now) (state S.Store tx.new.conn.now) result }
 {
     if let Err(fault) = expect_number(alloc, tx, VERSION) {
         return Err(fault);
@@ -231,13 +234,13 @@ fn count_in<S: Alter>(alloc: Global, tx: &mut Transaction<'_, S>) -> Result<u32,
 fn read_count<S: Alter>(alloc: Global, conn: &mut Connection<S>) -> Result<u32, OpenFault>
     requires autocommit { conn.old.in_transaction ≡ false }
     ensures answer { HasCleanDisk (state S.Store conn.new) → IsLive (state S.Store conn.old)
-        → (state S.Store conn.old).now.schema ≡ first 17 → IsAnswerBy (pos 3) (state S.Store conn.old).now result }
+        → (state S.Store conn.old).now.schema ≡ schema_prefix 17 → IsAnswerBy (pos 3) (state S.Store conn.old).now result }
     ensures count { HasCleanDisk (state S.Store conn.new) → (A : History)
-        → (IsTrue (state S.Store conn.old).is_open → Shows A (state S.Store conn.old))
+        → (IsTrue (state S.Store conn.old).is_open → IsSynced A (state S.Store conn.old))
         → IfOk result (λ count. count ≡ length A) }
     ensures shows { HasCleanDisk (state S.Store conn.new) → (A : History)
-        → (IsTrue (state S.Store conn.old).is_open → Shows A (state S.Store conn.old))
-        → IsTrue (state S.Store conn.new).is_open → Shows A (state S.Store conn.new) }
+        → (IsTrue (state S.Store conn.old).is_open → IsSynced A (state S.Store conn.old))
+        → IsTrue (state S.Store conn.new).is_open → IsSynced A (state S.Store conn.new) }
     ensures frame { StaysOutside S.Store (λ _. ⊥) conn.old conn.new }
 {
     let mut tx = conn.transaction();
@@ -247,13 +250,13 @@ fn read_count<S: Alter>(alloc: Global, conn: &mut Connection<S>) -> Result<u32, 
 }
 
 /// Takes the database of a register of this version, and changes nothing: the number of its last command.
-fn resume<S: Alter>(alloc: Global, conn: &mut Connection<S>) -> Result<u32, OpenFault>
+fn open_current<S: Alter>(alloc: Global, conn: &mut Connection<S>) -> Result<u32, OpenFault>
     requires autocommit { conn.old.in_transaction ≡ false }
     ensures shows { HasCleanDisk (state S.Store conn.new) → (A : History)
-        → (IsTrue (state S.Store conn.old).is_open → Shows A (state S.Store conn.old))
+        → (IsTrue (state S.Store conn.old).is_open → IsSynced A (state S.Store conn.old))
         → IfOk result (λ count. IsOpened A count (state S.Store conn.new)) }
     ensures answer { HasCleanDisk (state S.Store conn.new) → IsLive (state S.Store conn.old)
-        → (state S.Store conn.old).now.schema ≡ first 17 → IsAnswerBy (pos 3) (state S.Store conn.old).now result }
+        → (state S.Store conn.old).now.schema ≡ schema_prefix 17 → IsAnswerBy (pos 3) (state S.Store conn.old).now result }
     ensures frame { StaysOutside S.Store (λ _. ⊥) conn.old conn.new }
 {
     let count = read_count(alloc, conn)?;
@@ -266,32 +269,32 @@ fn resume<S: Alter>(alloc: Global, conn: &mut Connection<S>) -> Result<u32, Open
 fn brought_count<S: Alter>(
     alloc: Global,
     tx: &mut Transaction<'_, S>,
-    from: Older,
+    from: OldVersion,
 ) -> Result<u32, Refusal>
     ensures same_reference { tx.new.conn.ghost_name ≡ tx.old.conn.ghost_name }
     ensures brought { HasCleanDisk (state S.Store tx.new.conn.now) → (A : History)
-        → StoresAs (number_of from) A (state S.Store tx.old.conn.now).now
+        → HoldsHistoryAs (number_of from) A (state S.Store tx.old.conn.now).now
         → IfOk result (λ count. (count ≡ length A) × HoldsTables (tables A) (state S.Store tx.new.conn.now).now) }
-    ensures frame { StaysWithin IsFault (state S.Store tx.old.conn.now) (state S.Store tx.new.conn.now) result }
+    ensures frame { StaysInTransaction IsFault (state S.Store tx.old.conn.now) (state S.Store tx.new.conn.now) result }
 {
-    bring(alloc, tx, from)?;
+    migrate(alloc, tx, from)?;
     last_number(alloc, tx)
 }
 
-/// The same where the database has the number of that version.
+/// The same if the database has the number of that version.
 fn renewed_count<S: Alter>(
     alloc: Global,
     tx: &mut Transaction<'_, S>,
-    from: Older,
+    from: OldVersion,
 ) -> Result<u32, OpenFault>
     ensures same_reference { tx.new.conn.ghost_name ≡ tx.old.conn.ghost_name }
     ensures answer { HasCleanDisk (state S.Store tx.new.conn.now) → IsLive (state S.Store tx.old.conn.now)
-        → (state S.Store tx.old.conn.now).now.schema ≡ first (14 + number_of from)
+        → (state S.Store tx.old.conn.now).now.schema ≡ schema_prefix (14 + number_of from)
         → IsAnswerBy (pos (number_of from)) (state S.Store tx.old.conn.now).now result }
     ensures brought { HasCleanDisk (state S.Store tx.new.conn.now) → (A : History)
-        → StoresAs (number_of from) A (state S.Store tx.old.conn.now).now
+        → HoldsHistoryAs (number_of from) A (state S.Store tx.old.conn.now).now
         → IfOk result (λ count. (count ≡ length A) × HoldsTables (tables A) (state S.Store tx.new.conn.now).now) }
-    ensures frame { StaysWithin (λ _. Unit {0}) (state S.Store tx.old.conn.now) (state S.Store tx.new.conn.now) result }
+    ensures frame { StaysInTransaction (λ _. Unit {0}) (state S.Store tx.old.conn.now) (state S.Store tx.new.conn.now) result }
 {
     if let Err(fault) = expect_number(alloc, tx, from.number()) {
         return Err(fault);
@@ -304,18 +307,22 @@ fn renewed_count<S: Alter>(
 
 /// Brings a register of an older version to this one, in a transaction of its own: the number of its last command. A
 /// crash leaves it as it was, or brought.
-fn renew<S: Alter>(alloc: Global, conn: &mut Connection<S>, from: Older) -> Result<u32, OpenFault>
+fn migrate_database<S: Alter>(
+    alloc: Global,
+    conn: &mut Connection<S>,
+    from: OldVersion,
+) -> Result<u32, OpenFault>
     requires autocommit { conn.old.in_transaction ≡ false }
     ensures shows { HasCleanDisk (state S.Store conn.new) → (A : History)
-        → StoresAs (number_of from) A (state S.Store conn.old).now
+        → HoldsHistoryAs (number_of from) A (state S.Store conn.old).now
         → IfOk result (λ count. IsOpened A count (state S.Store conn.new)) }
     ensures opened { HasCleanDisk (state S.Store conn.new) → OnOk result (IsTrue (state S.Store conn.old).is_open) }
     ensures answer { HasCleanDisk (state S.Store conn.new) → IsLive (state S.Store conn.old)
-        → (state S.Store conn.old).now.schema ≡ first (14 + number_of from)
+        → (state S.Store conn.old).now.schema ≡ schema_prefix (14 + number_of from)
         → IsAnswerBy (pos (number_of from)) (state S.Store conn.old).now result }
     ensures left { IfErr result (λ e. e ≢ OpenFault.Disk
         → Survives (state S.Store conn.old) (state S.Store conn.new) (λ _. ⊥)) }
-    ensures frame { StaysOutside S.Store (IsBrought (number_of from) (state S.Store conn.old).now) conn.old conn.new }
+    ensures frame { StaysOutside S.Store (IsMigrated (number_of from) (state S.Store conn.old).now) conn.old conn.new }
 {
     let mut tx = conn.transaction();
     let count = match renewed_count(alloc, &mut tx, from) {
@@ -324,13 +331,13 @@ fn renew<S: Alter>(alloc: Global, conn: &mut Connection<S>, from: Older) -> Resu
     };
     match tx.commit() {
         Ok(()) => Ok(count),
-        Err(Error::SqliteFailure(ErrorCode::OutOfMemory)) => Err(told_of_commit(conn)),
+        Err(Error::SqliteFailure(ErrorCode::OutOfMemory)) => Err(commit_fault(conn)),
         Err(_) => Err(OpenFault::Disk),
     }
 }
 
 /// Why a database with a table `versions` of the one column `number`, whose schema is that of no version, is refused.
-pub(crate) fn stranger<S: Alter>(alloc: Global, conn: &mut Connection<S>) -> OpenFault
+pub(crate) fn unknown_database_fault<S: Alter>(alloc: Global, conn: &mut Connection<S>) -> OpenFault
     requires autocommit { conn.old.in_transaction ≡ false }
     ensures answer { HasCleanDisk (state S.Store conn.new) → IsLive (state S.Store conn.old)
         → IsTrue (is_some (numbered_table (state S.Store conn.old).now.schema))
@@ -349,34 +356,37 @@ pub(crate) fn stranger<S: Alter>(alloc: Global, conn: &mut Connection<S>) -> Ope
 
 /// Makes the tables of an empty database, takes a register of this version, and brings an older one to it: the number
 /// of its last command.
-pub(crate) fn settle<S: Alter>(alloc: Global, conn: &mut Connection<S>) -> Result<u32, OpenFault>
+pub(crate) fn open_or_migrate<S: Alter>(
+    alloc: Global,
+    conn: &mut Connection<S>,
+) -> Result<u32, OpenFault>
     requires autocommit { conn.old.in_transaction ≡ false }
-    ensures found { HasCleanDisk (state S.Store conn.new) → (A : History) → IsFounded A (state S.Store conn.old)
+    ensures found { HasCleanDisk (state S.Store conn.new) → (A : History) → IsGenuine A (state S.Store conn.old)
         → IfOk result (λ count. IsOpened A count (state S.Store conn.new)) }
     ensures taken { HasCleanDisk (state S.Store conn.new) → IsTrue (state S.Store conn.old).is_open → (A : History)
-        → IsFounded A (state S.Store conn.old)
+        → IsGenuine A (state S.Store conn.old)
         → IfErr result (λ e. (e ≡ OpenFault.Memory) ⊎ (e ≡ OpenFault.Disk)) }
 
     // What is taken, and each refusal, is what its name says, and no database is two of these.
     ensures answer { HasCleanDisk (state S.Store conn.new) → IsAnswer (state S.Store conn.old).now result }
-    ensures known { IfOk result (λ _. ¬ IsStrange (state S.Store conn.old).now.schema) }
+    ensures known { IfOk result (λ _. ¬ IsForeignSchema (state S.Store conn.old).now.schema) }
 
-    // An opening that fails changes nothing, but after a fault of the device it may have.
+    // An opening that fails changes nothing, but after an I/O error it may have.
     ensures left { IfErr result (λ e. e ≢ OpenFault.Disk
         → Survives (state S.Store conn.old) (state S.Store conn.new) (λ _. ⊥)) }
-    ensures frame { StaysOutside S.Store (IsMadeOf (state S.Store conn.old).now) conn.old conn.new }
+    ensures frame { StaysOutside S.Store (IsOpeningOf (state S.Store conn.old).now) conn.old conn.new }
 {
     let is_settled = conn.is_autocommit();
     prove!(is_settled);
     match inspect(alloc, conn)? {
-        Standing::Empty => match found(conn) {
+        DatabaseKind::Empty => match create_tables(conn) {
             Ok(()) => Ok(0),
             Err(fault) => Err(fault),
         },
-        Standing::Current => resume(alloc, conn),
-        Standing::Second => renew(alloc, conn, Older::Second),
-        Standing::First => renew(alloc, conn, Older::First),
-        Standing::Numbered => Err(stranger(alloc, conn)),
-        Standing::Foreign => Err(OpenFault::Foreign),
+        DatabaseKind::Current => open_current(alloc, conn),
+        DatabaseKind::Version2 => migrate_database(alloc, conn, OldVersion::V2),
+        DatabaseKind::Version1 => migrate_database(alloc, conn, OldVersion::V1),
+        DatabaseKind::Versioned => Err(unknown_database_fault(alloc, conn)),
+        DatabaseKind::Foreign => Err(OpenFault::Foreign),
     }
 }

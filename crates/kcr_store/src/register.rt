@@ -3,15 +3,15 @@ ghost use Rattle.std.specs.Prelude.{[], false, true, ◌≡◌, ◌↔◌, IsTru
 ghost use Rattle.std.specs.Prelude.{unwrap_or};
 ghost use Rattle.sqlite.specs.State.{HasCleanDisk};
 ghost use Rattle.sqlite.specs.Held.{state};
-ghost use Rattle.kcr_store.specs.Steps.{Steps, IsNext, IsAsked, MayRefuse};
+ghost use Rattle.kcr_store.specs.Commands.{AppliesCommand, GoesByRow, IsSameOrNext, IsQuestionResult, MayBeReplied, MayRefuseQuestion};
 
-use crate::open::{OpenFault, connect, settle};
-use crate::past::Past;
-use crate::perform::{Performed, ask, number_after, perform};
-use crate::whole::{audit_of, rows_in_table};
+use crate::full_view::{audit_database, full_view, read_table};
+use crate::ghost_history::GhostHistory;
+use crate::open::{OpenFault, connect, open_or_migrate};
+use crate::transaction::{TransactionResult, number_after, run_command, run_query};
 use kcr_base::Refusal;
-use kcr_history::{Command, Finding, Question, Reply, Shown};
-use kcr_tables::Listed;
+use kcr_history::{Command, Finding, FullView, Question, Reply, Shown};
+use kcr_tables::TableRow;
 use sqlite::{Alter, Connection, FileFrom, FileStore, MemStore, Unknown};
 use std::alloc::Global;
 use std::marker::Model;
@@ -21,10 +21,10 @@ use std::marker::Model;
 pub struct Register<S: Alter> {
     pub(crate) conn: Connection<S>,
     pub(crate) broken: bool,
-    past: Past,
+    past: GhostHistory,
     /// The number of its last command.
-    count: u32,
-    tried: Past,
+    last_number: u32,
+    in_doubt: GhostHistory,
     pub(crate) alloc: Global,
 }
 
@@ -39,25 +39,25 @@ impl<S: Alter + Drop> Drop for Register<S> {
 
 impl<S: Alter> Model for Register<S> {
     ghost use Rattle.std.specs.Prelude.{Some, None, if◌then◌else◌};
-    ghost use Rattle.kcr_store.specs.Register.{Seen, seen_code, IsKeptWith};
+    ghost use Rattle.kcr_store.specs.Register.{RegisterState, register_state_code, IsConsistentWith};
 
-    ghost Value = { Seen S };
+    ghost Value = { RegisterState S };
 
-    ghost coded = { seen_code S.code };
+    ghost coded = { register_state_code S.code };
 
     ghost view = { λ r. record {
       conn = r.conn;
-      is_founded = r.past.is_founded;
+      is_genuine = r.past.is_genuine;
       accepted = r.past.entries;
-      torn = if r.broken then Some r.tried.entries else None;
+      in_doubt = if r.broken then Some r.in_doubt.entries else None;
     } };
 
-    ghost invariant = { λ r. IsKeptWith S.Store r.count
+    ghost invariant = { λ r. IsConsistentWith S.Store r.last_number
         (record {
           conn = r.conn;
-          is_founded = r.past.is_founded;
+          is_genuine = r.past.is_genuine;
           accepted = r.past.entries;
-          torn = if r.broken then Some r.tried.entries else None;
+          in_doubt = if r.broken then Some r.in_doubt.entries else None;
         }) };
 }
 
@@ -66,15 +66,15 @@ impl<S: Alter + Drop> Register<S> {
     ghost use Rattle.sqlite.specs.Held.{Held};
     ghost use Rattle.sqlite.specs.State.{Survives};
     ghost use Rattle.kcr_history.specs.History.{History};
-    ghost use Rattle.kcr_older.specs.Standing.{IsStrange, IsTaken, no_schema};
-    ghost use Rattle.kcr_store.specs.Register.{IsKept};
-    ghost use Rattle.kcr_store.specs.Opening.{IsFounded, IsMadeOf, RefusesAs};
+    ghost use Rattle.kcr_older.specs.Kind.{IsForeignSchema, IsTaken, no_schema};
+    ghost use Rattle.kcr_store.specs.Register.{IsConsistent};
+    ghost use Rattle.kcr_store.specs.Opening.{IsGenuine, IsOpeningOf, RefusesAs};
 
     /// Takes a database that is empty or a register's. An empty one gets its tables, and a register of version 1 or 2
-    /// is brought to this version, which is 3, each in one transaction: the stays are made of the sheet, and there are
-    /// no withdrawals. The history that it begins with is the one that the caller's proof names, where it is true of
+    /// is migrated to this version, which is 3, each in one transaction: the stays are made of the sheet, and there are
+    /// no withdrawals. The history that it begins with is the one that the caller's proof names, if it is true of
     /// the database. Any other database is refused: one with the number of another version for its version, whatever
-    /// else it has, and the rest as foreign. An opening that fails leaves the database as it was, but where the device
+    /// else it has, and the rest as foreign. An opening that fails leaves the database as it was, but if the device
     /// failed: then a crash leaves it as it was or as it was to become.
     pub fn adopt(
         alloc: Global,
@@ -82,9 +82,9 @@ impl<S: Alter + Drop> Register<S> {
     ) -> Result<Register<S>, (OpenFault, Connection<S>)>
         ghost past: { Bool × History }
         requires autocommit { connection.in_transaction ≡ false }
-        requires founded { IsTrue past.0 → IsFounded past.1 (state S.Store connection) }
-        ensures adopted { IfOk result (λ r. (r.is_founded ≡ past.0) × (r.accepted ≡ past.1) × (r.torn ≡ None)) }
-        ensures kept { IfOk result (IsKept S.Store) }
+        requires founded { IsTrue past.0 → IsGenuine past.1 (state S.Store connection) }
+        ensures adopted { IfOk result (λ r. (r.is_genuine ≡ past.0) × (r.accepted ≡ past.1) × (r.in_doubt ≡ None)) }
+        ensures kept { IfOk result (IsConsistent S.Store) }
         ensures taken { IfErr result (λ e. IsTrue past.0 → IsTrue (state S.Store connection).is_open
             → HasCleanDisk (state S.Store e.1) → (e.0 ≡ OpenFault.Memory) ⊎ (e.0 ≡ OpenFault.Disk)) }
 
@@ -92,28 +92,28 @@ impl<S: Alter + Drop> Register<S> {
         ensures answer { MatchResult result
             (λ r. HasCleanDisk (state S.Store r.conn) → IsTaken (state S.Store connection).now)
             (λ e. HasCleanDisk (state S.Store e.1) → RefusesAs (state S.Store connection).now e.0) }
-        ensures known { IfOk result (λ _. ¬ IsStrange (state S.Store connection).now.schema) }
+        ensures known { IfOk result (λ _. ¬ IsForeignSchema (state S.Store connection).now.schema) }
 
-        // An opening that fails changes nothing, but after a fault of the device it may have.
+        // An opening that fails changes nothing, but after an I/O error it may have.
         ensures left { IfErr result (λ e. e.0 ≢ OpenFault.Disk
             → Survives (state S.Store connection) (state S.Store e.1) (λ _. ⊥)) }
 
         // A crash leaves what was there, or what the opening makes of it.
         ensures crash { MatchResult result
-            (λ r. Survives (state S.Store connection) (state S.Store r.conn) (IsMadeOf (state S.Store connection).now))
-            (λ e. Survives (state S.Store connection) (state S.Store e.1) (IsMadeOf (state S.Store connection).now)) }
+            (λ r. Survives (state S.Store connection) (state S.Store r.conn) (IsOpeningOf (state S.Store connection).now))
+            (λ e. Survives (state S.Store connection) (state S.Store e.1) (IsOpeningOf (state S.Store connection).now)) }
     {
-        let past = Past::of();
+        let past = GhostHistory::any();
         let mut conn = connection;
-        match settle(alloc, &mut conn) {
+        match open_or_migrate(alloc, &mut conn) {
             Ok(count) => {
-                let tried = Past::same(&past);
+                let tried = GhostHistory::copied(&past);
                 Ok(Register {
                     conn,
                     broken: false,
                     past,
-                    count,
-                    tried,
+                    last_number: count,
+                    in_doubt: tried,
                     alloc,
                 })
             }
@@ -122,13 +122,13 @@ impl<S: Alter + Drop> Register<S> {
     }
 
     /// A new register over a store that has nothing, and whose disk is never in doubt.
-    fn begin(alloc: Global, connection: Connection<S>) -> Result<Register<S>, OpenFault>
+    fn new_empty(alloc: Global, connection: Connection<S>) -> Result<Register<S>, OpenFault>
         requires autocommit { connection.in_transaction ≡ false }
         requires empty { (state S.Store connection).now.schema ≡ no_schema }
         requires opened { IsTrue (state S.Store connection).is_open }
         requires certain { (conn : Held S) → HasCleanDisk (state S.Store conn) }
-        ensures new { IfOk result (λ r. (r.is_founded ≡ true) × (r.accepted ≡ []) × (r.torn ≡ None)
-            × IsKept S.Store r) }
+        ensures new { IfOk result (λ r. (r.is_genuine ≡ true) × (r.accepted ≡ []) × (r.in_doubt ≡ None)
+            × IsConsistent S.Store r) }
         ensures fault { IfErr result (λ e. (e ≡ OpenFault.Memory) ⊎ (e ≡ OpenFault.Disk)) }
     {
         match Register::adopt(alloc, connection) {
@@ -141,33 +141,33 @@ impl<S: Alter + Drop> Register<S> {
 impl Register<MemStore> {
     ghost use Rattle.std.specs.Prelude.{◌⊎◌};
     ghost use Rattle.sqlite.specs.Steps.{over_memory};
-    ghost use Rattle.kcr_store.specs.Register.{IsKept};
+    ghost use Rattle.kcr_store.specs.Register.{IsConsistent};
 
     /// A new register in memory, with no command. It is lost with the process. When out of memory there is none: the
     /// fault is `Memory`, or `Disk` as the store tells it, and never `Foreign` or `Version`.
     pub fn in_memory(alloc: Global) -> Result<Register<MemStore>, OpenFault>
-        ensures new { IfOk result (λ r. (r.is_founded ≡ true) × (r.accepted ≡ []) × (r.torn ≡ None)
-            × IsKept over_memory r) }
+        ensures new { IfOk result (λ r. (r.is_genuine ≡ true) × (r.accepted ≡ []) × (r.in_doubt ≡ None)
+            × IsConsistent over_memory r) }
         ensures fault { IfErr result (λ e. (e ≡ OpenFault.Memory) ⊎ (e ≡ OpenFault.Disk)) }
     {
         let Ok(connection) = Connection::open_in_memory(alloc) else {
             return Err(OpenFault::Memory);
         };
-        Register::begin(alloc, connection)
+        Register::new_empty(alloc, connection)
     }
 }
 
 impl Register<FileStore<FileFrom<Unknown>>> {
     ghost use Rattle.sqlite.specs.Files.{over_files};
-    ghost use Rattle.kcr_store.specs.Register.{IsKept};
+    ghost use Rattle.kcr_store.specs.Register.{IsConsistent};
 
     /// Opens the register in the file at the path and its log beside it, as `adopt` takes a database; a file that is
     /// not there is made. No clause knows what the file held, so nothing is promised of its history; a caller whose
-    /// proof knows it calls `connect` and `adopt`. `Disk` comes also where another process has the file open, where it
+    /// proof knows it calls `connect` and `adopt`. `Disk` comes also if another process has the file open, if it
     /// is no database, and for the name `:memory:`.
     pub fn open(rt: &HostRuntime, path: &str) -> Result<FileRegister, OpenFault>
-        ensures unknown { IfOk result (λ r. (r.is_founded ≡ false) × (r.accepted ≡ []) × (r.torn ≡ None)) }
-        ensures kept { IfOk result (IsKept over_files) }
+        ensures unknown { IfOk result (λ r. (r.is_genuine ≡ false) × (r.accepted ≡ []) × (r.in_doubt ≡ None)) }
+        ensures kept { IfOk result (IsConsistent over_files) }
     {
         let connection = connect(rt, path, Unknown)?;
         match Register::adopt(rt.alloc(), connection) {
@@ -180,121 +180,158 @@ impl Register<FileStore<FileFrom<Unknown>>> {
 impl<S: Alter> Register<S> {
     ghost use Rattle.kcr_history.specs.Machine.{IsRegister};
     ghost use Rattle.kcr_history.specs.Tables.{Tables, tables};
-    ghost use Rattle.kcr_store.specs.Whole.{FindsIn, AreRows};
-    ghost use Rattle.kcr_tables.specs.Joint.{HoldsTables};
+    ghost use Rattle.kcr_store.specs.FullView.{FindsIn, AreRows, IsListed};
+    ghost use Rattle.kcr_tables.specs.MachineTables.{HoldsTables};
     ghost use Rattle.kcr_tables.specs.Refusals.{IsFault};
-    ghost use Rattle.kcr_store.specs.Register.{IsKept, LeavesEither, Leaves};
-    ghost use Rattle.kcr_store.specs.Calls.{OfHistory, Looks, Settles, after_fault};
+    ghost use Rattle.kcr_store.specs.Register.{IsConsistent, AfterCrash, CrashKeeps};
+    ghost use Rattle.kcr_store.specs.Calls.{OfHistory, ReadsHistory, BreaksOnFault, after_fault};
+    ghost use Rattle.kcr_store.specs.Shown.{IsShownByRows};
 
     /// Decides a command as one transaction. Where the machine accepts it, its reply comes only once it is durable.
     /// A repeat gets the reply that was kept, and changes nothing. A refusal changes nothing; out of memory (33)
-    /// changes nothing either, wherever it comes. A fault of the device (34) breaks the register: a crash may then
+    /// changes nothing either, wherever it comes. An I/O error (34) breaks the register: a crash may then
     /// leave the tables before the command or those after it, and every later call answers 35.
     pub fn apply(&mut self, command: &Command) -> Result<Reply, Refusal>
         // A broken register answers 35 and stays as it is.
-        ensures broken { IsSome self.old.torn → (result ≡ Err Refusal.Broken) × (self.new ≡ self.old) }
+        ensures broken { IsSome self.old.in_doubt → (result ≡ Err Refusal.Broken) × (self.new ≡ self.old) }
 
         // As long as the disk returns what was written, the command is a step of the machine.
-        ensures step { IsTrue self.old.is_founded → self.old.torn ≡ None → HasCleanDisk (state S.Store self.new.conn)
-            → Steps self.old.accepted command.now result self.new.accepted }
+        ensures step { IsTrue self.old.is_genuine → self.old.in_doubt ≡ None → HasCleanDisk (state S.Store self.new.conn)
+            → AppliesCommand self.old.accepted command.now result self.new.accepted }
 
-        // A fault of the device breaks it, and nothing else does. Broken or not, a crash then leaves the tables of the
+        // Whatever the database holds, the reply is one to a command of this kind, or what a row keeps for this very
+        // command, and a refusal is one that this kind may get.
+        ensures kind { self.old.in_doubt ≡ None → MayBeReplied command.now result }
+
+        // Whatever rows the tables hold, a command whose key has a row gets what this row keeps, and no row changes.
+        // It is refused only for its key (11), if the row is of another command, or for a fault.
+        ensures by_row { self.old.in_doubt ≡ None
+            → GoesByRow (state S.Store self.old.conn) (state S.Store self.new.conn) command.now result }
+
+        // An I/O error breaks it, and nothing else does. Broken or not, a crash then leaves the tables of the
         // history, or of the one that was tried.
-        ensures breaks { self.old.torn ≡ None → IsSome self.new.torn ↔ (result ≡ Err Refusal.Disk) }
-        ensures tried { IsTrue self.old.is_founded → self.old.torn ≡ None → HasCleanDisk (state S.Store self.new.conn)
-            → IsNext self.old.accepted command.now (unwrap_or self.new.torn self.new.accepted) }
-        ensures crash { IsTrue self.old.is_founded → self.old.torn ≡ None
-            → LeavesEither self.old.accepted (unwrap_or self.new.torn self.new.accepted) (state S.Store self.new.conn) }
+        ensures breaks { self.old.in_doubt ≡ None → IsSome self.new.in_doubt ↔ (result ≡ Err Refusal.Disk) }
+        ensures tried { IsTrue self.old.is_genuine → self.old.in_doubt ≡ None → HasCleanDisk (state S.Store self.new.conn)
+            → IsSameOrNext self.old.accepted command.now (unwrap_or self.new.in_doubt self.new.accepted) }
+        ensures crash { IsTrue self.old.is_genuine → self.old.in_doubt ≡ None
+            → AfterCrash self.old.accepted (unwrap_or self.new.in_doubt self.new.accepted) (state S.Store self.new.conn) }
 
         // After a reply the store serves, and a crash leaves the tables with the command.
         ensures served { HasCleanDisk (state S.Store self.new.conn)
             → OnOk result (IsTrue (state S.Store self.new.conn).is_open) }
-        ensures durable { IsTrue self.old.is_founded
-            → OnOk result (Leaves self.new.accepted (state S.Store self.new.conn)) }
+        ensures durable { IsTrue self.old.is_genuine
+            → OnOk result (CrashKeeps self.new.accepted (state S.Store self.new.conn)) }
 
         // A disk that is honest at the end was so at the beginning.
         ensures clean { HasCleanDisk (state S.Store self.new.conn) → HasCleanDisk (state S.Store self.old.conn) }
-        ensures founded { self.new.is_founded ≡ self.old.is_founded }
-        ensures kept { IsKept S.Store self.new }
+        ensures founded { self.new.is_genuine ≡ self.old.is_genuine }
+        ensures kept { IsConsistent S.Store self.new }
     {
         if self.broken {
             return Err(Refusal::Broken);
         }
-        match perform(self.alloc, &mut self.conn, &self.past, self.count, command) {
-            Performed::Accepted(verdict, past) => {
-                self.count = number_after(self.count, verdict.answer);
+        match run_command(
+            self.alloc,
+            &mut self.conn,
+            &self.past,
+            self.last_number,
+            command,
+        ) {
+            TransactionResult::Accepted(verdict, past) => {
+                self.last_number = number_after(self.last_number, verdict.answer);
                 self.past = past;
                 Ok(verdict.reply)
             }
-            Performed::Refused(Refusal::Disk) => {
-                self.tried = Past::same(&self.past);
+            TransactionResult::Refused(Refusal::Disk) => {
+                self.in_doubt = GhostHistory::copied(&self.past);
                 self.broken = true;
                 Err(Refusal::Disk)
             }
-            Performed::Refused(refusal) => Err(refusal),
-            Performed::Torn(past) => {
-                self.tried = past;
+            TransactionResult::Refused(refusal) => Err(refusal),
+            TransactionResult::InDoubt(past) => {
+                self.in_doubt = past;
                 self.broken = true;
                 Err(Refusal::Disk)
             }
         }
     }
 
-    /// Answers a question, and changes nothing. A bag that was never sealed and the room of a ceremony that was never
-    /// planned are refused as unknown (12). Beside that and out of memory (33) it meets only a fault of the device
-    /// (34), which breaks the register; every later call then answers 35.
+    /// Answers a question, and changes nothing. A bag that was never sealed, and the room, the steps or the sheet of a
+    /// ceremony that was never planned, are refused as unknown (12). Beside that and out of memory (33) it meets only
+    /// an I/O error or an invalid row (34), which breaks the register; every later call then answers 35. A list is
+    /// whole in memory.
     pub fn look(&mut self, question: &Question) -> Result<Shown, Refusal>
-        ensures shown { OfHistory S.Store self.old self.new (λ A. IsAsked A question.now result) }
-        ensures looks { Looks S.Store (MayRefuse question.now) self.old self.new result }
+        ensures shown { OfHistory S.Store self.old self.new (λ A. IsQuestionResult A question.now result) }
+
+        // Whatever the database holds, what is shown is what some rows show to this very question.
+        ensures by_rows { IfOk result (IsShownByRows question.now) }
+        ensures looks { ReadsHistory S.Store (MayRefuseQuestion question.now) self.old self.new result }
     {
         if self.broken {
             return Err(Refusal::Broken);
         }
-        let shown = ask(self.alloc, &mut self.conn, question);
-        self.hand_on(shown)
+        let shown = run_query(self.alloc, &mut self.conn, question);
+        self.note_disk_fault(shown)
     }
 
     /// All rows of one table, in the order of their keys; its memory grows with their number. It changes nothing.
-    /// Beside out of memory (33) it meets only a fault of the device or a row that no register stores (34), which
+    /// Beside out of memory (33) it meets only an I/O error or an invalid row (34), which
     /// breaks the register; a broken one answers 35.
-    pub fn table_rows<R: Listed>(&mut self) -> Result<Vec<R>, Refusal>
+    pub fn table_rows<R: TableRow>(&mut self) -> Result<Vec<R>, Refusal>
         // Whatever rows the table holds, these are they; of a history they are those of its table.
-        ensures rows { self.old.torn ≡ None → HasCleanDisk (state S.Store self.new.conn) → (m : Tables)
+        ensures rows { self.old.in_doubt ≡ None → HasCleanDisk (state S.Store self.new.conn) → (m : Tables)
             → HoldsTables m (state S.Store self.old.conn).now
             → IfOk result (λ rows. AreRows R.table m rows.items) }
         ensures shown { OfHistory S.Store self.old self.new
             (λ A. IfOk result (λ rows. IsRegister A × AreRows R.table (tables A) rows.items)) }
-        ensures looks { Looks S.Store IsFault self.old self.new result }
+        ensures looks { ReadsHistory S.Store IsFault self.old self.new result }
     {
         if self.broken {
             return Err(Refusal::Broken);
         }
-        let rows = rows_in_table(self.alloc, &mut self.conn);
-        self.hand_on(rows)
+        let rows = read_table(self.alloc, &mut self.conn);
+        self.note_disk_fault(rows)
+    }
+
+    /// All rows of all tables, each table's in the order of their keys, as an audit takes them; its memory grows with
+    /// their number. It changes nothing. Its refusals, and what they leave, are those of `table_rows`.
+    pub fn all_rows(&mut self) -> Result<FullView, Refusal>
+        // Whatever rows the tables hold, these are they; of a history they are those of its tables.
+        ensures rows { self.old.in_doubt ≡ None → HasCleanDisk (state S.Store self.new.conn) → (m : Tables)
+            → HoldsTables m (state S.Store self.old.conn).now → IfOk result (IsListed m) }
+        ensures shown { OfHistory S.Store self.old self.new
+            (λ A. IfOk result (λ all. IsRegister A × IsListed (tables A) all)) }
+        ensures looks { ReadsHistory S.Store IsFault self.old self.new result }
+    {
+        if self.broken {
+            return Err(Refusal::Broken);
+        }
+        let all = full_view(self.alloc, &mut self.conn);
+        self.note_disk_fault(all)
     }
 
     /// What an audit finds in all its rows, whose number its memory grows with: a finding of the first kind that has
     /// one, or None. In the tables of a history nothing is found. It changes nothing. Beside out of memory (33) it
-    /// meets only a fault of the device or a row that no register stores (34), which breaks the register; a broken one
+    /// meets only an I/O error or an invalid row (34), which breaks the register; a broken one
     /// answers 35.
     pub fn audit(&mut self) -> Result<Option<Finding>, Refusal>
         // Whatever rows the tables hold, what is found is true of them, and nothing of an earlier kind is.
-        ensures found { self.old.torn ≡ None → HasCleanDisk (state S.Store self.new.conn) → (m : Tables)
+        ensures found { self.old.in_doubt ≡ None → HasCleanDisk (state S.Store self.new.conn) → (m : Tables)
             → HoldsTables m (state S.Store self.old.conn).now → IfOk result (FindsIn m) }
         ensures nothing { OfHistory S.Store self.old self.new (λ _. IfOk result (λ found. found ≡ None)) }
-        ensures looks { Looks S.Store IsFault self.old self.new result }
+        ensures looks { ReadsHistory S.Store IsFault self.old self.new result }
     {
         if self.broken {
             return Err(Refusal::Broken);
         }
-        let found = audit_of(self.alloc, &mut self.conn);
-        self.hand_on(found)
+        let found = audit_database(self.alloc, &mut self.conn);
+        self.note_disk_fault(found)
     }
 
-    /// What a call over its connection answered, handed on; a fault of the device breaks the register.
-    fn hand_on<T>(&mut self, answer: Result<T, Refusal>) -> Result<T, Refusal>
+    /// What a call over its connection answered, handed on; an I/O error breaks the register.
+    fn note_disk_fault<T>(&mut self, answer: Result<T, Refusal>) -> Result<T, Refusal>
         ensures same { result ≡ answer }
-        ensures settled { Settles self.old self.new answer }
+        ensures settled { BreaksOnFault self.old self.new answer }
     {
         match answer {
             Ok(value) => Ok(value),
@@ -306,10 +343,10 @@ impl<S: Alter> Register<S> {
         }
     }
 
-    /// Whether a fault of the device has broken it.
+    /// Whether an I/O error has broken it.
     pub fn is_broken(&self) -> bool
-        ensures value { IsTrue result ↔ IsSome self.now.torn }
-        ensures kept { IsKept S.Store self.now }
+        ensures value { IsTrue result ↔ IsSome self.now.in_doubt }
+        ensures kept { IsConsistent S.Store self.now }
     {
         self.broken
     }
@@ -317,10 +354,10 @@ impl<S: Alter> Register<S> {
     /// Breaks it after a fault that a caller met, so that every later call answers 35.
     pub fn mark_broken(&mut self)
         ensures same { self.new ≡ after_fault self.old }
-        ensures kept { IsKept S.Store self.new }
+        ensures kept { IsConsistent S.Store self.new }
     {
         if !self.broken {
-            self.tried = Past::same(&self.past);
+            self.in_doubt = GhostHistory::copied(&self.past);
             self.broken = true;
         }
     }
@@ -333,8 +370,8 @@ impl<S: Alter> Register<S> {
             conn,
             broken: _,
             past: _,
-            count: _,
-            tried: _,
+            last_number: _,
+            in_doubt: _,
             alloc: _,
         } = self;
         conn

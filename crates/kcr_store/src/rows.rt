@@ -2,22 +2,22 @@
 ghost use Rattle.std.specs.Prelude.{◌≡◌, IfOk, MatchResult};
 ghost use Rattle.kcr_tables.specs.Refusals.{IsFault};
 
-use crate::perform::{ask, next_of};
 use crate::register::Register;
+use crate::transaction::{next_row, run_query};
 use kcr_base::{CeremonyNumber, Refusal};
 use kcr_history::CeremonyRow;
-use kcr_reading::Reading;
+use kcr_reading::Cursor;
 use sqlite::Alter;
 
 /// Rows of a register, given one at a time. The register is borrowed while they are read, so that its history stays as
 /// it is until they are dropped; they may be dropped at any row, which changes nothing. In memory are one row, and the
 /// few that the reading has read ahead.
-pub struct Rows<'a, S: Alter, R: Reading> {
+pub struct Rows<'a, S: Alter, R: Cursor> {
     register: &'a mut Register<S>,
     reading: R,
 }
 
-impl<S: Alter, R: Reading> Drop for Rows<'_, S, R> {
+impl<S: Alter, R: Cursor> Drop for Rows<'_, S, R> {
     fn drop(self)
         ensures { self.exit.0.now ≡ self.entry.register.now }
     {
@@ -28,8 +28,8 @@ impl<S: Alter, R: Reading> Drop for Rows<'_, S, R> {
     }
 }
 
-impl<'a, S: Alter, R: Reading> Rows<'a, S, R> {
-    ghost use Rattle.kcr_store.specs.Calls.{OfHistory, Peeks};
+impl<'a, S: Alter, R: Cursor> Rows<'a, S, R> {
+    ghost use Rattle.kcr_store.specs.Calls.{OfHistory, ReadsWithoutBreaking};
     ghost use Rattle.kcr_store.specs.Rows.{GivesNext};
 
     fn new(register: &'a mut Register<S>, reading: R) -> Rows<'a, S, R>
@@ -40,37 +40,37 @@ impl<'a, S: Alter, R: Reading> Rows<'a, S, R> {
     }
 
     /// The next row, or None past the last: the rows so far begin the answer, and at None they are all of it. Beside
-    /// out of memory (33) it meets only a fault of the device (34); a broken register answers 35. No refusal changes
+    /// out of memory (33) it meets only an I/O error (34); a broken register answers 35. No refusal changes
     /// the register, and after one it is not known which row comes next. A 34 does not break the register by itself:
     /// the caller drops the rows, and calls `mark_broken`.
     pub fn next(&mut self) -> Result<Option<R::Row>, Refusal>
         ensures same_reference { self.new.register.ghost_name ≡ self.old.register.ghost_name }
         ensures gives { OfHistory S.Store self.old.register.now self.new.register.now
             (GivesNext R.to_come self.old.reading self.new.reading result) }
-        ensures peeks { Peeks S.Store IsFault self.old.register.now self.new.register.now result }
+        ensures peeks { ReadsWithoutBreaking S.Store IsFault self.old.register.now self.new.register.now result }
     {
-        self.register.next_of(&mut self.reading)
+        self.register.next_row(&mut self.reading)
     }
 }
 
 impl<S: Alter> Register<S> {
     ghost use Rattle.std.specs.Borrow.{sem};
-    ghost use Rattle.kcr_store.specs.Calls.{OfHistory, Peeks};
+    ghost use Rattle.kcr_store.specs.Calls.{OfHistory, ReadsWithoutBreaking};
     ghost use Rattle.kcr_store.specs.Rows.{GivesNext, Begins, Lent, IsRowOf, HasNoRow, MayHaveNoRow};
 
     /// The next row of a reading. No fault of the device breaks the register here.
-    pub(crate) fn next_of<R: Reading>(&mut self, reading: &mut R) -> Result<Option<R::Row>, Refusal>
+    pub(crate) fn next_row<R: Cursor>(&mut self, reading: &mut R) -> Result<Option<R::Row>, Refusal>
         ensures gives { OfHistory S.Store self.old self.new (GivesNext R.to_come reading.old reading.new result) }
-        ensures peeks { Peeks S.Store IsFault self.old self.new result }
+        ensures peeks { ReadsWithoutBreaking S.Store IsFault self.old self.new result }
     {
         if self.broken {
             return Err(Refusal::Broken);
         }
-        next_of(self.alloc, &mut self.conn, reading)
+        next_row(self.alloc, &mut self.conn, reading)
     }
 
     /// The rows that a reading gives, one at a time. A broken register answers 35.
-    pub fn rows<R: Reading>(&mut self, reading: R) -> Result<Rows<'_, S, R>, Refusal>
+    pub fn rows<R: Cursor>(&mut self, reading: R) -> Result<Rows<'_, S, R>, Refusal>
         ensures* lent { sem 𝓛 (Lent S.row S.Store self.entry result) }
         ensures same_reference { IfOk result (λ rows. rows.register.ghost_name ≡ self.entry.ghost_name) }
         ensures begun { Begins self.old reading result }
@@ -82,16 +82,16 @@ impl<S: Alter> Register<S> {
     }
 
     /// The row of a ceremony. One that was never planned is refused as unknown (12). Beside that and out of memory
-    /// (33) it meets only a fault of the device (34), after which the caller calls `mark_broken`; a broken register
+    /// (33) it meets only an I/O error (34), after which the caller calls `mark_broken`; a broken register
     /// answers 35. No refusal changes the register.
     pub fn ceremony_row(&mut self, ceremony: CeremonyNumber) -> Result<CeremonyRow, Refusal>
         ensures row { OfHistory S.Store self.old self.new
             (λ A. MatchResult result (IsRowOf A ceremony) (HasNoRow A ceremony)) }
-        ensures peeks { Peeks S.Store (MayHaveNoRow ceremony) self.old self.new result }
+        ensures peeks { ReadsWithoutBreaking S.Store (MayHaveNoRow ceremony) self.old self.new result }
     {
         if self.broken {
             return Err(Refusal::Broken);
         }
-        ask(self.alloc, &mut self.conn, &ceremony)
+        run_query(self.alloc, &mut self.conn, &ceremony)
     }
 }

@@ -11,7 +11,7 @@ ghost use Rattle.kcr_store.specs.Shown.{AreRolesOf};
 use kcr_base::{Day, Facility, Initials, ItemCode, Place, PlaceNumber, Role};
 use kcr_custody::Item;
 use kcr_history::{CustodiansShown, HolderShown, PersonShown, RoleShown};
-use kcr_people::rows::is_of;
+use kcr_people::queries::is_of;
 use kcr_people::{Appointment, Person, Training, Withdrawal, holder};
 use std::alloc::{AllocError, Global};
 
@@ -162,7 +162,7 @@ fn all_places(alloc: Global) -> Result<Vec<Place>, AllocError>
     east.chain(west).chain(recovery).collect(alloc)
 }
 
-/// The place with its holder on the day, where it has one.
+/// The place with its holder on the day, if it has one.
 fn holder_shown(appointments: &[Appointment], day: Day, place: Place) -> Option<HolderShown>
     ensures { result ≡ Questions.holder_shown (holder_by appointments.now place day) place }
 {

@@ -11,17 +11,17 @@ use Rattle.kcr_base.proofs.RowsLemmas.{filter-order}
 use Rattle.kcr_base.proofs.Members.{IsIn, in-any, in-append, in-front, in-behind, in-filter, in-order}
 use Rattle.kcr_people.specs.declared.Appointment.{Appointment}
 use Rattle.kcr_people.specs.People.{lasts_beyond}
-use Rattle.kcr_history.specs.declared.views.AppointmentsOf.{AppointmentsOf}
-use Rattle.kcr_history.specs.declared.views.AppointmentsOf.TheVariants as Wanted
+use Rattle.kcr_history.specs.declared.views.AppointmentFilter.{AppointmentFilter}
+use Rattle.kcr_history.specs.declared.views.AppointmentFilter.TheVariants as Wanted
 use Rattle.kcr_history.specs.declared.views.Selection.{Selection}
-use Rattle.kcr_history.specs.declared.views.Selection.TheVariants.{Nothing, Under, All}
-use Rattle.kcr_history.specs.Views.{ShowsLastOf, ShowsAppointmentsOf, ShowsAppointments, is_appointment_to, is_appointment_of}
+use Rattle.kcr_history.specs.declared.views.Selection.TheVariants.{Nothing, Matching, All}
+use Rattle.kcr_history.specs.Views.{ShowsLastOf, ShowsAppointmentsOf, IncludesAppointments, is_appointment_to, is_appointment_of}
 use Rattle.kcr_base.specs.declared.place.Place.{Place}
 use Rattle.kcr_rows.specs.Greatest.{IsGreatest}
 use Rattle.kcr_tables.proofs.HasLemmas.{has_in, filter_from, filter_to, filter_is}
 use Rattle.kcr_tables.proofs.NamedLemmas.{passing}
 
--- where the row passes, one that is shown passes too and begins no earlier
+-- if the row passes, one that is shown passes too and begins no earlier
 abbrev Reached : (Appointment → Bool) → List Appointment → Appointment → Type 0
 Reached test rows row = test row ≡ true → list_any (λ shown. test shown && nat_le row.since shown.since) rows ≡ true
 
@@ -37,7 +37,7 @@ module _ (test : Appointment → Bool) (table shown : List Appointment) (last : 
         (filter_from test table x (elim (subst (IsIn x) some.1 i) [ inl same ↦ subst (Has (filter test table)) (sym same) some.2 | inr none ↦ absurd none ]))
   ]
 
-  -- and no other that passes began later, also where more is shown
+  -- and no other that passes began later, also if more is shown
   pub none_later : (rows : List Appointment) → ((x : Appointment) → IsIn x shown → IsIn x rows) → ShowsLastOf test table rows
   none_later rows among =
       All-from_recursion (Reached test rows) table (all_from (Reached test rows) table (λ x there passes. elim last [
@@ -53,17 +53,17 @@ module _ (test : Appointment → Bool) (table shown : List Appointment) (last : 
 
 -- the last to a place, that of a person, and both
 pub to_shown : (place : Place) (table shown : List Appointment) → IsLast (is_appointment_to place) table shown
-    → ShowsAppointments (Under (Wanted.Place place)) table shown
+    → IncludesAppointments (Matching (Wanted.Place place)) table shown
 to_shown place table shown last =
     (from_table (is_appointment_to place) table shown last, none_later (is_appointment_to place) table shown last shown (λ x i. i))
 
 pub of_shown : (who : List ℕ) (table shown : List Appointment) → IsLast (is_appointment_of who) table shown
-    → ShowsAppointments (Under (Wanted.Person who)) table shown
+    → IncludesAppointments (Matching (Wanted.Person who)) table shown
 of_shown who table shown last =
     (from_table (is_appointment_of who) table shown last, none_later (is_appointment_of who) table shown last shown (λ x i. i))
 
 pub both_shown : (place : Place) (who : List ℕ) (table front behind : List Appointment) → IsLast (is_appointment_to place) table front
-    → IsLast (is_appointment_of who) table behind → ShowsAppointments (Under (Wanted.Both place who)) table (front ++ behind)
+    → IsLast (is_appointment_of who) table behind → IncludesAppointments (Matching (Wanted.LastToPlaceAndOfPerson place who)) table (front ++ behind)
 both_shown place who table front behind to of = (
   λ x i. elim (in-append x front behind i) [
     | inl f ↦ from_table (is_appointment_to place) table front to x f
@@ -77,24 +77,24 @@ both_shown place who table front behind to of = (
 
 -- those that last beyond a day, alone
 pub beyond_shown : (day : ℕ) (table shown : List Appointment) → IsPermutation (filter (lasts_beyond day) table) shown
-    → ShowsAppointments (Under (Wanted.Lasting day)) table shown
+    → IncludesAppointments (Matching (Wanted.EndingAfter day)) table shown
 beyond_shown day table shown is = (
   λ x i. (in-filter (lasts_beyond day) x table (in-order x (filter (lasts_beyond day) table) shown is i)).0,
   passing (lasts_beyond day) table shown is,
 )
 
 -- the same of a table that has its rows in another order
-pub appointments_shown : (asked : Selection AppointmentsOf) (xs ys rows : List Appointment) → IsPermutation xs ys → ShowsAppointments asked ys rows
-    → ShowsAppointments asked xs rows
+pub appointments_shown : (asked : Selection AppointmentFilter) (xs ys rows : List Appointment) → IsPermutation xs ys → IncludesAppointments asked ys rows
+    → IncludesAppointments asked xs rows
 appointments_shown Nothing xs ys rows same h = tt
 appointments_shown All xs ys rows same h = IsPermutation-trans _ _ _ same h
-appointments_shown (Under asked) xs ys rows same h = (λ x i. in-order x xs ys same (h.0 x i), lasts asked h.1)
+appointments_shown (Matching asked) xs ys rows same h = (λ x i. in-order x xs ys same (h.0 x i), lasts asked h.1)
   where
     turned : (test : Appointment → Bool) → ShowsLastOf test ys rows → ShowsLastOf test xs rows
     turned test = All-permutation (Reached test rows) ys xs (IsPermutation-sym xs ys same)
 
-    lasts : (asked : AppointmentsOf) → ShowsAppointmentsOf asked ys rows → ShowsAppointmentsOf asked xs rows
+    lasts : (asked : AppointmentFilter) → ShowsAppointmentsOf asked ys rows → ShowsAppointmentsOf asked xs rows
     lasts (Wanted.Place place) l = turned (is_appointment_to place) l
     lasts (Wanted.Person who) l = turned (is_appointment_of who) l
-    lasts (Wanted.Both place who) l = (turned (is_appointment_to place) l.0, turned (is_appointment_of who) l.1)
-    lasts (Wanted.Lasting day) l = IsPermutation-trans _ _ _ (filter-order (lasts_beyond day) xs ys same) l
+    lasts (Wanted.LastToPlaceAndOfPerson place who) l = (turned (is_appointment_to place) l.0, turned (is_appointment_of who) l.1)
+    lasts (Wanted.EndingAfter day) l = IsPermutation-trans _ _ _ (filter-order (lasts_beyond day) xs ys same) l

@@ -19,8 +19,8 @@ use Rattle.kcr_rows.specs.Rows.{appointment_row}
 use Rattle.kcr_rows.specs.Values.{int_or_null}
 use Rattle.kcr_tables.specs.AppointmentsLaws as laws
 use Rattle.kcr_tables.specs.Exact.{is_beyond_row}
-use Rattle.kcr_tables.specs.Held.{appointments_place}
-use Rattle.kcr_tables.specs.Statements.{ShowsPassing}
+use Rattle.kcr_tables.specs.StoredTables.{appointments_place}
+use Rattle.kcr_tables.specs.Statements.{SelectsUnordered}
 use Rattle.kcr_tables.proofs.RoomLemmas.{ends, ends_is}
 
 abbrev pub beyond_sql : List ℕ
@@ -33,7 +33,7 @@ beyond_test = op2 Or (op2 (Is Binary) (col 1 4) (lit Null)) (op2 (Compare Gt Bin
 abbrev pub passes : ℕ → Row → Bool
 passes day row = ends Gt (column row 3) day && true
 
-pub beyond_shows : (day : ℕ) → ShowsPassing beyond_sql appointments_place (Int (pos day) ∷ []) (passes day)
+pub beyond_shows : (day : ℕ) → SelectsUnordered beyond_sql appointments_place (Int (pos day) ∷ []) (passes day)
 unfolding understood everything
 beyond_shows day = record {
   test = beyond_test;

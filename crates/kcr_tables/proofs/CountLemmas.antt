@@ -20,17 +20,17 @@ use Rattle.sqlite_sql.proofs.QueryLemmas.{output_cmp_total}
 use Rattle.sqlite_trees.proofs.ListLemmas.{filter-map, IsPermutation-filter}
 use Rattle.sqlite_keyed.proofs.SortLemmas.{sorted_unique}
 use Rattle.sqlite_tied.specs.Compute.{everything}
-use Rattle.kcr_room.specs.Adding.{entries, of_ceremony}
+use Rattle.kcr_room.specs.Requests.{stay_count, of_ceremony}
 use Rattle.kcr_room.specs.declared.Stay.{Stay}
-use Rattle.kcr_rows.specs.Count.{count_row}
-use Rattle.kcr_rows.specs.declared.count.Count.{Count}
-use Rattle.kcr_rows.specs.Keyed.{Keeps, cells}
+use Rattle.kcr_rows.specs.CountRow.{count_row}
+use Rattle.kcr_rows.specs.declared.count_row.CountRow.{CountRow}
+use Rattle.kcr_rows.specs.Keyed.{TreeHolds, cells}
 use Rattle.kcr_rows.specs.Rows.{stay_row}
 use Rattle.kcr_rows.proofs.FilterLemmas.{filter_as, value_is}
 use Rattle.kcr_rows.proofs.ReadLemmas.{matched}
 use Rattle.kcr_rows.proofs.SameLemmas.{number_ties}
 use Rattle.kcr_tables.specs.Exact.{has_number}
-use Rattle.kcr_tables.specs.Held.{stays_place}
+use Rattle.kcr_tables.specs.StoredTables.{stays_place}
 use Rattle.kcr_tables.specs.Schema.{register_schema}
 use Rattle.kcr_tables.specs.Statements.{is_given}
 
@@ -88,8 +88,8 @@ unfolding understood everything
 count_is ceremony = refl
 
 -- of the rows that a table keeps those of the ceremony are as many as the stays
-of_tree : (ceremony : ℕ) (db : Trees) (stays : List Stay) → Keeps stays_place db (map stay_row stays)
-    → length (filter (λ r. has_number 2 ceremony (cells stays_place r)) (db stays_place.tree)) ≡ entries stays ceremony
+of_tree : (ceremony : ℕ) (db : Trees) (stays : List Stay) → TreeHolds stays_place db (map stay_row stays)
+    → length (filter (λ r. has_number 2 ceremony (cells stays_place r)) (db stays_place.tree)) ≡ stay_count stays ceremony
 of_tree ceremony db stays keeps =
     let of_it = has_number 2 ceremony in
     let shown = cells stays_place in
@@ -106,8 +106,8 @@ of_tree ceremony db stays keeps =
 
 -- the one row that is shown has their number
 pub count_shown : (ceremony : ℕ) (old new : State) (rows : List Row) → old.now.schema ≡ register_schema
-    → Shown count_sql (Int (pos ceremony) ∷ []) old new rows → (stays : List Stay) → Keeps stays_place old.now.trees (map stay_row stays)
-    → rows ≡ (Int (pos (min most (entries stays ceremony))) ∷ []) ∷ []
+    → Shown count_sql (Int (pos ceremony) ∷ []) old new rows → (stays : List Stay) → TreeHolds stays_place old.now.trees (map stay_row stays)
+    → rows ≡ (Int (pos (min most (stay_count stays ceremony))) ∷ []) ∷ []
 count_shown ceremony old new rows has h stays keeps =
     let params : Row = Int (pos ceremony) ∷ [] in
     let db = old.now.trees in
@@ -125,15 +125,15 @@ count_shown ceremony old new rows has h stays keeps =
     ∙ ap (λ (test : Row → Bool). length (filter test (db tree))) (λ i. (count_is ceremony i).passes)
     ∙ of_tree ceremony db stays keeps in
     let out : ℕ → List Output = λ n. ([], Int (pos (min most n)) ∷ []) ∷ [] in
-    let kept : a.kept ≡ out (entries stays ceremony) = a.distinct ∙ ap (map (output q)) a.grouped ∙ ap out many in
+    let kept : a.kept ≡ out (stay_count stays ceremony) = a.distinct ∙ ap (map (output q)) a.grouped ∙ ap out many in
     let ordered = sorted_unique (output_cmp q) (output_cmp_total q) a.kept a.ordered (rw kept (tt, tt)) a.same a.sorted in
     a.shown ∙ ap (map (λ (o : Output). o.1)) (ordered ∙ kept)
 
 -- a number that is less than the most is all that there are
-pub count_told : (counts : List Count) (n : ℕ) → map count_row counts ≡ (Int (pos (min most n)) ∷ []) ∷ [] → (count : Count)
+pub count_told : (counts : List CountRow) (n : ℕ) → map count_row counts ≡ (Int (pos (min most n)) ∷ []) ∷ [] → (count : CountRow)
     → slice_get counts 0 ≡ Some count → count.number < 2 ^ 32 → count.number ≡ n
 count_told [] n h count first low = absurd (cc)
 count_told (x ∷ xs) n h count first low =
     let is : count ≡ x = cc in
     let number : x.number ≡ min most n = cc in
-    let same = ap (λ (c : Count). c.number) is in grind (arith, same, number, low)
+    let same = ap (λ (c : CountRow). c.number) is in grind (arith, same, number, low)

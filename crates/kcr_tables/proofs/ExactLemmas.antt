@@ -10,12 +10,12 @@ use Rattle.sqlite_rules.proofs.ListLemmas.{all_has, all_from}
 use Rattle.sqlite_trees.proofs.ListLemmas.{all-append}
 use Rattle.kcr_base.specs.declared.refusal.Refusal.{Refusal}
 use Rattle.kcr_history.specs.declared.views.Selection.{Selection}
-use Rattle.kcr_history.specs.declared.views.Selection.TheVariants.{Under, All}
-use Rattle.kcr_rows.specs.Keyed.{Place}
+use Rattle.kcr_history.specs.declared.views.Selection.TheVariants.{Matching, All}
+use Rattle.kcr_rows.specs.Keyed.{TableLayout}
 use Rattle.kcr_rows.proofs.FailLemmas.{if_ok}
 use Rattle.kcr_rows.proofs.PutLemmas.{has_same, mapped_from}
-use Rattle.kcr_tables.specs.Asked.{asked_once, is_under_any}
-use Rattle.kcr_tables.specs.Exact.{rows_at, AreShown, AskedAreShown, WholeIsShown, IsOneOf}
+use Rattle.kcr_tables.specs.Selected.{asked_once, is_under_any}
+use Rattle.kcr_tables.specs.Exact.{rows_at, AreShown, SelectedAreRead, AllAreRead, IsOneOf}
 use Rattle.kcr_tables.proofs.HasLemmas.{has_left, has_right, filter_from, filter_to, filter_is}
 
 module _ {X : Type 0} (row_of : X → Row) where
@@ -28,7 +28,7 @@ module _ {X : Type 0} (row_of : X → Row) where
   shown_too shown more among [] all = tt
   shown_too shown more among (row ∷ rows) all = ((all.0.0, among all.0.0 all.0.1, all.0.2), shown_too shown more among rows all.1)
 
-  -- where more values are shown
+  -- if more values are shown
   pub shown_left : (shown more : List X) (rows : List Row) → AreShown row_of shown rows → AreShown row_of (shown ++ more) rows
   shown_left shown more = shown_too shown (shown ++ more) (has_left shown more)
 
@@ -38,20 +38,20 @@ module _ {X : Type 0} (row_of : X → Row) where
       → IfOk r (λ all. AreShown row_of all.items rows)
   shown_in rows r h = if_ok _ _ (λ all same. are_shown rows all.items same) r h
 
-  pub under_asked : {K : Type 0} (place : Place) (is_under : K → Row → Bool) (asked : Selection K) (db : Trees) (key : K) → asked ≡ Under key
+  pub under_asked : {K : Type 0} (place : TableLayout) (is_under : K → Row → Bool) (asked : Selection K) (db : Trees) (key : K) → asked ≡ Matching key
       → (r : Result (Vec X Global) Refusal) → IfOk r (λ all. IsPermutation (filter (is_under key) (rows_at place db)) (map row_of all.items))
-      → IfOk r (λ all. AskedAreShown row_of place is_under asked all.items db)
-  under_asked place is_under asked db key is r h = subst (λ q. IfOk r (λ all. AskedAreShown row_of place is_under q all.items db)) (sym is) (shown_in _ r h)
+      → IfOk r (λ all. SelectedAreRead row_of place is_under asked all.items db)
+  under_asked place is_under asked db key is r h = subst (λ q. IfOk r (λ all. SelectedAreRead row_of place is_under q all.items db)) (sym is) (shown_in _ r h)
 
-  pub all_asked : {K : Type 0} (place : Place) (is_under : K → Row → Bool) (asked : Selection K) (db : Trees) → asked ≡ All
+  pub all_asked : {K : Type 0} (place : TableLayout) (is_under : K → Row → Bool) (asked : Selection K) (db : Trees) → asked ≡ All
       → (r : Result (Vec X Global) Refusal) → IfOk r (λ all. IsPermutation (rows_at place db) (map row_of all.items))
-      → IfOk r (λ all. AskedAreShown row_of place is_under asked all.items db)
-  all_asked place is_under asked db is r h = subst (λ q. IfOk r (λ all. AskedAreShown row_of place is_under q all.items db)) (sym is) (shown_in _ r h)
+      → IfOk r (λ all. SelectedAreRead row_of place is_under asked all.items db)
+  all_asked place is_under asked db is r h = subst (λ q. IfOk r (λ all. SelectedAreRead row_of place is_under q all.items db)) (sym is) (shown_in _ r h)
 
-  pub whole_asked : (place : Place) (asked : Bool) (db : Trees) → asked ≡ true
+  pub whole_asked : (place : TableLayout) (asked : Bool) (db : Trees) → asked ≡ true
       → (r : Result (Vec X Global) Refusal) → IfOk r (λ all. IsPermutation (rows_at place db) (map row_of all.items))
-      → IfOk r (λ all. WholeIsShown row_of place asked all.items db)
-  whole_asked place asked db is r h = subst (λ q. IfOk r (λ all. WholeIsShown row_of place q all.items db)) (sym is) (shown_in _ r h)
+      → IfOk r (λ all. AllAreRead row_of place asked all.items db)
+  whole_asked place asked db is r h = subst (λ q. IfOk r (λ all. AllAreRead row_of place q all.items db)) (sym is) (shown_in _ r h)
 
   -- ---- rows found by a list of keys, of which some may be the same
 

@@ -4,14 +4,14 @@ use Rattle.sqlite.specs.Effect.{Database}
 use Rattle.sqlite_catalog.specs.Listing.{IsSound}
 use Rattle.kcr_rows.specs.Columns.{AreEmpty}
 use Rattle.kcr_rows.proofs.CreateLemmas.{bare}
-use Rattle.kcr_tables.specs.Held.{Holds, people_place, trainings_place, appointments_place, boxes_place, safes_place, bags_place, items_place, ceremonies_place}
-use Rattle.kcr_tables.specs.Held.{marks_place, steps_place, seatings_place, sheet_place, exceptions_place, versions_place, keys_place, stays_place}
-use Rattle.kcr_tables.specs.Held.{withdrawals_place}
-use Rattle.kcr_tables.specs.First.{empty_tables}
+use Rattle.kcr_tables.specs.StoredTables.{Holds, people_place, trainings_place, appointments_place, boxes_place, safes_place, bags_place, items_place}
+use Rattle.kcr_tables.specs.StoredTables.{ceremonies_place, marks_place, steps_place, seatings_place, sheet_place, exceptions_place, versions_place, keys_place}
+use Rattle.kcr_tables.specs.StoredTables.{stays_place, withdrawals_place}
+use Rattle.kcr_tables.specs.NewTables.{empty_tables}
 use Rattle.kcr_tables.specs.Schema.{all_tables}
-use Rattle.kcr_tables.specs.Made.{first}
+use Rattle.kcr_tables.specs.Creation.{schema_prefix}
 
-pub holds_nothing : (db : Database) → db.schema ≡ first 17 → AreEmpty all_tables db.trees → IsSound (first 17) db.trees → Holds db empty_tables
+pub holds_nothing : (db : Database) → db.schema ≡ schema_prefix 17 → AreEmpty all_tables db.trees → IsSound (schema_prefix 17) db.trees → Holds db empty_tables
 holds_nothing db is empty sound =
     let (people, (trainings, (appointments, (boxes, (safes, (bags, (items, (ceremonies, (marks, others))))))))) = empty in
     let (steps, (seatings, (sheet, (exceptions, (versions, (keys, (stays, (withdrawals, _)))))))) = others in

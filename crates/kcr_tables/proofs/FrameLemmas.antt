@@ -9,16 +9,16 @@ use Rattle.kcr_base.specs.declared.refusal.Refusal.{Refusal}
 use Rattle.kcr_rows.specs.Refusals.{IsFault}
 use Rattle.kcr_rows.proofs.FailLemmas.{on_ok, on_ok_then, plain_in}
 use Rattle.kcr_rows.proofs.InsideLemmas.{was_clean}
-use Rattle.kcr_rows.specs.Frame.{StaysWithin}
+use Rattle.kcr_rows.specs.Frame.{StaysInTransaction}
 use Rattle.kcr_rows.proofs.FrameLemmas.{within_then, within_to, within_fails}
 use Rattle.kcr_tables.specs.Schema.{register_schema}
-use Rattle.kcr_tables.specs.Held.{Holds}
-use Rattle.kcr_tables.specs.Joint.{HoldsTables}
+use Rattle.kcr_tables.specs.StoredTables.{Holds}
+use Rattle.kcr_tables.specs.MachineTables.{HoldsTables}
 use Rattle.kcr_tables.specs.Frame.{Reads}
 
 -- what leaves the database as it is leaves the tables
 pub reads_of : {A : Type 0} (old new : State) (r : Result A Refusal) → (HasCleanDisk new → old.now.schema ≡ register_schema → OnOk r (new.now ≡ old.now))
-    → StaysWithin IsFault old new r → Reads old new r
+    → StaysInTransaction IsFault old new r → Reads old new r
 reads_of old new r same within = record {
   same = same;
   holds = λ clean t held. on_ok_then _ _ (λ is. subst (λ (d : Database). Holds d t) (sym is) held) r (same clean held.schema);
@@ -28,7 +28,7 @@ reads_of old new r same within = record {
 
 -- a text that changes nothing leaves the database as it is
 pub reads_by : {A : Type 0} (sql : List ℕ) (old new : State) (r : Result A Refusal) → IsPlain (understood register_schema sql)
-    → (HasCleanDisk new → IsPlain (understood old.now.schema sql) → OnOk r (IsUnchanged old new)) → StaysWithin IsFault old new r → Reads old new r
+    → (HasCleanDisk new → IsPlain (understood old.now.schema sql) → OnOk r (IsUnchanged old new)) → StaysInTransaction IsFault old new r → Reads old new r
 reads_by sql old new r plain same =
     reads_of old new r (λ clean has. on_ok_then _ _ (λ unchanged. unchanged.0.now_is) r (same clean (plain_in register_schema sql plain old has)))
 
@@ -54,7 +54,7 @@ pub reads_fails : {A B : Type 0} (old new : State) (e : Refusal) (r : Result B R
 reads_fails old new e (Ok x) is one = absurd is
 reads_fails old new e (Err y) is one = reads_of old new (Err y) (λ clean has. tt) (within_fails (Err y) is (λ cause. cause) one.within)
 
--- the same two, where the calls tell the states
+-- the same two, if the calls tell the states
 pub reads_on : {A B : Type 0} {old mid new : State} {a : A} {r : Result B Refusal} → Reads old mid (Ok a) → Reads mid new r → Reads old new r
 reads_on one two = reads_then _ _ _ _ _ one two
 

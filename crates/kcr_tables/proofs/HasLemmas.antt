@@ -43,7 +43,7 @@ none_of p (y ∷ ys) x none h is = by_test (p y) refl none h (λ n there. none_o
     by_test false e n (inl same) more = true≢false (sym is ∙ ap p same ∙ e)
     by_test false e n (inr later) more = more n later
 
--- where all that pass are one, and two lists have the same that pass, both find it
+-- if all that pass are one, and two lists have the same that pass, both find it
 pub find_same : {X : Type 0} (p : X → Bool) (xs ys : List X) → ((x : X) → Has xs x → p x ≡ true → Has ys x) → ((y : X) → Has ys y → p y ≡ true → Has xs y)
     → ((x y : X) → Has ys x → Has ys y → p x ≡ true → p y ≡ true → x ≡ y) → find p xs ≡ find p ys
 find_same {X = X} p xs ys there back one = go (find p xs) (find p ys) refl refl

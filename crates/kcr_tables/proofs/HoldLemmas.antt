@@ -1,11 +1,11 @@
 -- What the database holds, by the rows in the order of their keys and by the machine's.
 use Rattle.sqlite.specs.Effect.{Database}
 use Rattle.kcr_history.specs.Tables as machine
-use Rattle.kcr_tables.specs.Held.{Tables, Holds}
-use Rattle.kcr_tables.specs.Joint.{Stands, HoldsTables}
+use Rattle.kcr_tables.specs.StoredTables.{StoredTables, Holds}
+use Rattle.kcr_tables.specs.MachineTables.{SameRows, HoldsTables}
 
 pub held_of : (m : machine.Tables) (db : Database) (h : HoldsTables m db) → Holds db h.tables.t
 held_of m db h = record { schema = h.schema; kept = h.tables.kept }
 
-pub tables_of : (m : machine.Tables) (db : Database) (t : Tables) → Stands m t → Holds db t → HoldsTables m db
+pub tables_of : (m : machine.Tables) (db : Database) (t : StoredTables) → SameRows m t → Holds db t → HoldsTables m db
 tables_of m db t stands held = record { schema = held.schema; tables = record { t = t; kept = held.kept; stands = stands } }

@@ -34,19 +34,19 @@ use Rattle.kcr_custody.specs.declared.BoxRow.{BoxRow}
 use Rattle.kcr_custody.specs.declared.SafeRow.{SafeRow}
 use Rattle.kcr_custody.specs.declared.Bag.{Bag}
 use Rattle.kcr_custody.specs.declared.Item.{Item}
-use Rattle.kcr_history.specs.declared.rows.CeremonyRow.{CeremonyRow}
-use Rattle.kcr_history.specs.declared.rows.MarkRow.{MarkRow}
-use Rattle.kcr_history.specs.declared.rows.StepRow.{StepRow}
-use Rattle.kcr_history.specs.declared.rows.SeatingRow.{SeatingRow}
+use Rattle.kcr_history.specs.declared.row_types.CeremonyRow.{CeremonyRow}
+use Rattle.kcr_history.specs.declared.row_types.MarkRow.{MarkRow}
+use Rattle.kcr_history.specs.declared.row_types.StepRow.{StepRow}
+use Rattle.kcr_history.specs.declared.row_types.SeatingRow.{SeatingRow}
 use Rattle.kcr_room.specs.declared.SheetRow.{SheetRow}
-use Rattle.kcr_history.specs.declared.rows.ExceptionRow.{ExceptionRow}
-use Rattle.kcr_history.specs.declared.rows.KeyRow.{KeyRow}
+use Rattle.kcr_history.specs.declared.row_types.ExceptionRow.{ExceptionRow}
+use Rattle.kcr_history.specs.declared.row_types.KeyRow.{KeyRow}
 use Rattle.kcr_room.specs.declared.Stay.{Stay}
 use Rattle.kcr_people.specs.declared.Withdrawal.{Withdrawal}
-use Rattle.kcr_tables.specs.Held.{Tables, Kept, Holds}
-use Rattle.kcr_tables.specs.First.{first_tables}
+use Rattle.kcr_tables.specs.StoredTables.{StoredTables, TreesHold, Holds}
+use Rattle.kcr_tables.specs.NewTables.{new_tables}
 use Rattle.kcr_tables.specs.Changed.{rows_after, changed, changed_all}
-use Rattle.kcr_tables.specs.Joint.{Stands, KeepsTables, HoldsTables}
+use Rattle.kcr_tables.specs.MachineTables.{SameRows, TreesHoldTables, HoldsTables}
 use Rattle.kcr_tables.proofs.HoldLemmas.{tables_of}
 
 -- ---- two rows of one key, by the machine's tests
@@ -145,7 +145,7 @@ pub record Rises (t : machine.Tables) : Type 0 where
   pub stays : Rise 2 stay_row t.stays
   pub withdrawals : Rise 4 withdrawal_row t.withdrawals
 
-pub kept_rises : (db : Trees) (t : Tables) → Kept db t → Rises t.rows
+pub kept_rises : (db : Trees) (t : StoredTables) → TreesHold db t → Rises t.rows
 kept_rises db t k = record {
   people = k.people.rising;
   trainings = k.trainings.rising;
@@ -239,7 +239,8 @@ after_same c m t r s = record {
 }
 
 -- the changes one after the other
-pub all_stand : (list : List Change) (m : machine.Tables) (t : Tables) → Rises t.rows → Stands m t → Stands (changes.changed_by list m) (changed_all list t)
+pub all_stand : (list : List Change) (m : machine.Tables) (t : StoredTables) → Rises t.rows → SameRows m t
+    → SameRows (changes.changed_by list m) (changed_all list t)
 all_stand [] m t r s = s
 all_stand (c ∷ more) m t r s =
     all_stand more (changes.changed c m) (changed c t) (after_rises c t.rows r) (record { rows = after_same c m t.rows r s.rows; versions = s.versions })
@@ -255,15 +256,15 @@ changes_hold list m old new h held =
 same_itself : (t : machine.Tables) → machine.SameTables t t
 same_itself t = search (rules, IsPermutation-refl)
 
-pub first_holds : (db : Database) → Holds db first_tables → HoldsTables (machine.tables []) db
-first_holds db held = tables_of (machine.tables []) db first_tables (record { rows = same_itself (machine.tables []); versions = refl }) held
+pub first_holds : (db : Database) → Holds db new_tables → HoldsTables (machine.tables []) db
+first_holds db held = tables_of (machine.tables []) db new_tables (record { rows = same_itself (machine.tables []); versions = refl }) held
 
 -- ---- the same rows in another order
 
 of_both : {X : Type 0} {xs ys zs : List X} → IsPermutation xs ys → IsPermutation xs zs → IsPermutation ys zs
 of_both p q = IsPermutation-trans _ _ _ (IsPermutation-sym _ _ p) q
 
-pub same_stands : (m n : machine.Tables) (t : Tables) → machine.SameTables m n → Stands m t → Stands n t
+pub same_stands : (m n : machine.Tables) (t : StoredTables) → machine.SameTables m n → SameRows m t → SameRows n t
 same_stands m n t same s = record {
   rows = record {
     people = of_both same.people s.rows.people;
@@ -286,7 +287,7 @@ same_stands m n t same s = record {
   versions = s.versions;
 }
 
-pub same_keeps : (m n : machine.Tables) (db : Trees) → machine.SameTables m n → KeepsTables m db → KeepsTables n db
+pub same_keeps : (m n : machine.Tables) (db : Trees) → machine.SameTables m n → TreesHoldTables m db → TreesHoldTables n db
 same_keeps m n db same h = record { t = h.t; kept = h.kept; stands = same_stands m n h.t same h.stands }
 
 pub same_holds : (m n : machine.Tables) (db : Database) → machine.SameTables m n → HoldsTables m db → HoldsTables n db

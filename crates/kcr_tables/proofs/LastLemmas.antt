@@ -19,22 +19,22 @@ use Rattle.kcr_base.specs.Place.{place_text}
 use Rattle.kcr_base.specs.declared.place.Place.{Place as Custodian}
 use Rattle.kcr_base.specs.declared.refusal.Refusal.{Refusal}
 use Rattle.kcr_people.specs.declared.Appointment.{Appointment}
-use Rattle.kcr_history.specs.declared.rows.SeatingRow.{SeatingRow}
+use Rattle.kcr_history.specs.declared.row_types.SeatingRow.{SeatingRow}
 use Rattle.kcr_history.specs.Views.{is_appointment_to, is_appointment_of, is_seating_of}
 use Rattle.kcr_rows.specs.Greatest.{IsGreatest}
 use Rattle.kcr_rows.proofs.FailLemmas.{if_ok}
 use Rattle.kcr_rows.proofs.FilterLemmas.{value_is, filter_as}
 use Rattle.kcr_rows.proofs.GreatestLemmas.{greatest, with_number, shown_greatest}
 use Rattle.kcr_rows.proofs.ReadLemmas.{kept_cells}
-use Rattle.kcr_rows.specs.Keyed.{Place, Keeps}
+use Rattle.kcr_rows.specs.Keyed.{TableLayout, TreeHolds}
 use Rattle.kcr_rows.proofs.SameLemmas.{text_ties, place_ties, number_ties}
 use Rattle.kcr_rows.specs.Rows.{stay_row, appointment_row, seating_row}
 use Rattle.kcr_room.specs.declared.Stay.{Stay}
 use Rattle.kcr_tables.specs.Schema.{register_schema}
 use Rattle.kcr_tables.specs.Exact.{rows_at, has_number, has_text, IsOneOf}
-use Rattle.kcr_tables.specs.Frame.{Tells, TellsExactly}
+use Rattle.kcr_tables.specs.Frame.{OfTables, OfTrees}
 use Rattle.kcr_tables.specs.Statements.{is_given, Choice, showing, showing_by}
-use Rattle.kcr_tables.specs.Held.{Tables, Kept, keys_place, stays_place, appointments_place, seatings_place}
+use Rattle.kcr_tables.specs.StoredTables.{StoredTables, TreesHold, keys_place, stays_place, appointments_place, seatings_place}
 use Rattle.kcr_tables.specs.AppointmentsLaws as appointments
 use Rattle.kcr_tables.specs.KeysLaws as keys
 use Rattle.kcr_tables.specs.SeatingsLaws as seatings
@@ -50,14 +50,14 @@ by_number at passes = record {
 }
 
 -- the text shows, of the rows of a table that pass, one with the greatest number in a column, counted from 0
-pub record ShowsLast (place : Place) (project : List Term) (names : List (List ℕ)) (sql : List ℕ) (params : Row) (passes : Row → Bool) (at : ℕ)
+pub record ShowsLast (place : TableLayout) (project : List Term) (names : List (List ℕ)) (sql : List ℕ) (params : Row) (passes : Row → Bool) (at : ℕ)
     : Type 0 where
   pub test : List Term
   pub bare : IsPlain (understood register_schema sql)
   pub is : showing sql place params (by_number at passes) test (greatest place test project at)
       ≡ showing_by place (by_number at passes) (greatest place test project at) names
 
-module _ {place : Place} {project : List Term} {names : List (List ℕ)} {sql : List ℕ} {params : Row} {passes : Row → Bool} {at : ℕ}
+module _ {place : TableLayout} {project : List Term} {names : List (List ℕ)} {sql : List ℕ} {params : Row} {passes : Row → Bool} {at : ℕ}
     (s : ShowsLast place project names sql params passes at) where
   -- whatever the tree has, the row that is shown is one of its rows that pass
   shown_one : (old new : State) (rows : List Row) → old.now.schema ≡ register_schema → Shown sql params old new rows
@@ -79,13 +79,13 @@ module _ {place : Place} {project : List Term} {names : List (List ℕ)} {sql : 
     shown : HasCleanDisk new → IfOk r (λ all. Shown sql params old new (map row_of (items all)))
     shown clean = subst (λ (v : Row). IfOk r (λ all. Shown sql v old new (map row_of (items all)))) same (ran clean)
 
-    pub tells_one : TellsExactly old new r (λ db all. IsOneOf (filter passes (rows_at place db)) (map row_of (items all)))
+    pub tells_one : OfTrees old new r (λ db all. IsOneOf (filter passes (rows_at place db)) (map row_of (items all)))
     tells_one clean has = if_ok _ _ (λ all h. shown_one old new (map row_of (items all)) has h) r (shown clean)
 
     -- of the rows that the tables have in this place, those that pass are these
     pub tells_last : ((x y : X) → row_of x ≡ row_of y → x ≡ y) → (number : X → ℕ) → ((x : X) → column (row_of x) at ≡ Int (pos (number x)))
-        → (rows_in wanted : Tables → List X) → ((t : Tables) → Kept old.now.trees t → Keeps place old.now.trees (map row_of (rows_in t)))
-        → ((t : Tables) → filter (λ x. passes (row_of x)) (rows_in t) ≡ wanted t) → Tells old new r (λ t all. IsGreatest number (wanted t) (items all))
+        → (rows_in wanted : StoredTables → List X) → ((t : StoredTables) → TreesHold old.now.trees t → TreeHolds place old.now.trees (map row_of (rows_in t)))
+        → ((t : StoredTables) → filter (λ x. passes (row_of x)) (rows_in t) ≡ wanted t) → OfTables old new r (λ t all. IsGreatest number (wanted t) (items all))
     tells_last one number numbered rows_in wanted keeps are clean t held = if_ok _ _ (λ all h.
         subst (λ l. IsGreatest number l (items all)) (are t)
         (shown_greatest place register_schema sql params s.test project at names passes (λ i. (s.is i).command, λ i. (s.is i).reads_catalog) s.bare

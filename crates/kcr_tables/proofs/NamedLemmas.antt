@@ -5,9 +5,9 @@ use Rattle.std.proofs.lemmas.List.Sorted.{IsPermutation-refl, IsPermutation-sym,
 use Rattle.std.proofs.lemmas.List.Sorted.{IsPermutation-append_left}
 use Rattle.sqlite_trees.proofs.ListLemmas.{IsPermutation-filter}
 use Rattle.kcr_rows.proofs.FilterLemmas.{filter_as}
-use Rattle.kcr_tables.specs.Asked.{asked_once, is_under_any}
+use Rattle.kcr_tables.specs.Selected.{asked_once, is_under_any}
 
--- the rows that pass one test or the other, where none passes both
+-- the rows that pass one test or the other, if none passes both
 apart : {X : Type 0} (p q : X → Bool) → ((x : X) → p x ≡ true → q x ≡ true → ⊥) → (xs : List X)
     → IsPermutation (filter (λ x. p x || q x) xs) (filter p xs ++ filter q xs)
 apart p q none [] = IsPermutation-refl []
@@ -52,7 +52,7 @@ module _ {X K : Type 0} (same : K → K → Bool) (is_under : K → X → Bool) 
   same_key [] key x is = refl
   same_key (k ∷ keys) key x is = ap (λ b. b || is_under_any is_under keys x) (one_key key k x is) ∙ ap (λ b. same key k || b) (same_key keys key x is)
 
-  -- one key more adds its rows, and nothing where it was named before
+  -- one key more adds its rows, and nothing if it was named before
   pub named_more : (keys : List K) (key : K) (xs rows found : List X) → IsPermutation (filter (is_under_any is_under keys) xs) rows
       → found ≡ asked_once same is_under key keys xs → IsPermutation (filter (is_under_any is_under (keys ++ key ∷ [])) xs) (rows ++ found)
   named_more keys key xs rows found so is = subst (λ l. IsPermutation (filter (is_under_any is_under (keys ++ key ∷ [])) xs) (rows ++ l)) (sym is)

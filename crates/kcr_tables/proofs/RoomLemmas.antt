@@ -18,14 +18,14 @@ use Rattle.sqlite_value.specs.Keys.{ascending}
 use Rattle.sqlite_value.proofs.OrderLemmas.{value_cmp-Int, value_cmp_total}
 use Rattle.sqlite_tied.specs.Compute.{everything}
 use Rattle.kcr_room.specs.declared.Stay.{Stay}
-use Rattle.kcr_room.specs.Stays.{is_lasting, lasts_to}
+use Rattle.kcr_room.specs.Stays.{stay_reaches, ends_at_or_after}
 use Rattle.kcr_rows.specs.Rows.{stay_row}
 use Rattle.kcr_rows.specs.Values.{int_or_null}
 use Rattle.kcr_rows.proofs.FilterLemmas.{value_is}
 use Rattle.kcr_rows.proofs.SameLemmas.{number_ties}
 use Rattle.kcr_tables.specs.Exact.{has_number, is_lasting_row}
-use Rattle.kcr_tables.specs.Held.{stays_place}
-use Rattle.kcr_tables.specs.Statements.{ShowsPassing}
+use Rattle.kcr_tables.specs.StoredTables.{stays_place}
+use Rattle.kcr_tables.specs.Statements.{SelectsUnordered}
 use Rattle.kcr_tables.specs.StaysLaws as laws
 use Rattle.kcr_tables.proofs.TrainingLemmas.{number_from}
 
@@ -45,7 +45,7 @@ ends op until n = is_true (binary Or (binary (Is Binary) until Null) (binary (Co
 abbrev pub passes : ℕ → ℕ → Row → Bool
 passes ceremony at row = equal Binary (column row 2) (Int (pos ceremony)) && (ends Ge (column row 3) at && true)
 
-pub room_shows : (ceremony at : ℕ) → ShowsPassing room_sql stays_place (Int (pos ceremony) ∷ Int (pos at) ∷ []) (passes ceremony at)
+pub room_shows : (ceremony at : ℕ) → SelectsUnordered room_sql stays_place (Int (pos ceremony) ∷ Int (pos at) ∷ []) (passes ceremony at)
 unfolding understood everything
 room_shows ceremony at = record {
   test = room_test;
@@ -91,7 +91,7 @@ passes_row ceremony at row = both (equal Binary (column row 2) (Int (pos ceremon
     both false b c e = refl
 
 -- so it is of a stay
-pub passes_stay : (ceremony at : ℕ) (x : Stay) → passes ceremony at (stay_row x) ≡ is_lasting ceremony at x
+pub passes_stay : (ceremony at : ℕ) (x : Stay) → passes ceremony at (stay_row x) ≡ stay_reaches ceremony at x
 passes_stay ceremony at x =
     passes_row ceremony at (stay_row x)
     ∙ (λ i. of_number i && lasting x.until i)
@@ -100,6 +100,6 @@ passes_stay ceremony at x =
     of_number = value_is (Int (pos x.ceremony)) (Int (pos ceremony)) refl refl ∙ sym (number_ties x.ceremony ceremony)
 
     lasting : (until : Option ℕ)
-        → (is_null (int_or_null until) || (not (is_null (int_or_null until)) && is_ge (value_cmp (int_or_null until) (Int (pos at))))) ≡ lasts_to at until
+        → (is_null (int_or_null until) || (not (is_null (int_or_null until)) && is_ge (value_cmp (int_or_null until) (Int (pos at))))) ≡ ends_at_or_after at until
     lasting None = refl
     lasting (Some until) = ap is_ge (value_cmp-Int (pos until) (pos at)) ∙ number_from until at

@@ -7,11 +7,11 @@ use Rattle.kcr_custody.specs.declared.SafeNumber.TheVariants.{One, Two}
 use Rattle.kcr_custody.specs.declared.SafeRow.{SafeRow}
 use Rattle.kcr_rows.specs.Keyed.{put_in}
 use Rattle.kcr_rows.specs.Rows.{safe_row, version_row}
-use Rattle.kcr_tables.specs.First.{empty_tables, first_tables, shut}
+use Rattle.kcr_tables.specs.NewTables.{empty_tables, new_tables, shut}
 
 -- in the order of their keys
 safes_are : put_in 2 safe_row (shut West Two)
-    (put_in 2 safe_row (shut West One) (put_in 2 safe_row (shut East Two) (put_in 2 safe_row (shut East One) []))) ≡ first_tables.rows.safes
+    (put_in 2 safe_row (shut West One) (put_in 2 safe_row (shut East Two) (put_in 2 safe_row (shut East One) []))) ≡ new_tables.rows.safes
 unfolding value_cmp everything lib.Ieee.is_nan lib.Ieee.lt
 safes_are = refl
 
@@ -20,5 +20,5 @@ pub first_is : record {
     safes = put_in 2 safe_row (shut West Two) (put_in 2 safe_row (shut West One) (put_in 2 safe_row (shut East Two) (put_in 2 safe_row (shut East One) [])));
   };
   versions = put_in 1 version_row (record { number = 3 }) [];
-} ≡ first_tables
-first_is = ap (λ (l : List SafeRow). record first_tables { rows = record first_tables.rows { safes = l } }) safes_are
+} ≡ new_tables
+first_is = ap (λ (l : List SafeRow). record new_tables { rows = record new_tables.rows { safes = l } }) safes_are

@@ -14,10 +14,10 @@ use Rattle.sqlite_rules.specs.Lists.{Has}
 use Rattle.sqlite_rules.proofs.ListLemmas.{all_has}
 use Rattle.sqlite_trees.proofs.ListLemmas.{IsPermutation-filter, IsPermutation-same}
 use Rattle.sqlite_tied.specs.Compute.{everything}
-use Rattle.kcr_history.specs.declared.rows.SeatingRow.{SeatingRow}
-use Rattle.kcr_history.specs.declared.rows.StepRow.{StepRow}
-use Rattle.kcr_history.specs.declared.views.StepOf.{StepOf}
-use Rattle.kcr_history.specs.Views.{is_step_at, is_seating_of, last_seated, step_asked, ShowsStepOf, ShowsSteps}
+use Rattle.kcr_history.specs.declared.row_types.SeatingRow.{SeatingRow}
+use Rattle.kcr_history.specs.declared.row_types.StepRow.{StepRow}
+use Rattle.kcr_history.specs.declared.views.StepFilter.{StepFilter}
+use Rattle.kcr_history.specs.Views.{is_step_at, is_seating_of, last_seated, step_asked, ShowsStepOf, IncludesStep}
 use Rattle.kcr_history.proofs.Tops.{top, top-more}
 use Rattle.kcr_rows.specs.Greatest.{IsGreatest}
 use Rattle.kcr_rows.specs.Rows.{step_row}
@@ -25,8 +25,8 @@ use Rattle.kcr_rows.proofs.FilterLemmas.{value_is}
 use Rattle.kcr_rows.proofs.PutLemmas.{has_same}
 use Rattle.kcr_rows.proofs.SameLemmas.{number_ties}
 use Rattle.kcr_tables.specs.Exact.{has_number, is_row_of_step}
-use Rattle.kcr_tables.specs.Held.{steps_place}
-use Rattle.kcr_tables.specs.Statements.{key_order, ShowsRows}
+use Rattle.kcr_tables.specs.StoredTables.{steps_place}
+use Rattle.kcr_tables.specs.Statements.{key_order, SelectsRows}
 use Rattle.kcr_tables.specs.StepsLaws as steps
 use Rattle.kcr_tables.proofs.HasLemmas.{filter_is}
 use Rattle.kcr_tables.proofs.NamedLemmas.{twice}
@@ -43,7 +43,7 @@ step_test = op2 (Compare Eq Binary) (col 1 1) (col 0 0) ∷ op2 (Compare Eq Bina
 abbrev pub passes : ℕ → ℕ → Row → Bool
 passes ceremony step row = equal Binary (column row 0) (Int (pos ceremony)) && has_number 1 step row
 
-pub step_shows : (ceremony step : ℕ) → ShowsRows step_sql steps_place (Int (pos ceremony) ∷ Int (pos step) ∷ []) (passes ceremony step)
+pub step_shows : (ceremony step : ℕ) → SelectsRows step_sql steps_place (Int (pos ceremony) ∷ Int (pos step) ∷ []) (passes ceremony step)
 unfolding understood everything
 step_shows ceremony step =
     record { test = step_test; project = steps.project; order = key_order steps_place; names = steps.names; bare = (refl, refl); is = refl }
@@ -107,7 +107,7 @@ last_told ceremony table shown greatest = elim greatest [
 ]
 
 -- what is read is the step that is asked for
-pub step_told : (asked : StepOf) (all seatings : List SeatingRow) (table steps : List StepRow) (step : ℕ) → step ≡ step_asked asked seatings
+pub step_told : (asked : StepFilter) (all seatings : List SeatingRow) (table steps : List StepRow) (step : ℕ) → step ≡ step_asked asked seatings
     → IsGreatest (λ x. x.step) (filter (is_seating_of asked.ceremony) all) seatings → steps ≡ filter (is_step_at asked.ceremony step) table
     → ShowsStepOf asked all seatings table steps
 step_told asked all seatings table steps step is greatest are =
@@ -125,8 +125,8 @@ order_seated xs ys ceremony same =
     let p = IsPermutation-filter (is_seating_of ceremony) xs ys same in
     top_same _ _ (λ x. has_same _ _ x p) (λ x. has_same _ _ x (IsPermutation-sym _ _ p))
 
-pub steps_on : (asked : Option StepOf) (all others seatings : List SeatingRow) (xs ys rows : List StepRow) → IsPermutation all others → IsPermutation xs ys
-    → ShowsSteps asked others seatings ys rows → ShowsSteps asked all seatings xs rows
+pub steps_on : (asked : Option StepFilter) (all others seatings : List SeatingRow) (xs ys rows : List StepRow) → IsPermutation all others → IsPermutation xs ys
+    → IncludesStep asked others seatings ys rows → IncludesStep asked all seatings xs rows
 steps_on None all others seatings xs ys rows p q h = tt
 steps_on (Some asked) all others seatings xs ys rows p q h = record {
   last = h.last ∙ sym (order_seated all others asked.ceremony p);

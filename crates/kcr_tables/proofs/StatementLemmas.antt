@@ -16,7 +16,7 @@ use Rattle.sqlite_schema.specs.Rules.{clashes}
 use Rattle.sqlite_value.specs.Keys.{plain}
 use Rattle.sqlite_trees.proofs.ListLemmas.{map-map, filter-map, IsPermutation-filter}
 use Rattle.kcr_base.specs.declared.refusal.Refusal.{Refusal}
-use Rattle.kcr_rows.specs.Keyed.{Place, Keeps, cells, put_in}
+use Rattle.kcr_rows.specs.Keyed.{TableLayout, TreeHolds, cells, put_in}
 use Rattle.kcr_rows.proofs.TableLemmas.{Changes, each_is, executes_insert, put_in_rows, same_values, shown_checked, shown_exact}
 use Rattle.sqlite.specs.Tree.{Trees}
 use Rattle.kcr_rows.proofs.OrderLemmas.{put_in_all}
@@ -26,16 +26,16 @@ use Rattle.kcr_rows.proofs.ReadLemmas.{asking, kept_from}
 use Rattle.kcr_rows.proofs.UpdateLemmas.{Updated, executes_update}
 use Rattle.kcr_tables.specs.Schema.{register_schema}
 use Rattle.kcr_tables.specs.Exact.{rows_at}
-use Rattle.kcr_tables.specs.Frame.{Tells, TellsExactly}
-use Rattle.kcr_tables.specs.Held.{Tables, Kept, Holds}
-use Rattle.kcr_tables.specs.Statements.{ShowsRows, ShowsPassing, InsertsRow, UpdatesRow}
-use Rattle.kcr_tables.specs.Table.{Table, IsTable, with_put}
+use Rattle.kcr_tables.specs.Frame.{OfTables, OfTrees}
+use Rattle.kcr_tables.specs.StoredTables.{StoredTables, TreesHold, Holds}
+use Rattle.kcr_tables.specs.Statements.{SelectsRows, SelectsUnordered, InsertsRow, UpdatesRow}
+use Rattle.kcr_tables.specs.Table.{TableSpec, IsTable, with_put}
 
-module _ {X : Type 0} (sql : List ℕ) (place : Place) (params : Row) (passes : Row → Bool) (s : ShowsRows sql place params passes) (row_of : X → Row) where
+module _ {X : Type 0} (sql : List ℕ) (place : TableLayout) (params : Row) (passes : Row → Bool) (s : SelectsRows sql place params passes) (row_of : X → Row) where
   pub rows_shown : (IsRead IsStored : X → Type 0) → ((x y : X) → IsRead x → IsStored y → row_of x ≡ row_of y → x ≡ y) → (test : X → Bool)
       → ((x : X) → passes (row_of x) ≡ test x)
       → (old new : State) (xs : List X) → old.now.schema ≡ register_schema → Shown sql params old new (map row_of xs) → AllByRecursion IsRead xs
-      → (ys : List X) → AllByRecursion IsStored ys → Keeps place old.now.trees (map row_of ys) → xs ≡ filter test ys
+      → (ys : List X) → AllByRecursion IsStored ys → TreeHolds place old.now.trees (map row_of ys) → xs ≡ filter test ys
   rows_shown IsRead IsStored one test same old new xs has h read ys stored keeps =
       shown_checked place register_schema sql params s.test s.project s.order s.names passes (λ i. (s.is i).command, λ i. (s.is i).reads_catalog) s.bare
       (λ r i. (s.is i).shows r) (λ r i. (s.is i).passes r) (λ a b i. (s.is i).compares a b) (λ i. (s.is i).is_far) row_of IsRead IsStored
@@ -69,7 +69,7 @@ in_row_order {X} row_of ys rows p =
         ∙ (λ t. set (set (map row_of all) i (sym (get_or-map row_of all j x) t)) j (sym (get_or-map row_of all i x) t))
 
 -- a text whose order is of no account
-module _ {place : Place} {sql : List ℕ} {params : Row} {passes : Row → Bool} (s : ShowsPassing sql place params passes) where
+module _ {place : TableLayout} {sql : List ℕ} {params : Row} {passes : Row → Bool} (s : SelectsUnordered sql place params passes) where
   -- whatever the tree has, its rows that pass are shown
   passing_rows : (old new : State) (rows : List Row) → old.now.schema ≡ register_schema → Shown sql params old new rows
       → IsPermutation (filter passes (rows_at place old.now.trees)) rows
@@ -86,9 +86,9 @@ module _ {place : Place} {sql : List ℕ} {params : Row} {passes : Row → Bool}
       ∙ sym (filter-map passes (cells place) entries) in
       subst₂ IsPermutation shown (sym a.shown) (IsPermutation-map second _ _ a.same)
 
-  -- where no two values stand for one row, the values are those whose rows pass
+  -- if no two values stand for one row, the values are those whose rows pass
   passing_values : {X : Type 0} (row_of : X → Row) → ((x y : X) → ⊤ → ⊤ → row_of x ≡ row_of y → x ≡ y) → (old new : State) (xs ys : List X)
-      → old.now.schema ≡ register_schema → Shown sql params old new (map row_of xs) → Keeps place old.now.trees (map row_of ys)
+      → old.now.schema ≡ register_schema → Shown sql params old new (map row_of xs) → TreeHolds place old.now.trees (map row_of ys)
       → IsPermutation (filter (λ y. passes (row_of y)) ys) xs
   passing_values row_of one old new xs ys has h keeps =
       let mine = filter (λ y. passes (row_of y)) ys in
@@ -102,21 +102,21 @@ module _ {place : Place} {sql : List ℕ} {params : Row} {passes : Row → Bool}
   -- so much a call tells that runs the text: of the values that the table holds, and of its rows, whatever these are
   module _ {X : Type 0} (row_of : X → Row) (one : (x y : X) → ⊤ → ⊤ → row_of x ≡ row_of y → x ≡ y) (old new : State)
       (result : Result (Vec X Global) Refusal) (shown : HasCleanDisk new → IfOk result (λ all. Shown sql params old new (map row_of all.items))) where
-    pub passing_told : (rows_in : Tables → List X) → ((t : Tables) → Kept old.now.trees t → Keeps place old.now.trees (map row_of (rows_in t)))
+    pub passing_told : (rows_in : StoredTables → List X) → ((t : StoredTables) → TreesHold old.now.trees t → TreeHolds place old.now.trees (map row_of (rows_in t)))
         → (test : X → Bool) → ((x : X) → passes (row_of x) ≡ test x)
-        → Tells old new result (λ t all. IsPermutation (filter test (rows_in t)) all.items)
+        → OfTables old new result (λ t all. IsPermutation (filter test (rows_in t)) all.items)
     passing_told rows_in keeps test is clean t held = if_ok _ _ (λ all h.
         subst (λ l. IsPermutation l all.items) (filter_as (λ x. passes (row_of x)) test is (rows_in t))
         (passing_values row_of one old new all.items (rows_in t) held.schema h (keeps t held.kept))) result (shown clean)
 
     pub passing_exact : (test : Row → Bool) → ((row : Row) → passes row ≡ test row)
-        → TellsExactly old new result (λ db all. IsPermutation (filter test (rows_at place db)) (map row_of all.items))
+        → OfTrees old new result (λ db all. IsPermutation (filter test (rows_at place db)) (map row_of all.items))
     passing_exact test is clean has = if_ok _ _ (λ all h.
         subst (λ l. IsPermutation l (map row_of all.items)) (filter_as passes test is (rows_at place old.now.trees))
         (passing_rows old new (map row_of all.items) has h)) result (shown clean)
 
 -- one row is put
-module _ {X : Type 0} (sql : List ℕ) (place : Place) (row_of : X → Row) (x : X) (old new : State) (count : ℕ)
+module _ {X : Type 0} (sql : List ℕ) (place : TableLayout) (row_of : X → Row) (x : X) (old new : State) (count : ℕ)
     (has : old.now.schema ≡ register_schema) (h : Executes sql (row_of x) old new (Ok count)) where
   abbrev Put : Type 0
   Put = (new.now.schema ≡ register_schema) × Changes place register_schema (row_of x) old.now.trees new.now.trees
@@ -129,7 +129,7 @@ module _ {X : Type 0} (sql : List ℕ) (place : Place) (row_of : X → Row) (x :
       (λ i. (p.is i).giving.writing.command) p.bare (row_of x) (p.given x) (λ i. (p.is i).giving.given x) (p.casts x)
       (λ entries i. (p.is i).numbered x entries) (λ entries i. (p.is i).shown x entries) (λ i. (p.is i).giving.writing.filled x) old new count has h
 
-  -- or is changed, where there is one that has its key
+  -- or is changed, if there is one that has its key
   pub row_updated : UpdatesRow sql place row_of
       → (new.now.schema ≡ register_schema) × Updated place register_schema (row_of x) old.now.trees new.now.trees count
   row_updated p =
@@ -139,16 +139,16 @@ module _ {X : Type 0} (sql : List ℕ) (place : Place) (row_of : X → Row) (x :
       (λ i. (p.is i).writing.command) old new count has h
 
 -- the rows that the tree has then
-pub rows_put : {X : Type 0} (place : Place) (row_of : X → Row) (IsStored : X → Type 0) (x : X) → IsStored x → (old new : Trees)
-    → Changes place register_schema (row_of x) old new → (xs : List X) → Keeps place old (map row_of xs)
-    → AllByRecursion IsStored xs → Keeps place new (map row_of (put_in place.keys row_of x xs)) × AllByRecursion IsStored (put_in place.keys row_of x xs)
+pub rows_put : {X : Type 0} (place : TableLayout) (row_of : X → Row) (IsStored : X → Type 0) (x : X) → IsStored x → (old new : Trees)
+    → Changes place register_schema (row_of x) old new → (xs : List X) → TreeHolds place old (map row_of xs)
+    → AllByRecursion IsStored xs → TreeHolds place new (map row_of (put_in place.keys row_of x xs)) × AllByRecursion IsStored (put_in place.keys row_of x xs)
 rows_put place row_of IsStored x fact old new c xs keeps stored =
-    (subst (Keeps place new) (sym (put_in_rows place.keys row_of x xs)) (c.rows _ keeps), put_in_all IsStored place.keys row_of x xs fact stored)
+    (subst (TreeHolds place new) (sym (put_in_rows place.keys row_of x xs)) (c.rows _ keeps), put_in_all IsStored place.keys row_of x xs fact stored)
 
 -- the tables that the database holds then
-pub put_holds : {X : Type 0} (table : Table X) (row_of : X → Row) (IsRead : X → Type 0) → IsTable table row_of IsRead → (x : X) → table.is_stored x
+pub put_holds : {X : Type 0} (table : TableSpec X) (row_of : X → Row) (IsRead : X → Type 0) → IsTable table row_of IsRead → (x : X) → table.is_stored x
     → (old new : State) → (new.now.schema ≡ register_schema) × Changes table.place register_schema (row_of x) old.now.trees new.now.trees
-    → (t : Tables) → Holds old.now t → Holds new.now (with_put table row_of x t)
+    → (t : StoredTables) → Holds old.now t → Holds new.now (with_put table row_of x t)
 put_holds table row_of IsRead laws x fact old new it t held =
     let rows = table.rows_in t in
     let put = rows_put table.place row_of table.is_stored x fact old.now.trees new.now.trees it.1 rows (laws.keeps old.now.trees t held.kept)

@@ -12,13 +12,13 @@ use Rattle.sqlite_rules.proofs.ListLemmas.{all_has}
 use Rattle.sqlite_trees.proofs.ListLemmas.{IsPermutation-filter, all-append}
 use Rattle.kcr_base.specs.Same.{same_text}
 use Rattle.kcr_base.proofs.Members.{in-order}
-use Rattle.kcr_room.specs.Adding.{of_ceremony}
-use Rattle.kcr_room.specs.Stays.{is_lasting}
+use Rattle.kcr_room.specs.Requests.{of_ceremony}
+use Rattle.kcr_room.specs.Stays.{stay_reaches}
 use Rattle.kcr_room.specs.declared.Stay.{Stay}
-use Rattle.kcr_history.specs.declared.views.StaysOf.{StaysOf}
+use Rattle.kcr_history.specs.declared.views.StayFilter.{StayFilter}
 use Rattle.kcr_history.specs.declared.views.Selection.{Selection}
-use Rattle.kcr_history.specs.declared.views.Selection.TheVariants.{Nothing, Under, All}
-use Rattle.kcr_history.specs.Views.{later_stay, last_of, last_stay, ShowsLast, ShowsStaysOf, ShowsStays, ShowsEntries}
+use Rattle.kcr_history.specs.declared.views.Selection.TheVariants.{Nothing, Matching, All}
+use Rattle.kcr_history.specs.Views.{later_stay, last_of, last_stay, ShowsLast, ShowsStaysOf, IncludesStays, HasStayCount}
 use Rattle.kcr_rows.specs.Keyed.{by_key}
 use Rattle.kcr_rows.specs.Greatest.{IsGreatest}
 use Rattle.kcr_rows.proofs.PutLemmas.{has_same}
@@ -82,7 +82,7 @@ last_most (y ∷ xs) z h x (inr there) = by_last (last_of xs) refl (λ w e. last
         let below = low w e in
         let high = later_high y w z (subst (λ o. later_stay y o ≡ Some z) e h) in omega (arith, below, high)
 
--- it is the one that none exceeds, where no other began with it
+-- it is the one that none exceeds, if no other began with it
 last_is : (xs : List Stay) (s : Stay) → Has xs s → ((x : Stay) → Has xs x → x.since ≤ s.since) → ((x : Stay) → Has xs x → x.since ≡ s.since → x ≡ s)
     → last_of xs ≡ Some s
 last_is xs s there most one = by_last (last_of xs) refl
@@ -226,10 +226,10 @@ all_last : (table rows : List Stay) → Apart table → ((x : Stay) → Has rows
 all_last table rows apart within [] all = tt
 all_last table rows apart within (who ∷ people) all = (same_last table rows apart within who all.0, all_last table rows apart within people all.1)
 
-pub gathered_shows : (asked : StaysOf) (table rows : List Stay) → Apart table
-    → Gathered (is_lasting asked.ceremony asked.at) asked.people table rows → ShowsStaysOf asked table rows
+pub gathered_shows : (asked : StayFilter) (table rows : List Stay) → Apart table
+    → Gathered (stay_reaches asked.ceremony asked.at) asked.people table rows → ShowsStaysOf asked table rows
 gathered_shows asked table rows apart had =
-    let mine = is_lasting asked.ceremony asked.at in
+    let mine = stay_reaches asked.ceremony asked.at in
     let within : (x : Stay) → Has rows x → Has table x = λ x h. elim
     (has_append (filter mine table) had.more x (has_same rows _ x (IsPermutation-sym _ rows had.are) h)) [
       | inl room ↦ filter_from mine table x room
@@ -270,16 +270,16 @@ order_lasts : (xs ys rows : List Stay) → Apart ys → IsPermutation xs ys → 
 order_lasts xs ys rows apart same [] h = tt
 order_lasts xs ys rows apart same (who ∷ people) h = (h.0 ∙ sym (order_last xs ys apart same who), order_lasts xs ys rows apart same people h.1)
 
-pub stays_shown : (asked : Selection StaysOf) (xs ys rows : List Stay) → Apart ys → IsPermutation xs ys → ShowsStays asked ys rows → ShowsStays asked xs rows
+pub stays_shown : (asked : Selection StayFilter) (xs ys rows : List Stay) → Apart ys → IsPermutation xs ys → IncludesStays asked ys rows → IncludesStays asked xs rows
 stays_shown Nothing xs ys rows apart same h = tt
-stays_shown (Under asked) xs ys rows apart same h = record {
-  room = IsPermutation-trans _ _ _ (IsPermutation-filter (is_lasting asked.ceremony asked.at) xs ys same) h.room;
+stays_shown (Matching asked) xs ys rows apart same h = record {
+  room = IsPermutation-trans _ _ _ (IsPermutation-filter (stay_reaches asked.ceremony asked.at) xs ys same) h.room;
   last = order_lasts xs ys rows apart same asked.people h.last;
   within = λ x i. in-order x xs ys same (h.within x i);
 }
 stays_shown All xs ys rows apart same h = IsPermutation-trans _ _ _ same h
 
 -- and as many of a ceremony
-pub entries_shown : (asked : Option ℕ) (xs ys : List Stay) (count : ℕ) → IsPermutation xs ys → ShowsEntries asked ys count → ShowsEntries asked xs count
+pub entries_shown : (asked : Option ℕ) (xs ys : List Stay) (count : ℕ) → IsPermutation xs ys → HasStayCount asked ys count → HasStayCount asked xs count
 entries_shown None xs ys count same h = tt
 entries_shown (Some ceremony) xs ys count same h = h ∙ sum_by-IsPermutation (λ s. cond (of_ceremony ceremony s) 1 0) xs ys same

@@ -15,11 +15,11 @@ use Rattle.sqlite_value.specs.Keys.{ascending}
 use Rattle.sqlite_value.proofs.OrderLemmas.{value_cmp-Int}
 use Rattle.sqlite_tied.specs.Compute.{everything}
 use Rattle.kcr_people.specs.declared.Training.{Training}
-use Rattle.kcr_history.specs.Views.{lasts_to}
+use Rattle.kcr_history.specs.Views.{training_reaches}
 use Rattle.kcr_rows.specs.Rows.{training_row}
 use Rattle.kcr_tables.specs.Exact.{has_from}
-use Rattle.kcr_tables.specs.Held.{trainings_place}
-use Rattle.kcr_tables.specs.Statements.{ShowsPassing}
+use Rattle.kcr_tables.specs.StoredTables.{trainings_place}
+use Rattle.kcr_tables.specs.Statements.{SelectsUnordered}
 use Rattle.kcr_tables.specs.TrainingsLaws as laws
 
 abbrev pub lasting_sql : List ℕ
@@ -32,7 +32,7 @@ lasting_test = op2 (Compare Ge Binary) (col 1 4) (col 0 0) ∷ []
 abbrev pub passes : ℕ → Row → Bool
 passes day row = is_true (binary (Compare Ge Binary) (column row 3) (Int (pos day))) && true
 
-pub lasting_shows : (day : ℕ) → ShowsPassing lasting_sql trainings_place (Int (pos day) ∷ []) (passes day)
+pub lasting_shows : (day : ℕ) → SelectsUnordered lasting_sql trainings_place (Int (pos day) ∷ []) (passes day)
 unfolding understood everything
 lasting_shows day = record {
   test = lasting_test;
@@ -62,5 +62,5 @@ passes_row day row = at_least (column row 3) day
 pub number_from : (n day : ℕ) → is_ge (int_cmp (pos n) (pos day)) ≡ nat_le day n
 number_from n day = grind (arith, nat_tests)
 
-pub passes_training : (day : ℕ) (x : Training) → passes day (training_row x) ≡ lasts_to day x
+pub passes_training : (day : ℕ) (x : Training) → passes day (training_row x) ≡ training_reaches day x
 passes_training day x = passes_row day (training_row x) ∙ ap is_ge (value_cmp-Int (pos x.until) (pos day)) ∙ number_from x.until day

@@ -9,16 +9,16 @@ use Rattle.sqlite_rules.specs.Lists.{Has}
 use Rattle.sqlite_rules.proofs.ListLemmas.{all_has}
 use Rattle.sqlite_trees.proofs.ListLemmas.{IsPermutation-filter}
 use Rattle.kcr_base.specs.Same.{same_text}
-use Rattle.kcr_history.specs.declared.rows.KeyRow.{KeyRow}
+use Rattle.kcr_history.specs.declared.row_types.KeyRow.{KeyRow}
 use Rattle.kcr_history.specs.declared.views.Selection.{Selection}
-use Rattle.kcr_history.specs.declared.views.Selection.TheVariants.{Nothing, Under, All}
-use Rattle.kcr_history.specs.Views.{Shows, ShowsAll, is_of_key, row_of_key, greatest_number}
+use Rattle.kcr_history.specs.declared.views.Selection.TheVariants.{Nothing, Matching, All}
+use Rattle.kcr_history.specs.Views.{Includes, IncludesAll, is_of_key, row_of_key, greatest_number}
 use Rattle.kcr_rows.specs.Greatest.{IsGreatest}
 use Rattle.kcr_rows.proofs.PutLemmas.{has_same}
 use Rattle.kcr_history.specs.Tables as machine
 use Rattle.kcr_rows.specs.Rows.{key_row}
-use Rattle.kcr_tables.specs.Asked.{asked_of, asked_all}
-use Rattle.kcr_tables.specs.Joint.{HoldsTables}
+use Rattle.kcr_tables.specs.Selected.{asked_of, asked_all}
+use Rattle.kcr_tables.specs.MachineTables.{HoldsTables}
 use Rattle.kcr_tables.proofs.JointLemmas.{kept_rises, key_of_keys}
 use Rattle.kcr_tables.proofs.HasLemmas.{find_same, one_key_of}
 use Rattle.kcr_tables.proofs.NamedLemmas.{twice}
@@ -26,22 +26,22 @@ use Rattle.kcr_tables.proofs.NamedLemmas.{twice}
 -- ---- rows under a key, or all
 
 -- the rows of a table in one order are those of it in another
-pub shows_on : {X K : Type 0} (is_under : K → X → Bool) (asked : Selection K) (xs ys rows : List X) → IsPermutation xs ys → Shows is_under asked ys rows
-    → Shows is_under asked xs rows
+pub shows_on : {X K : Type 0} (is_under : K → X → Bool) (asked : Selection K) (xs ys rows : List X) → IsPermutation xs ys → Includes is_under asked ys rows
+    → Includes is_under asked xs rows
 shows_on is_under Nothing xs ys rows p h = tt
-shows_on is_under (Under key) xs ys rows p h = IsPermutation-trans _ _ _ (IsPermutation-filter (is_under key) xs ys p) h
+shows_on is_under (Matching key) xs ys rows p h = IsPermutation-trans _ _ _ (IsPermutation-filter (is_under key) xs ys p) h
 shows_on is_under All xs ys rows p h = IsPermutation-trans _ _ _ p h
 
 pub asked_shows : {X K : Type 0} (is_under : K → X → Bool) (asked : Selection K) (xs ys rows : List X) → IsPermutation xs ys
-    → rows ≡ asked_of is_under asked ys → Shows is_under asked xs rows
-asked_shows {K = K} is_under asked xs ys rows p is = subst (Shows is_under asked xs) (sym is) (shown asked)
+    → rows ≡ asked_of is_under asked ys → Includes is_under asked xs rows
+asked_shows {K = K} is_under asked xs ys rows p is = subst (Includes is_under asked xs) (sym is) (shown asked)
   where
-    shown : (asked : Selection K) → Shows is_under asked xs (asked_of is_under asked ys)
+    shown : (asked : Selection K) → Includes is_under asked xs (asked_of is_under asked ys)
     shown Nothing = tt
-    shown (Under key) = subst (IsPermutation (filter (is_under key) xs)) (sym (twice (is_under key) ys)) (IsPermutation-filter (is_under key) xs ys p)
+    shown (Matching key) = subst (IsPermutation (filter (is_under key) xs)) (sym (twice (is_under key) ys)) (IsPermutation-filter (is_under key) xs ys p)
     shown All = p
 
-pub all_shows : {X : Type 0} (asked : Bool) (xs ys rows : List X) → IsPermutation xs ys → rows ≡ asked_all asked ys → ShowsAll asked xs rows
+pub all_shows : {X : Type 0} (asked : Bool) (xs ys rows : List X) → IsPermutation xs ys → rows ≡ asked_all asked ys → IncludesAll asked xs rows
 all_shows true xs ys rows p is = subst (IsPermutation xs) (sym is) p
 all_shows false xs ys rows p is = tt
 
@@ -76,7 +76,7 @@ first_passing p (x ∷ xs) = elim (p x) as (λ b. slice_get (cond b (x ∷ filte
 
 -- ---- the row of a key, and the greatest number
 
--- the number that the row of the last command tells, 0 where there is none
+-- the number that the row of the last command tells, 0 if there is none
 abbrev pub told : Option KeyRow → ℕ
 told None = 0
 told (Some row) = row.accepted

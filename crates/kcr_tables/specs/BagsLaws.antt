@@ -10,7 +10,7 @@ use Rattle.sqlite_catalog.specs.Listing.{IsSound}
 use Rattle.sqlite_value.specs.declared.keys.Key.{Key}
 use Rattle.sqlite_tied.specs.Compute.{everything}
 use Rattle.kcr_history.specs.Views.{is_of_serial}
-use Rattle.kcr_rows.specs.Keyed.{Keeps}
+use Rattle.kcr_rows.specs.Keyed.{TreeHolds}
 use Rattle.kcr_rows.proofs.FilterLemmas.{has_value, value_is}
 use Rattle.kcr_rows.proofs.WriteLemmas.{cast_null}
 use Rattle.kcr_rows.proofs.TableLemmas.{keeps_still}
@@ -21,14 +21,14 @@ use Rattle.kcr_rows.specs.Rows.{bag_row}
 use Rattle.kcr_custody.specs.declared.Bag.{Bag}
 use Rattle.kcr_rows.specs.States.{HasBoxNumber}
 use Rattle.kcr_tables.specs.Schema.{register_schema, bags}
-use Rattle.kcr_tables.specs.Held.{Tables, Kept, people_place, trainings_place, appointments_place, boxes_place}
-use Rattle.kcr_tables.specs.Held.{safes_place, bags_place, items_place, ceremonies_place, marks_place, steps_place}
-use Rattle.kcr_tables.specs.Held.{seatings_place, sheet_place, exceptions_place, versions_place, keys_place}
-use Rattle.kcr_tables.specs.Held.{stays_place, withdrawals_place}
+use Rattle.kcr_tables.specs.StoredTables.{StoredTables, TreesHold, people_place, trainings_place, appointments_place}
+use Rattle.kcr_tables.specs.StoredTables.{boxes_place, safes_place, bags_place, items_place, ceremonies_place}
+use Rattle.kcr_tables.specs.StoredTables.{marks_place, steps_place, seatings_place, sheet_place, exceptions_place}
+use Rattle.kcr_tables.specs.StoredTables.{versions_place, keys_place, stays_place, withdrawals_place}
 use Rattle.kcr_tables.specs.Parts.{text_in}
-use Rattle.kcr_tables.specs.Statements.{shown_columns, key_order, is_given, ShowsRows, new_terms, key_test}
+use Rattle.kcr_tables.specs.Statements.{shown_columns, key_order, is_given, SelectsRows, new_terms, key_test}
 use Rattle.kcr_tables.specs.Statements.{update_terms, InsertsRow, UpdatesRow}
-use Rattle.kcr_tables.specs.Table.{Table, IsTable, Finding, IsFinding}
+use Rattle.kcr_tables.specs.Table.{TableSpec, IsTable, LookupSpec, IsLookup}
 
 abbrev pub project : List Term
 project = shown_columns bags_place
@@ -39,7 +39,7 @@ order = key_order bags_place
 abbrev pub names : List (List ℕ)
 names = codes "serial" ∷ codes "spot" ∷ []
 
-abbrev pub table : Table Bag
+abbrev pub table : TableSpec Bag
 table = record {
   rows_in = λ t. t.rows.bags;
   place = bags_place;
@@ -55,16 +55,16 @@ one x y read held h = λ i. record {
   spot = one_spot x.spot y.spot read held (ap (text_in 1) h) i;
 }
 
-lists : ShowsRows table.all_sql bags_place [] (λ _. true)
+lists : SelectsRows table.all_sql bags_place [] (λ _. true)
 unfolding understood everything
 lists = record { test = []; project = project; order = order; names = names; bare = (refl, refl); is = refl }
 
 -- ---- the row of the bag with this serial, alone, or none
 
-abbrev pub bag_of : Finding (List ℕ) Bag
+abbrev pub bag_of : LookupSpec (List ℕ) Bag
 bag_of = record { is_under = λ serial x. is_of_serial serial x; column = 0; find_sql = codes "SELECT serial, spot FROM bags WHERE serial = ?1 ORDER BY serial" }
 
-shows_bag_of : (serial : List ℕ) → ShowsRows bag_of.find_sql bags_place (Text serial ∷ []) (has_value 0 (Text serial))
+shows_bag_of : (serial : List ℕ) → SelectsRows bag_of.find_sql bags_place (Text serial ∷ []) (has_value 0 (Text serial))
 unfolding understood everything
 shows_bag_of serial =
     record { test = is_given 1; project = project; order = order; names = names; bare = (refl, refl); is = refl }
@@ -72,7 +72,7 @@ shows_bag_of serial =
 under_bag_of : (serial : List ℕ) (x : Bag) → has_value 0 (Text serial) (bag_row x) ≡ is_of_serial serial x
 under_bag_of serial x = value_is (Text x.serial) (Text serial) refl refl ∙ sym (text_ties x.serial serial)
 
-pub bag_of_laws : IsFinding bag_of bags_place Text bag_row
+pub bag_of_laws : IsLookup bag_of bags_place Text bag_row
 bag_of_laws = record { finds = shows_bag_of; under = under_bag_of }
 
 -- ---- a row put under its key
@@ -109,11 +109,11 @@ updates = record {
   is = refl;
 }
 
--- the other tables stay where the rows of this one are changed
-pub still : (old new : Trees) (rows : List Bag) (t : Tables) → IsSound register_schema new
-    → Keeps bags_place new (map bag_row rows) → AllByRecursion HasBoxNumber rows
-    → ((tree : ℕ) → tree ≢ 11 → IsNoIndex register_schema tree → new tree ≡ old tree) → Kept old t
-    → Kept new (record t { rows = record t.rows { bags = rows } })
+-- the other tables stay if the rows of this one are changed
+pub still : (old new : Trees) (rows : List Bag) (t : StoredTables) → IsSound register_schema new
+    → TreeHolds bags_place new (map bag_row rows) → AllByRecursion HasBoxNumber rows
+    → ((tree : ℕ) → tree ≢ 11 → IsNoIndex register_schema tree → new tree ≡ old tree) → TreesHold old t
+    → TreesHold new (record t { rows = record t.rows { bags = rows } })
 still old new rows t sound keeps stored others k = record {
   sound = sound;
   people = keeps_still register_schema 11 people_place old new _ others refl refl k.people;

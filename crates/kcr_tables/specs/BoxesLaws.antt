@@ -11,7 +11,7 @@ use Rattle.sqlite_catalog.specs.Listing.{IsSound}
 use Rattle.sqlite_value.specs.declared.keys.Key.{Key}
 use Rattle.sqlite_tied.specs.Compute.{everything}
 use Rattle.kcr_base.specs.Place.{place_text}
-use Rattle.kcr_rows.specs.Keyed.{Keeps}
+use Rattle.kcr_rows.specs.Keyed.{TreeHolds}
 use Rattle.kcr_rows.proofs.WriteLemmas.{cast_null, cast_int}
 use Rattle.kcr_rows.proofs.TableLemmas.{keeps_still, each_is}
 use Rattle.kcr_rows.proofs.SameLemmas.{one_facility, one_place}
@@ -19,13 +19,13 @@ use Rattle.kcr_base.specs.Facility.{facility_text}
 use Rattle.kcr_rows.specs.Rows.{box_row}
 use Rattle.kcr_custody.specs.declared.BoxRow.{BoxRow}
 use Rattle.kcr_tables.specs.Schema.{register_schema, boxes}
-use Rattle.kcr_tables.specs.Held.{Tables, Kept, people_place, trainings_place, appointments_place, boxes_place}
-use Rattle.kcr_tables.specs.Held.{safes_place, bags_place, items_place, ceremonies_place, marks_place, steps_place}
-use Rattle.kcr_tables.specs.Held.{seatings_place, sheet_place, exceptions_place, versions_place, keys_place}
-use Rattle.kcr_tables.specs.Held.{stays_place, withdrawals_place}
+use Rattle.kcr_tables.specs.StoredTables.{StoredTables, TreesHold, people_place, trainings_place, appointments_place}
+use Rattle.kcr_tables.specs.StoredTables.{boxes_place, safes_place, bags_place, items_place, ceremonies_place}
+use Rattle.kcr_tables.specs.StoredTables.{marks_place, steps_place, seatings_place, sheet_place, exceptions_place}
+use Rattle.kcr_tables.specs.StoredTables.{versions_place, keys_place, stays_place, withdrawals_place}
 use Rattle.kcr_tables.specs.Parts.{text_in, number_in}
-use Rattle.kcr_tables.specs.Statements.{shown_columns, key_order, ShowsRows, new_terms, InsertsRow}
-use Rattle.kcr_tables.specs.Table.{Table, IsTable}
+use Rattle.kcr_tables.specs.Statements.{shown_columns, key_order, SelectsRows, new_terms, InsertsRow}
+use Rattle.kcr_tables.specs.Table.{TableSpec, IsTable}
 
 abbrev pub project : List Term
 project = shown_columns boxes_place
@@ -36,7 +36,7 @@ order = key_order boxes_place
 abbrev pub names : List (List ℕ)
 names = codes "facility" ∷ codes "box" ∷ codes "place" ∷ []
 
-abbrev pub table : Table BoxRow
+abbrev pub table : TableSpec BoxRow
 table = record {
   rows_in = λ t. t.rows.boxes;
   place = boxes_place;
@@ -53,7 +53,7 @@ one x y read held h = λ i. record {
   place = one_place x.place y.place (ap (text_in 2) h) i;
 }
 
-lists : ShowsRows table.all_sql boxes_place [] (λ _. true)
+lists : SelectsRows table.all_sql boxes_place [] (λ _. true)
 unfolding understood everything
 lists = record { test = []; project = project; order = order; names = names; bare = (refl, refl); is = refl }
 
@@ -76,11 +76,11 @@ inserts = record {
   is = refl;
 }
 
--- the other tables stay where the rows of this one are changed
-pub still : (old new : Trees) (rows : List BoxRow) (t : Tables) → IsSound register_schema new
-    → Keeps boxes_place new (map box_row rows) → AllByRecursion (λ _. ⊤) rows
-    → ((tree : ℕ) → tree ≢ 7 → IsNoIndex register_schema tree → new tree ≡ old tree) → Kept old t
-    → Kept new (record t { rows = record t.rows { boxes = rows } })
+-- the other tables stay if the rows of this one are changed
+pub still : (old new : Trees) (rows : List BoxRow) (t : StoredTables) → IsSound register_schema new
+    → TreeHolds boxes_place new (map box_row rows) → AllByRecursion (λ _. ⊤) rows
+    → ((tree : ℕ) → tree ≢ 7 → IsNoIndex register_schema tree → new tree ≡ old tree) → TreesHold old t
+    → TreesHold new (record t { rows = record t.rows { boxes = rows } })
 still old new rows t sound keeps stored others k = record {
   sound = sound;
   people = keeps_still register_schema 7 people_place old new _ others refl refl k.people;

@@ -12,7 +12,7 @@ use Rattle.sqlite_catalog.specs.Listing.{IsSound}
 use Rattle.sqlite_value.specs.declared.keys.Key.{Key}
 use Rattle.sqlite_tied.specs.Compute.{everything}
 use Rattle.kcr_history.specs.Views.{is_of_number}
-use Rattle.kcr_rows.specs.Keyed.{Keeps}
+use Rattle.kcr_rows.specs.Keyed.{TreeHolds}
 use Rattle.kcr_rows.proofs.FilterLemmas.{has_value, value_is}
 use Rattle.kcr_rows.proofs.WriteLemmas.{cast_null, cast_int}
 use Rattle.kcr_rows.proofs.TableLemmas.{keeps_still, each_is}
@@ -21,16 +21,16 @@ use Rattle.kcr_rows.proofs.StateLemmas.{cast_or_null, one_ceremony_state}
 use Rattle.kcr_base.specs.Facility.{facility_text}
 use Rattle.kcr_rows.specs.States.{ceremony_number}
 use Rattle.kcr_rows.specs.Rows.{ceremony_row}
-use Rattle.kcr_history.specs.declared.rows.CeremonyRow.{CeremonyRow}
+use Rattle.kcr_history.specs.declared.row_types.CeremonyRow.{CeremonyRow}
 use Rattle.kcr_tables.specs.Schema.{register_schema, ceremonies}
-use Rattle.kcr_tables.specs.Held.{Tables, Kept, people_place, trainings_place, appointments_place, boxes_place}
-use Rattle.kcr_tables.specs.Held.{safes_place, bags_place, items_place, ceremonies_place, marks_place, steps_place}
-use Rattle.kcr_tables.specs.Held.{seatings_place, sheet_place, exceptions_place, versions_place, keys_place}
-use Rattle.kcr_tables.specs.Held.{stays_place, withdrawals_place}
+use Rattle.kcr_tables.specs.StoredTables.{StoredTables, TreesHold, people_place, trainings_place, appointments_place}
+use Rattle.kcr_tables.specs.StoredTables.{boxes_place, safes_place, bags_place, items_place, ceremonies_place}
+use Rattle.kcr_tables.specs.StoredTables.{marks_place, steps_place, seatings_place, sheet_place, exceptions_place}
+use Rattle.kcr_tables.specs.StoredTables.{versions_place, keys_place, stays_place, withdrawals_place}
 use Rattle.kcr_tables.specs.Parts.{text_in, number_in}
-use Rattle.kcr_tables.specs.Statements.{shown_columns, key_order, is_given, ShowsRows, new_terms, key_test}
+use Rattle.kcr_tables.specs.Statements.{shown_columns, key_order, is_given, SelectsRows, new_terms, key_test}
 use Rattle.kcr_tables.specs.Statements.{update_terms, InsertsRow, UpdatesRow}
-use Rattle.kcr_tables.specs.Table.{Table, IsTable, Finding, IsFinding}
+use Rattle.kcr_tables.specs.Table.{TableSpec, IsTable, LookupSpec, IsLookup}
 
 abbrev pub project : List Term
 project = shown_columns ceremonies_place
@@ -41,7 +41,7 @@ order = key_order ceremonies_place
 abbrev pub names : List (List ℕ)
 names = codes "number" ∷ codes "facility" ∷ codes "day" ∷ codes "state" ∷ codes "opened" ∷ codes "closed" ∷ []
 
-abbrev pub table : Table CeremonyRow
+abbrev pub table : TableSpec CeremonyRow
 table = record {
   rows_in = λ t. t.rows.ceremonies;
   place = ceremonies_place;
@@ -61,17 +61,17 @@ one x y read held h = λ i. record {
   closed = one_number x.closed y.closed (ap (λ (r : Row). column r 5) h) i;
 }
 
-lists : ShowsRows table.all_sql ceremonies_place [] (λ _. true)
+lists : SelectsRows table.all_sql ceremonies_place [] (λ _. true)
 unfolding understood everything
 lists = record { test = []; project = project; order = order; names = names; bare = (refl, refl); is = refl }
 
 -- ---- the row of the ceremony with this number, alone, or none
 
-abbrev pub ceremony_of : Finding (ℕ) CeremonyRow
+abbrev pub ceremony_of : LookupSpec (ℕ) CeremonyRow
 ceremony_of = record { is_under = λ number x. is_of_number number x; column = 0; find_sql = codes "SELECT number, facility, day, state, opened, closed FROM ceremonies WHERE number = ?1 ORDER BY number" }
 
 shows_ceremony_of : (number : ℕ)
-    → ShowsRows ceremony_of.find_sql ceremonies_place (Int (pos number) ∷ []) (has_value 0 (Int (pos number)))
+    → SelectsRows ceremony_of.find_sql ceremonies_place (Int (pos number) ∷ []) (has_value 0 (Int (pos number)))
 unfolding understood everything
 shows_ceremony_of number =
     record { test = is_given 1; project = project; order = order; names = names; bare = (refl, refl); is = refl }
@@ -81,7 +81,7 @@ under_ceremony_of : (number : ℕ) (x : CeremonyRow)
 under_ceremony_of number x = value_is (Int (pos x.number)) (Int (pos number)) refl refl
     ∙ sym (number_ties x.number number)
 
-pub ceremony_of_laws : IsFinding ceremony_of ceremonies_place (λ n. Int (pos n)) ceremony_row
+pub ceremony_of_laws : IsLookup ceremony_of ceremonies_place (λ n. Int (pos n)) ceremony_row
 ceremony_of_laws = record { finds = shows_ceremony_of; under = under_ceremony_of }
 
 -- ---- a row put under its key
@@ -120,11 +120,11 @@ updates = record {
   is = refl;
 }
 
--- the other tables stay where the rows of this one are changed
-pub still : (old new : Trees) (rows : List CeremonyRow) (t : Tables) → IsSound register_schema new
-    → Keeps ceremonies_place new (map ceremony_row rows) → AllByRecursion (λ _. ⊤) rows
-    → ((tree : ℕ) → tree ≢ 16 → IsNoIndex register_schema tree → new tree ≡ old tree) → Kept old t
-    → Kept new (record t { rows = record t.rows { ceremonies = rows } })
+-- the other tables stay if the rows of this one are changed
+pub still : (old new : Trees) (rows : List CeremonyRow) (t : StoredTables) → IsSound register_schema new
+    → TreeHolds ceremonies_place new (map ceremony_row rows) → AllByRecursion (λ _. ⊤) rows
+    → ((tree : ℕ) → tree ≢ 16 → IsNoIndex register_schema tree → new tree ≡ old tree) → TreesHold old t
+    → TreesHold new (record t { rows = record t.rows { ceremonies = rows } })
 still old new rows t sound keeps stored others k = record {
   sound = sound;
   people = keeps_still register_schema 16 people_place old new _ others refl refl k.people;

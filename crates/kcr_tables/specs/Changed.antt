@@ -5,7 +5,7 @@ use Rattle.kcr_rows.specs.Rows.{person_row, training_row, appointment_row, box_r
 use Rattle.kcr_rows.specs.Rows.{ceremony_row, mark_row, step_row, seating_row, sheet_row, exception_row, key_row}
 use Rattle.kcr_rows.specs.Rows.{stay_row, withdrawal_row}
 use Rattle.kcr_history.specs.Tables as machine
-use Rattle.kcr_tables.specs.Held.{Tables}
+use Rattle.kcr_tables.specs.StoredTables.{StoredTables}
 use Rattle.kcr_history.specs.declared.views.Change.{Change}
 use Rattle.kcr_history.specs.declared.views.Change.TheVariants.{PutPerson, PutTraining, PutAppointment, PutBox, PutSafe}
 use Rattle.kcr_history.specs.declared.views.Change.TheVariants.{PutBag, PutItem, PutCeremony, PutMark, PutStep}
@@ -32,9 +32,9 @@ rows_after (PutStay x) m = record m { stays = put_in 2 stay_row x m.stays }
 rows_after (PutWithdrawal x) m = record m { withdrawals = put_in 4 withdrawal_row x m.withdrawals }
 
 -- the tables after it: what is beside the rows stays
-abbrev pub changed : Change → Tables → Tables
+abbrev pub changed : Change → StoredTables → StoredTables
 changed change t = record t { rows = rows_after change t.rows }
 
 -- after one change after the other
-abbrev pub changed_all : List Change → Tables → Tables
+abbrev pub changed_all : List Change → StoredTables → StoredTables
 changed_all changes t = record t { rows = fold (λ rows c. rows_after c rows) t.rows changes }

@@ -18,42 +18,42 @@ use Rattle.kcr_custody.specs.declared.BoxRow.{BoxRow}
 use Rattle.kcr_custody.specs.declared.SafeRow.{SafeRow}
 use Rattle.kcr_custody.specs.declared.Bag.{Bag}
 use Rattle.kcr_custody.specs.declared.Item.{Item}
-use Rattle.kcr_history.specs.declared.rows.CeremonyRow.{CeremonyRow}
-use Rattle.kcr_history.specs.declared.rows.MarkRow.{MarkRow}
-use Rattle.kcr_history.specs.declared.rows.StepRow.{StepRow}
-use Rattle.kcr_history.specs.declared.rows.SeatingRow.{SeatingRow}
-use Rattle.kcr_history.specs.declared.rows.ExceptionRow.{ExceptionRow}
-use Rattle.kcr_history.specs.declared.views.AppointmentsOf.{AppointmentsOf}
-use Rattle.kcr_history.specs.declared.views.AppointmentsOf.TheVariants as Appointments
+use Rattle.kcr_history.specs.declared.row_types.CeremonyRow.{CeremonyRow}
+use Rattle.kcr_history.specs.declared.row_types.MarkRow.{MarkRow}
+use Rattle.kcr_history.specs.declared.row_types.StepRow.{StepRow}
+use Rattle.kcr_history.specs.declared.row_types.SeatingRow.{SeatingRow}
+use Rattle.kcr_history.specs.declared.row_types.ExceptionRow.{ExceptionRow}
+use Rattle.kcr_history.specs.declared.views.AppointmentFilter.{AppointmentFilter}
+use Rattle.kcr_history.specs.declared.views.AppointmentFilter.TheVariants as Appointments
 use Rattle.kcr_history.specs.declared.views.Asks.{Asks}
-use Rattle.kcr_history.specs.declared.views.ItemsOf.{ItemsOf}
-use Rattle.kcr_history.specs.declared.views.ItemsOf.TheVariants as Items
+use Rattle.kcr_history.specs.declared.views.ItemFilter.{ItemFilter}
+use Rattle.kcr_history.specs.declared.views.ItemFilter.TheVariants as Items
 use Rattle.kcr_history.specs.declared.views.Selection.{Selection}
-use Rattle.kcr_history.specs.declared.views.Selection.TheVariants.{Nothing, Under, All}
-use Rattle.kcr_history.specs.declared.views.StaysOf.{StaysOf}
-use Rattle.kcr_history.specs.declared.views.StepOf.{StepOf}
-use Rattle.kcr_history.specs.declared.views.TrainingsOf.{TrainingsOf}
-use Rattle.kcr_history.specs.declared.views.TrainingsOf.TheVariants as Trainings
+use Rattle.kcr_history.specs.declared.views.Selection.TheVariants.{Nothing, Matching, All}
+use Rattle.kcr_history.specs.declared.views.StayFilter.{StayFilter}
+use Rattle.kcr_history.specs.declared.views.StepFilter.{StepFilter}
+use Rattle.kcr_history.specs.declared.views.TrainingFilter.{TrainingFilter}
+use Rattle.kcr_history.specs.declared.views.TrainingFilter.TheVariants as Trainings
 use Rattle.kcr_history.specs.declared.views.View.{View}
 use Rattle.kcr_history.specs.Views.{step_asked}
-use Rattle.kcr_rows.specs.Keyed.{Place, cells}
+use Rattle.kcr_rows.specs.Keyed.{TableLayout, cells}
 use Rattle.kcr_rows.proofs.FilterLemmas.{has_value}
 use Rattle.kcr_rows.specs.Rows.{person_row, training_row, appointment_row, box_row, safe_row, bag_row, item_row}
 use Rattle.kcr_rows.specs.Rows.{ceremony_row, mark_row, step_row, seating_row, exception_row, stay_row, withdrawal_row}
-use Rattle.kcr_tables.specs.Asked.{asked_of, asked_all}
-use Rattle.kcr_tables.specs.Held.{people_place, trainings_place, appointments_place, boxes_place, safes_place}
-use Rattle.kcr_tables.specs.Held.{bags_place, items_place, ceremonies_place, marks_place, steps_place, exceptions_place}
-use Rattle.kcr_tables.specs.Held.{seatings_place, stays_place, withdrawals_place}
+use Rattle.kcr_tables.specs.Selected.{asked_of, asked_all}
+use Rattle.kcr_tables.specs.StoredTables.{people_place, trainings_place, appointments_place, boxes_place, safes_place}
+use Rattle.kcr_tables.specs.StoredTables.{bags_place, items_place, ceremonies_place, marks_place, steps_place, exceptions_place}
+use Rattle.kcr_tables.specs.StoredTables.{seatings_place, stays_place, withdrawals_place}
 
 -- the rows of a table, whatever they are
-abbrev pub rows_at : Place → Trees → List Row
+abbrev pub rows_at : TableLayout → Trees → List Row
 rows_at place db = map (cells place) (db place.tree)
 
 -- each of the rows is the row of one of the values that are shown
 abbrev pub AreShown : {X : Type 0} → (X → Row) → List X → List Row → Type 0
 AreShown {X = X} row_of shown rows = AllByRecursion (λ row. (x : X) × Has shown x × (row ≡ row_of x)) rows
 
--- none where there is no row, and else one row of them
+-- none if there is no row, and else one row of them
 abbrev pub IsOneOf : List Row → List Row → Type 0
 IsOneOf all shown = ((all ≡ []) × (shown ≡ [])) ⊎ ((row : Row) × (shown ≡ row ∷ []) × Has all row)
 
@@ -80,14 +80,14 @@ has_beyond at number row = not (is_null (column row at)) && is_gt (value_cmp (co
 abbrev pub has_any : ℕ → List (List ℕ) → Row → Bool
 has_any at texts row = list_any (λ text. has_text at text row) texts
 
-abbrev pub is_item_row : ItemsOf → Row → Bool
+abbrev pub is_item_row : ItemFilter → Row → Bool
 is_item_row (Items.Codes codes) row = has_any 0 codes row
 is_item_row (Items.Bag serial) row = has_text 2 serial row
 
 -- of the person, or lasting to the day
-abbrev pub is_training_row : TrainingsOf → Row → Bool
+abbrev pub is_training_row : TrainingFilter → Row → Bool
 is_training_row (Trainings.Person who) row = has_text 0 who row
-is_training_row (Trainings.Lasting day) row = has_from 3 day row
+is_training_row (Trainings.EndingOnOrAfter day) row = has_from 3 day row
 
 -- an appointment with no end, or one after the day
 abbrev pub is_beyond_row : ℕ → Row → Bool
@@ -101,18 +101,18 @@ is_row_of_step ceremony step row = has_number 0 ceremony row && has_number 1 ste
 abbrev pub is_lasting_row : ℕ → ℕ → Row → Bool
 is_lasting_row ceremony at row = has_number 2 ceremony row && (is_null (column row 3) || has_from 3 at row)
 
-abbrev pub is_stay_row : StaysOf → Row → Bool
+abbrev pub is_stay_row : StayFilter → Row → Bool
 is_stay_row asked row = is_lasting_row asked.ceremony asked.at row
 
 -- ---- the rows asked for
 
 -- of a table those under a key, or all
-abbrev pub AskedAreShown : {X K : Type 0} → (X → Row) → Place → (K → Row → Bool) → Selection K → List X → Trees → Type 0
-AskedAreShown row_of place is_under asked shown db = AreShown row_of shown (asked_of is_under asked (rows_at place db))
+abbrev pub SelectedAreRead : {X K : Type 0} → (X → Row) → TableLayout → (K → Row → Bool) → Selection K → List X → Trees → Type 0
+SelectedAreRead row_of place is_under asked shown db = AreShown row_of shown (asked_of is_under asked (rows_at place db))
 
 -- of a table all
-abbrev pub WholeIsShown : {X : Type 0} → (X → Row) → Place → Bool → List X → Trees → Type 0
-WholeIsShown row_of place asked shown db = AreShown row_of shown (asked_all asked (rows_at place db))
+abbrev pub AllAreRead : {X : Type 0} → (X → Row) → TableLayout → Bool → List X → Trees → Type 0
+AllAreRead row_of place asked shown db = AreShown row_of shown (asked_all asked (rows_at place db))
 
 -- the appointments to a place, and those of a person
 abbrev pub rows_to : Custodian → Trees → List Row
@@ -121,37 +121,37 @@ rows_to place db = filter (has_text 0 (place_text place)) (rows_at appointments_
 abbrev pub rows_of_person : List ℕ → Trees → List Row
 rows_of_person who db = filter (has_text 2 who) (rows_at appointments_place db)
 
--- one of the first rows, or none where there are none, and behind it one of the others
+-- one of the first rows, or none if there are none, and behind it one of the others
 abbrev pub AreOneOfEach : List Row → List Row → List Row → Type 0
 AreOneOfEach first others shown =
     (front : List Row) × (behind : List Row) × (shown ≡ front ++ behind) × IsOneOf first front × IsOneOf others behind
 
 -- of the appointments one to the place, one of the person, or one of each; those that last beyond the day; or all
-abbrev pub AppointmentsAreShown : Selection AppointmentsOf → List Appointment → Trees → Type 0
+abbrev pub AppointmentsAreShown : Selection AppointmentFilter → List Appointment → Trees → Type 0
 AppointmentsAreShown Nothing shown db = Unit {0}
-AppointmentsAreShown (Under (Appointments.Place place)) shown db =
+AppointmentsAreShown (Matching (Appointments.Place place)) shown db =
     IsOneOf (rows_to place db) (map appointment_row shown)
-AppointmentsAreShown (Under (Appointments.Person who)) shown db =
+AppointmentsAreShown (Matching (Appointments.Person who)) shown db =
     IsOneOf (rows_of_person who db) (map appointment_row shown)
-AppointmentsAreShown (Under (Appointments.Both place who)) shown db =
+AppointmentsAreShown (Matching (Appointments.LastToPlaceAndOfPerson place who)) shown db =
     AreOneOfEach (rows_to place db) (rows_of_person who db) (map appointment_row shown)
-AppointmentsAreShown (Under (Appointments.Lasting day)) shown db =
+AppointmentsAreShown (Matching (Appointments.EndingAfter day)) shown db =
     AreShown appointment_row shown (filter (is_beyond_row day) (rows_at appointments_place db))
 AppointmentsAreShown All shown db = AreShown appointment_row shown (rows_at appointments_place db)
 
--- of the seatings of the ceremony one, or none where there are none
+-- of the seatings of the ceremony one, or none if there are none
 abbrev pub OneSeatingIsShown : ℕ → List SeatingRow → Trees → Type 0
 OneSeatingIsShown ceremony seatings db =
     IsOneOf (filter (has_number 0 ceremony) (rows_at seatings_place db)) (map seating_row seatings)
 
--- of the steps the one whose number is asked for, where these are the seatings that are shown
-abbrev pub StepIsShown : StepOf → List SeatingRow → List StepRow → Trees → Type 0
+-- of the steps the one whose number is asked for, if these are the seatings that are shown
+abbrev pub StepIsShown : StepFilter → List SeatingRow → List StepRow → Trees → Type 0
 StepIsShown asked seatings steps db =
     let is_asked = is_row_of_step asked.ceremony (step_asked asked seatings) in
     AreShown step_row steps (filter is_asked (rows_at steps_place db))
 
 -- of a step that is asked for its row, and one seating of its ceremony
-abbrev pub StepsAreShown : Option StepOf → List SeatingRow → List StepRow → Trees → Type 0
+abbrev pub StepsAreShown : Option StepFilter → List SeatingRow → List StepRow → Trees → Type 0
 StepsAreShown None seatings steps db = Unit {0}
 StepsAreShown (Some asked) seatings steps db =
     OneSeatingIsShown asked.ceremony seatings db × StepIsShown asked seatings steps db
@@ -159,31 +159,31 @@ StepsAreShown (Some asked) seatings steps db =
 -- of people's offices
 pub record StaffIsShown (asks : Asks) (trainings : List Training)
     (withdrawals : List Withdrawal) (appointments : List Appointment) (db : Trees) : Type 0 where
-  pub trainings_are : AskedAreShown training_row trainings_place is_training_row asks.trainings trainings db
-  pub withdrawals_are : AskedAreShown withdrawal_row withdrawals_place (has_text 0) asks.withdrawals withdrawals db
+  pub trainings_are : SelectedAreRead training_row trainings_place is_training_row asks.trainings trainings db
+  pub withdrawals_are : SelectedAreRead withdrawal_row withdrawals_place (has_text 0) asks.withdrawals withdrawals db
   pub appointments_are : AppointmentsAreShown asks.appointments appointments db
 
 -- of what is kept in the safes
 pub record CustodyIsShown (asks : Asks) (boxes : List BoxRow) (safes : List SafeRow) (bags : List Bag)
     (items : List Item) (db : Trees) : Type 0 where
-  pub boxes_are : WholeIsShown box_row boxes_place asks.boxes boxes db
-  pub safes_are : WholeIsShown safe_row safes_place asks.safes safes db
-  pub bags_are : AskedAreShown bag_row bags_place (has_text 0) asks.bags bags db
-  pub items_are : AskedAreShown item_row items_place is_item_row asks.items items db
+  pub boxes_are : AllAreRead box_row boxes_place asks.boxes boxes db
+  pub safes_are : AllAreRead safe_row safes_place asks.safes safes db
+  pub bags_are : SelectedAreRead bag_row bags_place (has_text 0) asks.bags bags db
+  pub items_are : SelectedAreRead item_row items_place is_item_row asks.items items db
 
 -- of ceremonies
 pub record CeremoniesAreShown (asks : Asks) (ceremonies : List CeremonyRow) (marks : List MarkRow)
     (steps : List StepRow) (seatings : List SeatingRow) (exceptions : List ExceptionRow) (db : Trees) : Type 0 where
-  pub ceremonies_are : AskedAreShown ceremony_row ceremonies_place (has_number 0) asks.ceremonies ceremonies db
-  pub marks_are : AskedAreShown mark_row marks_place (has_number 0) asks.marks marks db
+  pub ceremonies_are : SelectedAreRead ceremony_row ceremonies_place (has_number 0) asks.ceremonies ceremonies db
+  pub marks_are : SelectedAreRead mark_row marks_place (has_number 0) asks.marks marks db
   pub steps_are : StepsAreShown asks.steps seatings steps db
-  pub exceptions_are : AskedAreShown exception_row exceptions_place (has_number 0) asks.exceptions exceptions db
+  pub exceptions_are : SelectedAreRead exception_row exceptions_place (has_number 0) asks.exceptions exceptions db
 
 -- every row asked for, of each table, is the row of a value in the view; of the stays those of the ceremony
-pub record NoneIsStrange (asks : Asks) (view : View) (db : Trees) : Type 0 where
-  pub people : AskedAreShown person_row people_place (has_any 0) asks.people view.people.items db
+pub record HasNoInvalidRow (asks : Asks) (view : View) (db : Trees) : Type 0 where
+  pub people : SelectedAreRead person_row people_place (has_any 0) asks.people view.people.items db
   pub staff : StaffIsShown asks view.trainings.items view.withdrawals.items view.appointments.items db
   pub custody : CustodyIsShown asks view.boxes.items view.safes.items view.bags.items view.items.items db
   pub ceremonies : CeremoniesAreShown asks view.ceremonies.items view.marks.items view.steps.items
       view.seatings.items view.exceptions.items db
-  pub stays : AskedAreShown stay_row stays_place is_stay_row asks.stays view.stays.items db
+  pub stays : SelectedAreRead stay_row stays_place is_stay_row asks.stays view.stays.items db

@@ -12,22 +12,22 @@ use Rattle.sqlite_catalog.specs.Listing.{IsSound}
 use Rattle.sqlite_value.specs.declared.keys.Key.{Key}
 use Rattle.sqlite_tied.specs.Compute.{everything}
 use Rattle.kcr_history.specs.Views.{is_exception_of}
-use Rattle.kcr_rows.specs.Keyed.{Keeps}
+use Rattle.kcr_rows.specs.Keyed.{TreeHolds}
 use Rattle.kcr_rows.proofs.FilterLemmas.{has_value, value_is}
 use Rattle.kcr_rows.proofs.WriteLemmas.{cast_null, cast_int}
 use Rattle.kcr_rows.proofs.TableLemmas.{keeps_still, each_is}
 use Rattle.kcr_rows.proofs.SameLemmas.{one_number, number_ties}
 use Rattle.kcr_rows.proofs.StateLemmas.{cast_or_null}
 use Rattle.kcr_rows.specs.Rows.{exception_row}
-use Rattle.kcr_history.specs.declared.rows.ExceptionRow.{ExceptionRow}
+use Rattle.kcr_history.specs.declared.row_types.ExceptionRow.{ExceptionRow}
 use Rattle.kcr_tables.specs.Schema.{register_schema, exceptions}
-use Rattle.kcr_tables.specs.Held.{Tables, Kept, people_place, trainings_place, appointments_place, boxes_place}
-use Rattle.kcr_tables.specs.Held.{safes_place, bags_place, items_place, ceremonies_place, marks_place, steps_place}
-use Rattle.kcr_tables.specs.Held.{seatings_place, sheet_place, exceptions_place, versions_place, keys_place}
-use Rattle.kcr_tables.specs.Held.{stays_place, withdrawals_place}
+use Rattle.kcr_tables.specs.StoredTables.{StoredTables, TreesHold, people_place, trainings_place, appointments_place}
+use Rattle.kcr_tables.specs.StoredTables.{boxes_place, safes_place, bags_place, items_place, ceremonies_place}
+use Rattle.kcr_tables.specs.StoredTables.{marks_place, steps_place, seatings_place, sheet_place, exceptions_place}
+use Rattle.kcr_tables.specs.StoredTables.{versions_place, keys_place, stays_place, withdrawals_place}
 use Rattle.kcr_tables.specs.Parts.{text_in, number_in}
-use Rattle.kcr_tables.specs.Statements.{shown_columns, key_order, is_given, ShowsRows, new_terms, InsertsRow}
-use Rattle.kcr_tables.specs.Table.{Table, IsTable, Finding, IsFinding}
+use Rattle.kcr_tables.specs.Statements.{shown_columns, key_order, is_given, SelectsRows, new_terms, InsertsRow}
+use Rattle.kcr_tables.specs.Table.{TableSpec, IsTable, LookupSpec, IsLookup}
 
 abbrev pub project : List Term
 project = shown_columns exceptions_place
@@ -38,7 +38,7 @@ order = key_order exceptions_place
 abbrev pub names : List (List ℕ)
 names = codes "ceremony" ∷ codes "exception" ∷ codes "text" ∷ codes "at" ∷ codes "passed" ∷ []
 
-abbrev pub table : Table ExceptionRow
+abbrev pub table : TableSpec ExceptionRow
 table = record {
   rows_in = λ t. t.rows.exceptions;
   place = exceptions_place;
@@ -57,17 +57,17 @@ one x y read held h = λ i. record {
   passed = one_number x.passed y.passed (ap (λ (r : Row). column r 4) h) i;
 }
 
-lists : ShowsRows table.all_sql exceptions_place [] (λ _. true)
+lists : SelectsRows table.all_sql exceptions_place [] (λ _. true)
 unfolding understood everything
 lists = record { test = []; project = project; order = order; names = names; bare = (refl, refl); is = refl }
 
 -- ---- the rows of one ceremony
 
-abbrev pub exceptions_of : Finding (ℕ) ExceptionRow
+abbrev pub exceptions_of : LookupSpec (ℕ) ExceptionRow
 exceptions_of = record { is_under = λ ceremony x. is_exception_of ceremony x; column = 0; find_sql = codes "SELECT ceremony, exception, text, at, passed FROM exceptions WHERE ceremony = ?1 ORDER BY ceremony, exception" }
 
 shows_exceptions_of : (ceremony : ℕ)
-    → ShowsRows exceptions_of.find_sql exceptions_place (Int (pos ceremony) ∷ []) (has_value 0 (Int (pos ceremony)))
+    → SelectsRows exceptions_of.find_sql exceptions_place (Int (pos ceremony) ∷ []) (has_value 0 (Int (pos ceremony)))
 unfolding understood everything
 shows_exceptions_of ceremony =
     record { test = is_given 1; project = project; order = order; names = names; bare = (refl, refl); is = refl }
@@ -77,7 +77,7 @@ under_exceptions_of : (ceremony : ℕ) (x : ExceptionRow)
 under_exceptions_of ceremony x = value_is (Int (pos x.ceremony)) (Int (pos ceremony)) refl refl
     ∙ sym (number_ties x.ceremony ceremony)
 
-pub exceptions_of_laws : IsFinding exceptions_of exceptions_place (λ n. Int (pos n)) exception_row
+pub exceptions_of_laws : IsLookup exceptions_of exceptions_place (λ n. Int (pos n)) exception_row
 exceptions_of_laws = record { finds = shows_exceptions_of; under = under_exceptions_of }
 
 -- ---- a row put under its key
@@ -99,11 +99,11 @@ inserts = record {
   is = refl;
 }
 
--- the other tables stay where the rows of this one are changed
-pub still : (old new : Trees) (rows : List ExceptionRow) (t : Tables) → IsSound register_schema new
-    → Keeps exceptions_place new (map exception_row rows) → AllByRecursion (λ _. ⊤) rows
-    → ((tree : ℕ) → tree ≢ 26 → IsNoIndex register_schema tree → new tree ≡ old tree) → Kept old t
-    → Kept new (record t { rows = record t.rows { exceptions = rows } })
+-- the other tables stay if the rows of this one are changed
+pub still : (old new : Trees) (rows : List ExceptionRow) (t : StoredTables) → IsSound register_schema new
+    → TreeHolds exceptions_place new (map exception_row rows) → AllByRecursion (λ _. ⊤) rows
+    → ((tree : ℕ) → tree ≢ 26 → IsNoIndex register_schema tree → new tree ≡ old tree) → TreesHold old t
+    → TreesHold new (record t { rows = record t.rows { exceptions = rows } })
 still old new rows t sound keeps stored others k = record {
   sound = sound;
   people = keeps_still register_schema 26 people_place old new _ others refl refl k.people;

@@ -13,8 +13,8 @@ use Rattle.sqlite_value.specs.declared.keys.Key.{Key}
 use Rattle.sqlite_tied.specs.Compute.{everything}
 use Rattle.kcr_base.specs.Same.{same_text}
 use Rattle.kcr_history.specs.Views.{is_item_of}
-use Rattle.kcr_history.specs.declared.views.ItemsOf.TheVariants as Wanted
-use Rattle.kcr_rows.specs.Keyed.{Keeps}
+use Rattle.kcr_history.specs.declared.views.ItemFilter.TheVariants as Wanted
+use Rattle.kcr_rows.specs.Keyed.{TreeHolds}
 use Rattle.kcr_rows.proofs.FilterLemmas.{has_value, value_is}
 use Rattle.kcr_rows.proofs.WriteLemmas.{cast_null}
 use Rattle.kcr_rows.proofs.TableLemmas.{keeps_still, each_is}
@@ -23,14 +23,14 @@ use Rattle.kcr_rows.proofs.StateLemmas.{cast_loose, cast_within, one_rest, withi
 use Rattle.kcr_rows.specs.Rows.{item_row}
 use Rattle.kcr_custody.specs.declared.Item.{Item}
 use Rattle.kcr_tables.specs.Schema.{register_schema, items}
-use Rattle.kcr_tables.specs.Held.{Tables, Kept, people_place, trainings_place, appointments_place, boxes_place}
-use Rattle.kcr_tables.specs.Held.{safes_place, bags_place, items_place, ceremonies_place, marks_place, steps_place}
-use Rattle.kcr_tables.specs.Held.{seatings_place, sheet_place, exceptions_place, versions_place, keys_place}
-use Rattle.kcr_tables.specs.Held.{stays_place, withdrawals_place}
+use Rattle.kcr_tables.specs.StoredTables.{StoredTables, TreesHold, people_place, trainings_place, appointments_place}
+use Rattle.kcr_tables.specs.StoredTables.{boxes_place, safes_place, bags_place, items_place, ceremonies_place}
+use Rattle.kcr_tables.specs.StoredTables.{marks_place, steps_place, seatings_place, sheet_place, exceptions_place}
+use Rattle.kcr_tables.specs.StoredTables.{versions_place, keys_place, stays_place, withdrawals_place}
 use Rattle.kcr_tables.specs.Parts.{text_in}
-use Rattle.kcr_tables.specs.Statements.{shown_columns, key_order, is_given, ShowsRows, new_terms, key_test}
+use Rattle.kcr_tables.specs.Statements.{shown_columns, key_order, is_given, SelectsRows, new_terms, key_test}
 use Rattle.kcr_tables.specs.Statements.{update_terms, InsertsRow, UpdatesRow}
-use Rattle.kcr_tables.specs.Table.{Table, IsTable, Finding, IsFinding}
+use Rattle.kcr_tables.specs.Table.{TableSpec, IsTable, LookupSpec, IsLookup}
 
 abbrev pub project : List Term
 project = shown_columns items_place
@@ -41,7 +41,7 @@ order = key_order items_place
 abbrev pub names : List (List ℕ)
 names = codes "code" ∷ codes "facility" ∷ codes "serial" ∷ []
 
-abbrev pub table : Table Item
+abbrev pub table : TableSpec Item
 table = record {
   rows_in = λ t. t.rows.items;
   place = items_place;
@@ -57,16 +57,16 @@ one x y read held h = λ i. record {
   rest = one_rest x.rest y.rest (ap (λ (r : Row). column r 1) h) (ap (λ (r : Row). column r 2) h) i;
 }
 
-lists : ShowsRows table.all_sql items_place [] (λ _. true)
+lists : SelectsRows table.all_sql items_place [] (λ _. true)
 unfolding understood everything
 lists = record { test = []; project = project; order = order; names = names; bare = (refl, refl); is = refl }
 
 -- ---- the row of the item with this code, alone, or none
 
-abbrev pub item_of : Finding (List ℕ) Item
+abbrev pub item_of : LookupSpec (List ℕ) Item
 item_of = record { is_under = λ code x. same_text x.code code; column = 0; find_sql = codes "SELECT code, facility, serial FROM items WHERE code = ?1 ORDER BY code" }
 
-shows_item_of : (code : List ℕ) → ShowsRows item_of.find_sql items_place (Text code ∷ []) (has_value 0 (Text code))
+shows_item_of : (code : List ℕ) → SelectsRows item_of.find_sql items_place (Text code ∷ []) (has_value 0 (Text code))
 unfolding understood everything
 shows_item_of code =
     record { test = is_given 1; project = project; order = order; names = names; bare = (refl, refl); is = refl }
@@ -74,16 +74,16 @@ shows_item_of code =
 under_item_of : (code : List ℕ) (x : Item) → has_value 0 (Text code) (item_row x) ≡ same_text x.code code
 under_item_of code x = value_is (Text x.code) (Text code) refl refl ∙ sym (text_ties x.code code)
 
-pub item_of_laws : IsFinding item_of items_place Text item_row
+pub item_of_laws : IsLookup item_of items_place Text item_row
 item_of_laws = record { finds = shows_item_of; under = under_item_of }
 
 -- ---- the rows of the items in the bag with this serial
 
-abbrev pub items_within : Finding (List ℕ) Item
+abbrev pub items_within : LookupSpec (List ℕ) Item
 items_within = record { is_under = λ serial x. is_item_of (Wanted.Bag serial) x; column = 2; find_sql = codes "SELECT code, facility, serial FROM items WHERE serial = ?1 ORDER BY code" }
 
 shows_items_within : (serial : List ℕ)
-    → ShowsRows items_within.find_sql items_place (Text serial ∷ []) (has_value 2 (Text serial))
+    → SelectsRows items_within.find_sql items_place (Text serial ∷ []) (has_value 2 (Text serial))
 unfolding understood everything
 shows_items_within serial =
     record { test = is_given 3; project = project; order = order; names = names; bare = (refl, refl); is = refl }
@@ -92,7 +92,7 @@ under_items_within : (serial : List ℕ) (x : Item)
     → has_value 2 (Text serial) (item_row x) ≡ is_item_of (Wanted.Bag serial) x
 under_items_within serial x = within_is x.rest serial
 
-pub items_within_laws : IsFinding items_within items_place Text item_row
+pub items_within_laws : IsLookup items_within items_place Text item_row
 items_within_laws = record { finds = shows_items_within; under = under_items_within }
 
 -- ---- a row put under its key
@@ -129,11 +129,11 @@ updates = record {
   is = refl;
 }
 
--- the other tables stay where the rows of this one are changed
-pub still : (old new : Trees) (rows : List Item) (t : Tables) → IsSound register_schema new
-    → Keeps items_place new (map item_row rows) → AllByRecursion (λ _. ⊤) rows
-    → ((tree : ℕ) → tree ≢ 13 → IsNoIndex register_schema tree → new tree ≡ old tree) → Kept old t
-    → Kept new (record t { rows = record t.rows { items = rows } })
+-- the other tables stay if the rows of this one are changed
+pub still : (old new : Trees) (rows : List Item) (t : StoredTables) → IsSound register_schema new
+    → TreeHolds items_place new (map item_row rows) → AllByRecursion (λ _. ⊤) rows
+    → ((tree : ℕ) → tree ≢ 13 → IsNoIndex register_schema tree → new tree ≡ old tree) → TreesHold old t
+    → TreesHold new (record t { rows = record t.rows { items = rows } })
 still old new rows t sound keeps stored others k = record {
   sound = sound;
   people = keeps_still register_schema 13 people_place old new _ others refl refl k.people;

@@ -11,21 +11,21 @@ use Rattle.sqlite_catalog.specs.Listing.{IsSound}
 use Rattle.sqlite_value.specs.declared.keys.Key.{Key}
 use Rattle.sqlite_tied.specs.Compute.{everything}
 use Rattle.kcr_history.specs.Views.{is_of_key}
-use Rattle.kcr_rows.specs.Keyed.{Keeps}
+use Rattle.kcr_rows.specs.Keyed.{TreeHolds}
 use Rattle.kcr_rows.proofs.FilterLemmas.{has_value, value_is}
 use Rattle.kcr_rows.proofs.WriteLemmas.{cast_null, cast_int}
 use Rattle.kcr_rows.proofs.TableLemmas.{keeps_still, each_is}
 use Rattle.kcr_rows.proofs.SameLemmas.{text_ties}
 use Rattle.kcr_rows.specs.Rows.{key_row}
-use Rattle.kcr_history.specs.declared.rows.KeyRow.{KeyRow}
+use Rattle.kcr_history.specs.declared.row_types.KeyRow.{KeyRow}
 use Rattle.kcr_tables.specs.Schema.{register_schema, keys}
-use Rattle.kcr_tables.specs.Held.{Tables, Kept, people_place, trainings_place, appointments_place, boxes_place}
-use Rattle.kcr_tables.specs.Held.{safes_place, bags_place, items_place, ceremonies_place, marks_place, steps_place}
-use Rattle.kcr_tables.specs.Held.{seatings_place, sheet_place, exceptions_place, versions_place, keys_place}
-use Rattle.kcr_tables.specs.Held.{stays_place, withdrawals_place}
+use Rattle.kcr_tables.specs.StoredTables.{StoredTables, TreesHold, people_place, trainings_place, appointments_place}
+use Rattle.kcr_tables.specs.StoredTables.{boxes_place, safes_place, bags_place, items_place, ceremonies_place}
+use Rattle.kcr_tables.specs.StoredTables.{marks_place, steps_place, seatings_place, sheet_place, exceptions_place}
+use Rattle.kcr_tables.specs.StoredTables.{versions_place, keys_place, stays_place, withdrawals_place}
 use Rattle.kcr_tables.specs.Parts.{text_in, number_in}
-use Rattle.kcr_tables.specs.Statements.{shown_columns, key_order, is_given, ShowsRows, InsertsRow}
-use Rattle.kcr_tables.specs.Table.{Table, IsTable, Finding, IsFinding}
+use Rattle.kcr_tables.specs.Statements.{shown_columns, key_order, is_given, SelectsRows, InsertsRow}
+use Rattle.kcr_tables.specs.Table.{TableSpec, IsTable, LookupSpec, IsLookup}
 
 abbrev pub project : List Term
 project = shown_columns keys_place
@@ -36,7 +36,7 @@ order = key_order keys_place
 abbrev pub names : List (List ℕ)
 names = codes "key" ∷ codes "accepted" ∷ codes "command" ∷ codes "reply" ∷ []
 
-abbrev pub table : Table KeyRow
+abbrev pub table : TableSpec KeyRow
 table = record {
   rows_in = λ t. t.rows.keys;
   place = keys_place;
@@ -54,16 +54,16 @@ one x y read held h = λ i. record {
   reply = text_in 3 (h i);
 }
 
-lists : ShowsRows table.all_sql keys_place [] (λ _. true)
+lists : SelectsRows table.all_sql keys_place [] (λ _. true)
 unfolding understood everything
 lists = record { test = []; project = project; order = order; names = names; bare = (refl, refl); is = refl }
 
 -- ---- the row of this key, alone, or none
 
-abbrev pub key_row_of : Finding (List ℕ) KeyRow
+abbrev pub key_row_of : LookupSpec (List ℕ) KeyRow
 key_row_of = record { is_under = λ key x. is_of_key key x; column = 0; find_sql = codes "SELECT \"key\", accepted, command, reply FROM keys WHERE \"key\" = ?1 ORDER BY \"key\"" }
 
-shows_key_row_of : (key : List ℕ) → ShowsRows key_row_of.find_sql keys_place (Text key ∷ []) (has_value 0 (Text key))
+shows_key_row_of : (key : List ℕ) → SelectsRows key_row_of.find_sql keys_place (Text key ∷ []) (has_value 0 (Text key))
 unfolding understood everything
 shows_key_row_of key =
     record { test = is_given 1; project = project; order = order; names = names; bare = (refl, refl); is = refl }
@@ -71,7 +71,7 @@ shows_key_row_of key =
 under_key_row_of : (key : List ℕ) (x : KeyRow) → has_value 0 (Text key) (key_row x) ≡ is_of_key key x
 under_key_row_of key x = value_is (Text x.key) (Text key) refl refl ∙ sym (text_ties x.key key)
 
-pub key_row_of_laws : IsFinding key_row_of keys_place Text key_row
+pub key_row_of_laws : IsLookup key_row_of keys_place Text key_row
 key_row_of_laws = record { finds = shows_key_row_of; under = under_key_row_of }
 
 -- ---- a row put under its key
@@ -92,11 +92,11 @@ inserts = record {
   is = refl;
 }
 
--- the other tables stay where the rows of this one are changed
-pub still : (old new : Trees) (rows : List KeyRow) (t : Tables) → IsSound register_schema new
-    → Keeps keys_place new (map key_row rows) → AllByRecursion (λ _. ⊤) rows
-    → ((tree : ℕ) → tree ≢ 30 → IsNoIndex register_schema tree → new tree ≡ old tree) → Kept old t
-    → Kept new (record t { rows = record t.rows { keys = rows } })
+-- the other tables stay if the rows of this one are changed
+pub still : (old new : Trees) (rows : List KeyRow) (t : StoredTables) → IsSound register_schema new
+    → TreeHolds keys_place new (map key_row rows) → AllByRecursion (λ _. ⊤) rows
+    → ((tree : ℕ) → tree ≢ 30 → IsNoIndex register_schema tree → new tree ≡ old tree) → TreesHold old t
+    → TreesHold new (record t { rows = record t.rows { keys = rows } })
 still old new rows t sound keeps stored others k = record {
   sound = sound;
   people = keeps_still register_schema 30 people_place old new _ others refl refl k.people;

@@ -1,12 +1,12 @@
 pub mod Schema
 pub mod Keyed
 pub mod Refusals
-pub mod Held
-pub mod Made
-pub mod First
+pub mod StoredTables
+pub mod Creation
+pub mod NewTables
 pub mod Changed
-pub mod Joint
-pub mod Asked
+pub mod MachineTables
+pub mod Selected
 pub mod Frame
 pub mod Exact
 pub mod Statements

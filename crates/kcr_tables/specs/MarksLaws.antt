@@ -11,22 +11,22 @@ use Rattle.sqlite_catalog.specs.Listing.{IsSound}
 use Rattle.sqlite_value.specs.declared.keys.Key.{Key}
 use Rattle.sqlite_tied.specs.Compute.{everything}
 use Rattle.kcr_history.specs.Views.{is_mark_of}
-use Rattle.kcr_rows.specs.Keyed.{Keeps}
+use Rattle.kcr_rows.specs.Keyed.{TreeHolds}
 use Rattle.kcr_rows.proofs.FilterLemmas.{has_value, value_is}
 use Rattle.kcr_rows.proofs.WriteLemmas.{cast_null, cast_int}
 use Rattle.kcr_rows.proofs.TableLemmas.{keeps_still, each_is}
 use Rattle.kcr_rows.proofs.SameLemmas.{number_ties}
 use Rattle.kcr_rows.specs.Rows.{mark_row}
-use Rattle.kcr_history.specs.declared.rows.MarkRow.{MarkRow}
+use Rattle.kcr_history.specs.declared.row_types.MarkRow.{MarkRow}
 use Rattle.kcr_tables.specs.Schema.{register_schema, marks}
-use Rattle.kcr_tables.specs.Held.{Tables, Kept, people_place, trainings_place, appointments_place, boxes_place}
-use Rattle.kcr_tables.specs.Held.{safes_place, bags_place, items_place, ceremonies_place, marks_place, steps_place}
-use Rattle.kcr_tables.specs.Held.{seatings_place, sheet_place, exceptions_place, versions_place, keys_place}
-use Rattle.kcr_tables.specs.Held.{stays_place, withdrawals_place}
+use Rattle.kcr_tables.specs.StoredTables.{StoredTables, TreesHold, people_place, trainings_place, appointments_place}
+use Rattle.kcr_tables.specs.StoredTables.{boxes_place, safes_place, bags_place, items_place, ceremonies_place}
+use Rattle.kcr_tables.specs.StoredTables.{marks_place, steps_place, seatings_place, sheet_place, exceptions_place}
+use Rattle.kcr_tables.specs.StoredTables.{versions_place, keys_place, stays_place, withdrawals_place}
 use Rattle.kcr_tables.specs.Parts.{number_in}
-use Rattle.kcr_tables.specs.Statements.{shown_columns, key_order, is_given, ShowsRows, new_terms, key_test}
+use Rattle.kcr_tables.specs.Statements.{shown_columns, key_order, is_given, SelectsRows, new_terms, key_test}
 use Rattle.kcr_tables.specs.Statements.{update_terms, InsertsRow, UpdatesRow}
-use Rattle.kcr_tables.specs.Table.{Table, IsTable, Finding, IsFinding}
+use Rattle.kcr_tables.specs.Table.{TableSpec, IsTable, LookupSpec, IsLookup}
 
 abbrev pub project : List Term
 project = shown_columns marks_place
@@ -37,7 +37,7 @@ order = key_order marks_place
 abbrev pub names : List (List ℕ)
 names = codes "ceremony" ∷ codes "at" ∷ []
 
-abbrev pub table : Table MarkRow
+abbrev pub table : TableSpec MarkRow
 table = record {
   rows_in = λ t. t.rows.marks;
   place = marks_place;
@@ -50,17 +50,17 @@ table = record {
 pub one : (x y : MarkRow) → ⊤ → ⊤ → mark_row x ≡ mark_row y → x ≡ y
 one x y read held h = λ i. record { ceremony = number_in 0 (h i); at = number_in 1 (h i) }
 
-lists : ShowsRows table.all_sql marks_place [] (λ _. true)
+lists : SelectsRows table.all_sql marks_place [] (λ _. true)
 unfolding understood everything
 lists = record { test = []; project = project; order = order; names = names; bare = (refl, refl); is = refl }
 
 -- ---- the row of the ceremony, alone, or none
 
-abbrev pub mark_of : Finding (ℕ) MarkRow
+abbrev pub mark_of : LookupSpec (ℕ) MarkRow
 mark_of = record { is_under = λ ceremony x. is_mark_of ceremony x; column = 0; find_sql = codes "SELECT ceremony, at FROM marks WHERE ceremony = ?1 ORDER BY ceremony" }
 
 shows_mark_of : (ceremony : ℕ)
-    → ShowsRows mark_of.find_sql marks_place (Int (pos ceremony) ∷ []) (has_value 0 (Int (pos ceremony)))
+    → SelectsRows mark_of.find_sql marks_place (Int (pos ceremony) ∷ []) (has_value 0 (Int (pos ceremony)))
 unfolding understood everything
 shows_mark_of ceremony =
     record { test = is_given 1; project = project; order = order; names = names; bare = (refl, refl); is = refl }
@@ -69,7 +69,7 @@ under_mark_of : (ceremony : ℕ) (x : MarkRow) → has_value 0 (Int (pos ceremon
 under_mark_of ceremony x = value_is (Int (pos x.ceremony)) (Int (pos ceremony)) refl refl
     ∙ sym (number_ties x.ceremony ceremony)
 
-pub mark_of_laws : IsFinding mark_of marks_place (λ n. Int (pos n)) mark_row
+pub mark_of_laws : IsLookup mark_of marks_place (λ n. Int (pos n)) mark_row
 mark_of_laws = record { finds = shows_mark_of; under = under_mark_of }
 
 -- ---- a row put under its key
@@ -106,11 +106,11 @@ updates = record {
   is = refl;
 }
 
--- the other tables stay where the rows of this one are changed
-pub still : (old new : Trees) (rows : List MarkRow) (t : Tables) → IsSound register_schema new
-    → Keeps marks_place new (map mark_row rows) → AllByRecursion (λ _. ⊤) rows
-    → ((tree : ℕ) → tree ≢ 18 → IsNoIndex register_schema tree → new tree ≡ old tree) → Kept old t
-    → Kept new (record t { rows = record t.rows { marks = rows } })
+-- the other tables stay if the rows of this one are changed
+pub still : (old new : Trees) (rows : List MarkRow) (t : StoredTables) → IsSound register_schema new
+    → TreeHolds marks_place new (map mark_row rows) → AllByRecursion (λ _. ⊤) rows
+    → ((tree : ℕ) → tree ≢ 18 → IsNoIndex register_schema tree → new tree ≡ old tree) → TreesHold old t
+    → TreesHold new (record t { rows = record t.rows { marks = rows } })
 still old new rows t sound keeps stored others k = record {
   sound = sound;
   people = keeps_still register_schema 18 people_place old new _ others refl refl k.people;

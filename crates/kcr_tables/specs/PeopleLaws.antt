@@ -11,7 +11,7 @@ use Rattle.sqlite_catalog.specs.Listing.{IsSound}
 use Rattle.sqlite_value.specs.declared.keys.Key.{Key}
 use Rattle.sqlite_tied.specs.Compute.{everything}
 use Rattle.kcr_base.specs.Same.{same_text}
-use Rattle.kcr_rows.specs.Keyed.{Keeps}
+use Rattle.kcr_rows.specs.Keyed.{TreeHolds}
 use Rattle.kcr_rows.proofs.FilterLemmas.{has_value, value_is}
 use Rattle.kcr_rows.proofs.WriteLemmas.{cast_null}
 use Rattle.kcr_rows.proofs.TableLemmas.{keeps_still, each_is}
@@ -19,13 +19,13 @@ use Rattle.kcr_rows.proofs.SameLemmas.{text_ties}
 use Rattle.kcr_rows.specs.Rows.{person_row}
 use Rattle.kcr_people.specs.declared.Person.{Person}
 use Rattle.kcr_tables.specs.Schema.{register_schema, people}
-use Rattle.kcr_tables.specs.Held.{Tables, Kept, people_place, trainings_place, appointments_place, boxes_place}
-use Rattle.kcr_tables.specs.Held.{safes_place, bags_place, items_place, ceremonies_place, marks_place, steps_place}
-use Rattle.kcr_tables.specs.Held.{seatings_place, sheet_place, exceptions_place, versions_place, keys_place}
-use Rattle.kcr_tables.specs.Held.{stays_place, withdrawals_place}
+use Rattle.kcr_tables.specs.StoredTables.{StoredTables, TreesHold, people_place, trainings_place, appointments_place}
+use Rattle.kcr_tables.specs.StoredTables.{boxes_place, safes_place, bags_place, items_place, ceremonies_place}
+use Rattle.kcr_tables.specs.StoredTables.{marks_place, steps_place, seatings_place, sheet_place, exceptions_place}
+use Rattle.kcr_tables.specs.StoredTables.{versions_place, keys_place, stays_place, withdrawals_place}
 use Rattle.kcr_tables.specs.Parts.{text_in}
-use Rattle.kcr_tables.specs.Statements.{shown_columns, key_order, is_given, ShowsRows, new_terms, InsertsRow}
-use Rattle.kcr_tables.specs.Table.{Table, IsTable, Finding, IsFinding}
+use Rattle.kcr_tables.specs.Statements.{shown_columns, key_order, is_given, SelectsRows, new_terms, InsertsRow}
+use Rattle.kcr_tables.specs.Table.{TableSpec, IsTable, LookupSpec, IsLookup}
 
 abbrev pub project : List Term
 project = shown_columns people_place
@@ -36,7 +36,7 @@ order = key_order people_place
 abbrev pub names : List (List ℕ)
 names = codes "who" ∷ codes "name" ∷ []
 
-abbrev pub table : Table Person
+abbrev pub table : TableSpec Person
 table = record {
   rows_in = λ t. t.rows.people;
   place = people_place;
@@ -49,16 +49,16 @@ table = record {
 pub one : (x y : Person) → ⊤ → ⊤ → person_row x ≡ person_row y → x ≡ y
 one x y read held h = λ i. record { who = text_in 0 (h i); name = text_in 1 (h i) }
 
-lists : ShowsRows table.all_sql people_place [] (λ _. true)
+lists : SelectsRows table.all_sql people_place [] (λ _. true)
 unfolding understood everything
 lists = record { test = []; project = project; order = order; names = names; bare = (refl, refl); is = refl }
 
 -- ---- the row of the person with these initials, alone, or none
 
-abbrev pub person_of : Finding (List ℕ) Person
+abbrev pub person_of : LookupSpec (List ℕ) Person
 person_of = record { is_under = λ who x. same_text x.who who; column = 0; find_sql = codes "SELECT who, name FROM people WHERE who = ?1 ORDER BY who" }
 
-shows_person_of : (who : List ℕ) → ShowsRows person_of.find_sql people_place (Text who ∷ []) (has_value 0 (Text who))
+shows_person_of : (who : List ℕ) → SelectsRows person_of.find_sql people_place (Text who ∷ []) (has_value 0 (Text who))
 unfolding understood everything
 shows_person_of who =
     record { test = is_given 1; project = project; order = order; names = names; bare = (refl, refl); is = refl }
@@ -66,7 +66,7 @@ shows_person_of who =
 under_person_of : (who : List ℕ) (x : Person) → has_value 0 (Text who) (person_row x) ≡ same_text x.who who
 under_person_of who x = value_is (Text x.who) (Text who) refl refl ∙ sym (text_ties x.who who)
 
-pub person_of_laws : IsFinding person_of people_place Text person_row
+pub person_of_laws : IsLookup person_of people_place Text person_row
 person_of_laws = record { finds = shows_person_of; under = under_person_of }
 
 -- ---- a row put under its key
@@ -87,11 +87,11 @@ inserts = record {
   is = refl;
 }
 
--- the other tables stay where the rows of this one are changed
-pub still : (old new : Trees) (rows : List Person) (t : Tables) → IsSound register_schema new
-    → Keeps people_place new (map person_row rows) → AllByRecursion (λ _. ⊤) rows
-    → ((tree : ℕ) → tree ≢ 0 → IsNoIndex register_schema tree → new tree ≡ old tree) → Kept old t
-    → Kept new (record t { rows = record t.rows { people = rows } })
+-- the other tables stay if the rows of this one are changed
+pub still : (old new : Trees) (rows : List Person) (t : StoredTables) → IsSound register_schema new
+    → TreeHolds people_place new (map person_row rows) → AllByRecursion (λ _. ⊤) rows
+    → ((tree : ℕ) → tree ≢ 0 → IsNoIndex register_schema tree → new tree ≡ old tree) → TreesHold old t
+    → TreesHold new (record t { rows = record t.rows { people = rows } })
 still old new rows t sound keeps stored others k = record {
   sound = sound;
   people = keeps;

@@ -10,7 +10,7 @@ use Rattle.sqlite.specs.Listing.{understood}
 use Rattle.sqlite_catalog.specs.Listing.{IsSound}
 use Rattle.sqlite_value.specs.declared.keys.Key.{Key}
 use Rattle.sqlite_tied.specs.Compute.{everything}
-use Rattle.kcr_rows.specs.Keyed.{Keeps}
+use Rattle.kcr_rows.specs.Keyed.{TreeHolds}
 use Rattle.kcr_rows.proofs.WriteLemmas.{cast_null, cast_int}
 use Rattle.kcr_rows.proofs.TableLemmas.{keeps_still, each_is}
 use Rattle.kcr_rows.proofs.StateLemmas.{one_way}
@@ -18,13 +18,13 @@ use Rattle.kcr_rows.specs.States.{way_number}
 use Rattle.kcr_rows.specs.Rows.{sheet_row}
 use Rattle.kcr_room.specs.declared.SheetRow.{SheetRow}
 use Rattle.kcr_tables.specs.Schema.{register_schema, sheet}
-use Rattle.kcr_tables.specs.Held.{Tables, Kept, people_place, trainings_place, appointments_place, boxes_place}
-use Rattle.kcr_tables.specs.Held.{safes_place, bags_place, items_place, ceremonies_place, marks_place, steps_place}
-use Rattle.kcr_tables.specs.Held.{seatings_place, sheet_place, exceptions_place, versions_place, keys_place}
-use Rattle.kcr_tables.specs.Held.{stays_place, withdrawals_place}
+use Rattle.kcr_tables.specs.StoredTables.{StoredTables, TreesHold, people_place, trainings_place, appointments_place}
+use Rattle.kcr_tables.specs.StoredTables.{boxes_place, safes_place, bags_place, items_place, ceremonies_place}
+use Rattle.kcr_tables.specs.StoredTables.{marks_place, steps_place, seatings_place, sheet_place, exceptions_place}
+use Rattle.kcr_tables.specs.StoredTables.{versions_place, keys_place, stays_place, withdrawals_place}
 use Rattle.kcr_tables.specs.Parts.{text_in, number_in}
-use Rattle.kcr_tables.specs.Statements.{shown_columns, key_order, ShowsRows, new_terms, InsertsRow}
-use Rattle.kcr_tables.specs.Table.{Table, IsTable}
+use Rattle.kcr_tables.specs.Statements.{shown_columns, key_order, SelectsRows, new_terms, InsertsRow}
+use Rattle.kcr_tables.specs.Table.{TableSpec, IsTable}
 
 abbrev pub project : List Term
 project = shown_columns sheet_place
@@ -35,7 +35,7 @@ order = key_order sheet_place
 abbrev pub names : List (List ℕ)
 names = codes "who" ∷ codes "at" ∷ codes "ceremony" ∷ codes "way" ∷ []
 
-abbrev pub table : Table SheetRow
+abbrev pub table : TableSpec SheetRow
 table = record {
   rows_in = λ t. t.rows.sheet;
   place = sheet_place;
@@ -53,7 +53,7 @@ one x y read held h = λ i. record {
   way = one_way x.way y.way (ap (number_in 3) h) i;
 }
 
-lists : ShowsRows table.all_sql sheet_place [] (λ _. true)
+lists : SelectsRows table.all_sql sheet_place [] (λ _. true)
 unfolding understood everything
 lists = record { test = []; project = project; order = order; names = names; bare = (refl, refl); is = refl }
 
@@ -76,11 +76,11 @@ inserts = record {
   is = refl;
 }
 
--- the other tables stay where the rows of this one are changed
-pub still : (old new : Trees) (rows : List SheetRow) (t : Tables) → IsSound register_schema new
-    → Keeps sheet_place new (map sheet_row rows) → AllByRecursion (λ _. ⊤) rows
-    → ((tree : ℕ) → tree ≢ 24 → IsNoIndex register_schema tree → new tree ≡ old tree) → Kept old t
-    → Kept new (record t { rows = record t.rows { sheet = rows } })
+-- the other tables stay if the rows of this one are changed
+pub still : (old new : Trees) (rows : List SheetRow) (t : StoredTables) → IsSound register_schema new
+    → TreeHolds sheet_place new (map sheet_row rows) → AllByRecursion (λ _. ⊤) rows
+    → ((tree : ℕ) → tree ≢ 24 → IsNoIndex register_schema tree → new tree ≡ old tree) → TreesHold old t
+    → TreesHold new (record t { rows = record t.rows { sheet = rows } })
 still old new rows t sound keeps stored others k = record {
   sound = sound;
   people = keeps_still register_schema 24 people_place old new _ others refl refl k.people;

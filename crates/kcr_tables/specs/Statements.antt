@@ -27,7 +27,7 @@ use Rattle.sqlite_value.specs.Keys.{plain, rising, ascending}
 use Rattle.sqlite_trees.specs.View.{is_int}
 use Rattle.sqlite_rules.specs.Action.{Work, works}
 use Rattle.kcr_rows.specs.Columns.{simple_as}
-use Rattle.kcr_rows.specs.Keyed.{Place, cells, by_key, is_full}
+use Rattle.kcr_rows.specs.Keyed.{TableLayout, cells, by_key, is_full}
 use Rattle.kcr_rows.proofs.ReadLemmas.{asking}
 use Rattle.kcr_rows.proofs.KeyLemmas.{places_from, full, same_from}
 use Rattle.kcr_rows.proofs.WriteLemmas.{entered}
@@ -37,11 +37,11 @@ use Rattle.kcr_tables.specs.Schema.{register_schema}
 -- ---- texts that show rows of a table
 
 -- the columns that are shown
-abbrev pub shown_columns : Place → List Term
+abbrev pub shown_columns : TableLayout → List Term
 shown_columns place = map (col 1) place.at
 
 -- the order of the keys
-abbrev pub key_order : Place → List (Term × Key)
+abbrev pub key_order : TableLayout → List (Term × Key)
 key_order place = map (λ at. (col 1 at, ascending Binary)) (take place.keys place.at)
 
 -- the rows with the value of the parameter in this column
@@ -64,7 +64,7 @@ pub record Showing : Type 0 where
   pub compares : Row → Row → Ordering
 
 -- of this one
-abbrev pub showing : List ℕ → Place → Row → Choice → List Term → Query → Showing
+abbrev pub showing : List ℕ → TableLayout → Row → Choice → List Term → Query → Showing
 showing sql place params choice test query = record {
   command = command_of (understood register_schema sql);
   reads_catalog = reads_listing register_schema sql;
@@ -75,7 +75,7 @@ showing sql place params choice test query = record {
 }
 
 -- of one that chooses so
-abbrev pub showing_by : Place → Choice → Query → List (List ℕ) → Showing
+abbrev pub showing_by : TableLayout → Choice → Query → List (List ℕ) → Showing
 showing_by place choice query names = record {
   command = Select (record { lets = []; body = query }) names;
   reads_catalog = false;
@@ -85,9 +85,9 @@ showing_by place choice query names = record {
   compares = choice.compare;
 }
 
--- The text shows, with these parameters, of the rows of a table that pass at most so many, or all where the limit is
+-- The text shows, with these parameters, of the rows of a table that pass at most N, or all if the limit is
 -- negative, in their order.
-pub record Shows (sql : List ℕ) (place : Place) (params : Row) (choice : Choice) (limit : ℤ) : Type 0 where
+pub record Selects (sql : List ℕ) (place : TableLayout) (params : Row) (choice : Choice) (limit : ℤ) : Type 0 where
   pub test : List Term
   pub project : List Term
   pub order : List (Term × Key)
@@ -97,9 +97,9 @@ pub record Shows (sql : List ℕ) (place : Place) (params : Row) (choice : Choic
       ≡ showing_by place choice (asking place.tree test project order limit) names
 
 -- The text shows all rows that pass, in the order of their keys.
-abbrev pub ShowsRows : List ℕ → Place → Row → (Row → Bool) → Type 0
-ShowsRows sql place params passes =
-    Shows sql place params (record { passes = passes; rank = take place.keys; compare = by_key place.keys }) (negsuc 0)
+abbrev pub SelectsRows : List ℕ → TableLayout → Row → (Row → Bool) → Type 0
+SelectsRows sql place params passes =
+    Selects sql place params (record { passes = passes; rank = take place.keys; compare = by_key place.keys }) (negsuc 0)
 
 -- what is computed of a text whose order is of no account
 pub record Passing : Type 0 where
@@ -110,7 +110,7 @@ pub record Passing : Type 0 where
   pub shows : Row → Row
 
 -- of this one
-abbrev pub passing : List ℕ → Place → Row → List Term → Query → Passing
+abbrev pub passing : List ℕ → TableLayout → Row → List Term → Query → Passing
 passing sql place params test query = record {
   command = command_of (understood register_schema sql);
   reads_catalog = reads_listing register_schema sql;
@@ -120,7 +120,7 @@ passing sql place params test query = record {
 }
 
 -- of one that shows the rows that pass
-abbrev pub passing_by : Place → (Row → Bool) → Query → List (List ℕ) → Passing
+abbrev pub passing_by : TableLayout → (Row → Bool) → Query → List (List ℕ) → Passing
 passing_by place passes query names = record {
   command = Select (record { lets = []; body = query }) names;
   reads_catalog = false;
@@ -130,7 +130,7 @@ passing_by place passes query names = record {
 }
 
 -- The text shows, with these parameters, all rows of a table that pass, in whatever order.
-pub record ShowsPassing (sql : List ℕ) (place : Place) (params : Row) (passes : Row → Bool) : Type 0 where
+pub record SelectsUnordered (sql : List ℕ) (place : TableLayout) (params : Row) (passes : Row → Bool) : Type 0 where
   pub test : List Term
   pub project : List Term
   pub order : List (Term × Key)
@@ -150,7 +150,7 @@ update_terms count = col 1 0 ∷ col 1 0 ∷ map (col 0) (range_with_len 0 count
 
 -- what is computed of a table and of a text that changes its rows
 pub record Writing (X : Type 0) : Type 0 where
-  -- the table, what is asked of others where its rows change, and which rows have one key
+  -- the table, what is asked of others if its rows change, and which rows have one key
   pub here : Option Table
   pub alone : List Row → List Row → List Work
   pub compares : Row → Row → Ordering
@@ -161,7 +161,7 @@ pub record Writing (X : Type 0) : Type 0 where
   pub command : Command
 
 -- of these
-abbrev pub writing : {X : Type 0} → List ℕ → Place → (X → Row) → ℕ → Writing X
+abbrev pub writing : {X : Type 0} → List ℕ → TableLayout → (X → Row) → ℕ → Writing X
 writing sql place row_of at = record {
   here = slice_get register_schema.tables at;
   alone = works register_schema Enforced 0 place.tree;
@@ -172,7 +172,7 @@ writing sql place row_of at = record {
 }
 
 -- of a table that stands alone, and of this command
-abbrev pub writing_to : {X : Type 0} → Place → Table → Command → Writing X
+abbrev pub writing_to : {X : Type 0} → TableLayout → Table → Command → Writing X
 writing_to place table command = record {
   here = Some table;
   alone = λ olds news. [];
@@ -189,7 +189,7 @@ pub record Giving (X : Type 0) : Type 0 where
   pub given : X → List Row
 
 -- of these
-abbrev pub giving : {X : Type 0} → List ℕ → Place → (X → Row) → ℕ → List Term → Giving X
+abbrev pub giving : {X : Type 0} → List ℕ → TableLayout → (X → Row) → ℕ → List Term → Giving X
 giving sql place row_of at terms =
     let width = suc (length place.at) in record {
       writing = writing sql place row_of at;
@@ -197,7 +197,7 @@ giving sql place row_of at terms =
     }
 
 -- of a command that gives one row, which is made of the terms
-abbrev pub giving_one : {X : Type 0} → Place → Table → List Term → (Source → Command) → (X → Row) → Giving X
+abbrev pub giving_one : {X : Type 0} → TableLayout → Table → List Term → (Source → Command) → (X → Row) → Giving X
 giving_one place table terms command given = record {
   writing = writing_to place table (command (Values terms (suc (length place.at))));
   given = λ x. given x ∷ [];
@@ -209,11 +209,11 @@ pub record Inserting (X : Type 0) : Type 0 where
   -- the row of a value as it is stored beside some entries: whether it has a number for its row id, and what it shows
   pub numbered : X → List Row → Bool
   pub shown : X → List Row → Row
-  -- whether a row agrees with no other one where no two rows may agree
+  -- whether a row agrees with no other one if no two rows may agree
   pub guarded : List Row → Row → Bool
 
 -- of these
-abbrev pub inserting : {X : Type 0} → List ℕ → Place → (X → Row) → ℕ → Table → List Term → (X → Row) → Inserting X
+abbrev pub inserting : {X : Type 0} → List ℕ → TableLayout → (X → Row) → ℕ → Table → List Term → (X → Row) → Inserting X
 inserting sql place row_of at table terms given = record {
   giving = giving sql place row_of at terms;
   numbered = λ x entries. is_int (rowid (entered entries (given x)));
@@ -223,7 +223,7 @@ inserting sql place row_of at table terms given = record {
 }
 
 -- of one whose key no row has before, in a table with other keys as well, by the columns of each
-abbrev pub inserting_new : {X : Type 0} → Place → (X → Row) → ℕ → Table → List Term → (X → Row) → List (List ℕ)
+abbrev pub inserting_new : {X : Type 0} → TableLayout → (X → Row) → ℕ → Table → List Term → (X → Row) → List (List ℕ)
     → Inserting X
 inserting_new place row_of at table terms given others = record {
   giving = giving_one place table terms (Insert at) given;
@@ -233,9 +233,9 @@ inserting_new place row_of at table terms given others = record {
       && list_all (λ columns. not (clashes plain columns rows row)) others;
 }
 
--- The text adds the row of a value to a table, which it gives with its row id or with NULL in place of one; where a row
+-- The text adds the row of a value to a table, which it gives with its row id or with NULL in place of one; if a row
 -- has its key, or agrees with it in one of the table's other keys, it fails.
-pub record InsertsRow {X : Type 0} (sql : List ℕ) (place : Place) (row_of : X → Row) : Type 0 where
+pub record InsertsRow {X : Type 0} (sql : List ℕ) (place : TableLayout) (row_of : X → Row) : Type 0 where
   pub at : ℕ
   pub table : Table
   pub terms : List Term
@@ -263,7 +263,7 @@ pub record Updating (X : Type 0) : Type 0 where
   pub gives : X → Row → Row
 
 -- of these
-abbrev pub updating : {X : Type 0} → List ℕ → Place → (X → Row) → ℕ → List Term → List Term → Updating X
+abbrev pub updating : {X : Type 0} → List ℕ → TableLayout → (X → Row) → ℕ → List Term → List Term → Updating X
 updating sql place row_of at test sets = record {
   writing = writing sql place row_of at;
   shown = λ x id. cells place (Int id ∷ row_of x);
@@ -273,7 +273,7 @@ updating sql place row_of at test sets = record {
 }
 
 -- of one that finds it by its key alone, and gives it the row of the value
-abbrev pub updating_by_key : {X : Type 0} → Place → (X → Row) → ℕ → Table → List Term → List Term → Updating X
+abbrev pub updating_by_key : {X : Type 0} → TableLayout → (X → Row) → ℕ → Table → List Term → List Term → Updating X
 updating_by_key place row_of at table test sets = record {
   writing = writing_to place table (Update at (record { lets = []; body = finding place.tree test sets }));
   shown = λ x id. row_of x;
@@ -282,8 +282,8 @@ updating_by_key place row_of at table test sets = record {
   gives = λ x r. rowid r ∷ rowid r ∷ row_of x;
 }
 
--- The text puts the row of a value in the place of the one that has its key; where there is none it changes nothing.
-pub record UpdatesRow {X : Type 0} (sql : List ℕ) (place : Place) (row_of : X → Row) : Type 0 where
+-- The text puts the row of a value in the place of the one that has its key; if there is none it changes nothing.
+pub record UpdatesRow {X : Type 0} (sql : List ℕ) (place : TableLayout) (row_of : X → Row) : Type 0 where
   pub at : ℕ
   pub table : Table
   pub test : List Term

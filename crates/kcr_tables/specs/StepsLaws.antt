@@ -10,7 +10,7 @@ use Rattle.sqlite.specs.Listing.{understood}
 use Rattle.sqlite_catalog.specs.Listing.{IsSound}
 use Rattle.sqlite_value.specs.declared.keys.Key.{Key}
 use Rattle.sqlite_tied.specs.Compute.{everything}
-use Rattle.kcr_rows.specs.Keyed.{Keeps}
+use Rattle.kcr_rows.specs.Keyed.{TreeHolds}
 use Rattle.kcr_rows.proofs.WriteLemmas.{cast_null, cast_int}
 use Rattle.kcr_rows.proofs.TableLemmas.{keeps_still}
 use Rattle.kcr_rows.proofs.SameLemmas.{one_number}
@@ -18,17 +18,17 @@ use Rattle.kcr_rows.proofs.StateLemmas.{cast_or_null, one_seats, one_step_state}
 use Rattle.kcr_script.specs.Seats.{written}
 use Rattle.kcr_rows.specs.States.{step_number}
 use Rattle.kcr_rows.specs.Rows.{step_row}
-use Rattle.kcr_history.specs.declared.rows.StepRow.{StepRow}
+use Rattle.kcr_history.specs.declared.row_types.StepRow.{StepRow}
 use Rattle.kcr_rows.specs.States.{HasOnlyTheseSeats, HasSeatsText}
 use Rattle.kcr_tables.specs.Schema.{register_schema, steps}
-use Rattle.kcr_tables.specs.Held.{Tables, Kept, people_place, trainings_place, appointments_place, boxes_place}
-use Rattle.kcr_tables.specs.Held.{safes_place, bags_place, items_place, ceremonies_place, marks_place, steps_place}
-use Rattle.kcr_tables.specs.Held.{seatings_place, sheet_place, exceptions_place, versions_place, keys_place}
-use Rattle.kcr_tables.specs.Held.{stays_place, withdrawals_place}
+use Rattle.kcr_tables.specs.StoredTables.{StoredTables, TreesHold, people_place, trainings_place, appointments_place}
+use Rattle.kcr_tables.specs.StoredTables.{boxes_place, safes_place, bags_place, items_place, ceremonies_place}
+use Rattle.kcr_tables.specs.StoredTables.{marks_place, steps_place, seatings_place, sheet_place, exceptions_place}
+use Rattle.kcr_tables.specs.StoredTables.{versions_place, keys_place, stays_place, withdrawals_place}
 use Rattle.kcr_tables.specs.Parts.{text_in, number_in}
-use Rattle.kcr_tables.specs.Statements.{shown_columns, key_order, ShowsRows, new_terms, key_test, update_terms}
+use Rattle.kcr_tables.specs.Statements.{shown_columns, key_order, SelectsRows, new_terms, key_test, update_terms}
 use Rattle.kcr_tables.specs.Statements.{InsertsRow, UpdatesRow}
-use Rattle.kcr_tables.specs.Table.{Table, IsTable}
+use Rattle.kcr_tables.specs.Table.{TableSpec, IsTable}
 
 abbrev pub project : List Term
 project = shown_columns steps_place
@@ -39,7 +39,7 @@ order = key_order steps_place
 abbrev pub names : List (List ℕ)
 names = codes "ceremony" ∷ codes "step" ∷ codes "activity" ∷ codes "seats" ∷ codes "state" ∷ codes "at" ∷ []
 
-abbrev pub table : Table StepRow
+abbrev pub table : TableSpec StepRow
 table = record {
   rows_in = λ t. t.rows.steps;
   place = steps_place;
@@ -59,7 +59,7 @@ one x y read held h = λ i. record {
   at = one_number x.at y.at (ap (λ (r : Row). column r 5) h) i;
 }
 
-lists : ShowsRows table.all_sql steps_place [] (λ _. true)
+lists : SelectsRows table.all_sql steps_place [] (λ _. true)
 unfolding understood everything
 lists = record { test = []; project = project; order = order; names = names; bare = (refl, refl); is = refl }
 
@@ -99,11 +99,11 @@ updates = record {
   is = refl;
 }
 
--- the other tables stay where the rows of this one are changed
-pub still : (old new : Trees) (rows : List StepRow) (t : Tables) → IsSound register_schema new
-    → Keeps steps_place new (map step_row rows) → AllByRecursion HasSeatsText rows
-    → ((tree : ℕ) → tree ≢ 20 → IsNoIndex register_schema tree → new tree ≡ old tree) → Kept old t
-    → Kept new (record t { rows = record t.rows { steps = rows } })
+-- the other tables stay if the rows of this one are changed
+pub still : (old new : Trees) (rows : List StepRow) (t : StoredTables) → IsSound register_schema new
+    → TreeHolds steps_place new (map step_row rows) → AllByRecursion HasSeatsText rows
+    → ((tree : ℕ) → tree ≢ 20 → IsNoIndex register_schema tree → new tree ≡ old tree) → TreesHold old t
+    → TreesHold new (record t { rows = record t.rows { steps = rows } })
 still old new rows t sound keeps stored others k = record {
   sound = sound;
   people = keeps_still register_schema 20 people_place old new _ others refl refl k.people;

@@ -11,7 +11,7 @@ use Rattle.sqlite_catalog.specs.Listing.{IsSound}
 use Rattle.sqlite_value.specs.declared.keys.Key.{Key}
 use Rattle.sqlite_tied.specs.Compute.{everything}
 use Rattle.kcr_history.specs.Views.{is_training_of}
-use Rattle.kcr_rows.specs.Keyed.{Keeps}
+use Rattle.kcr_rows.specs.Keyed.{TreeHolds}
 use Rattle.kcr_rows.proofs.FilterLemmas.{has_value, value_is}
 use Rattle.kcr_rows.proofs.WriteLemmas.{cast_null, cast_int}
 use Rattle.kcr_rows.proofs.TableLemmas.{keeps_still, each_is}
@@ -20,13 +20,13 @@ use Rattle.kcr_base.specs.Role.{role_text}
 use Rattle.kcr_rows.specs.Rows.{training_row}
 use Rattle.kcr_people.specs.declared.Training.{Training}
 use Rattle.kcr_tables.specs.Schema.{register_schema, trainings}
-use Rattle.kcr_tables.specs.Held.{Tables, Kept, people_place, trainings_place, appointments_place, boxes_place}
-use Rattle.kcr_tables.specs.Held.{safes_place, bags_place, items_place, ceremonies_place, marks_place, steps_place}
-use Rattle.kcr_tables.specs.Held.{seatings_place, sheet_place, exceptions_place, versions_place, keys_place}
-use Rattle.kcr_tables.specs.Held.{stays_place, withdrawals_place}
+use Rattle.kcr_tables.specs.StoredTables.{StoredTables, TreesHold, people_place, trainings_place, appointments_place}
+use Rattle.kcr_tables.specs.StoredTables.{boxes_place, safes_place, bags_place, items_place, ceremonies_place}
+use Rattle.kcr_tables.specs.StoredTables.{marks_place, steps_place, seatings_place, sheet_place, exceptions_place}
+use Rattle.kcr_tables.specs.StoredTables.{versions_place, keys_place, stays_place, withdrawals_place}
 use Rattle.kcr_tables.specs.Parts.{text_in, number_in}
-use Rattle.kcr_tables.specs.Statements.{shown_columns, key_order, is_given, ShowsRows, new_terms, InsertsRow}
-use Rattle.kcr_tables.specs.Table.{Table, IsTable, Finding, IsFinding}
+use Rattle.kcr_tables.specs.Statements.{shown_columns, key_order, is_given, SelectsRows, new_terms, InsertsRow}
+use Rattle.kcr_tables.specs.Table.{TableSpec, IsTable, LookupSpec, IsLookup}
 
 abbrev pub project : List Term
 project = shown_columns trainings_place
@@ -37,7 +37,7 @@ order = key_order trainings_place
 abbrev pub names : List (List ℕ)
 names = codes "who" ∷ codes "role" ∷ codes "since" ∷ codes "until" ∷ []
 
-abbrev pub table : Table Training
+abbrev pub table : TableSpec Training
 table = record {
   rows_in = λ t. t.rows.trainings;
   place = trainings_place;
@@ -55,17 +55,17 @@ one x y read held h = λ i. record {
   until = number_in 3 (h i);
 }
 
-lists : ShowsRows table.all_sql trainings_place [] (λ _. true)
+lists : SelectsRows table.all_sql trainings_place [] (λ _. true)
 unfolding understood everything
 lists = record { test = []; project = project; order = order; names = names; bare = (refl, refl); is = refl }
 
 -- ---- the rows of one person
 
-abbrev pub trainings_of : Finding (List ℕ) Training
+abbrev pub trainings_of : LookupSpec (List ℕ) Training
 trainings_of = record { is_under = λ who x. is_training_of who x; column = 0; find_sql = codes "SELECT who, role, since, until FROM trainings WHERE who = ?1 ORDER BY who, role, since, until" }
 
 shows_trainings_of : (who : List ℕ)
-    → ShowsRows trainings_of.find_sql trainings_place (Text who ∷ []) (has_value 0 (Text who))
+    → SelectsRows trainings_of.find_sql trainings_place (Text who ∷ []) (has_value 0 (Text who))
 unfolding understood everything
 shows_trainings_of who =
     record { test = is_given 1; project = project; order = order; names = names; bare = (refl, refl); is = refl }
@@ -73,7 +73,7 @@ shows_trainings_of who =
 under_trainings_of : (who : List ℕ) (x : Training) → has_value 0 (Text who) (training_row x) ≡ is_training_of who x
 under_trainings_of who x = value_is (Text x.who) (Text who) refl refl ∙ sym (text_ties x.who who)
 
-pub trainings_of_laws : IsFinding trainings_of trainings_place Text training_row
+pub trainings_of_laws : IsLookup trainings_of trainings_place Text training_row
 trainings_of_laws = record { finds = shows_trainings_of; under = under_trainings_of }
 
 -- ---- a row put under its key
@@ -95,11 +95,11 @@ inserts = record {
   is = refl;
 }
 
--- the other tables stay where the rows of this one are changed
-pub still : (old new : Trees) (rows : List Training) (t : Tables) → IsSound register_schema new
-    → Keeps trainings_place new (map training_row rows) → AllByRecursion (λ _. ⊤) rows
-    → ((tree : ℕ) → tree ≢ 2 → IsNoIndex register_schema tree → new tree ≡ old tree) → Kept old t
-    → Kept new (record t { rows = record t.rows { trainings = rows } })
+-- the other tables stay if the rows of this one are changed
+pub still : (old new : Trees) (rows : List Training) (t : StoredTables) → IsSound register_schema new
+    → TreeHolds trainings_place new (map training_row rows) → AllByRecursion (λ _. ⊤) rows
+    → ((tree : ℕ) → tree ≢ 2 → IsNoIndex register_schema tree → new tree ≡ old tree) → TreesHold old t
+    → TreesHold new (record t { rows = record t.rows { trainings = rows } })
 still old new rows t sound keeps stored others k = record {
   sound = sound;
   people = keeps_still register_schema 2 people_place old new _ others refl refl k.people;

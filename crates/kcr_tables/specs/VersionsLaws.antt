@@ -11,20 +11,20 @@ use Rattle.sqlite.specs.Listing.{understood}
 use Rattle.sqlite_catalog.specs.Listing.{IsSound}
 use Rattle.sqlite_value.specs.declared.keys.Key.{Key}
 use Rattle.sqlite_tied.specs.Compute.{everything}
-use Rattle.kcr_rows.specs.Keyed.{Keeps}
+use Rattle.kcr_rows.specs.Keyed.{TreeHolds}
 use Rattle.kcr_rows.proofs.WriteLemmas.{cast_null, cast_int}
 use Rattle.kcr_rows.proofs.TableLemmas.{keeps_still, each_is}
 use Rattle.kcr_rows.specs.Rows.{version_row}
-use Rattle.kcr_rows.specs.declared.rows.Version.{Version}
+use Rattle.kcr_rows.specs.declared.row_impls.Version.{Version}
 use Rattle.kcr_tables.specs.Schema.{register_schema, versions}
-use Rattle.kcr_tables.specs.Held.{Tables, Kept, people_place, trainings_place, appointments_place, boxes_place}
-use Rattle.kcr_tables.specs.Held.{safes_place, bags_place, items_place, ceremonies_place, marks_place, steps_place}
-use Rattle.kcr_tables.specs.Held.{seatings_place, sheet_place, exceptions_place, versions_place, keys_place}
-use Rattle.kcr_tables.specs.Held.{stays_place, withdrawals_place}
-use Rattle.kcr_tables.specs.First.{first_tables}
+use Rattle.kcr_tables.specs.StoredTables.{StoredTables, TreesHold, people_place, trainings_place, appointments_place}
+use Rattle.kcr_tables.specs.StoredTables.{boxes_place, safes_place, bags_place, items_place, ceremonies_place}
+use Rattle.kcr_tables.specs.StoredTables.{marks_place, steps_place, seatings_place, sheet_place, exceptions_place}
+use Rattle.kcr_tables.specs.StoredTables.{versions_place, keys_place, stays_place, withdrawals_place}
+use Rattle.kcr_tables.specs.NewTables.{new_tables}
 use Rattle.kcr_tables.specs.Parts.{number_in}
-use Rattle.kcr_tables.specs.Statements.{shown_columns, key_order, ShowsRows, new_terms, InsertsRow}
-use Rattle.kcr_tables.specs.Table.{Table, IsTable}
+use Rattle.kcr_tables.specs.Statements.{shown_columns, key_order, SelectsRows, new_terms, InsertsRow}
+use Rattle.kcr_tables.specs.Table.{TableSpec, IsTable}
 
 abbrev pub project : List Term
 project = shown_columns versions_place
@@ -35,7 +35,7 @@ order = key_order versions_place
 abbrev pub names : List (List ℕ)
 names = codes "number" ∷ []
 
-abbrev pub table : Table Version
+abbrev pub table : TableSpec Version
 table = record {
   rows_in = λ t. t.versions;
   place = versions_place;
@@ -48,7 +48,7 @@ table = record {
 pub one : (x y : Version) → ⊤ → ⊤ → version_row x ≡ version_row y → x ≡ y
 one x y read held h = λ i. record { number = number_in 0 (h i) }
 
-lists : ShowsRows table.all_sql versions_place [] (λ _. true)
+lists : SelectsRows table.all_sql versions_place [] (λ _. true)
 unfolding understood everything
 lists = record { test = []; project = project; order = order; names = names; bare = (refl, refl); is = refl }
 
@@ -70,11 +70,11 @@ inserts = record {
   is = refl;
 }
 
--- the other tables stay where the rows of this one are changed
-pub still : (old new : Trees) (rows : List Version) (t : Tables) → IsSound register_schema new
-    → Keeps versions_place new (map version_row rows) → AllByRecursion (λ _. ⊤) rows
-    → ((tree : ℕ) → tree ≢ 28 → IsNoIndex register_schema tree → new tree ≡ old tree) → Kept old t
-    → Kept new (record t { versions = rows })
+-- the other tables stay if the rows of this one are changed
+pub still : (old new : Trees) (rows : List Version) (t : StoredTables) → IsSound register_schema new
+    → TreeHolds versions_place new (map version_row rows) → AllByRecursion (λ _. ⊤) rows
+    → ((tree : ℕ) → tree ≢ 28 → IsNoIndex register_schema tree → new tree ≡ old tree) → TreesHold old t
+    → TreesHold new (record t { versions = rows })
 still old new rows t sound keeps stored others k = record {
   sound = sound;
   people = keeps_still register_schema 28 people_place old new _ others refl refl k.people;
@@ -105,6 +105,6 @@ table_laws = record {
   keeps = λ db t k. k.versions;
   stores = λ db t k. each_is t.versions;
   still = still;
-  stands = λ m t s. subst (λ l. IsPermutation first_tables.versions l) (sym s.versions)
-      (IsPermutation-refl first_tables.versions);
+  stands = λ m t s. subst (λ l. IsPermutation new_tables.versions l) (sym s.versions)
+      (IsPermutation-refl new_tables.versions);
 }

@@ -11,7 +11,7 @@ use Rattle.sqlite_catalog.specs.Listing.{IsSound}
 use Rattle.sqlite_value.specs.declared.keys.Key.{Key}
 use Rattle.sqlite_tied.specs.Compute.{everything}
 use Rattle.kcr_history.specs.Views.{is_withdrawal_of}
-use Rattle.kcr_rows.specs.Keyed.{Keeps}
+use Rattle.kcr_rows.specs.Keyed.{TreeHolds}
 use Rattle.kcr_rows.proofs.FilterLemmas.{has_value, value_is}
 use Rattle.kcr_rows.proofs.WriteLemmas.{cast_null, cast_int}
 use Rattle.kcr_rows.proofs.TableLemmas.{keeps_still, each_is}
@@ -20,14 +20,14 @@ use Rattle.kcr_base.specs.Role.{role_text}
 use Rattle.kcr_rows.specs.Rows.{withdrawal_row}
 use Rattle.kcr_people.specs.declared.Withdrawal.{Withdrawal}
 use Rattle.kcr_tables.specs.Schema.{register_schema, withdrawals}
-use Rattle.kcr_tables.specs.Held.{Tables, Kept, people_place, trainings_place, appointments_place, boxes_place}
-use Rattle.kcr_tables.specs.Held.{safes_place, bags_place, items_place, ceremonies_place, marks_place, steps_place}
-use Rattle.kcr_tables.specs.Held.{seatings_place, sheet_place, exceptions_place, versions_place, keys_place}
-use Rattle.kcr_tables.specs.Held.{stays_place, withdrawals_place}
+use Rattle.kcr_tables.specs.StoredTables.{StoredTables, TreesHold, people_place, trainings_place, appointments_place}
+use Rattle.kcr_tables.specs.StoredTables.{boxes_place, safes_place, bags_place, items_place, ceremonies_place}
+use Rattle.kcr_tables.specs.StoredTables.{marks_place, steps_place, seatings_place, sheet_place, exceptions_place}
+use Rattle.kcr_tables.specs.StoredTables.{versions_place, keys_place, stays_place, withdrawals_place}
 use Rattle.kcr_tables.specs.Parts.{text_in, number_in}
-use Rattle.kcr_tables.specs.Statements.{shown_columns, key_order, is_given, ShowsRows, new_terms, key_test}
+use Rattle.kcr_tables.specs.Statements.{shown_columns, key_order, is_given, SelectsRows, new_terms, key_test}
 use Rattle.kcr_tables.specs.Statements.{update_terms, InsertsRow, UpdatesRow}
-use Rattle.kcr_tables.specs.Table.{Table, IsTable, Finding, IsFinding}
+use Rattle.kcr_tables.specs.Table.{TableSpec, IsTable, LookupSpec, IsLookup}
 
 abbrev pub project : List Term
 project = shown_columns withdrawals_place
@@ -38,7 +38,7 @@ order = key_order withdrawals_place
 abbrev pub names : List (List ℕ)
 names = codes "who" ∷ codes "role" ∷ codes "since" ∷ codes "until" ∷ codes "day" ∷ []
 
-abbrev pub table : Table Withdrawal
+abbrev pub table : TableSpec Withdrawal
 table = record {
   rows_in = λ t. t.rows.withdrawals;
   place = withdrawals_place;
@@ -57,17 +57,17 @@ one x y read held h = λ i. record {
   day = number_in 4 (h i);
 }
 
-lists : ShowsRows table.all_sql withdrawals_place [] (λ _. true)
+lists : SelectsRows table.all_sql withdrawals_place [] (λ _. true)
 unfolding understood everything
 lists = record { test = []; project = project; order = order; names = names; bare = (refl, refl); is = refl }
 
 -- ---- the rows of one person
 
-abbrev pub withdrawals_of : Finding (List ℕ) Withdrawal
+abbrev pub withdrawals_of : LookupSpec (List ℕ) Withdrawal
 withdrawals_of = record { is_under = λ who x. is_withdrawal_of who x; column = 0; find_sql = codes "SELECT who, role, since, until, day FROM withdrawals WHERE who = ?1 ORDER BY who, role, since, until" }
 
 shows_withdrawals_of : (who : List ℕ)
-    → ShowsRows withdrawals_of.find_sql withdrawals_place (Text who ∷ []) (has_value 0 (Text who))
+    → SelectsRows withdrawals_of.find_sql withdrawals_place (Text who ∷ []) (has_value 0 (Text who))
 unfolding understood everything
 shows_withdrawals_of who =
     record { test = is_given 1; project = project; order = order; names = names; bare = (refl, refl); is = refl }
@@ -76,7 +76,7 @@ under_withdrawals_of : (who : List ℕ) (x : Withdrawal)
     → has_value 0 (Text who) (withdrawal_row x) ≡ is_withdrawal_of who x
 under_withdrawals_of who x = value_is (Text x.who) (Text who) refl refl ∙ sym (text_ties x.who who)
 
-pub withdrawals_of_laws : IsFinding withdrawals_of withdrawals_place Text withdrawal_row
+pub withdrawals_of_laws : IsLookup withdrawals_of withdrawals_place Text withdrawal_row
 withdrawals_of_laws = record { finds = shows_withdrawals_of; under = under_withdrawals_of }
 
 -- ---- a row put under its key
@@ -115,11 +115,11 @@ updates = record {
   is = refl;
 }
 
--- the other tables stay where the rows of this one are changed
-pub still : (old new : Trees) (rows : List Withdrawal) (t : Tables) → IsSound register_schema new
-    → Keeps withdrawals_place new (map withdrawal_row rows) → AllByRecursion (λ _. ⊤) rows
-    → ((tree : ℕ) → tree ≢ 35 → IsNoIndex register_schema tree → new tree ≡ old tree) → Kept old t
-    → Kept new (record t { rows = record t.rows { withdrawals = rows } })
+-- the other tables stay if the rows of this one are changed
+pub still : (old new : Trees) (rows : List Withdrawal) (t : StoredTables) → IsSound register_schema new
+    → TreeHolds withdrawals_place new (map withdrawal_row rows) → AllByRecursion (λ _. ⊤) rows
+    → ((tree : ℕ) → tree ≢ 35 → IsNoIndex register_schema tree → new tree ≡ old tree) → TreesHold old t
+    → TreesHold new (record t { rows = record t.rows { withdrawals = rows } })
 still old new rows t sound keeps stored others k = record {
   sound = sound;
   people = keeps_still register_schema 35 people_place old new _ others refl refl k.people;

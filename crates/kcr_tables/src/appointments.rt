@@ -2,16 +2,16 @@
 
 ghost use Rattle.kcr_tables.specs.AppointmentsLaws as laws;
 
-use crate::table::{Listed, Put, put_over};
+use crate::table::{Put, TableRow, update_or_insert_row};
 use kcr_base::Refusal;
 use kcr_people::Appointment;
 use kcr_rows::cells::{code_cell, day_cell, day_or_null_cell, initials_cell};
 use sqlite::{Alter, Transaction};
 
-impl Listed for Appointment {
+impl TableRow for Appointment {
     ghost table = { laws.table };
 
-    fn all_text() -> &'static str {
+    fn select_all_sql() -> &'static str {
         "SELECT place, since, who, until FROM appointments ORDER BY place, since"
     }
 
@@ -22,7 +22,7 @@ impl Put for Appointment {
     #[tactic(auto, using(crate::specs::AppointmentsLaws::inserts, crate::specs::AppointmentsLaws::updates))]
     fn put<S: Alter>(&self, tx: &mut Transaction<'_, S>) -> Result<(), Refusal> {
         let place = self.place.text();
-        put_over(
+        update_or_insert_row(
             tx,
             self,
             "UPDATE appointments SET place = ?1, since = ?2, who = ?3, until = ?4 WHERE place = ?1 AND since = ?2",

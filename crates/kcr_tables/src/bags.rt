@@ -2,17 +2,17 @@
 
 ghost use Rattle.kcr_tables.specs.BagsLaws as laws;
 
-use crate::table::{Finds, Listed, PutWords, put_over};
+use crate::table::{LookupBy, PutAllocating, TableRow, update_or_insert_row};
 use kcr_base::{Refusal, Serial};
 use kcr_custody::Bag;
 use kcr_rows::cells::{serial_cell, spot_words, text_cell};
 use sqlite::{Alter, Transaction};
 use std::alloc::Global;
 
-impl Listed for Bag {
+impl TableRow for Bag {
     ghost table = { laws.table };
 
-    fn all_text() -> &'static str {
+    fn select_all_sql() -> &'static str {
         "SELECT serial, spot FROM bags ORDER BY serial"
     }
 
@@ -20,25 +20,25 @@ impl Listed for Bag {
 }
 
 /// The row of the bag with this serial, alone, or none.
-impl Finds<Serial> for Bag {
-    ghost finding = { laws.bag_of };
+impl LookupBy<Serial> for Bag {
+    ghost lookup_spec = { laws.bag_of };
 
-    fn find_text() -> &'static str {
+    fn lookup_sql() -> &'static str {
         "SELECT serial, spot FROM bags WHERE serial = ?1 ORDER BY serial"
     }
 
-    ghost finding_laws = { laws.bag_of_laws };
+    ghost lookup_laws = { laws.bag_of_laws };
 }
 
-impl PutWords for Bag {
+impl PutAllocating for Bag {
     #[tactic(auto, using(crate::specs::BagsLaws::inserts, crate::specs::BagsLaws::updates))]
-    fn put_words<S: Alter>(
+    fn put_allocating<S: Alter>(
         &self,
         alloc: Global,
         tx: &mut Transaction<'_, S>,
     ) -> Result<(), Refusal> {
         let spot = spot_words(alloc, self.spot)?;
-        put_over(
+        update_or_insert_row(
             tx,
             self,
             "UPDATE bags SET serial = ?1, spot = ?2 WHERE serial = ?1",

@@ -2,16 +2,16 @@
 
 ghost use Rattle.kcr_tables.specs.BoxesLaws as laws;
 
-use crate::table::{Listed, Put, put_new};
+use crate::table::{Put, TableRow, insert_row};
 use kcr_base::Refusal;
 use kcr_custody::BoxRow;
 use kcr_rows::cells::{code_cell, facility_cell, number_cell};
 use sqlite::{Alter, Transaction};
 
-impl Listed for BoxRow {
+impl TableRow for BoxRow {
     ghost table = { laws.table };
 
-    fn all_text() -> &'static str {
+    fn select_all_sql() -> &'static str {
         "SELECT facility, box, place FROM boxes ORDER BY facility, box"
     }
 
@@ -22,7 +22,7 @@ impl Put for BoxRow {
     #[tactic(auto, using(crate::specs::BoxesLaws::inserts))]
     fn put<S: Alter>(&self, tx: &mut Transaction<'_, S>) -> Result<(), Refusal> {
         let place = self.place.text();
-        put_new(
+        insert_row(
             tx,
             self,
             "INSERT INTO boxes (facility, box, place) VALUES (?1, ?2, ?3)",

@@ -2,7 +2,7 @@
 
 ghost use Rattle.kcr_tables.specs.CeremoniesLaws as laws;
 
-use crate::table::{Finds, Listed, Put, put_over};
+use crate::table::{LookupBy, Put, TableRow, update_or_insert_row};
 use kcr_base::Refusal;
 use kcr_history::CeremonyRow;
 use kcr_rows::cells::{
@@ -10,10 +10,10 @@ use kcr_rows::cells::{
 };
 use sqlite::{Alter, Transaction};
 
-impl Listed for CeremonyRow {
+impl TableRow for CeremonyRow {
     ghost table = { laws.table };
 
-    fn all_text() -> &'static str {
+    fn select_all_sql() -> &'static str {
         "SELECT number, facility, day, state, opened, closed FROM ceremonies ORDER BY number"
     }
 
@@ -21,20 +21,20 @@ impl Listed for CeremonyRow {
 }
 
 /// The row of the ceremony with this number, alone, or none.
-impl Finds<u32> for CeremonyRow {
-    ghost finding = { laws.ceremony_of };
+impl LookupBy<u32> for CeremonyRow {
+    ghost lookup_spec = { laws.ceremony_of };
 
-    fn find_text() -> &'static str {
+    fn lookup_sql() -> &'static str {
         "SELECT number, facility, day, state, opened, closed FROM ceremonies WHERE number = ?1 ORDER BY number"
     }
 
-    ghost finding_laws = { laws.ceremony_of_laws };
+    ghost lookup_laws = { laws.ceremony_of_laws };
 }
 
 impl Put for CeremonyRow {
     #[tactic(auto, using(crate::specs::CeremoniesLaws::inserts, crate::specs::CeremoniesLaws::updates))]
     fn put<S: Alter>(&self, tx: &mut Transaction<'_, S>) -> Result<(), Refusal> {
-        put_over(
+        update_or_insert_row(
             tx,
             self,
             "UPDATE ceremonies SET number = ?1, facility = ?2, day = ?3, state = ?4, opened = ?5, closed = ?6 WHERE number = ?1",

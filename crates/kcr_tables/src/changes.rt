@@ -4,14 +4,15 @@ ghost use Rattle.std.specs.Prelude.{◌≡◌, OnOk};
 ghost use Rattle.sqlite.specs.Held.{state};
 ghost use Rattle.sqlite.specs.State.{HasCleanDisk};
 ghost use Rattle.kcr_history.specs.Tables as machine;
+ghost use Rattle.kcr_history.specs.Changes as Changes;
 ghost use Rattle.kcr_history.specs.Changes.{changed_by};
 ghost use Rattle.kcr_rows.specs.Refusals.{IsFault};
-ghost use Rattle.kcr_rows.specs.Frame.{StaysWithin};
+ghost use Rattle.kcr_rows.specs.Frame.{StaysInTransaction};
 ghost use Rattle.kcr_tables.specs.Changed.{changed, changed_all};
-ghost use Rattle.kcr_tables.specs.Joint.{HoldsTables};
-ghost use Rattle.kcr_tables.specs.Frame.{Leaves};
+ghost use Rattle.kcr_tables.specs.MachineTables.{HoldsTables};
+ghost use Rattle.kcr_tables.specs.Frame.{ChangesTables};
 
-use crate::table::{Put, PutWords};
+use crate::table::{Put, PutAllocating};
 use kcr_base::Refusal;
 use kcr_history::Change;
 use sqlite::{Alter, Transaction};
@@ -24,9 +25,9 @@ fn make_change<S: Alter>(
     change: &Change,
 ) -> Result<(), Refusal>
     ensures same_reference { tx.new.conn.ghost_name ≡ tx.old.conn.ghost_name }
-    ensures holds { Leaves (state S.Store tx.old.conn.now) (state S.Store tx.new.conn.now) result
+    ensures holds { ChangesTables (state S.Store tx.old.conn.now) (state S.Store tx.new.conn.now) result
         (λ t. changed change.now t) }
-    ensures frame { StaysWithin IsFault (state S.Store tx.old.conn.now) (state S.Store tx.new.conn.now) result }
+    ensures frame { StaysInTransaction IsFault (state S.Store tx.old.conn.now) (state S.Store tx.new.conn.now) result }
 {
     match change {
         Change::PutPerson(row) => row.put(tx),
@@ -35,11 +36,11 @@ fn make_change<S: Alter>(
         Change::PutAppointment(row) => row.put(tx),
         Change::PutBox(row) => row.put(tx),
         Change::PutSafe(row) => row.put(tx),
-        Change::PutBag(row) => row.put_words(alloc, tx),
+        Change::PutBag(row) => row.put_allocating(alloc, tx),
         Change::PutItem(row) => row.put(tx),
         Change::PutCeremony(row) => row.put(tx),
         Change::PutMark(row) => row.put(tx),
-        Change::PutStep(row) => row.put_words(alloc, tx),
+        Change::PutStep(row) => row.put_allocating(alloc, tx),
         Change::PutSeating(row) => row.put(tx),
         Change::PutSheet(row) => row.put(tx),
         Change::PutStay(row) => row.put(tx),
@@ -51,21 +52,38 @@ fn make_change<S: Alter>(
 /// Makes the changes, one after the other; every other row stays. The error is `Memory` when out of memory, and else
 /// `Disk`: the device failed, or a row that is put only once has a key or a number that is taken. It leaves the
 /// changes before it in the transaction, which the caller rolls back; what was committed before stays.
-pub fn make_changes<S: Alter>(
+pub fn change_all<S: Alter>(
     alloc: Global,
     tx: &mut Transaction<'_, S>,
     changes: &[Change],
 ) -> Result<(), Refusal>
     ensures same_reference { tx.new.conn.ghost_name ≡ tx.old.conn.ghost_name }
-    ensures holds { Leaves (state S.Store tx.old.conn.now) (state S.Store tx.new.conn.now) result
+    ensures holds { ChangesTables (state S.Store tx.old.conn.now) (state S.Store tx.new.conn.now) result
         (λ t. changed_all changes.now t) }
     ensures tables { HasCleanDisk (state S.Store tx.new.conn.now) → (m : machine.Tables)
         → HoldsTables m (state S.Store tx.old.conn.now).now
         → OnOk result (HoldsTables (changed_by changes.now m) (state S.Store tx.new.conn.now).now) }
-    ensures frame { StaysWithin IsFault (state S.Store tx.old.conn.now) (state S.Store tx.new.conn.now) result }
+    ensures frame { StaysInTransaction IsFault (state S.Store tx.old.conn.now) (state S.Store tx.new.conn.now) result }
 {
     for change in changes {
         make_change(alloc, tx, change)?;
     }
     Ok(())
+}
+
+/// Makes one change: its row goes into its table, new or in place of the row that has its key; every other row stays.
+/// The error is `Memory` when out of memory, and else `Disk`: the device failed, or a row that is put only once has a
+/// key or a number that is taken. What was committed before stays.
+pub fn change<S: Alter>(
+    alloc: Global,
+    tx: &mut Transaction<'_, S>,
+    made: &Change,
+) -> Result<(), Refusal>
+    ensures same_reference { tx.new.conn.ghost_name ≡ tx.old.conn.ghost_name }
+    ensures tables { HasCleanDisk (state S.Store tx.new.conn.now) → (m : machine.Tables)
+        → HoldsTables m (state S.Store tx.old.conn.now).now
+        → OnOk result (HoldsTables (Changes.changed made.now m) (state S.Store tx.new.conn.now).now) }
+    ensures frame { StaysInTransaction IsFault (state S.Store tx.old.conn.now) (state S.Store tx.new.conn.now) result }
+{
+    make_change(alloc, tx, made)
 }

@@ -9,56 +9,56 @@ ghost use Rattle.kcr_rows.specs.Refusals.{IsFault};
 ghost use Rattle.kcr_rows.specs.Columns.{AreEmpty};
 ghost use Rattle.kcr_rows.specs.Keyed.{put_in};
 ghost use Rattle.kcr_rows.specs.Rows.{safe_row};
-ghost use Rattle.kcr_rows.specs.Frame.{StaysWithin};
-ghost use Rattle.kcr_tables.specs.Held.{Holds};
-ghost use Rattle.kcr_tables.specs.First.{empty_tables, first_tables, shut};
-ghost use Rattle.kcr_tables.specs.Joint.{HoldsTables};
-ghost use Rattle.kcr_tables.specs.Made.{first};
+ghost use Rattle.kcr_rows.specs.Frame.{StaysInTransaction};
+ghost use Rattle.kcr_tables.specs.StoredTables.{Holds};
+ghost use Rattle.kcr_tables.specs.NewTables.{empty_tables, new_tables, shut};
+ghost use Rattle.kcr_tables.specs.MachineTables.{HoldsTables};
+ghost use Rattle.kcr_tables.specs.Creation.{schema_prefix};
 ghost use Rattle.kcr_tables.specs.Schema.{all_tables};
 ghost use Rattle.kcr_custody.specs.declared.SafeNumber.TheVariants.{One, Two};
-ghost use Rattle.kcr_tables.specs.Frame.{Leaves};
+ghost use Rattle.kcr_tables.specs.Frame.{ChangesTables};
 
+use crate::create_sql::{TABLE_COUNT, create_table_sql};
 use crate::table::Put;
-use crate::texts::{COUNT, create_text};
 use kcr_base::{Facility, Refusal};
 use kcr_custody::{SafeNumber, SafeRow};
 use kcr_rows::Version;
-use kcr_rows::statements::write;
+use kcr_rows::statements::run_statement;
 use sqlite::{Alter, Transaction};
 
 /// The number of the schema, which the table versions holds.
-const VERSION: u32 = 3;
+const SCHEMA_VERSION: u32 = 3;
 
 /// Makes the table of this position, counted from 0, after those before it.
 fn create_one<S: Alter>(tx: &mut Transaction<'_, S>, at: usize) -> Result<(), Refusal>
     requires { at < 17 }
     ensures same_reference { tx.new.conn.ghost_name ≡ tx.old.conn.ghost_name }
     ensures schema { HasCleanDisk (state S.Store tx.new.conn.now)
-        → (state S.Store tx.old.conn.now).now.schema ≡ first at
+        → (state S.Store tx.old.conn.now).now.schema ≡ schema_prefix at
         → AreEmpty (take at all_tables) (state S.Store tx.old.conn.now).now.trees
-        → OnOk result ((state S.Store tx.new.conn.now).now.schema ≡ first (at + 1)) }
+        → OnOk result ((state S.Store tx.new.conn.now).now.schema ≡ schema_prefix (at + 1)) }
     ensures empty { HasCleanDisk (state S.Store tx.new.conn.now)
-        → (state S.Store tx.old.conn.now).now.schema ≡ first at
+        → (state S.Store tx.old.conn.now).now.schema ≡ schema_prefix at
         → AreEmpty (take at all_tables) (state S.Store tx.old.conn.now).now.trees
         → OnOk result (AreEmpty (take (at + 1) all_tables) (state S.Store tx.new.conn.now).now.trees) }
     ensures sound { HasCleanDisk (state S.Store tx.new.conn.now)
-        → (state S.Store tx.old.conn.now).now.schema ≡ first at
+        → (state S.Store tx.old.conn.now).now.schema ≡ schema_prefix at
         → AreEmpty (take at all_tables) (state S.Store tx.old.conn.now).now.trees
-        → OnOk result (IsSound (first (at + 1)) (state S.Store tx.new.conn.now).now.trees) }
-    ensures frame { StaysWithin IsFault (state S.Store tx.old.conn.now) (state S.Store tx.new.conn.now) result }
+        → OnOk result (IsSound (schema_prefix (at + 1)) (state S.Store tx.new.conn.now).now.trees) }
+    ensures frame { StaysInTransaction IsFault (state S.Store tx.old.conn.now) (state S.Store tx.new.conn.now) result }
 {
-    let text = create_text(at);
-    write(tx, text, &[])
+    let text = create_table_sql(at);
+    run_statement(tx, text, &[])
 }
 
 /// All tables, without rows.
 fn create_all<S: Alter>(tx: &mut Transaction<'_, S>) -> Result<(), Refusal>
     ensures same_reference { tx.new.conn.ghost_name ≡ tx.old.conn.ghost_name }
-    ensures holds { HasCleanDisk (state S.Store tx.new.conn.now) → (state S.Store tx.old.conn.now).now.schema ≡ first 0
+    ensures holds { HasCleanDisk (state S.Store tx.new.conn.now) → (state S.Store tx.old.conn.now).now.schema ≡ schema_prefix 0
         → OnOk result (Holds (state S.Store tx.new.conn.now).now empty_tables) }
-    ensures frame { StaysWithin IsFault (state S.Store tx.old.conn.now) (state S.Store tx.new.conn.now) result }
+    ensures frame { StaysInTransaction IsFault (state S.Store tx.old.conn.now) (state S.Store tx.new.conn.now) result }
 {
-    for at in 0..COUNT {
+    for at in 0..TABLE_COUNT {
         create_one(tx, at)?;
     }
     Ok(())
@@ -67,13 +67,13 @@ fn create_all<S: Alter>(tx: &mut Transaction<'_, S>) -> Result<(), Refusal>
 /// Puts the two safes of a facility, which are shut.
 fn put_pair<S: Alter>(tx: &mut Transaction<'_, S>, facility: Facility) -> Result<(), Refusal>
     ensures same_reference { tx.new.conn.ghost_name ≡ tx.old.conn.ghost_name }
-    ensures holds { Leaves (state S.Store tx.old.conn.now) (state S.Store tx.new.conn.now) result
+    ensures holds { ChangesTables (state S.Store tx.old.conn.now) (state S.Store tx.new.conn.now) result
         (λ t. record t {
           rows = record t.rows {
             safes = put_in 2 safe_row (shut facility Two) (put_in 2 safe_row (shut facility One) t.rows.safes);
           };
         }) }
-    ensures frame { StaysWithin IsFault (state S.Store tx.old.conn.now) (state S.Store tx.new.conn.now) result }
+    ensures frame { StaysInTransaction IsFault (state S.Store tx.old.conn.now) (state S.Store tx.new.conn.now) result }
 {
     let equipment = SafeRow {
         facility,
@@ -92,14 +92,16 @@ fn put_pair<S: Alter>(tx: &mut Transaction<'_, S>, facility: Facility) -> Result
 /// The tables and rows of `make`.
 fn make_rows<S: Alter>(tx: &mut Transaction<'_, S>) -> Result<(), Refusal>
     ensures same_reference { tx.new.conn.ghost_name ≡ tx.old.conn.ghost_name }
-    ensures holds { HasCleanDisk (state S.Store tx.new.conn.now) → (state S.Store tx.old.conn.now).now.schema ≡ first 0
-        → OnOk result (Holds (state S.Store tx.new.conn.now).now first_tables) }
-    ensures frame { StaysWithin IsFault (state S.Store tx.old.conn.now) (state S.Store tx.new.conn.now) result }
+    ensures holds { HasCleanDisk (state S.Store tx.new.conn.now) → (state S.Store tx.old.conn.now).now.schema ≡ schema_prefix 0
+        → OnOk result (Holds (state S.Store tx.new.conn.now).now new_tables) }
+    ensures frame { StaysInTransaction IsFault (state S.Store tx.old.conn.now) (state S.Store tx.new.conn.now) result }
 {
     create_all(tx)?;
     put_pair(tx, Facility::East)?;
     put_pair(tx, Facility::West)?;
-    let version = Version { number: VERSION };
+    let version = Version {
+        number: SCHEMA_VERSION,
+    };
     version.put(tx)
 }
 
@@ -108,11 +110,11 @@ fn make_rows<S: Alter>(tx: &mut Transaction<'_, S>) -> Result<(), Refusal>
 /// the tables in the transaction, which the caller rolls back; what was committed before stays.
 pub fn make<S: Alter>(tx: &mut Transaction<'_, S>) -> Result<(), Refusal>
     ensures same_reference { tx.new.conn.ghost_name ≡ tx.old.conn.ghost_name }
-    ensures holds { HasCleanDisk (state S.Store tx.new.conn.now) → (state S.Store tx.old.conn.now).now.schema ≡ first 0
-        → OnOk result (Holds (state S.Store tx.new.conn.now).now first_tables) }
-    ensures made { HasCleanDisk (state S.Store tx.new.conn.now) → (state S.Store tx.old.conn.now).now.schema ≡ first 0
+    ensures holds { HasCleanDisk (state S.Store tx.new.conn.now) → (state S.Store tx.old.conn.now).now.schema ≡ schema_prefix 0
+        → OnOk result (Holds (state S.Store tx.new.conn.now).now new_tables) }
+    ensures made { HasCleanDisk (state S.Store tx.new.conn.now) → (state S.Store tx.old.conn.now).now.schema ≡ schema_prefix 0
         → OnOk result (HoldsTables (tables []) (state S.Store tx.new.conn.now).now) }
-    ensures frame { StaysWithin IsFault (state S.Store tx.old.conn.now) (state S.Store tx.new.conn.now) result }
+    ensures frame { StaysInTransaction IsFault (state S.Store tx.old.conn.now) (state S.Store tx.new.conn.now) result }
 {
     make_rows(tx)
 }

@@ -2,16 +2,16 @@
 
 ghost use Rattle.kcr_tables.specs.ExceptionsLaws as laws;
 
-use crate::table::{Finds, Listed, Put, put_new};
+use crate::table::{LookupBy, Put, TableRow, insert_row};
 use kcr_base::Refusal;
 use kcr_history::ExceptionRow;
 use kcr_rows::cells::{line_cell, moment_cell, number_cell, number_or_null_cell};
 use sqlite::{Alter, Transaction};
 
-impl Listed for ExceptionRow {
+impl TableRow for ExceptionRow {
     ghost table = { laws.table };
 
-    fn all_text() -> &'static str {
+    fn select_all_sql() -> &'static str {
         "SELECT ceremony, exception, text, at, passed FROM exceptions ORDER BY ceremony, exception"
     }
 
@@ -19,20 +19,20 @@ impl Listed for ExceptionRow {
 }
 
 /// The rows of one ceremony.
-impl Finds<u32> for ExceptionRow {
-    ghost finding = { laws.exceptions_of };
+impl LookupBy<u32> for ExceptionRow {
+    ghost lookup_spec = { laws.exceptions_of };
 
-    fn find_text() -> &'static str {
+    fn lookup_sql() -> &'static str {
         "SELECT ceremony, exception, text, at, passed FROM exceptions WHERE ceremony = ?1 ORDER BY ceremony, exception"
     }
 
-    ghost finding_laws = { laws.exceptions_of_laws };
+    ghost lookup_laws = { laws.exceptions_of_laws };
 }
 
 impl Put for ExceptionRow {
     #[tactic(auto, using(crate::specs::ExceptionsLaws::inserts))]
     fn put<S: Alter>(&self, tx: &mut Transaction<'_, S>) -> Result<(), Refusal> {
-        put_new(
+        insert_row(
             tx,
             self,
             "INSERT INTO exceptions (ceremony, exception, text, at, passed) VALUES (?1, ?2, ?3, ?4, ?5)",

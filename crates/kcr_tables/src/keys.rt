@@ -2,16 +2,16 @@
 
 ghost use Rattle.kcr_tables.specs.KeysLaws as laws;
 
-use crate::table::{Finds, Listed, Put, put_new};
+use crate::table::{LookupBy, Put, TableRow, insert_row};
 use kcr_base::{Key, Refusal};
 use kcr_history::KeyRow;
 use kcr_rows::cells::{key_cell, number_cell, text_cell};
 use sqlite::{Alter, Transaction};
 
-impl Listed for KeyRow {
+impl TableRow for KeyRow {
     ghost table = { laws.table };
 
-    fn all_text() -> &'static str {
+    fn select_all_sql() -> &'static str {
         "SELECT \"key\", accepted, command, reply FROM keys ORDER BY \"key\""
     }
 
@@ -19,20 +19,20 @@ impl Listed for KeyRow {
 }
 
 /// The row of this key, alone, or none.
-impl Finds<Key> for KeyRow {
-    ghost finding = { laws.key_row_of };
+impl LookupBy<Key> for KeyRow {
+    ghost lookup_spec = { laws.key_row_of };
 
-    fn find_text() -> &'static str {
+    fn lookup_sql() -> &'static str {
         "SELECT \"key\", accepted, command, reply FROM keys WHERE \"key\" = ?1 ORDER BY \"key\""
     }
 
-    ghost finding_laws = { laws.key_row_of_laws };
+    ghost lookup_laws = { laws.key_row_of_laws };
 }
 
 impl Put for KeyRow {
     #[tactic(auto, using(crate::specs::KeysLaws::inserts))]
     fn put<S: Alter>(&self, tx: &mut Transaction<'_, S>) -> Result<(), Refusal> {
-        put_new(
+        insert_row(
             tx,
             self,
             "INSERT INTO keys (\"key\", accepted, command, reply) VALUES (?1, ?2, ?3, ?4)",

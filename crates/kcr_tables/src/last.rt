@@ -7,34 +7,34 @@ ghost use Rattle.kcr_history.specs.Views.{is_appointment_to, is_appointment_of, 
 ghost use Rattle.kcr_rows.specs.Greatest.{IsGreatest};
 ghost use Rattle.kcr_rows.specs.Rows.{key_row, stay_row, appointment_row, seating_row};
 ghost use Rattle.kcr_tables.specs.Exact.{rows_at, rows_to, rows_of_person, has_number, has_text, IsOneOf};
-ghost use Rattle.kcr_tables.specs.Held.{keys_place, stays_place, seatings_place};
-ghost use Rattle.kcr_tables.specs.Frame.{TellsOpen, Tells, TellsExactly, Reads};
+ghost use Rattle.kcr_tables.specs.StoredTables.{keys_place, stays_place, seatings_place};
+ghost use Rattle.kcr_tables.specs.Frame.{ImpliesOpen, OfTables, OfTrees, Reads};
 
 use kcr_base::{Initials, Place, Refusal};
 use kcr_history::{KeyRow, SeatingRow};
 use kcr_people::Appointment;
 use kcr_room::Stay;
 use kcr_rows::cells::{code_cell, initials_cell, number_cell};
-use kcr_rows::statements::rows_of;
+use kcr_rows::statements::query_rows;
 use sqlite::{Alter, Transaction};
 use std::alloc::Global;
 
-/// The row of the accepted command with the greatest number, alone, or none where there is no row.
+/// The row of the accepted command with the greatest number, alone, or none if there is no row.
 /// Nothing is changed. The error is `Memory` when out of memory, and else `Disk`: the device failed, or the row that
-/// stands last is one that no register stores.
+/// stands last is invalid.
 pub fn last_key_row<S: Alter>(
     alloc: Global,
     tx: &mut Transaction<'_, S>,
 ) -> Result<Vec<KeyRow>, Refusal>
     ensures same_reference { tx.new.conn.ghost_name ≡ tx.old.conn.ghost_name }
-    ensures rows { Tells (state S.Store tx.old.conn.now) (state S.Store tx.new.conn.now) result
+    ensures rows { OfTables (state S.Store tx.old.conn.now) (state S.Store tx.new.conn.now) result
         (λ t all. IsGreatest (λ x. x.accepted) t.rows.keys all.items) }
-    ensures exact { TellsExactly (state S.Store tx.old.conn.now) (state S.Store tx.new.conn.now) result
+    ensures exact { OfTrees (state S.Store tx.old.conn.now) (state S.Store tx.new.conn.now) result
         (λ db all. IsOneOf (rows_at keys_place db) (map key_row all.items)) }
-    ensures opened { TellsOpen (state S.Store tx.old.conn.now) (state S.Store tx.new.conn.now) result }
+    ensures opened { ImpliesOpen (state S.Store tx.old.conn.now) (state S.Store tx.new.conn.now) result }
     ensures frame { Reads (state S.Store tx.old.conn.now) (state S.Store tx.new.conn.now) result }
 {
-    rows_of(
+    query_rows(
         alloc,
         tx,
         "SELECT \"key\", accepted, command, reply FROM keys ORDER BY accepted DESC LIMIT 1",
@@ -49,14 +49,14 @@ pub fn last_stay_of<S: Alter>(
     who: &Initials,
 ) -> Result<Vec<Stay>, Refusal>
     ensures same_reference { tx.new.conn.ghost_name ≡ tx.old.conn.ghost_name }
-    ensures rows { Tells (state S.Store tx.old.conn.now) (state S.Store tx.new.conn.now) result
+    ensures rows { OfTables (state S.Store tx.old.conn.now) (state S.Store tx.new.conn.now) result
         (λ t all. IsGreatest (λ x. x.since) (filter (λ x. same_text x.who who.now) t.rows.stays) all.items) }
-    ensures exact { TellsExactly (state S.Store tx.old.conn.now) (state S.Store tx.new.conn.now) result
+    ensures exact { OfTrees (state S.Store tx.old.conn.now) (state S.Store tx.new.conn.now) result
         (λ db all. IsOneOf (filter (has_text 0 who.now) (rows_at stays_place db)) (map stay_row all.items)) }
     ensures frame { Reads (state S.Store tx.old.conn.now) (state S.Store tx.new.conn.now) result }
 {
     let c0 = initials_cell(who);
-    rows_of(
+    query_rows(
         alloc,
         tx,
         "SELECT who, since, ceremony, until FROM stays WHERE who = ?1 ORDER BY since DESC LIMIT 1",
@@ -71,15 +71,15 @@ pub fn last_appointment_to<S: Alter>(
     place: Place,
 ) -> Result<Vec<Appointment>, Refusal>
     ensures same_reference { tx.new.conn.ghost_name ≡ tx.old.conn.ghost_name }
-    ensures rows { Tells (state S.Store tx.old.conn.now) (state S.Store tx.new.conn.now) result
+    ensures rows { OfTables (state S.Store tx.old.conn.now) (state S.Store tx.new.conn.now) result
         (λ t all. IsGreatest (λ x. x.since) (filter (is_appointment_to place) t.rows.appointments) all.items) }
-    ensures exact { TellsExactly (state S.Store tx.old.conn.now) (state S.Store tx.new.conn.now) result
+    ensures exact { OfTrees (state S.Store tx.old.conn.now) (state S.Store tx.new.conn.now) result
         (λ db all. IsOneOf (rows_to place db) (map appointment_row all.items)) }
     ensures frame { Reads (state S.Store tx.old.conn.now) (state S.Store tx.new.conn.now) result }
 {
     let words = place.text();
     let c0 = code_cell(&words);
-    rows_of(
+    query_rows(
         alloc,
         tx,
         "SELECT place, since, who, until FROM appointments WHERE place = ?1 ORDER BY since DESC LIMIT 1",
@@ -94,14 +94,14 @@ pub fn last_appointment_of<S: Alter>(
     who: &Initials,
 ) -> Result<Vec<Appointment>, Refusal>
     ensures same_reference { tx.new.conn.ghost_name ≡ tx.old.conn.ghost_name }
-    ensures rows { Tells (state S.Store tx.old.conn.now) (state S.Store tx.new.conn.now) result
+    ensures rows { OfTables (state S.Store tx.old.conn.now) (state S.Store tx.new.conn.now) result
         (λ t all. IsGreatest (λ x. x.since) (filter (is_appointment_of who.now) t.rows.appointments) all.items) }
-    ensures exact { TellsExactly (state S.Store tx.old.conn.now) (state S.Store tx.new.conn.now) result
+    ensures exact { OfTrees (state S.Store tx.old.conn.now) (state S.Store tx.new.conn.now) result
         (λ db all. IsOneOf (rows_of_person who.now db) (map appointment_row all.items)) }
     ensures frame { Reads (state S.Store tx.old.conn.now) (state S.Store tx.new.conn.now) result }
 {
     let c0 = initials_cell(who);
-    rows_of(
+    query_rows(
         alloc,
         tx,
         "SELECT place, since, who, until FROM appointments WHERE who = ?1 ORDER BY since DESC LIMIT 1",
@@ -116,14 +116,14 @@ pub fn last_seating_of<S: Alter>(
     ceremony: u32,
 ) -> Result<Vec<SeatingRow>, Refusal>
     ensures same_reference { tx.new.conn.ghost_name ≡ tx.old.conn.ghost_name }
-    ensures rows { Tells (state S.Store tx.old.conn.now) (state S.Store tx.new.conn.now) result
+    ensures rows { OfTables (state S.Store tx.old.conn.now) (state S.Store tx.new.conn.now) result
         (λ t all. IsGreatest (λ x. x.step) (filter (is_seating_of ceremony) t.rows.seatings) all.items) }
-    ensures exact { TellsExactly (state S.Store tx.old.conn.now) (state S.Store tx.new.conn.now) result
+    ensures exact { OfTrees (state S.Store tx.old.conn.now) (state S.Store tx.new.conn.now) result
         (λ db all. IsOneOf (filter (has_number 0 ceremony) (rows_at seatings_place db)) (map seating_row all.items)) }
     ensures frame { Reads (state S.Store tx.old.conn.now) (state S.Store tx.new.conn.now) result }
 {
     let c0 = number_cell(ceremony);
-    rows_of(
+    query_rows(
         alloc,
         tx,
         "SELECT ceremony, step, seat, who FROM seatings WHERE ceremony = ?1 ORDER BY step DESC LIMIT 1",

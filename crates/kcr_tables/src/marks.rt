@@ -2,16 +2,16 @@
 
 ghost use Rattle.kcr_tables.specs.MarksLaws as laws;
 
-use crate::table::{Finds, Listed, Put, put_over};
+use crate::table::{LookupBy, Put, TableRow, update_or_insert_row};
 use kcr_base::Refusal;
 use kcr_history::MarkRow;
 use kcr_rows::cells::{moment_cell, number_cell};
 use sqlite::{Alter, Transaction};
 
-impl Listed for MarkRow {
+impl TableRow for MarkRow {
     ghost table = { laws.table };
 
-    fn all_text() -> &'static str {
+    fn select_all_sql() -> &'static str {
         "SELECT ceremony, at FROM marks ORDER BY ceremony"
     }
 
@@ -19,20 +19,20 @@ impl Listed for MarkRow {
 }
 
 /// The row of the ceremony, alone, or none.
-impl Finds<u32> for MarkRow {
-    ghost finding = { laws.mark_of };
+impl LookupBy<u32> for MarkRow {
+    ghost lookup_spec = { laws.mark_of };
 
-    fn find_text() -> &'static str {
+    fn lookup_sql() -> &'static str {
         "SELECT ceremony, at FROM marks WHERE ceremony = ?1 ORDER BY ceremony"
     }
 
-    ghost finding_laws = { laws.mark_of_laws };
+    ghost lookup_laws = { laws.mark_of_laws };
 }
 
 impl Put for MarkRow {
     #[tactic(auto, using(crate::specs::MarksLaws::inserts, crate::specs::MarksLaws::updates))]
     fn put<S: Alter>(&self, tx: &mut Transaction<'_, S>) -> Result<(), Refusal> {
-        put_over(
+        update_or_insert_row(
             tx,
             self,
             "UPDATE marks SET ceremony = ?1, at = ?2 WHERE ceremony = ?1",

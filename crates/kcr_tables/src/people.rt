@@ -2,16 +2,16 @@
 
 ghost use Rattle.kcr_tables.specs.PeopleLaws as laws;
 
-use crate::table::{Finds, Listed, Put, put_new};
+use crate::table::{LookupBy, Put, TableRow, insert_row};
 use kcr_base::{Initials, Refusal};
 use kcr_people::Person;
 use kcr_rows::cells::{initials_cell, line_cell};
 use sqlite::{Alter, Transaction};
 
-impl Listed for Person {
+impl TableRow for Person {
     ghost table = { laws.table };
 
-    fn all_text() -> &'static str {
+    fn select_all_sql() -> &'static str {
         "SELECT who, name FROM people ORDER BY who"
     }
 
@@ -19,20 +19,20 @@ impl Listed for Person {
 }
 
 /// The row of the person with these initials, alone, or none.
-impl Finds<Initials> for Person {
-    ghost finding = { laws.person_of };
+impl LookupBy<Initials> for Person {
+    ghost lookup_spec = { laws.person_of };
 
-    fn find_text() -> &'static str {
+    fn lookup_sql() -> &'static str {
         "SELECT who, name FROM people WHERE who = ?1 ORDER BY who"
     }
 
-    ghost finding_laws = { laws.person_of_laws };
+    ghost lookup_laws = { laws.person_of_laws };
 }
 
 impl Put for Person {
     #[tactic(auto, using(crate::specs::PeopleLaws::inserts))]
     fn put<S: Alter>(&self, tx: &mut Transaction<'_, S>) -> Result<(), Refusal> {
-        put_new(
+        insert_row(
             tx,
             self,
             "INSERT INTO people (who, name) VALUES (?1, ?2)",

@@ -2,16 +2,16 @@
 
 ghost use Rattle.kcr_tables.specs.SafesLaws as laws;
 
-use crate::table::{Listed, Put, put_over};
+use crate::table::{Put, TableRow, update_or_insert_row};
 use kcr_base::Refusal;
 use kcr_custody::SafeRow;
 use kcr_rows::cells::{facility_cell, safe_cell, truth_cell};
 use sqlite::{Alter, Transaction};
 
-impl Listed for SafeRow {
+impl TableRow for SafeRow {
     ghost table = { laws.table };
 
-    fn all_text() -> &'static str {
+    fn select_all_sql() -> &'static str {
         "SELECT facility, safe, state FROM safes ORDER BY facility, safe"
     }
 
@@ -21,7 +21,7 @@ impl Listed for SafeRow {
 impl Put for SafeRow {
     #[tactic(auto, using(crate::specs::SafesLaws::inserts, crate::specs::SafesLaws::updates))]
     fn put<S: Alter>(&self, tx: &mut Transaction<'_, S>) -> Result<(), Refusal> {
-        put_over(
+        update_or_insert_row(
             tx,
             self,
             "UPDATE safes SET facility = ?1, safe = ?2, state = ?3 WHERE facility = ?1 AND safe = ?2",

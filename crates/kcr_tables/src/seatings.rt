@@ -2,16 +2,16 @@
 
 ghost use Rattle.kcr_tables.specs.SeatingsLaws as laws;
 
-use crate::table::{Listed, Put, put_new};
+use crate::table::{Put, TableRow, insert_row};
 use kcr_base::Refusal;
 use kcr_history::SeatingRow;
 use kcr_rows::cells::{initials_cell, number_cell};
 use sqlite::{Alter, Transaction};
 
-impl Listed for SeatingRow {
+impl TableRow for SeatingRow {
     ghost table = { laws.table };
 
-    fn all_text() -> &'static str {
+    fn select_all_sql() -> &'static str {
         "SELECT ceremony, step, seat, who FROM seatings ORDER BY ceremony, step, seat"
     }
 
@@ -21,7 +21,7 @@ impl Listed for SeatingRow {
 impl Put for SeatingRow {
     #[tactic(auto, using(crate::specs::SeatingsLaws::inserts))]
     fn put<S: Alter>(&self, tx: &mut Transaction<'_, S>) -> Result<(), Refusal> {
-        put_new(
+        insert_row(
             tx,
             self,
             "INSERT INTO seatings (ceremony, step, seat, who) VALUES (?1, ?2, ?3, ?4)",

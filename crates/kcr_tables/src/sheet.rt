@@ -2,16 +2,16 @@
 
 ghost use Rattle.kcr_tables.specs.SheetLaws as laws;
 
-use crate::table::{Listed, Put, put_new};
+use crate::table::{Put, TableRow, insert_row};
 use kcr_base::Refusal;
 use kcr_room::SheetRow;
 use kcr_rows::cells::{initials_cell, moment_cell, number_cell, way_cell};
 use sqlite::{Alter, Transaction};
 
-impl Listed for SheetRow {
+impl TableRow for SheetRow {
     ghost table = { laws.table };
 
-    fn all_text() -> &'static str {
+    fn select_all_sql() -> &'static str {
         "SELECT who, at, ceremony, way FROM sheet ORDER BY who, at"
     }
 
@@ -21,7 +21,7 @@ impl Listed for SheetRow {
 impl Put for SheetRow {
     #[tactic(auto, using(crate::specs::SheetLaws::inserts))]
     fn put<S: Alter>(&self, tx: &mut Transaction<'_, S>) -> Result<(), Refusal> {
-        put_new(
+        insert_row(
             tx,
             self,
             "INSERT INTO sheet (who, at, ceremony, way) VALUES (?1, ?2, ?3, ?4)",

@@ -2,16 +2,16 @@
 
 ghost use Rattle.kcr_tables.specs.StaysLaws as laws;
 
-use crate::table::{Listed, Put, put_new, put_over};
+use crate::table::{Put, TableRow, insert_row, update_or_insert_row};
 use kcr_base::Refusal;
 use kcr_room::Stay;
 use kcr_rows::cells::{initials_cell, moment_cell, moment_or_null_cell, number_cell};
 use sqlite::{Alter, Transaction};
 
-impl Listed for Stay {
+impl TableRow for Stay {
     ghost table = { laws.table };
 
-    fn all_text() -> &'static str {
+    fn select_all_sql() -> &'static str {
         "SELECT who, since, ceremony, until FROM stays ORDER BY who, since"
     }
 
@@ -29,9 +29,9 @@ impl Put for Stay {
             moment_or_null_cell(self.until),
         ];
         if self.until.is_none() {
-            put_new(tx, self, insert, &cells)
+            insert_row(tx, self, insert, &cells)
         } else {
-            put_over(
+            update_or_insert_row(
                 tx,
                 self,
                 "UPDATE stays SET who = ?1, since = ?2, ceremony = ?3, until = ?4 WHERE who = ?1 AND since = ?2",

@@ -2,7 +2,7 @@
 
 ghost use Rattle.kcr_tables.specs.StepsLaws as laws;
 
-use crate::table::{Listed, PutWords, put_new, put_over};
+use crate::table::{PutAllocating, TableRow, insert_row, update_or_insert_row};
 use kcr_base::Refusal;
 use kcr_history::{StepRow, StepState};
 use kcr_rows::cells::{
@@ -11,19 +11,19 @@ use kcr_rows::cells::{
 use sqlite::{Alter, Transaction};
 use std::alloc::Global;
 
-impl Listed for StepRow {
+impl TableRow for StepRow {
     ghost table = { laws.table };
 
-    fn all_text() -> &'static str {
+    fn select_all_sql() -> &'static str {
         "SELECT ceremony, step, activity, seats, state, at FROM steps ORDER BY ceremony, step"
     }
 
     ghost table_laws = { laws.table_laws };
 }
 
-impl PutWords for StepRow {
+impl PutAllocating for StepRow {
     #[tactic(auto, using(crate::specs::StepsLaws::inserts, crate::specs::StepsLaws::updates))]
-    fn put_words<S: Alter>(
+    fn put_allocating<S: Alter>(
         &self,
         alloc: Global,
         tx: &mut Transaction<'_, S>,
@@ -40,9 +40,9 @@ impl PutWords for StepRow {
             moment_or_null_cell(self.at),
         ];
         if self.state == StepState::Undone {
-            put_new(tx, self, insert, &cells)
+            insert_row(tx, self, insert, &cells)
         } else {
-            put_over(
+            update_or_insert_row(
                 tx,
                 self,
                 "UPDATE steps SET ceremony = ?1, step = ?2, activity = ?3, seats = ?4, state = ?5, at = ?6 WHERE ceremony = ?1 AND step = ?2",

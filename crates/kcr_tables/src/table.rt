@@ -9,33 +9,33 @@ ghost use Rattle.sqlite.specs.Values.{bound, bound_value};
 ghost use Rattle.sqlite.specs.Value.{owned};
 ghost use Rattle.kcr_rows.specs.Refusals.{IsFault};
 ghost use Rattle.kcr_rows.proofs.FilterLemmas.{has_value};
-ghost use Rattle.kcr_rows.specs.Frame.{StaysWithin};
-ghost use Rattle.kcr_tables.specs.Frame.{TellsOpen, Tells, TellsMachine, TellsExactly, Leaves, Reads};
-ghost use Rattle.kcr_tables.specs.Asked.{asked_of, asked_all};
-ghost use Rattle.kcr_tables.specs.Exact.{rows_at, AskedAreShown, WholeIsShown};
+ghost use Rattle.kcr_rows.specs.Frame.{StaysInTransaction};
+ghost use Rattle.kcr_tables.specs.Frame.{ImpliesOpen, OfTables, OfMachineTables, OfTrees, ChangesTables, Reads};
+ghost use Rattle.kcr_tables.specs.Selected.{asked_of, asked_all};
+ghost use Rattle.kcr_tables.specs.Exact.{rows_at, SelectedAreRead, AllAreRead};
 ghost use Rattle.kcr_tables.specs.Statements.{InsertsRow, UpdatesRow};
-ghost use Rattle.kcr_tables.specs.Table.{Table, IsTable, Finding, IsFinding, with_put, machine_rows};
+ghost use Rattle.kcr_tables.specs.Table.{TableSpec, IsTable, LookupSpec, IsLookup, with_put, machine_rows};
 
 use kcr_base::{Initials, ItemCode, Key, Refusal, Serial};
 use kcr_history::Selection;
 use kcr_rows::cells::{initials_cell, item_cell, key_cell, number_cell, serial_cell};
-use kcr_rows::statements::{changed_rows, rows_of, write};
-use kcr_rows::stored::Stored;
+use kcr_rows::from_row::FromRow;
+use kcr_rows::statements::{execute, query_rows, run_statement};
 use sqlite::types::ValueRef;
 use sqlite::{Alter, Transaction};
 use std::alloc::Global;
 
 /// A table of the register, by the values that its rows stand for.
-pub trait Listed: Stored {
-    /// What it is: where its rows stand, and the text of `all_text`.
-    ghost table: { Table Self };
+pub trait TableRow: FromRow {
+    /// What it is: where its rows stand, and the text of `select_all_sql`.
+    ghost table: { TableSpec Self };
 
     /// The text that shows all rows, in the order of their keys.
-    fn all_text() -> &'static str
+    fn select_all_sql() -> &'static str
         ensures { result.now ≡ table.all_sql };
 
     // What holds of it.
-    ghost table_laws: { IsTable table Self.Stored.row_of Self.Stored.is_read };
+    ghost table_laws: { IsTable table Self.FromRow.row_of Self.FromRow.is_read };
 }
 
 /// A value by which rows are found.
@@ -89,115 +89,119 @@ impl AsCell for u32 {
 }
 
 /// A table whose rows are found by the value in one of its columns.
-pub trait Finds<K: AsCell>: Listed {
-    /// How they are found: which rows are meant, the column, and the text of `find_text`.
-    ghost finding: { Finding K Self };
+pub trait LookupBy<K: AsCell>: TableRow {
+    /// How they are found: which rows are meant, the column, and the text of `lookup_sql`.
+    ghost lookup_spec: { LookupSpec K Self };
 
     /// The text that shows the rows with a value, in the order of their keys.
-    fn find_text() -> &'static str
-        ensures { result.now ≡ finding.find_sql };
+    fn lookup_sql() -> &'static str
+        ensures { result.now ≡ lookup_spec.find_sql };
 
     // What holds of it.
-    ghost finding_laws: { IsFinding finding Self.Listed.table.place K.AsCell.value_of Self.Stored.row_of };
+    ghost lookup_laws: { IsLookup lookup_spec Self.TableRow.table.place K.AsCell.value_of Self.FromRow.row_of };
 }
 
 /// A table in which the row of a value is put under its key.
-pub trait Put: Listed {
+pub trait Put: TableRow {
     /// Puts the row under its key, new or in the place of the row there; every other row stays. A person, a training, a
     /// box, a seating, a row of the sheet, an exception and an accepted command are put only once, so are a step that
     /// is neither signed nor passed and a stay that has no end: by an `INSERT`. The error is `Memory`, or else `Disk`,
-    /// as where the key of one of these or the number of a command is taken. What was committed before stays.
+    /// as if the key of one of these or the number of a command is taken. What was committed before stays.
     ///
-    /// Any other row may be there: an `UPDATE` changes it, and an `INSERT` follows where it changed none. Both together
+    /// Any other row may be there: an `UPDATE` changes it, and an `INSERT` follows if it changed none. Both together
     /// cost less than one upsert.
     fn put<S: Alter>(&self, tx: &mut Transaction<'_, S>) -> Result<(), Refusal>
         ensures same_reference { tx.new.conn.ghost_name ≡ tx.old.conn.ghost_name }
-        ensures holds { Leaves (state S.Store tx.old.conn.now) (state S.Store tx.new.conn.now) result
-            (λ t. with_put Self.Listed.table Self.Stored.row_of self.now t) }
-        ensures frame { StaysWithin IsFault (state S.Store tx.old.conn.now) (state S.Store tx.new.conn.now) result };
+        ensures holds { ChangesTables (state S.Store tx.old.conn.now) (state S.Store tx.new.conn.now) result
+            (λ t. with_put Self.TableRow.table Self.FromRow.row_of self.now t) }
+        ensures frame { StaysInTransaction IsFault (state S.Store tx.old.conn.now) (state S.Store tx.new.conn.now) result };
 }
 
-/// A table in which a row is put the same way, where words of the row are made in memory first.
-pub trait PutWords: Listed {
+/// A table in which a row is put the same way, if words of the row are made in memory first.
+pub trait PutAllocating: TableRow {
     /// Puts the row, as `Put::put` does.
-    fn put_words<S: Alter>(&self, alloc: Global, tx: &mut Transaction<'_, S>) -> Result<(), Refusal>
+    fn put_allocating<S: Alter>(
+        &self,
+        alloc: Global,
+        tx: &mut Transaction<'_, S>,
+    ) -> Result<(), Refusal>
         ensures same_reference { tx.new.conn.ghost_name ≡ tx.old.conn.ghost_name }
-        ensures holds { Leaves (state S.Store tx.old.conn.now) (state S.Store tx.new.conn.now) result
-            (λ t. with_put Self.Listed.table Self.Stored.row_of self.now t) }
-        ensures frame { StaysWithin IsFault (state S.Store tx.old.conn.now) (state S.Store tx.new.conn.now) result };
+        ensures holds { ChangesTables (state S.Store tx.old.conn.now) (state S.Store tx.new.conn.now) result
+            (λ t. with_put Self.TableRow.table Self.FromRow.row_of self.now t) }
+        ensures frame { StaysInTransaction IsFault (state S.Store tx.old.conn.now) (state S.Store tx.new.conn.now) result };
 }
 
 /// All rows of a table, in the order of their keys. Nothing is changed. The error is `Memory` when out of memory, and
-/// else `Disk`: the device failed, or a row is one that no register stores.
-pub fn all_rows<S: Alter, T: Listed>(
+/// else `Disk`: the device failed, or a row is invalid.
+pub fn all_rows<S: Alter, T: TableRow>(
     alloc: Global,
     tx: &mut Transaction<'_, S>,
 ) -> Result<Vec<T>, Refusal>
     ensures same_reference { tx.new.conn.ghost_name ≡ tx.old.conn.ghost_name }
-    ensures rows { Tells (state S.Store tx.old.conn.now) (state S.Store tx.new.conn.now) result
+    ensures rows { OfTables (state S.Store tx.old.conn.now) (state S.Store tx.new.conn.now) result
         (λ t all. all.items ≡ T.table.rows_in t) }
-    ensures machine { TellsMachine (state S.Store tx.old.conn.now) (state S.Store tx.new.conn.now) result
+    ensures machine { OfMachineTables (state S.Store tx.old.conn.now) (state S.Store tx.new.conn.now) result
         (λ m all. IsPermutation (machine_rows T.table m) all.items) }
-    ensures exact { TellsExactly (state S.Store tx.old.conn.now) (state S.Store tx.new.conn.now) result
+    ensures exact { OfTrees (state S.Store tx.old.conn.now) (state S.Store tx.new.conn.now) result
         (λ db all. IsPermutation (rows_at T.table.place db) (map T.row_of all.items)) }
-    ensures opened { TellsOpen (state S.Store tx.old.conn.now) (state S.Store tx.new.conn.now) result }
+    ensures opened { ImpliesOpen (state S.Store tx.old.conn.now) (state S.Store tx.new.conn.now) result }
     ensures frame { Reads (state S.Store tx.old.conn.now) (state S.Store tx.new.conn.now) result }
 {
-    rows_of(alloc, tx, T::all_text(), &[])
+    query_rows(alloc, tx, T::select_all_sql(), &[])
 }
 
 /// The rows with this value, in the order of their keys. Nothing is changed. The error is `Memory` when out of memory,
-/// and else `Disk`: the device failed, or a row with this value is one that no register stores.
-pub fn rows_under<S: Alter, K: AsCell, T: Finds<K>>(
+/// and else `Disk`: the device failed, or a row with this value is invalid.
+pub fn find_rows<S: Alter, K: AsCell, T: LookupBy<K>>(
     alloc: Global,
     tx: &mut Transaction<'_, S>,
     key: &K,
 ) -> Result<Vec<T>, Refusal>
     ensures same_reference { tx.new.conn.ghost_name ≡ tx.old.conn.ghost_name }
-    ensures rows { Tells (state S.Store tx.old.conn.now) (state S.Store tx.new.conn.now) result
-        (λ t all. all.items ≡ filter (T.finding.is_under key.now) (T.table.rows_in t)) }
-    ensures exact { TellsExactly (state S.Store tx.old.conn.now) (state S.Store tx.new.conn.now) result
-        (λ db all. IsPermutation (filter (has_value T.finding.column (K.value_of key.now)) (rows_at T.table.place db))
+    ensures rows { OfTables (state S.Store tx.old.conn.now) (state S.Store tx.new.conn.now) result
+        (λ t all. all.items ≡ filter (T.lookup_spec.is_under key.now) (T.table.rows_in t)) }
+    ensures exact { OfTrees (state S.Store tx.old.conn.now) (state S.Store tx.new.conn.now) result
+        (λ db all. IsPermutation (filter (has_value T.lookup_spec.column (K.value_of key.now)) (rows_at T.table.place db))
         (map T.row_of all.items)) }
-    ensures opened { TellsOpen (state S.Store tx.old.conn.now) (state S.Store tx.new.conn.now) result }
+    ensures opened { ImpliesOpen (state S.Store tx.old.conn.now) (state S.Store tx.new.conn.now) result }
     ensures frame { Reads (state S.Store tx.old.conn.now) (state S.Store tx.new.conn.now) result }
 {
-    rows_of(alloc, tx, T::find_text(), &[key.cell()])
+    query_rows(alloc, tx, T::lookup_sql(), &[key.cell()])
 }
 
-/// The rows that are asked for. Nothing is changed; the errors are those of a reading, so `Disk` also where a row that
-/// is asked for is one that no register stores.
-pub fn asked_rows<S: Alter, K: AsCell, T: Finds<K>>(
+/// The rows that are asked for. Nothing is changed; the errors are those of a reading, so `Disk` also if a row that
+/// is asked for is invalid.
+pub fn select_rows<S: Alter, K: AsCell, T: LookupBy<K>>(
     alloc: Global,
     tx: &mut Transaction<'_, S>,
     asked: &Selection<K>,
 ) -> Result<Vec<T>, Refusal>
     ensures same_reference { tx.new.conn.ghost_name ≡ tx.old.conn.ghost_name }
-    ensures rows { Tells (state S.Store tx.old.conn.now) (state S.Store tx.new.conn.now) result
-        (λ t all. all.items ≡ asked_of T.finding.is_under asked.now (T.table.rows_in t)) }
-    ensures exact { TellsExactly (state S.Store tx.old.conn.now) (state S.Store tx.new.conn.now) result
-        (λ db all. AskedAreShown T.row_of T.table.place (λ key. has_value T.finding.column (K.value_of key)) asked.now
+    ensures rows { OfTables (state S.Store tx.old.conn.now) (state S.Store tx.new.conn.now) result
+        (λ t all. all.items ≡ asked_of T.lookup_spec.is_under asked.now (T.table.rows_in t)) }
+    ensures exact { OfTrees (state S.Store tx.old.conn.now) (state S.Store tx.new.conn.now) result
+        (λ db all. SelectedAreRead T.row_of T.table.place (λ key. has_value T.lookup_spec.column (K.value_of key)) asked.now
         all.items db) }
     ensures frame { Reads (state S.Store tx.old.conn.now) (state S.Store tx.new.conn.now) result }
 {
     match asked {
         Selection::Nothing => Ok(Vec::new(alloc)),
-        Selection::Under(key) => rows_under(alloc, tx, key),
+        Selection::Matching(key) => find_rows(alloc, tx, key),
         Selection::All => all_rows(alloc, tx),
     }
 }
 
-/// All rows, where they are asked for. Nothing is changed; the errors are those of a reading.
-pub fn asked_whole<S: Alter, T: Listed>(
+/// All rows, if they are asked for. Nothing is changed; the errors are those of a reading.
+pub fn select_all<S: Alter, T: TableRow>(
     alloc: Global,
     tx: &mut Transaction<'_, S>,
     asked: bool,
 ) -> Result<Vec<T>, Refusal>
     ensures same_reference { tx.new.conn.ghost_name ≡ tx.old.conn.ghost_name }
-    ensures rows { Tells (state S.Store tx.old.conn.now) (state S.Store tx.new.conn.now) result
+    ensures rows { OfTables (state S.Store tx.old.conn.now) (state S.Store tx.new.conn.now) result
         (λ t all. all.items ≡ asked_all asked (T.table.rows_in t)) }
-    ensures exact { TellsExactly (state S.Store tx.old.conn.now) (state S.Store tx.new.conn.now) result
-        (λ db all. WholeIsShown T.row_of T.table.place asked all.items db) }
+    ensures exact { OfTrees (state S.Store tx.old.conn.now) (state S.Store tx.new.conn.now) result
+        (λ db all. AllAreRead T.row_of T.table.place asked all.items db) }
     ensures frame { Reads (state S.Store tx.old.conn.now) (state S.Store tx.new.conn.now) result }
 {
     if asked {
@@ -209,7 +213,7 @@ pub fn asked_whole<S: Alter, T: Listed>(
 
 /// Puts the row of a value whose key no row has by the text `sql`, whose parameters are `cells`, those of the row; the
 /// errors are those of `Put::put`.
-pub fn put_new<S: Alter, T: Listed>(
+pub fn insert_row<S: Alter, T: TableRow>(
     tx: &mut Transaction<'_, S>,
     row: &T,
     sql: &str,
@@ -219,18 +223,18 @@ pub fn put_new<S: Alter, T: Listed>(
     requires cells { bound cells.now ≡ T.row_of row.now }
     requires stored { T.table.is_stored row.now }
     ensures same_reference { tx.new.conn.ghost_name ≡ tx.old.conn.ghost_name }
-    ensures holds { Leaves (state S.Store tx.old.conn.now) (state S.Store tx.new.conn.now) result
+    ensures holds { ChangesTables (state S.Store tx.old.conn.now) (state S.Store tx.new.conn.now) result
         (λ t. with_put T.table T.row_of row.now t) }
-    ensures frame { StaysWithin IsFault (state S.Store tx.old.conn.now) (state S.Store tx.new.conn.now) result }
+    ensures frame { StaysInTransaction IsFault (state S.Store tx.old.conn.now) (state S.Store tx.new.conn.now) result }
 {
     let _value = row;
-    write(tx, sql, cells)
+    run_statement(tx, sql, cells)
 }
 
 /// Puts the row of a value under its key, which a row may have already: the text `update_sql` changes that row, and
-/// where it changed none `insert_sql` puts the row. The parameters of both are `cells`, those of the row; the errors
+/// if it changed none `insert_sql` puts the row. The parameters of both are `cells`, those of the row; the errors
 /// are those of `Put::put`.
-pub fn put_over<S: Alter, T: Listed>(
+pub fn update_or_insert_row<S: Alter, T: TableRow>(
     tx: &mut Transaction<'_, S>,
     row: &T,
     update_sql: &str,
@@ -242,13 +246,13 @@ pub fn put_over<S: Alter, T: Listed>(
     requires cells { bound cells.now ≡ T.row_of row.now }
     requires stored { T.table.is_stored row.now }
     ensures same_reference { tx.new.conn.ghost_name ≡ tx.old.conn.ghost_name }
-    ensures holds { Leaves (state S.Store tx.old.conn.now) (state S.Store tx.new.conn.now) result
+    ensures holds { ChangesTables (state S.Store tx.old.conn.now) (state S.Store tx.new.conn.now) result
         (λ t. with_put T.table T.row_of row.now t) }
-    ensures frame { StaysWithin IsFault (state S.Store tx.old.conn.now) (state S.Store tx.new.conn.now) result }
+    ensures frame { StaysInTransaction IsFault (state S.Store tx.old.conn.now) (state S.Store tx.new.conn.now) result }
 {
     let _value = row;
-    if changed_rows(tx, update_sql, cells)? == 0 {
-        write(tx, insert_sql, cells)
+    if execute(tx, update_sql, cells)? == 0 {
+        run_statement(tx, insert_sql, cells)
     } else {
         Ok(())
     }

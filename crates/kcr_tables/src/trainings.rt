@@ -2,16 +2,16 @@
 
 ghost use Rattle.kcr_tables.specs.TrainingsLaws as laws;
 
-use crate::table::{Finds, Listed, Put, put_new};
+use crate::table::{LookupBy, Put, TableRow, insert_row};
 use kcr_base::{Initials, Refusal};
 use kcr_people::Training;
 use kcr_rows::cells::{day_cell, initials_cell, role_cell};
 use sqlite::{Alter, Transaction};
 
-impl Listed for Training {
+impl TableRow for Training {
     ghost table = { laws.table };
 
-    fn all_text() -> &'static str {
+    fn select_all_sql() -> &'static str {
         "SELECT who, role, since, until FROM trainings ORDER BY who, role, since, until"
     }
 
@@ -19,20 +19,20 @@ impl Listed for Training {
 }
 
 /// The rows of one person.
-impl Finds<Initials> for Training {
-    ghost finding = { laws.trainings_of };
+impl LookupBy<Initials> for Training {
+    ghost lookup_spec = { laws.trainings_of };
 
-    fn find_text() -> &'static str {
+    fn lookup_sql() -> &'static str {
         "SELECT who, role, since, until FROM trainings WHERE who = ?1 ORDER BY who, role, since, until"
     }
 
-    ghost finding_laws = { laws.trainings_of_laws };
+    ghost lookup_laws = { laws.trainings_of_laws };
 }
 
 impl Put for Training {
     #[tactic(auto, using(crate::specs::TrainingsLaws::inserts))]
     fn put<S: Alter>(&self, tx: &mut Transaction<'_, S>) -> Result<(), Refusal> {
-        put_new(
+        insert_row(
             tx,
             self,
             "INSERT INTO trainings (who, role, since, until) VALUES (?1, ?2, ?3, ?4)",

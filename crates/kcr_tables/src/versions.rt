@@ -2,16 +2,16 @@
 
 ghost use Rattle.kcr_tables.specs.VersionsLaws as laws;
 
-use crate::table::{Listed, Put, put_new};
+use crate::table::{Put, TableRow, insert_row};
 use kcr_base::Refusal;
 use kcr_rows::Version;
 use kcr_rows::cells::number_cell;
 use sqlite::{Alter, Transaction};
 
-impl Listed for Version {
+impl TableRow for Version {
     ghost table = { laws.table };
 
-    fn all_text() -> &'static str {
+    fn select_all_sql() -> &'static str {
         "SELECT number FROM versions ORDER BY number"
     }
 
@@ -21,7 +21,7 @@ impl Listed for Version {
 impl Put for Version {
     #[tactic(auto, using(crate::specs::VersionsLaws::inserts))]
     fn put<S: Alter>(&self, tx: &mut Transaction<'_, S>) -> Result<(), Refusal> {
-        put_new(
+        insert_row(
             tx,
             self,
             "INSERT INTO versions (number) VALUES (?1)",

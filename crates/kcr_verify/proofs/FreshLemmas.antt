@@ -6,31 +6,31 @@ use Rattle.sqlite.specs.Schema.{Schema}
 use Rattle.sqlite.specs.State.{State, Survives}
 use Rattle.sqlite.specs.Store.{Ghosts}
 use Rattle.sqlite.specs.Tree.{Trees}
-use Rattle.kcr_older.specs.Standing.{StandsAs, no_schema}
-use Rattle.kcr_older.specs.declared.standing.Standing.{Standing}
-use Rattle.kcr_older.specs.declared.standing.Standing.TheVariants.{Empty, Current, Second, First, Numbered, Foreign}
+use Rattle.kcr_older.specs.Kind.{IsOfKind, no_schema}
+use Rattle.kcr_older.specs.declared.kind.DatabaseKind.{DatabaseKind}
+use Rattle.kcr_older.specs.declared.kind.DatabaseKind.TheVariants.{Empty, Current, Version2, Version1, Versioned, Foreign}
 use Rattle.kcr_store.proofs.OpenLemmas.{apart}
-use Rattle.kcr_store.specs.Opening.{IsMadeOf}
+use Rattle.kcr_store.specs.Opening.{IsOpeningOf}
 use Rattle.kcr_verify.specs.Fresh.{IsGivenBack, IsNewOf, IsOpenedOn}
-use Rattle.kcr_verify.specs.declared.fresh.FreshFault.{FreshFault}
-use Rattle.kcr_verify.specs.declared.fresh.FreshFault.TheVariants.{Memory, Disk, Filled}
+use Rattle.kcr_verify.specs.declared.new_register.CreateFault.{CreateFault}
+use Rattle.kcr_verify.specs.declared.new_register.CreateFault.TheVariants.{Memory, Disk, Filled}
 
-pub has_something : (schema : Schema) (standing : Standing) → StandsAs schema standing → standing ≢ Empty → schema ≢ no_schema
+pub has_something : (schema : Schema) (standing : DatabaseKind) → IsOfKind schema standing → standing ≢ Empty → schema ≢ no_schema
 has_something schema Empty stands other is = other refl
 has_something schema Current stands other is = let e : 17 ≡ 0 = apart stands is in omega (arith, e)
-has_something schema Second stands other is = let e : 16 ≡ 0 = apart stands is in omega (arith, e)
-has_something schema First stands other is = let e : 15 ≡ 0 = apart stands is in omega (arith, e)
-has_something schema Numbered stands other is = stands.0.something is
+has_something schema Version2 stands other is = let e : 16 ≡ 0 = apart stands is in omega (arith, e)
+has_something schema Version1 stands other is = let e : 15 ≡ 0 = apart stands is in omega (arith, e)
+has_something schema Versioned stands other is = stands.0.something is
 has_something schema Foreign stands other is = stands.0.something is
 
-made_of : (old : State) (db : Trees) → old.now.schema ≡ no_schema → old.may_leave db ⊎ IsMadeOf old.now db
+made_of : (old : State) (db : Trees) → old.now.schema ≡ no_schema → old.may_leave db ⊎ IsOpeningOf old.now db
     → old.may_leave db ⊎ IsNewOf old.now db
 made_of old db empty (inl was) = inl was
 made_of old db empty (inr (inl made)) = inr made
 made_of old db empty (inr (inr (inl first))) = absurd (let e : 15 ≡ 0 = apart first.0 empty in omega (arith, e))
 made_of old db empty (inr (inr (inr second))) = absurd (let e : 16 ≡ 0 = apart second.0 empty in omega (arith, e))
 
-pub makes_new : (old new : State) → old.now.schema ≡ no_schema → Survives old new (IsMadeOf old.now) → Survives old new (IsNewOf old.now)
+pub makes_new : (old new : State) → old.now.schema ≡ no_schema → Survives old new (IsOpeningOf old.now) → Survives old new (IsNewOf old.now)
 makes_new old new empty out = record {
   clean = out.clean;
   shield = out.shield;
@@ -42,7 +42,7 @@ makes_new old new empty out = record {
 
 -- the connection that is given back, by the fault
 module _ {S : Type 0} (g : Ghosts S) (image : Image) (was c : Held S) where
-  pub given_back : (fault : FreshFault) → IsOpenedOn g image was → (fault ≡ Filled → ((state g was).now.schema ≢ no_schema) × (c ≡ was))
+  pub given_back : (fault : CreateFault) → IsOpenedOn g image was → (fault ≡ Filled → ((state g was).now.schema ≢ no_schema) × (c ≡ was))
       → (fault ≢ Disk → Survives (state g was) (state g c) (λ _. ⊥)) → Survives (state g was) (state g c) (IsNewOf (state g was).now)
       → IsGivenBack g image fault c
   given_back Memory opened filled left crash = record { was = was; opened = opened; survives = left (λ e. cc) }

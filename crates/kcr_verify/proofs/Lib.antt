@@ -5,3 +5,5 @@ pub mod StepLemmas
 pub mod ReplayLemmas
 pub mod VerifyLemmas
 pub mod FreshLemmas
+pub mod QuotedLemmas
+pub mod FirstRowLemmas

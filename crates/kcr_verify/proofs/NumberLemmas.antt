@@ -12,8 +12,8 @@ use Rattle.kcr_history.specs.History.{History}
 use Rattle.kcr_history.specs.Machine.{IsRegister}
 use Rattle.kcr_history.specs.Tables.{key_row}
 use Rattle.kcr_history.specs.declared.commands.Entry.{Entry}
-use Rattle.kcr_history.specs.declared.rows.KeyRow.{KeyRow}
-use Rattle.kcr_verify.specs.Verified.{AreValues, by_number, rows_by_number}
+use Rattle.kcr_history.specs.declared.row_types.KeyRow.{KeyRow}
+use Rattle.kcr_verify.specs.Verification.{AreValues, by_number, rows_by_number}
 
 number_total : IsTotalOrder by_number
 number_total =

@@ -11,16 +11,16 @@ use Rattle.sqlite_keyed.proofs.SortLemmas.{sorted_unique}
 use Rattle.sqlite_exec.proofs.PartitionLemmas.{sorted_from_ascending}
 use Rattle.kcr_base.specs.Rows.{IsIn}
 use Rattle.kcr_history.specs.Tables.{Tables}
-use Rattle.kcr_history.specs.declared.rows.KeyRow.{KeyRow}
-use Rattle.kcr_history.specs.declared.views.WholeView.{WholeView}
+use Rattle.kcr_history.specs.declared.row_types.KeyRow.{KeyRow}
+use Rattle.kcr_history.specs.declared.views.FullView.{FullView}
 use Rattle.kcr_rows.specs.Keyed.{by_key}
 use Rattle.kcr_rows.proofs.OrderLemmas.{from_map}
 use Rattle.kcr_rows.proofs.SameLemmas.{key_total}
 use Rattle.kcr_rows.specs.Rows.{key_row}
-use Rattle.kcr_store.specs.Whole.{AreRows, IsListed}
+use Rattle.kcr_store.specs.FullView.{AreRows, IsListed}
 use Rattle.kcr_tables.specs.KeysLaws as keys
-use Rattle.kcr_tables.specs.Table.{Table, IsTable, machine_rows}
-use Rattle.kcr_verify.specs.Verified.{HaveOwnKeys}
+use Rattle.kcr_tables.specs.Table.{TableSpec, IsTable, machine_rows}
+use Rattle.kcr_verify.specs.Verification.{HaveOwnKeys}
 
 module _ {X : Type 0} (keys : ℕ) (row_of : X → Row) where
   abbrev cmp : X → X → Ordering
@@ -45,7 +45,7 @@ module _ {X : Type 0} (keys : ℕ) (row_of : X → Row) where
       (from_map (λ a b. by_key keys a b ≡ Less) row_of ys down)))
 
 -- the machine's rows of one table are kept in one order
-pub one_table : {X : Type 0} (table : Table X) (row_of : X → Row) (is_read : X → Type 0) → IsTable table row_of is_read
+pub one_table : {X : Type 0} (table : TableSpec X) (row_of : X → Row) (is_read : X → Type 0) → IsTable table row_of is_read
     → (m : Tables) (xs ys : List X) → AreRows table m xs → AreRows table m ys → ys ≡ xs
 one_table {X} table row_of is_read laws m xs ys a b =
     one_order table.place.keys row_of (machine_rows table m) xs ys
@@ -81,7 +81,7 @@ own_keys (x ∷ rows) up a b (inr i) (inl f) same =
 own_keys (x ∷ rows) up a b (inr i) (inr j) same = own_keys rows up.1 a b i j same
 
 -- rows that a database lists have keys of their own
-pub listed_own : (m : Tables) (view : WholeView) → IsListed m view → HaveOwnKeys view.keys.items
+pub listed_own : (m : Tables) (view : FullView) → IsListed m view → HaveOwnKeys view.keys.items
 listed_own m view v =
     let rising = from_map (λ a b. by_key 1 a b ≡ Less) key_row v.t.rows.keys (keys.table_laws.keeps v.db v.t v.kept).rising in
     subst HaveOwnKeys (λ i. (sym v.lists i).keys) (own_keys v.t.rows.keys rising)

@@ -10,15 +10,15 @@ use Rattle.kcr_base.proofs.Members.{in-front, in-behind}
 use Rattle.kcr_base.proofs.SameLemmas.{same-is}
 use Rattle.kcr_history.specs.History.{History, entry_of}
 use Rattle.kcr_history.specs.Conditions.{fault}
-use Rattle.kcr_history.specs.Machine.{Accepts, Sitting, sitting, answer_to, with_command, accepts, seats, acts, repeats, machine, IsOfMachine}
+use Rattle.kcr_history.specs.Machine.{Accepts, SeatRequest, seat_request, reply_to, with_command, IsAcceptedWith, seats, DecidesNew, DecidesRepeat, machine, IsOfMachine}
 use Rattle.kcr_history.specs.Tables.{key_row}
-use Rattle.kcr_history.specs.declared.commands.Answer.{Answer}
+use Rattle.kcr_history.specs.declared.commands.ReplyData.{ReplyData}
 use Rattle.kcr_history.specs.declared.commands.Command.{Command}
 use Rattle.kcr_history.specs.declared.commands.Entry.{Entry}
-use Rattle.kcr_history.specs.declared.rows.KeyRow.{KeyRow}
+use Rattle.kcr_history.specs.declared.row_types.KeyRow.{KeyRow}
 use Rattle.kcr_history.proofs.Steps.{of_machine}
 use Rattle.kcr_laws.proofs.Accepted.{same_answer, other_outcome}
-use Rattle.kcr_verify.specs.Verified.{Declines, HaveOwnKeys, IsNotNext, StopsFor, StopsIn, Takes, rows_by_number}
+use Rattle.kcr_verify.specs.Verification.{Declines, HaveOwnKeys, IsNotNext, StopsFor, StopsIn, Takes, rows_by_number}
 use Rattle.kcr_verify.specs.declared.verification.Difference.{Difference}
 use Rattle.kcr_verify.specs.declared.verification.Difference.TheVariants as Differences
 use Rattle.kcr_verify.proofs.NumberLemmas.{NumbersCount, append_one, one_more}
@@ -26,25 +26,25 @@ use Rattle.kcr_verify.proofs.NumberLemmas.{NumbersCount, append_one, one_more}
 -- ONE COMMAND
 
 -- a command that is accepted is entered, or its key has an entry and the history stays
-pub entered_or_kept : (A : History) (x : Command) (a : Answer) (B : History) → machine A x (Accepts a) B
+pub entered_or_kept : (A : History) (x : Command) (a : ReplyData) (B : History) → machine A x (Accepts a) B
     → (B ≡ with_command A x a) ⊎ ((kept : Entry) × (entry_of A x.key ≡ Some kept) × (B ≡ A))
 entered_or_kept A x a B h = by_entry (entry_of A x.key) refl (fault A x.act) h
   where
-    with_answer : (b : Answer) → Accepts a ≡ Accepts b → B ≡ with_command A x b → B ≡ with_command A x a
-    with_answer b e is = is ∙ ap (λ (c : Answer). with_command A x c) (sym (same_answer a b e))
+    with_answer : (b : ReplyData) → Accepts a ≡ Accepts b → B ≡ with_command A x b → B ≡ with_command A x a
+    with_answer b e is = is ∙ ap (λ (c : ReplyData). with_command A x c) (sym (same_answer a b e))
 
-    seated : (s : Option Sitting) → MatchOption s (accepts A x (answer_to A x.act None) (Accepts a) B) (λ q. seats A x q (Accepts a) B)
+    seated : (s : Option SeatRequest) → MatchOption s (IsAcceptedWith A x (reply_to A x.act None) (Accepts a) B) (λ q. seats A x q (Accepts a) B)
         → B ≡ with_command A x a
     seated None g = with_answer _ g.0 g.1
     seated (Some s) (inl w) = with_answer _ w.2.0 w.2.1
     seated (Some s) (inr w) = absurd (other_outcome a _ w.2.0)
 
     by_entry : (k : Option Entry) → entry_of A x.key ≡ k → (f : Option Refusal)
-        → MatchOption k (acts A x f (Accepts a) B) (λ old. repeats A x old (Accepts a) B)
+        → MatchOption k (DecidesNew A x f (Accepts a) B) (λ old. DecidesRepeat A x old (Accepts a) B)
         → (B ≡ with_command A x a) ⊎ ((kept : Entry) × (entry_of A x.key ≡ Some kept) × (B ≡ A))
     by_entry (Some old) e f g = inr (old, e, g.1)
     by_entry None e (Some refusal) g = absurd (other_outcome a refusal g.0)
-    by_entry None e None g = inl (seated (sitting A x.act) g)
+    by_entry None e None g = inl (seated (seat_request A x.act) g)
 
 -- A KEY THAT HAS AN ENTRY
 
@@ -142,7 +142,7 @@ not_next (Differences.Number place) row A B n h = absurd h
 not_next (Differences.Command number) row A B n h = (n, h)
 not_next (Differences.Refused number) row A B n h = (n, h)
 not_next (Differences.Reply number) row A B n h = (n, h)
-not_next (Differences.Rows table) row A B n h = absurd h
+not_next (Differences.Rows table other) row A B n h = absurd h
 
 -- at a row whose command is not taken
 pub stops_for : (difference : Difference) (rows : List KeyRow) (index : ℕ) (A : History) (row : KeyRow) (B : History) → (HaveOwnKeys rows → HasTaken rows index A)
@@ -165,7 +165,7 @@ stops_for difference rows index A row B had low at number h = by difference h
     by (Differences.Command number) h = stops (Differences.Command number) h
     by (Differences.Refused number) h = stops (Differences.Refused number) h
     by (Differences.Reply number) h = stops (Differences.Reply number) h
-    by (Differences.Rows table) h = absurd h
+    by (Differences.Rows table row) h = absurd h
 
 -- at a row whose number is not the next
 pub stops_number : (rows : List KeyRow) (index : ℕ) (A : History) (row : KeyRow) → (HaveOwnKeys rows → HasTaken rows index A) → index < length rows

@@ -14,33 +14,33 @@ use Rattle.kcr_base.specs.declared.refusal.Refusal.{Refusal}
 use Rattle.kcr_base.proofs.SameLemmas.{same-is}
 use Rattle.kcr_room.specs.declared.SheetRow.{SheetRow}
 use Rattle.kcr_room.specs.Room.{is_of, last_enters, last_row}
-use Rattle.kcr_room.specs.Adding.{new_row}
+use Rattle.kcr_room.specs.Requests.{new_row}
 use Rattle.kcr_base.specs.declared.place.Role.TheVariants.{Ca, Iw}
 use Rattle.kcr_script.specs.declared.seat.Seat.{Seat}
 use Rattle.kcr_script.specs.declared.seat.Seat.TheVariants.{Staff}
 use Rattle.kcr_history.specs.declared.commands.Act.{Act}
-use Rattle.kcr_history.specs.declared.commands.Act.TheVariants.{Sheet, Sign, Except}
-use Rattle.kcr_history.specs.declared.commands.Answer.{Answer}
+use Rattle.kcr_history.specs.declared.commands.Act.TheVariants.{RecordSheet, Sign, RecordException}
+use Rattle.kcr_history.specs.declared.commands.ReplyData.{ReplyData}
 use Rattle.kcr_history.specs.declared.commands.Command.{Command}
 use Rattle.kcr_history.specs.Ceremonies.{steps_of, next_step, exceptions_of}
 use Rattle.kcr_history.specs.Conditions.{fault}
 use Rattle.kcr_history.specs.History.{History, entry_of}
 use Rattle.kcr_history.specs.Json.{quoted, member}
 use Rattle.kcr_history.specs.Laws.{IsSeatedFirst}
-use Rattle.kcr_history.specs.Machine.{Accepts, Refuses, Sitting, sitting, answer_to, with_command, accepts, seats, machine, IsAnswerTo}
+use Rattle.kcr_history.specs.Machine.{Accepts, Refuses, SeatRequest, seat_request, reply_to, with_command, IsAcceptedWith, seats, machine, IsAnswerTo}
 use Rattle.kcr_history.specs.Room.{sheet, sheet_after, is_in}
 use Rattle.kcr_history.specs.Seating.{is_seating, IsFirst}
 use Rattle.kcr_history.specs.Tables.{seats_at}
-use Rattle.kcr_history.specs.Texts.{answer_text, member_if, people_array}
+use Rattle.kcr_history.specs.Texts.{reply_text, member_if, people_array}
 use Rattle.kcr_forms.specs.Acts.{IsAct}
-use Rattle.kcr_forms.specs.Cuts.{cut_at}
+use Rattle.kcr_forms.specs.Split.{split_at_byte}
 use Rattle.kcr_forms.proofs.Cutting.{Lacks, cut-again}
 use Rattle.kcr_forms.proofs.Readers.{lacks-below}
 use Rattle.kcr_laws.proofs.Accepted.{same_answer, other_outcome}
 use Rattle.kcr_laws.proofs.Fixed.{accepted_fixed}
 use Rattle.kcr_laws.proofs.Halves.{one_half}
 use Rattle.kcr_laws.proofs.Trials.{same_people, people-are, rest_seated}
-use Rattle.kcr_verify.specs.Verified.{AreValues}
+use Rattle.kcr_verify.specs.Verification.{AreValues}
 
 -- NO QUOTE IS IN INITIALS
 
@@ -54,7 +54,7 @@ abbrev IsBareRow : SheetRow → Type 0
 IsBareRow row = Bare row.who
 
 rows_bare : (act : Act) (rows : List SheetRow) → IsAct act → All IsBareRow rows → All IsBareRow (sheet_after act rows)
-rows_bare (Sheet c way people at) rows is h =
+rows_bare (RecordSheet c way people at) rows is h =
     All-append IsBareRow rows (map (new_row c way at) people) h
     (All-map IsBareRow (new_row c way at) people (All-weaker IsInitials Bare bare people is.1.each))
 rows_bare act rows is h = h
@@ -93,10 +93,10 @@ seated_bare A v c t (seat ∷ ss) (who ∷ people) h =
 
 -- THE TEXT OF AN ANSWER TELLS WHO IS SEATED
 
--- where two texts without a quote end is told by the quote behind each
+-- if two texts without a quote end is told by the quote behind each
 parted : (x y r s : List ℕ) → Bare x → Bare y → x ++ 34 ∷ r ≡ y ++ 34 ∷ s → (x ≡ y) × (r ≡ s)
 parted x y r s a b e =
-    let both : Some (x, r) ≡ Some (y, s) = sym (cut-again 34 x r a) ∙ ap (cut_at 34) e ∙ cut-again 34 y s b in
+    let both : Some (x, r) ≡ Some (y, s) = sym (cut-again 34 x r a) ∙ ap (split_at_byte 34) e ∙ cut-again 34 y s b in
     let pair : (x, r) ≡ (y, s) = cc in
     (ap (λ (z : List ℕ × List ℕ). z.0) pair, ap (λ (z : List ℕ × List ℕ). z.1) pair)
 
@@ -131,10 +131,10 @@ one_told (b ∷ c ∷ before) after x y e = one_told (c ∷ before) after x y (a
 
 module _ (n : ℕ) (exception step : Option ℕ) where
   -- an answer with these people
-  abbrev pub seated : List (List ℕ) → Answer
+  abbrev pub seated : List (List ℕ) → ReplyData
   seated people = record { accepted = n; exception = exception; seating = Some people; step = step }
 
-  seating_told : (p q : List (List ℕ)) → length p ≡ length q → All Bare p → All Bare q → answer_text (seated p) ≡ answer_text (seated q) → p ≡ q
+  seating_told : (p q : List (List ℕ)) → length p ≡ length q → All Bare p → All Bare q → reply_text (seated p) ≡ reply_text (seated q) → p ≡ q
   seating_told p q l a b e =
       let before = member (codes "accepted") (decimal n) ∷ member_if (codes "exception") (option_map decimal exception) in
       let after = member_if (codes "step") (option_map decimal step) in
@@ -149,20 +149,20 @@ module _ (n : ℕ) (exception step : Option ℕ) where
 
 -- of a step that accepts a command with an answer: it is this answer, and the history is with it; or its text is another, and
 -- this answer's seating is not the first one
-abbrev pub IsThisOrOther : History → Command → Answer → Answer → History → Type 0
+abbrev pub IsThisOrOther : History → Command → ReplyData → ReplyData → History → Type 0
 IsThisOrOther A x this answer A' =
     ((answer ≡ this) × (A' ≡ with_command A x this))
-    ⊎ ((answer_text answer ≢ answer_text this) × (IsSeatedFirst A (sitting A x.act) this.seating → ⊥))
+    ⊎ ((reply_text answer ≢ reply_text this) × (IsSeatedFirst A (seat_request A x.act) this.seating → ⊥))
 
 -- of one of two lists of people who fill the same seats
-module _ (A : History) (v : AreValues A) (s : Sitting) (n : ℕ) (exception step : Option ℕ) (x : Command) (p q : List (List ℕ))
+module _ (A : History) (v : AreValues A) (s : SeatRequest) (n : ℕ) (exception step : Option ℕ) (x : Command) (p q : List (List ℕ))
     (p_fill : is_seating A s.ceremony s.at s.seats p ≡ true) (q_fill : is_seating A s.ceremony s.at s.seats q ≡ true) where
-  abbrev with : List (List ℕ) → Answer
+  abbrev with : List (List ℕ) → ReplyData
   with people = seated n exception step people
 
-  these_or_others : (a : Answer) (A' : History) → a ≡ with p → A' ≡ with_command A x (with p)
+  these_or_others : (a : ReplyData) (A' : History) → a ≡ with p → A' ≡ with_command A x (with p)
       → (IsFirst A s.ceremony s.at s.seats q → a ≡ with q)
-      → ((a ≡ with q) × (A' ≡ with_command A x (with q))) ⊎ ((answer_text a ≢ answer_text (with q)) × (IsFirst A s.ceremony s.at s.seats q → ⊥))
+      → ((a ≡ with q) × (A' ≡ with_command A x (with q))) ⊎ ((reply_text a ≢ reply_text (with q)) × (IsFirst A s.ceremony s.at s.seats q → ⊥))
   these_or_others a A' is to fixed = elim (cases_Bool (same_people p q)) [
     | inl e ↦ let same : with p ≡ with q = ap with (people-are p q e) in inl (is ∙ same, to ∙ ap (with_command A x) same)
     | inr e ↦
@@ -170,8 +170,8 @@ module _ (A : History) (v : AreValues A) (s : Sitting) (n : ℕ) (exception step
         let ps = seated_bare A v s.ceremony s.at s.seats p p_fill in
         let qs = seated_bare A v s.ceremony s.at s.seats q q_fill in
         inr (
-          λ t. apart (seating_told n exception step p q (ps.1 ∙ sym qs.1) ps.0 qs.0 (ap answer_text (sym is) ∙ t)),
-          λ first. apart (let both : with p ≡ with q = sym is ∙ fixed first in let some : Some p ≡ Some q = ap (λ (a : Answer). a.seating) both in cc),
+          λ t. apart (seating_told n exception step p q (ps.1 ∙ sym qs.1) ps.0 qs.0 (ap reply_text (sym is) ∙ t)),
+          λ first. apart (let both : with p ≡ with q = sym is ∙ fixed first in let some : Some p ≡ Some q = ap (λ (a : ReplyData). a.seating) both in cc),
         )
   ]
 
@@ -183,56 +183,56 @@ module _ (A : History) (key : List ℕ) where
   abbrev IsFree : Act → Type 0
   IsFree act = (entry_of A key ≡ None) × (fault A act ≡ None)
 
-  pub accepted_step : AreValues A → (act : Act) (this answer : Answer) (A' : History) → IsFree act → IsAnswerTo A act this (sitting A act)
+  pub accepted_step : AreValues A → (act : Act) (this answer : ReplyData) (A' : History) → IsFree act → IsAnswerTo A act this (seat_request A act)
       → machine A (of act) (Accepts answer) A' → IsThisOrOther A (of act) this answer A'
   accepted_step v (Sign c k at) this answer A' free (q, fill, is) m = by_seats (rw (free.0, free.1) at m)
     where
-      s : Sitting
+      s : SeatRequest
       s = record { ceremony = c; at = at; seats = seats_at (steps_of A c) k }
 
       x : Command
       x = of (Sign c k at)
 
-      with : Answer
+      with : ReplyData
       with = seated (length A + 1) None (Some k) q
 
       again : IsFirst A c at s.seats q → machine A x (Accepts with) (with_command A x with)
       again first = rw (free.0, free.1) (inl (q, first, (refl, refl)))
 
       by_seats : seats A x s (Accepts answer) A' → IsThisOrOther A x this answer A'
-      by_seats (inl w) = subst (λ (z : Answer). IsThisOrOther A x z answer A') (sym is)
+      by_seats (inl w) = subst (λ (z : ReplyData). IsThisOrOther A x z answer A') (sym is)
           (these_or_others A v s (length A + 1) None (Some k) x w.0 q w.1.seating fill answer A' (same_answer _ _ w.2.0) w.2.1
           (λ first. (accepted_fixed A x answer with A' (with_command A x with) m (again first)).0))
       by_seats (inr w) = absurd (other_outcome _ _ w.2.0)
-  accepted_step v (Except c text true at) this answer A' free (q, fill, is) m = by_seats (rw (free.0, free.1) at m)
+  accepted_step v (RecordException c text true at) this answer A' free (q, fill, is) m = by_seats (rw (free.0, free.1) at m)
     where
-      s : Sitting
+      s : SeatRequest
       s = record { ceremony = c; at = at; seats = Staff Ca ∷ Staff Iw ∷ [] }
 
       x : Command
-      x = of (Except c text true at)
+      x = of (RecordException c text true at)
 
-      with : Answer
+      with : ReplyData
       with = seated (length A + 1) (Some (suc (exceptions_of A c))) (Some (next_step A c)) q
 
       again : IsFirst A c at s.seats q → machine A x (Accepts with) (with_command A x with)
       again first = rw (free.0, free.1) (inl (q, first, (refl, refl)))
 
       by_seats : seats A x s (Accepts answer) A' → IsThisOrOther A x this answer A'
-      by_seats (inl w) = subst (λ (z : Answer). IsThisOrOther A x z answer A') (sym is)
+      by_seats (inl w) = subst (λ (z : ReplyData). IsThisOrOther A x z answer A') (sym is)
           (these_or_others A v s (length A + 1) (Some (suc (exceptions_of A c))) (Some (next_step A c)) x w.0 q w.1.seating fill answer A'
           (same_answer _ _ w.2.0) w.2.1 (λ first. (accepted_fixed A x answer with A' (with_command A x with) m (again first)).0))
       by_seats (inr w) = absurd (other_outcome _ _ w.2.0)
   accepted_step v act this answer A' free is m =
-      let step : accepts A (of act) (answer_to A act None) (Accepts answer) A' = rw (free.0, free.1) at m in
+      let step : IsAcceptedWith A (of act) (reply_to A act None) (Accepts answer) A' = rw (free.0, free.1) at m in
       inl (same_answer _ _ step.0 ∙ sym is, step.1 ∙ ap (with_command A (of act)) (sym is))
 
-  never_refused : (act : Act) (this : Answer) (refusal : Refusal) (A' : History) (o : Option Sitting) → IsAnswerTo A act this o
-      → MatchOption o (accepts A (of act) (answer_to A act None) (Refuses refusal) A') (λ s. seats A (of act) s (Refuses refusal) A') → ⊥
+  never_refused : (act : Act) (this : ReplyData) (refusal : Refusal) (A' : History) (o : Option SeatRequest) → IsAnswerTo A act this o
+      → MatchOption o (IsAcceptedWith A (of act) (reply_to A act None) (Refuses refusal) A') (λ s. seats A (of act) s (Refuses refusal) A') → ⊥
   never_refused act this refusal A' None is step = other_outcome _ _ (sym step.0)
   never_refused act this refusal A' (Some s) is (inl w) = other_outcome _ _ (sym w.2.0)
   never_refused act this refusal A' (Some s) is (inr w) = one_half A s.ceremony s.at s.seats is.0 w.0 is.1 w.1.short
 
-  pub refused_step : (act : Act) (this : Answer) (refusal : Refusal) (A' : History) → IsFree act → IsAnswerTo A act this (sitting A act)
+  pub refused_step : (act : Act) (this : ReplyData) (refusal : Refusal) (A' : History) → IsFree act → IsAnswerTo A act this (seat_request A act)
       → machine A (of act) (Refuses refusal) A' → ⊥
-  refused_step act this refusal A' free is m = never_refused act this refusal A' (sitting A act) is (rw (free.0, free.1) at m)
+  refused_step act this refusal A' free is m = never_refused act this refusal A' (seat_request A act) is (rw (free.0, free.1) at m)

@@ -11,8 +11,8 @@ use Rattle.kcr_history.specs.History.{History}
 use Rattle.kcr_history.specs.Laws.{HasFirstSeatings}
 use Rattle.kcr_history.specs.Machine.{IsOfMachine, IsRegister, machine, Accepts, Refuses}
 use Rattle.kcr_history.specs.Tables.{key_row}
-use Rattle.kcr_history.specs.Texts.{answer_text, command_text}
-use Rattle.kcr_history.specs.declared.rows.KeyRow.{KeyRow}
+use Rattle.kcr_history.specs.Texts.{reply_text, command_text}
+use Rattle.kcr_history.specs.declared.row_types.KeyRow.{KeyRow}
 use Rattle.kcr_history.specs.declared.commands.Act.{Act}
 use Rattle.kcr_history.specs.declared.commands.Command.{Command}
 use Rattle.kcr_history.specs.declared.commands.Entry.{Entry}
@@ -20,8 +20,8 @@ use Rattle.kcr_history.specs.declared.commands.Reply.{Reply}
 use Rattle.kcr_forms.specs.Acts.{IsAct}
 use Rattle.kcr_laws.proofs.Accepted.{step_leads_on}
 use Rattle.kcr_laws.proofs.Seatings.{machine_first}
-use Rattle.kcr_store.specs.Steps.{Steps}
-use Rattle.kcr_verify.specs.Verified.{AreValues, IsOther, IsFirstOther, IsToldBy}
+use Rattle.kcr_store.specs.Commands.{AppliesCommand}
+use Rattle.kcr_verify.specs.Verification.{AreValues, IsOther, IsFirstOther, IsToldBy}
 use Rattle.kcr_verify.proofs.SeatingLemmas.{accepted_step, refused_step}
 
 -- the disk of a register in memory is never in doubt
@@ -47,29 +47,29 @@ pub told_by : (row : KeyRow) (act : Act) → command_text act ≡ row.command �
 told_by row act text = record { key = refl; text = text }
 
 -- a refusal of the machine leaves the history
-pub refused_at : (A : History) (command : Command) (refusal : Refusal) (A' : History) → Steps A command (Err refusal) A' → refusal ≢ Memory → refusal ≢ Disk
+pub refused_at : (A : History) (command : Command) (refusal : Refusal) (A' : History) → AppliesCommand A command (Err refusal) A' → refusal ≢ Memory → refusal ≢ Disk
     → machine A command (Refuses refusal) A
 refused_at A command refusal A' step memory disk = subst (machine A command (Refuses refusal)) step.0 (step.1 memory disk)
 
 -- whatever a command is answered, the machine leads to the history after it
-pub leads_on : (A : History) (command : Command) (result : Result Reply Refusal) (A' : History) → Steps A command result A' → IsOfMachine A → IsOfMachine A'
+pub leads_on : (A : History) (command : Command) (result : Result Reply Refusal) (A' : History) → AppliesCommand A command result A' → IsOfMachine A → IsOfMachine A'
 leads_on A command (Ok reply) A' step made = step_leads_on A command (Accepts step.0) A' made step.1
 leads_on A command (Err refusal) A' step made = subst IsOfMachine (sym step.0) made
 
 module _ (A : History) (entry : Entry) (h : IsRegister (entry ∷ A)) (values : AreValues (entry ∷ A)) (command : Command) (same : command ≡ entry.command)
     (A' : History) where
   -- a reply to the command of the next entry is that entry's, and the register then has it; or it is another, and so is the seating
-  pub goes_on : (reply : Reply) → Steps A command (Ok reply) A'
-      → ((reply.text ≡ answer_text entry.answer) × (A' ≡ entry ∷ A)) ⊎ ((reply.text ≢ answer_text entry.answer) × IsOther A entry)
+  pub goes_on : (reply : Reply) → AppliesCommand A command (Ok reply) A'
+      → ((reply.text ≡ reply_text entry.answer) × (A' ≡ entry ∷ A)) ⊎ ((reply.text ≢ reply_text entry.answer) × IsOther A entry)
   goes_on reply step =
       let m : machine A entry.command (Accepts step.0) A' = subst (λ (x : Command). machine A x (Accepts step.0) A') same step.1 in
       elim (accepted_step A entry.command.key values.1 entry.command.act entry.answer step.0 A' (h.0.new_key, h.0.no_fault) h.0.answered m) [
-        | inl this ↦ inl (step.2 ∙ ap answer_text this.0, this.1)
+        | inl this ↦ inl (step.2 ∙ ap reply_text this.0, this.1)
         | inr other ↦ inr (λ text. other.0 (sym step.2 ∙ text), other.1)
       ]
 
-  -- and it is not refused, but when out of memory or by a fault of the device
-  pub not_refused : (refusal : Refusal) → Steps A command (Err refusal) A' → refusal ≢ Memory → refusal ≢ Disk → ⊥
+  -- and it is not refused, but when out of memory or by an I/O error
+  pub not_refused : (refusal : Refusal) → AppliesCommand A command (Err refusal) A' → refusal ≢ Memory → refusal ≢ Disk → ⊥
   not_refused refusal step memory disk =
       let m : machine A entry.command (Refuses refusal) A' = subst (λ (x : Command). machine A x (Refuses refusal) A') same (step.1 memory disk) in
       refused_step A entry.command.key entry.command.act entry.answer refusal A' (h.0.new_key, h.0.no_fault) h.0.answered m

@@ -7,10 +7,10 @@ use Rattle.sqlite.specs.Start.{FindsIn}
 use Rattle.sqlite.specs.State.{HasCleanDisk, IsLive, Opens, Survives}
 use Rattle.sqlite.specs.Store.{Ghosts}
 use Rattle.sqlite.specs.Tree.{Trees}
-use Rattle.kcr_older.specs.Standing.{no_schema}
+use Rattle.kcr_older.specs.Kind.{no_schema}
 use Rattle.kcr_store.specs.Stored.{IsTables}
-use Rattle.kcr_verify.specs.declared.fresh.FreshFault.{FreshFault}
-use Rattle.kcr_verify.specs.declared.fresh.FreshFault.TheVariants.{Memory, Disk, Filled}
+use Rattle.kcr_verify.specs.declared.new_register.CreateFault.{CreateFault}
+use Rattle.kcr_verify.specs.declared.new_register.CreateFault.TheVariants.{Memory, Disk, Filled}
 
 -- what a crash may leave of an empty database that a new register is made in: the tables of an empty register
 abbrev pub IsNewOf : Database → Trees → Type 0
@@ -34,8 +34,8 @@ pub record IsLeftOn {S : Type 0} (g : Ghosts S) (image : Image) (MayLeave : Data
   pub survives : Survives (state g was) (state g c) (MayLeave (state g was).now)
 
 -- the connection that comes with a fault: to files that hold something, it is as it was opened; after out of memory the
--- files are as they were; after a fault of the device an empty database may have become an empty register
-abbrev pub IsGivenBack : {S : Type 0} → Ghosts S → Image → FreshFault → Held S → Type 0
+-- files are as they were; after an I/O error an empty database may have become an empty register
+abbrev pub IsGivenBack : {S : Type 0} → Ghosts S → Image → CreateFault → Held S → Type 0
 IsGivenBack g image Filled c = IsOpenedOn g image c × ((state g c).now.schema ≢ no_schema)
 IsGivenBack g image Memory c = IsLeftOn g image (λ _ _. ⊥) c
 IsGivenBack g image Disk c = IsLeftOn g image IsNewOf c

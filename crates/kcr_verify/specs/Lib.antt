@@ -1,2 +1,4 @@
 pub mod Fresh
-pub mod Verified
+pub mod Verification
+pub mod FirstRow
+pub mod Quoted

@@ -1,5 +1,6 @@
 //! Rows that are compared with those of a register.
-ghost use Rattle.std.specs.Prelude.{◌≡◌, ◌↔◌, IsTrue, None, IfOk, IfSome, IsPermutation, map};
+ghost use Rattle.std.specs.Prelude.{◌≡◌, ◌≢◌, ◌↔◌, IsTrue, None, IfOk, IfErr, IfSome, IsPermutation, MatchOption, map};
+ghost use Rattle.std.specs.Prelude.{string_bytes, unwrap_or};
 ghost use Rattle.std.specs.List.{AllByRecursion};
 ghost use Rattle.std.specs.List.Sorted.{IsSorted};
 ghost use Rattle.sqlite.specs.State.{HasCleanDisk};
@@ -7,27 +8,33 @@ ghost use Rattle.sqlite.specs.Held.{state};
 ghost use Rattle.kcr_history.specs.Machine.{IsRegister};
 ghost use Rattle.kcr_history.specs.Tables as machine;
 ghost use Rattle.kcr_history.specs.Tables.{key_row};
-ghost use Rattle.kcr_store.specs.Whole.{AreRows};
-ghost use Rattle.kcr_verify.specs.declared.compare.Table.{Table as Named};
-ghost use Rattle.kcr_verify.specs.Verified.{HasRows, IsFirstTable, IsIntact, OnlyLooks, by_number, compared, name_of};
+ghost use Rattle.kcr_store.specs.FullView.{AreRows};
+ghost use Rattle.kcr_tables.specs.Refusals.{IsFault};
+ghost use Rattle.kcr_verify.specs.declared.compare.TableName.{TableName as Named};
+ghost use Rattle.kcr_verify.specs.FirstRow.{DiffersAt, IsFirstOtherRow, IsFirstRow, text_at};
+ghost use Rattle.kcr_verify.specs.Quoted.{no_row, row_line};
+ghost use Rattle.kcr_verify.specs.Verification.{HasRows, IsCompared, IsFirst, IsFirstCommand, IsIntact, OnlyLooks};
+ghost use Rattle.kcr_verify.specs.Verification.{by_number, compared, name_of};
 
-use crate::order::put_in_order;
-use kcr_base::Refusal;
+use crate::quoted::Quoted;
+use crate::sort::sort_by_number;
+use kcr_base::{Refusal, Text};
 use kcr_custody::{Bag, BoxRow, Item, SafeRow};
 use kcr_history::{
-    CeremonyRow, ExceptionRow, KeyRow, MarkRow, SeatingRow, StepRow, WholeView,
+    CeremonyRow, ExceptionRow, FullView, KeyRow, MarkRow, SeatingRow, StepRow,
     numbers_count_commands,
 };
 use kcr_people::{Appointment, Person, Training, Withdrawal};
 use kcr_room::{SheetRow, Stay};
 use kcr_script::Seat;
 use kcr_store::Register;
-use kcr_tables::Listed;
+use kcr_tables::TableRow;
 use sqlite::Alter;
+use std::alloc::{AllocError, Global};
 
 /// A table of the register.
 #[derive(Clone, Copy)]
-pub enum Table {
+pub enum TableName {
     People,
     Trainings,
     Withdrawals,
@@ -47,47 +54,83 @@ pub enum Table {
 }
 
 /// Every table but that of the accepted commands.
-const TABLES: [Table; 15] = [
-    Table::People,
-    Table::Trainings,
-    Table::Withdrawals,
-    Table::Appointments,
-    Table::Boxes,
-    Table::Safes,
-    Table::Bags,
-    Table::Items,
-    Table::Ceremonies,
-    Table::Marks,
-    Table::Steps,
-    Table::Seatings,
-    Table::Sheet,
-    Table::Stays,
-    Table::Exceptions,
+const TABLES: [TableName; 15] = [
+    TableName::People,
+    TableName::Trainings,
+    TableName::Withdrawals,
+    TableName::Appointments,
+    TableName::Boxes,
+    TableName::Safes,
+    TableName::Bags,
+    TableName::Items,
+    TableName::Ceremonies,
+    TableName::Marks,
+    TableName::Steps,
+    TableName::Seatings,
+    TableName::Sheet,
+    TableName::Stays,
+    TableName::Exceptions,
 ];
 
-impl Table {
+impl TableName {
     /// Its name in the database.
     pub fn name(self) -> &'static str
         ensures { result.now ≡ name_of self }
     {
         match self {
-            Table::People => "people",
-            Table::Trainings => "trainings",
-            Table::Withdrawals => "withdrawals",
-            Table::Appointments => "appointments",
-            Table::Boxes => "boxes",
-            Table::Safes => "safes",
-            Table::Bags => "bags",
-            Table::Items => "items",
-            Table::Ceremonies => "ceremonies",
-            Table::Marks => "marks",
-            Table::Steps => "steps",
-            Table::Seatings => "seatings",
-            Table::Sheet => "sheet",
-            Table::Stays => "stays",
-            Table::Exceptions => "exceptions",
-            Table::Keys => "keys",
+            TableName::People => "people",
+            TableName::Trainings => "trainings",
+            TableName::Withdrawals => "withdrawals",
+            TableName::Appointments => "appointments",
+            TableName::Boxes => "boxes",
+            TableName::Safes => "safes",
+            TableName::Bags => "bags",
+            TableName::Items => "items",
+            TableName::Ceremonies => "ceremonies",
+            TableName::Marks => "marks",
+            TableName::Steps => "steps",
+            TableName::Seatings => "seatings",
+            TableName::Sheet => "sheet",
+            TableName::Stays => "stays",
+            TableName::Exceptions => "exceptions",
+            TableName::Keys => "keys",
         }
+    }
+}
+
+/// The first row in which a table differs from what the commands lead to, in the order of its keys; that of the accepted
+/// commands in the order of their numbers. A row is told as sqlite3 prints it in its mode `quote`; it begins with its key.
+#[derive(Drop)]
+pub struct RowDifference {
+    /// Its position, from 0: this many rows before it are the same.
+    pub position: usize,
+    /// The row that the commands lead to, or `None` if there are no more.
+    pub expected: Option<Text>,
+    /// The row that is there, or `None` if there are no more.
+    pub found: Option<Text>,
+}
+
+impl RowDifference {
+    /// The line that tells both rows. The error is out of memory.
+    pub fn line(&self, alloc: Global) -> Result<String, AllocError>
+        ensures { IfOk result (λ line. string_bytes line ≡ row_line self.now) }
+    {
+        let mut line = String::from_str(alloc, "row: expected ")?;
+        line.push_str(text_or_none(&self.expected))?;
+        line.push_str("; found ")?;
+        line.push_str(text_or_none(&self.found))?;
+        line.push_str("\n")?;
+        Ok(line)
+    }
+}
+
+/// A row's text, or a word for no row.
+fn text_or_none(row: &Option<Text>) -> &str
+    ensures { result.now ≡ unwrap_or row.now no_row }
+{
+    match row {
+        Some(text) => text.as_str(),
+        None => "none",
     }
 }
 
@@ -227,114 +270,178 @@ fn same_rows<T: Compared>(one: &[T], other: &[T]) -> bool
     true
 }
 
-/// Whether these are the rows of a table of the register, in the order of their keys. The register's own are in memory
-/// meanwhile.
-fn has_rows<S: Alter, R: Listed + Compared>(
+/// The first position in which these are not the same rows, or `None` if they are.
+fn first_other<T: Compared>(own: &[T], rows: &[T]) -> Option<usize>
+    ensures { MatchOption result (own.now ≡ rows.now) (IsFirstOtherRow own.now rows.now) }
+{
+    let shorter = own.len().min(rows.len());
+    for index in 0..shorter {
+        if !own[index].is_same(&rows[index]) {
+            return Some(index);
+        }
+    }
+    if own.len() == rows.len() {
+        None
+    } else {
+        Some(shorter)
+    }
+}
+
+/// The text of the row at this position, or `None` if there are no more rows. The errors are those of `Quoted::quoted`.
+fn quoted_at<R: Quoted>(alloc: Global, rows: &[R], position: usize) -> Result<Option<Text>, Refusal>
+    ensures text { IfOk result (λ text. text ≡ text_at R.row_of rows.now position) }
+    ensures cause { IfErr result IsFault }
+{
+    if position < rows.len() {
+        Ok(Some(rows[position].quoted(alloc)?))
+    } else {
+        Ok(None)
+    }
+}
+
+/// The first row in which these differ, or `None` if they are the same. The errors are those of `Quoted::quoted`.
+fn first_row<R: Compared + Quoted>(
+    alloc: Global,
+    own: &[R],
+    rows: &[R],
+) -> Result<Option<RowDifference>, Refusal>
+    ensures row { IfOk result (λ found. MatchOption found (own.now ≡ rows.now)
+        (λ row. (own.now ≢ rows.now) × DiffersAt R.row_of own.now rows.now row)) }
+    ensures cause { IfErr result IsFault }
+{
+    let Some(position) = first_other(own, rows) else {
+        return Ok(None);
+    };
+    let expected = quoted_at(alloc, own, position)?;
+    let found = quoted_at(alloc, rows, position)?;
+    Ok(Some(RowDifference {
+        position,
+        expected,
+        found,
+    }))
+}
+
+/// The first row in which these, in the order of their keys, differ from those of a table of the register, which are in
+/// memory meanwhile; `None` if they are the same.
+fn compare_rows<S: Alter, R: TableRow + Compared + Quoted>(
+    alloc: Global,
     register: &mut Register<S>,
     rows: &[R],
-) -> Result<bool, Refusal>
+) -> Result<Option<RowDifference>, Refusal>
     requires { IsIntact S.Store register.old }
-    ensures are { HasCleanDisk (state S.Store register.new.conn)
-        → IfOk result (λ are. IsTrue are ↔ AreRows R.table (machine.tables register.new.accepted) rows.now) }
+    ensures rows { HasCleanDisk (state S.Store register.new.conn)
+        → IfOk result (λ found. MatchOption found (AreRows R.table (machine.tables register.new.accepted) rows.now)
+        (λ row. (¬ AreRows R.table (machine.tables register.new.accepted) rows.now)
+        × IsFirstRow R.table R.row_of (machine.tables register.new.accepted) rows.now row)) }
     ensures register { HasCleanDisk (state S.Store register.new.conn)
         → IfOk result (λ _. IsRegister register.new.accepted) }
     ensures frame { OnlyLooks S.Store register.old register.new result }
 {
     let own = register.table_rows::<R>()?;
-    Ok(same_rows(rows, &own))
+    first_row(alloc, &own, rows)
 }
 
-/// Whether these, which are in the order of their numbers, are the register's accepted commands.
-fn has_commands<S: Alter>(register: &mut Register<S>, rows: &[KeyRow]) -> Result<bool, Refusal>
+/// The first row in which these, in the order of their numbers, differ from the register's accepted commands; `None` if
+/// they are the same.
+fn compare_commands<S: Alter>(
+    alloc: Global,
+    register: &mut Register<S>,
+    rows: &[KeyRow],
+) -> Result<Option<RowDifference>, Refusal>
     requires intact { IsIntact S.Store register.old }
     requires order { IsSorted by_number rows.now }
-    ensures are { HasCleanDisk (state S.Store register.new.conn)
-        → IfOk result (λ are. IsTrue are ↔ IsPermutation (map key_row register.new.accepted) rows.now) }
+    ensures rows { HasCleanDisk (state S.Store register.new.conn)
+        → IfOk result (λ found. MatchOption found (IsPermutation (map key_row register.new.accepted) rows.now)
+        (λ row. (¬ IsPermutation (map key_row register.new.accepted) rows.now)
+        × IsFirstCommand (map key_row register.new.accepted) rows.now row)) }
     ensures register { HasCleanDisk (state S.Store register.new.conn)
         → IfOk result (λ _. IsRegister register.new.accepted) }
     ensures frame { OnlyLooks S.Store register.old register.new result }
 {
     numbers_count_commands();
     let mut commands = register.table_rows::<KeyRow>()?;
-    put_in_order(&mut commands);
-    Ok(same_rows(rows, &commands))
+    sort_by_number(&mut commands);
+    first_row(alloc, &commands, rows)
 }
 
-/// Whether the rows of this table are the register's.
-fn has_table<S: Alter>(
+/// The first row in which this table differs from that of the register, or `None`.
+fn compare_table<S: Alter>(
+    alloc: Global,
     register: &mut Register<S>,
-    table: Table,
-    rows: &WholeView,
-) -> Result<bool, Refusal>
+    table: TableName,
+    rows: &FullView,
+) -> Result<Option<RowDifference>, Refusal>
     requires intact { IsIntact S.Store register.old }
     requires order { IsSorted by_number rows.now.keys.items }
-    ensures has { HasCleanDisk (state S.Store register.new.conn)
-        → IfOk result (λ has. IsTrue has ↔ HasRows table (machine.tables register.new.accepted) rows.now) }
+    ensures rows { HasCleanDisk (state S.Store register.new.conn)
+        → IfOk result (λ found. IsCompared table (machine.tables register.new.accepted) rows.now found) }
     ensures register { HasCleanDisk (state S.Store register.new.conn)
         → IfOk result (λ _. IsRegister register.new.accepted) }
     ensures frame { OnlyLooks S.Store register.old register.new result }
 {
     match table {
-        Table::People => has_rows(register, &rows.asked.people),
-        Table::Trainings => has_rows(register, &rows.asked.trainings),
-        Table::Withdrawals => has_rows(register, &rows.asked.withdrawals),
-        Table::Appointments => has_rows(register, &rows.asked.appointments),
-        Table::Boxes => has_rows(register, &rows.asked.boxes),
-        Table::Safes => has_rows(register, &rows.asked.safes),
-        Table::Bags => has_rows(register, &rows.asked.bags),
-        Table::Items => has_rows(register, &rows.asked.items),
-        Table::Ceremonies => has_rows(register, &rows.asked.ceremonies),
-        Table::Marks => has_rows(register, &rows.asked.marks),
-        Table::Steps => has_rows(register, &rows.asked.steps),
-        Table::Seatings => has_rows(register, &rows.asked.seatings),
-        Table::Sheet => has_rows(register, &rows.sheet),
-        Table::Stays => has_rows(register, &rows.asked.stays),
-        Table::Exceptions => has_rows(register, &rows.asked.exceptions),
-        Table::Keys => has_commands(register, &rows.keys),
+        TableName::People => compare_rows(alloc, register, &rows.view.people),
+        TableName::Trainings => compare_rows(alloc, register, &rows.view.trainings),
+        TableName::Withdrawals => compare_rows(alloc, register, &rows.view.withdrawals),
+        TableName::Appointments => compare_rows(alloc, register, &rows.view.appointments),
+        TableName::Boxes => compare_rows(alloc, register, &rows.view.boxes),
+        TableName::Safes => compare_rows(alloc, register, &rows.view.safes),
+        TableName::Bags => compare_rows(alloc, register, &rows.view.bags),
+        TableName::Items => compare_rows(alloc, register, &rows.view.items),
+        TableName::Ceremonies => compare_rows(alloc, register, &rows.view.ceremonies),
+        TableName::Marks => compare_rows(alloc, register, &rows.view.marks),
+        TableName::Steps => compare_rows(alloc, register, &rows.view.steps),
+        TableName::Seatings => compare_rows(alloc, register, &rows.view.seatings),
+        TableName::Sheet => compare_rows(alloc, register, &rows.sheet),
+        TableName::Stays => compare_rows(alloc, register, &rows.view.stays),
+        TableName::Exceptions => compare_rows(alloc, register, &rows.view.exceptions),
+        TableName::Keys => compare_commands(alloc, register, &rows.keys),
     }
 }
 
-/// The first of these tables whose rows are not the register's.
-fn first_of<S: Alter>(
+/// The first of these tables whose rows are not the register's, and its first row that differs.
+fn first_differing<S: Alter>(
+    alloc: Global,
     register: &mut Register<S>,
-    tables: &[Table],
-    rows: &WholeView,
-) -> Result<Option<Table>, Refusal>
+    tables: &[TableName],
+    rows: &FullView,
+) -> Result<Option<(TableName, RowDifference)>, Refusal>
     requires intact { IsIntact S.Store register.old }
     requires order { IsSorted by_number rows.now.keys.items }
     ensures none { HasCleanDisk (state S.Store register.new.conn) → IfOk result (λ found. found ≡ None
         → AllByRecursion (λ table. HasRows table (machine.tables register.new.accepted) rows.now) tables.now) }
     ensures some { HasCleanDisk (state S.Store register.new.conn)
-        → IfOk result (λ found. IfSome found (IsFirstTable tables.now register.new.accepted rows.now)) }
+        → IfOk result (λ found. IfSome found (IsFirst tables.now register.new.accepted rows.now)) }
     ensures frame { OnlyLooks S.Store register.old register.new result }
 {
     for table in tables {
-        if !has_table(register, *table, rows)? {
-            return Ok(Some(*table));
+        if let Some(row) = compare_table(alloc, register, *table, rows)? {
+            return Ok(Some((*table, row)));
         }
     }
     Ok(None)
 }
 
-/// The first table whose rows are not the register's, the accepted commands before the others; one table at a time is
-/// read. The accepted commands among these rows are in the order of their numbers, the rows of each other table in that
-/// of their keys.
+/// The first table whose rows are not the register's, the accepted commands before the others, and its first row that
+/// differs; one table at a time is read. The accepted commands among these rows are in the order of their numbers, the
+/// rows of each other table in that of their keys.
 pub(crate) fn first_difference<S: Alter>(
+    alloc: Global,
     register: &mut Register<S>,
-    rows: &WholeView,
-) -> Result<Option<Table>, Refusal>
+    rows: &FullView,
+) -> Result<Option<(TableName, RowDifference)>, Refusal>
     requires intact { IsIntact S.Store register.old }
     requires order { IsSorted by_number rows.now.keys.items }
     ensures none { HasCleanDisk (state S.Store register.new.conn) → IfOk result (λ found. found ≡ None
         → (table : Named) → HasRows table (machine.tables register.new.accepted) rows.now) }
     ensures some { HasCleanDisk (state S.Store register.new.conn)
-        → IfOk result (λ found. IfSome found (IsFirstTable compared register.new.accepted rows.now)) }
+        → IfOk result (λ found. IfSome found (IsFirst compared register.new.accepted rows.now)) }
     ensures register { HasCleanDisk (state S.Store register.new.conn)
         → IfOk result (λ _. IsRegister register.new.accepted) }
     ensures frame { OnlyLooks S.Store register.old register.new result }
 {
-    if !has_table(register, Table::Keys, rows)? {
-        return Ok(Some(Table::Keys));
+    if let Some(row) = compare_table(alloc, register, TableName::Keys, rows)? {
+        return Ok(Some((TableName::Keys, row)));
     }
-    first_of(register, &TABLES, rows)
+    first_differing(alloc, register, &TABLES, rows)
 }

@@ -2,18 +2,20 @@
 //!
 //! The table of keys holds every accepted command as its text, with its number and its reply; all other rows follow
 //! from these. Of all rows of a register, as `kcr_store` reads them, `verify` gives the commands, in the order of their
-//! numbers, to an empty register in memory, compares each reply, and then compares the tables, one after the other.
+//! numbers, to an empty register in memory, compares each reply, and then compares the tables, one after the other, up to
+//! the first row that differs.
 //! Where it finds nothing that differs, the rows are the tables of a history that the machine leads to, whoever wrote
 //! them. `rebuild` gives them to an empty register of the caller's, as `create` makes one in a file: so one goes on
 //! from a file that one has to doubt.
 #![tactic(auto)]
 
 mod compare;
-mod fresh;
-mod order;
+mod new_register;
+mod quoted;
 mod replay;
+mod sort;
 mod verification;
 
-pub use compare::Table;
-pub use fresh::{FreshFault, create, found};
-pub use verification::{Difference, Verified, rebuild, verify};
+pub use compare::{RowDifference, TableName};
+pub use new_register::{CreateFault, create, init};
+pub use verification::{Difference, Verification, rebuild, verify};

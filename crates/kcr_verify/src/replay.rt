@@ -6,10 +6,10 @@ ghost use Rattle.kcr_history.specs.History.{History};
 ghost use Rattle.kcr_history.specs.Machine.{IsOfMachine, IsRegister};
 ghost use Rattle.kcr_history.specs.Tables.{key_row};
 ghost use Rattle.kcr_history.specs.declared.commands.Entry.{Entry as Accepted};
-ghost use Rattle.kcr_store.specs.Register.{IsKept};
+ghost use Rattle.kcr_store.specs.Register.{IsConsistent};
 ghost use Rattle.kcr_tables.specs.Refusals.{IsFault};
-ghost use Rattle.kcr_verify.specs.Verified.{AreValues, HasAll, HasNext, IsIntact, rows_by_number};
-ghost use Rattle.kcr_verify.specs.Verified.{Declines, HaveOwnKeys, StopsFor, Takes};
+ghost use Rattle.kcr_verify.specs.Verification.{AreValues, HasAll, HasNext, IsIntact, rows_by_number};
+ghost use Rattle.kcr_verify.specs.Verification.{Declines, HaveOwnKeys, StopsFor, Takes};
 
 use crate::verification::Difference;
 use kcr_base::Refusal;
@@ -20,17 +20,17 @@ use sqlite::Alter;
 use std::alloc::Global;
 
 /// Gives the command of a row to the register, and answers what is not as the row says.
-fn give<S: Alter>(
+fn replay_one<S: Alter>(
     alloc: Global,
     row: &KeyRow,
     register: &mut Register<S>,
 ) -> Result<Option<Difference>, Refusal>
     requires { IsIntact S.Store register.old }
-    ensures founded { register.new.is_founded ≡ true }
-    ensures torn { IfOk result (λ _. register.new.torn ≡ None) }
+    ensures founded { register.new.is_genuine ≡ true }
+    ensures in_doubt { IfOk result (λ _. register.new.in_doubt ≡ None) }
     ensures cause { IfErr result IsFault }
     ensures clean { HasCleanDisk (state S.Store register.new.conn) → HasCleanDisk (state S.Store register.old.conn) }
-    ensures kept { IsKept S.Store register.new }
+    ensures kept { IsConsistent S.Store register.new }
 
     // Whatever the row says, the machine leads to the register's history.
     ensures of_machine { HasCleanDisk (state S.Store register.new.conn) → IsOfMachine register.old.accepted
@@ -75,11 +75,11 @@ pub(crate) fn replay<S: Alter>(
 ) -> Result<Option<Difference>, Refusal>
     requires intact { IsIntact S.Store register.old }
     requires empty { register.old.accepted ≡ [] }
-    ensures founded { register.new.is_founded ≡ true }
-    ensures torn { IfOk result (λ _. register.new.torn ≡ None) }
+    ensures founded { register.new.is_genuine ≡ true }
+    ensures in_doubt { IfOk result (λ _. register.new.in_doubt ≡ None) }
     ensures cause { IfErr result IsFault }
     ensures clean { HasCleanDisk (state S.Store register.new.conn) → HasCleanDisk (state S.Store register.old.conn) }
-    ensures kept { IsKept S.Store register.new }
+    ensures kept { IsConsistent S.Store register.new }
     ensures of_machine { HasCleanDisk (state S.Store register.new.conn) → IsOfMachine register.new.accepted }
 
     // The register has the commands of all rows, or of those before the one that is not the next, as told.
@@ -94,7 +94,7 @@ pub(crate) fn replay<S: Alter>(
         if row.accepted as usize != index + 1 {
             return Ok(Some(Difference::Number(index + 1)));
         }
-        match give(alloc, row, register) {
+        match replay_one(alloc, row, register) {
             Ok(None) => {}
             Ok(Some(difference)) => return Ok(Some(difference)),
             Err(refusal) => return Err(refusal),

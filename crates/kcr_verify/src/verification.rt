@@ -6,23 +6,23 @@ ghost use Rattle.sqlite.specs.Steps.{over_memory};
 ghost use Rattle.kcr_history.specs.History.{History};
 ghost use Rattle.kcr_history.specs.Machine.{IsOfMachine, IsRegister};
 ghost use Rattle.kcr_history.specs.Tables.{Tables, tables};
-ghost use Rattle.kcr_history.specs.declared.views.WholeView.{WholeView as View};
-ghost use Rattle.kcr_store.specs.Register.{IsKept};
-ghost use Rattle.kcr_store.specs.Whole.{IsListed};
+ghost use Rattle.kcr_history.specs.declared.views.FullView.{FullView as View};
+ghost use Rattle.kcr_store.specs.Register.{IsConsistent};
+ghost use Rattle.kcr_store.specs.FullView.{IsListed};
 ghost use Rattle.kcr_tables.specs.Refusals.{IsFault};
-ghost use Rattle.kcr_verify.specs.Verified.{AreValues, HaveOwnKeys, IsIntact, IsTold, IsToldOf};
+ghost use Rattle.kcr_verify.specs.Verification.{AreValues, HaveOwnKeys, IsIntact, IsVerification, IsToldOf};
 
-use crate::compare::{Table, first_difference};
-use crate::order::put_in_order;
+use crate::compare::{RowDifference, TableName, first_difference};
 use crate::replay::replay;
+use crate::sort::sort_by_number;
 use kcr_base::Refusal;
-use kcr_history::{WholeView, numbers_count_commands};
+use kcr_history::{FullView, numbers_count_commands};
 use kcr_store::{OpenFault, Register};
 use sqlite::{Alter, MemStore};
 use std::alloc::Global;
 
 /// What is not as the commands say.
-#[derive(Clone, Copy)]
+#[derive(Drop)]
 pub enum Difference {
     /// No accepted command has this number, counted from 1, or several have the one before it.
     Number(usize),
@@ -32,23 +32,23 @@ pub enum Difference {
     Refused(u32),
     /// The command with this number gets another reply.
     Reply(u32),
-    /// The rows of a table are not those that the commands lead to.
-    Rows(Table),
+    /// The rows of a table are not those that the commands lead to, and this is the first one that differs.
+    Rows(TableName, RowDifference),
 }
 
-/// What a verification comes to.
-#[derive(Clone, Copy)]
-pub enum Verified {
-    /// The tables are those of the register's own commands, of which there are so many.
-    Whole(usize),
+/// The result of a verification.
+#[derive(Drop)]
+pub enum Verification {
+    /// The tables are those of the register's own commands. There are this many.
+    Verified(usize),
     /// The first thing that is not so.
     Differs(Difference),
 }
 
 /// An empty register in memory.
 fn empty(alloc: Global) -> Result<Register<MemStore>, Refusal>
-    ensures new { IfOk result (λ r. (r.is_founded ≡ true) × (r.accepted ≡ []) × (r.torn ≡ None)
-        × IsKept over_memory r) }
+    ensures new { IfOk result (λ r. (r.is_genuine ≡ true) × (r.accepted ≡ []) × (r.in_doubt ≡ None)
+        × IsConsistent over_memory r) }
     ensures cause { IfErr result IsFault }
 {
     match Register::in_memory(alloc) {
@@ -62,16 +62,16 @@ fn empty(alloc: Global) -> Result<Register<MemStore>, Refusal>
 /// tables with the rows, one table after the other.
 ///
 /// Whatever is said of where the rows come from, the fresh register is founded by its making, so all that is promised
-/// of a register holds of it with no premise about them. After `Whole` its tables are the rows. After a difference it
-/// has the commands before the one that is named, that one too where its reply differs, and all of them where a table
+/// of a register holds of it with no premise about them. After `Verified` its tables are the rows. After a difference it
+/// has the commands before the one that is named, that one too if its reply differs, and all of them if a table
 /// does.
 /// Beside out of memory (33) it meets only a fault of the fresh register's device (34), which breaks that register;
 /// what was accepted before stays in it.
 pub fn rebuild<S: Alter>(
     alloc: Global,
-    rows: WholeView,
+    rows: FullView,
     fresh: &mut Register<S>,
-) -> Result<Verified, Refusal>
+) -> Result<Verification, Refusal>
     requires intact { IsIntact S.Store fresh.old }
     requires empty { fresh.old.accepted ≡ [] }
 
@@ -80,50 +80,50 @@ pub fn rebuild<S: Alter>(
 
     // What is told of the rows is so, whoever wrote them, and the fresh register has the commands that it says.
     ensures told { HasCleanDisk (state S.Store fresh.new.conn)
-        → IfOk result (λ told. IsTold rows fresh.new.accepted told) }
+        → IfOk result (λ told. IsVerification rows fresh.new.accepted told) }
 
     // Of a history that the machine leads to nothing differs.
     ensures own { HasCleanDisk (state S.Store fresh.new.conn) → (A : History) → IsOfMachine A → AreValues A
         → IsListed (tables A) rows
-        → IfOk result (λ told. (told ≡ Verified.Whole (length A)) × (fresh.new.accepted ≡ A)) }
+        → IfOk result (λ told. (told ≡ Verification.Verified (length A)) × (fresh.new.accepted ≡ A)) }
 
-    // Of a register's history the reply of the first command differs whose recorded seating is not the first one; where
+    // Of a register's history the reply of the first command differs whose recorded seating is not the first one; if
     // there is none, nothing does.
     ensures register { HasCleanDisk (state S.Store fresh.new.conn) → (A : History) → IsRegister A → AreValues A
         → IsListed (tables A) rows → IfOk result (IsToldOf A) }
     ensures cause { IfErr result IsFault }
-    ensures founded { fresh.new.is_founded ≡ true }
-    ensures torn { IfOk result (λ _. fresh.new.torn ≡ None) }
+    ensures founded { fresh.new.is_genuine ≡ true }
+    ensures in_doubt { IfOk result (λ _. fresh.new.in_doubt ≡ None) }
     ensures clean { HasCleanDisk (state S.Store fresh.new.conn) → HasCleanDisk (state S.Store fresh.old.conn) }
-    ensures kept { IsKept S.Store fresh.new }
+    ensures kept { IsConsistent S.Store fresh.new }
 {
     numbers_count_commands();
     let mut rows = rows;
-    put_in_order(&mut rows.keys);
+    sort_by_number(&mut rows.keys);
     if let Some(difference) = replay(alloc, &rows.keys, fresh)? {
-        return Ok(Verified::Differs(difference));
+        return Ok(Verification::Differs(difference));
     }
-    Ok(match first_difference(fresh, &rows)? {
-        Some(table) => Verified::Differs(Difference::Rows(table)),
-        None => Verified::Whole(rows.keys.len()),
+    Ok(match first_difference(alloc, fresh, &rows)? {
+        Some((table, row)) => Verification::Differs(Difference::Rows(table, row)),
+        None => Verification::Verified(rows.keys.len()),
     })
 }
 
 /// Gives the commands among these rows, which are those of a register, to an empty register in memory, and compares the
 /// tables.
 ///
-/// Where it answers `Whole`, the rows are the tables of a history that the machine leads to, whoever wrote them, and
+/// Where it answers `Verified`, the rows are the tables of a history that the machine leads to, whoever wrote them, and
 /// the accepted commands are that history's. Its time grows with the number of rows, and its memory too: beside `rows`
 /// it holds the register in memory, and of that one table's rows. It meets only out of memory (33), which the store in
-/// memory may tell as a fault of a device (34).
-pub fn verify(alloc: Global, rows: WholeView) -> Result<Verified, Refusal>
-    ensures told { IfOk result (λ told. (A : History) × IsTold rows A told) }
+/// memory may tell as an I/O error (34).
+pub fn verify(alloc: Global, rows: FullView) -> Result<Verification, Refusal>
+    ensures told { IfOk result (λ told. (A : History) × IsVerification rows A told) }
 
     // Of a history that the machine leads to nothing differs.
     ensures own { (A : History) → IsOfMachine A → AreValues A → IsListed (tables A) rows
-        → IfOk result (λ told. told ≡ Verified.Whole (length A)) }
+        → IfOk result (λ told. told ≡ Verification.Verified (length A)) }
 
-    // Of a register's history the reply of the first command differs whose recorded seating is not the first one; where
+    // Of a register's history the reply of the first command differs whose recorded seating is not the first one; if
     // there is none, nothing does.
     ensures register { (A : History) → IsRegister A → AreValues A → IsListed (tables A) rows
         → IfOk result (IsToldOf A) }

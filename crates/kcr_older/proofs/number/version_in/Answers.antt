@@ -4,7 +4,7 @@ use Rattle.sqlite.specs.Order.{Row}
 use Rattle.sqlite.specs.State.{Shown}
 use Rattle.sqlite.specs.declared.types.Value.{Value}
 use Rattle.sqlite_trees.proofs.ListLemmas.{map-map}
-use Rattle.kcr_older.specs.Standing.{only_number}
+use Rattle.kcr_older.specs.Kind.{only_number}
 use Rattle.kcr_older.specs.declared.number.Cell.{Cell}
 use Rattle.kcr_older.proofs.NumberText.{text}
 use Rattle.kcr_older.proofs.NumberLemmas.{is_there, number_read, number_same}
@@ -13,7 +13,7 @@ use Rattle.kcr_older.proofs.number.version_in.Goals as goal
 pub returns-clause-number : goal.returns-clause-number
 returns-clause-number g c clean live has =
     let old = state g.S.Store c.args.tx.now.conn.now in
-    let new = state g.S.Store c.rows_of.new.tx.conn.now in
+    let new = state g.S.Store c.query_rows.new.tx.conn.now in
     let table = is_there _ has in
     let value = λ (cell : Cell). cell.value in
     let row = λ (v : Value). v ∷ [] in
@@ -26,4 +26,4 @@ returns-clause-number g c clean live has =
 pub returns-clause-same : goal.returns-clause-same
 returns-clause-same g c clean has =
     let table = is_there _ has in
-    number_same (state g.S.Store c.args.tx.now.conn.now) (state g.S.Store c.rows_of.new.tx.conn.now) table.0 _ table.1 (c.in_ok-cells.ensures.shown clean)
+    number_same (state g.S.Store c.args.tx.now.conn.now) (state g.S.Store c.query_rows.new.tx.conn.now) table.0 _ table.1 (c.in_ok-cells.ensures.shown clean)

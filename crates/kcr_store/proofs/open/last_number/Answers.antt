@@ -1,5 +1,5 @@
 use Rattle.std.proofs.Common.{◌∙◌, ap, List, slice_get}
-use Rattle.kcr_history.specs.declared.rows.KeyRow.{KeyRow}
+use Rattle.kcr_history.specs.declared.row_types.KeyRow.{KeyRow}
 use Rattle.kcr_history.specs.Tables.{tables}
 use Rattle.kcr_history.proofs.Steps.{greatest-keys}
 use Rattle.kcr_tables.proofs.HoldLemmas.{held_of}

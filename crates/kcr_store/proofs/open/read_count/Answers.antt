@@ -1,6 +1,6 @@
 use Rattle.std.proofs.Common.{pos, rules}
 use Rattle.kcr_rows.proofs.InsideLemmas.{was_clean}
-use Rattle.kcr_tables.specs.Made.{first}
+use Rattle.kcr_tables.specs.Creation.{schema_prefix}
 use Rattle.kcr_store.proofs.WholeLemmas.{undone_shows, undone_outside}
 use Rattle.kcr_store.proofs.OpenLemmas.{begun_inside, begun_says, begun_shows}
 use Rattle.kcr_store.specs.Opening.{IsAnswerBy}
@@ -9,7 +9,7 @@ use Rattle.kcr_store.proofs.open.read_count.Goals as goal
 pub returns-clause-answer : goal.returns-clause-answer
 returns-clause-answer g c clean =
     let before = was_clean _ _ _ c.rollback.ensures.survives (search rules) in
-    begun_says g.S.Store c.args.conn.now _ c.transaction-tx.ensures.begun (λ db. IsAnswerBy (pos 3) db c.count_in-count.result) (first 17)
+    begun_says g.S.Store c.args.conn.now _ c.transaction-tx.ensures.begun (λ db. IsAnswerBy (pos 3) db c.count_in-count.result) (schema_prefix 17)
     (c.count_in-count.ensures.answer before)
 
 pub returns-clause-count : goal.returns-clause-count

@@ -1,8 +1,8 @@
 use Rattle.std.proofs.Common.{◌≡◌, Some, pos, subst}
 use Rattle.sqlite.specs.Held.{state}
 use Rattle.kcr_rows.proofs.InsideLemmas.{was_clean}
-use Rattle.kcr_older.specs.Older.{StoresAs}
-use Rattle.kcr_older.specs.Standing.{version_in}
+use Rattle.kcr_older.specs.OldFiles.{HoldsHistoryAs}
+use Rattle.kcr_older.specs.Kind.{version_in}
 use Rattle.kcr_older.specs.Versions.{number_of}
 use Rattle.kcr_store.specs.Opening.{RefusesBy}
 use Rattle.kcr_store.proofs.OpenLemmas.{is_known, still_has, there}
@@ -24,4 +24,4 @@ returns-in-Ok-clause-brought g c clean A s =
     let before = was_clean _ _ _ c.brought_count.ensures.frame.survives clean in
     let same = c.in_default.ensures.same before (there (number_of c.args.from) (is_known c.args.from) _ s.schema) in
     c.in-Ok.ensures.brought clean A
-    (still_has (StoresAs (number_of c.args.from) A) (state g.S.Store c.args.tx.now.conn.now) (state g.S.Store c.expect_number.new.tx.conn.now) same s)
+    (still_has (HoldsHistoryAs (number_of c.args.from) A) (state g.S.Store c.args.tx.now.conn.now) (state g.S.Store c.expect_number.new.tx.conn.now) same s)

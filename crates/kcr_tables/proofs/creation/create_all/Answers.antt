@@ -2,7 +2,7 @@ use Rattle.std.proofs.Common.{rules, ◌≡◌, ◌<◌, ◌∙◌, take, subst,
 use Rattle.sqlite.specs.Held.{state}
 use Rattle.sqlite_catalog.specs.Listing.{IsSound}
 use Rattle.kcr_tables.specs.Schema.{all_tables}
-use Rattle.kcr_tables.specs.Made.{first}
+use Rattle.kcr_tables.specs.Creation.{schema_prefix}
 use Rattle.kcr_rows.specs.Columns.{AreEmpty}
 use Rattle.kcr_rows.proofs.FrameLemmas.{within_then}
 use Rattle.kcr_tables.proofs.FirstLemmas.{holds_nothing}
@@ -27,6 +27,6 @@ pub returns-clause-holds : goal.returns-clause-holds
 returns-clause-holds g c clean has =
     let now = state g.S.Store c.loop-at.tx.conn.now in
     let at : c.loop-at.at ≡ 17 = search rules in
-    let was = subst (λ n. (now.now.schema ≡ first n) × AreEmpty (take n all_tables) now.now.trees × (0 < n → IsSound (first n) now.now.trees)) at
+    let was = subst (λ n. (now.now.schema ≡ schema_prefix n) × AreEmpty (take n all_tables) now.now.trees × (0 < n → IsSound (schema_prefix n) now.now.trees)) at
     (c.loop-at.invariant.built clean has) in
     holds_nothing now.now was.0 was.1 (was.2 (omega arith))

@@ -9,12 +9,12 @@ pub returns : goal.returns
 returns g c =
     let at = c.args.at in
     let old = state g.S.Store c.args.tx.now.conn.now in
-    let new = state g.S.Store c.write.new.tx.conn.now in
+    let new = state g.S.Store c.run_statement.new.tx.conn.now in
     let ran = λ (clean : HasCleanDisk new).
-    subst (λ text. OnOk c.write.result ((count : ℕ) × Executes text [] old new (Ok count))) c.create_text-text.ensures (c.write.ensures.runs clean) in record {
+    subst (λ text. OnOk c.run_statement.result ((count : ℕ) × Executes text [] old new (Ok count))) c.create_table_sql-text.ensures (c.run_statement.ensures.runs clean) in record {
       same_reference = search rules;
-      schema = λ clean has empty. on_ok_then _ _ (λ h. (create_next at c.requires old new h.0 has empty h.1).0) c.write.result (ran clean);
-      empty = λ clean has empty. on_ok_then _ _ (λ h. (create_next at c.requires old new h.0 has empty h.1).1) c.write.result (ran clean);
-      sound = λ clean has empty. on_ok_then _ _ (λ h. (create_next at c.requires old new h.0 has empty h.1).2) c.write.result (ran clean);
-      frame = c.write.ensures.frame;
+      schema = λ clean has empty. on_ok_then _ _ (λ h. (create_next at c.requires old new h.0 has empty h.1).0) c.run_statement.result (ran clean);
+      empty = λ clean has empty. on_ok_then _ _ (λ h. (create_next at c.requires old new h.0 has empty h.1).1) c.run_statement.result (ran clean);
+      sound = λ clean has empty. on_ok_then _ _ (λ h. (create_next at c.requires old new h.0 has empty h.1).2) c.run_statement.result (ran clean);
+      frame = c.run_statement.ensures.frame;
     }

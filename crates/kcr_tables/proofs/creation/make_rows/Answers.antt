@@ -1,7 +1,7 @@
 use Rattle.std.proofs.Common.{subst, OnOk}
 use Rattle.sqlite.specs.Held.{state}
 use Rattle.sqlite.specs.State.{HasCleanDisk}
-use Rattle.kcr_tables.specs.Held.{Tables, Holds}
+use Rattle.kcr_tables.specs.StoredTables.{StoredTables, Holds}
 use Rattle.kcr_rows.proofs.InsideLemmas.{was_clean}
 use Rattle.kcr_rows.proofs.FrameLemmas.{within_then, within_fails}
 use Rattle.kcr_tables.proofs.SafeLemmas.{first_is}
@@ -19,7 +19,7 @@ returns-clause-holds g c clean has =
     let held1 = c.in_ok-create_all.ensures.holds clean1 has in
     let held2 = c.in_ok-put_pair.ensures.holds clean2 _ held1 in
     let held3 = c.in_ok-put_pair-2.ensures.holds clean3 _ held2 in
-    subst (λ (t : Tables). OnOk c.put.result (Holds new.now t)) first_is (c.put.ensures.holds clean _ held3)
+    subst (λ (t : StoredTables). OnOk c.put.result (Holds new.now t)) first_is (c.put.ensures.holds clean _ held3)
 
 pub returns-in_err-put_pair-clause-frame : goal.returns-in_err-put_pair-clause-frame
 returns-in_err-put_pair-clause-frame g c =

@@ -3,8 +3,8 @@ use Rattle.sqlite.specs.Held.{state}
 use Rattle.sqlite.specs.State.{HasCleanDisk}
 use Rattle.kcr_rows.proofs.InsideLemmas.{was_clean}
 use Rattle.kcr_rows.specs.Rows.{safe_row, bag_row, item_row}
-use Rattle.kcr_tables.specs.Exact.{has_text, is_item_row, AskedAreShown, WholeIsShown}
-use Rattle.kcr_tables.specs.Held.{safes_place, bags_place, items_place}
+use Rattle.kcr_tables.specs.Exact.{has_text, is_item_row, SelectedAreRead, AllAreRead}
+use Rattle.kcr_tables.specs.StoredTables.{safes_place, bags_place, items_place}
 use Rattle.kcr_tables.proofs.FrameLemmas.{reads_on, fails_as, reads_then, reads_to, read_later}
 use Rattle.kcr_tables.proofs.view.custody_rows.Goals as goal
 
@@ -25,10 +25,10 @@ returns-in_err-items-clause-frame g c = reads_on (reads_on (reads_on c.in_ok-box
 pub returns : goal.returns
 returns g c =
     let old = state g.S.Store c.args.tx.now.conn.now in
-    let s0 = state g.S.Store c.asked_whole.new.tx.conn.now in
-    let s1 = state g.S.Store c.asked_whole-2.new.tx.conn.now in
-    let s2 = state g.S.Store c.asked_rows.new.tx.conn.now in
-    let s3 = state g.S.Store c.asked_items.new.tx.conn.now in
+    let s0 = state g.S.Store c.select_all.new.tx.conn.now in
+    let s1 = state g.S.Store c.select_all-2.new.tx.conn.now in
+    let s2 = state g.S.Store c.select_rows.new.tx.conn.now in
+    let s3 = state g.S.Store c.select_items.new.tx.conn.now in
     let to0 = c.in_ok-boxes.ensures.frame in
     let to1 = reads_then old s0 s1 _ _ to0 c.in_ok-safes.ensures.frame in
     let to2 = reads_then old s1 s2 _ _ to1 c.in_ok-bags.ensures.frame in
@@ -43,11 +43,11 @@ returns g c =
       exact = λ clean has.
           let asks = c.args.asks.now in record {
             boxes_are = c.in_ok-boxes.ensures.exact (clean0 clean) has;
-            safes_are = read_later (WholeIsShown safe_row safes_place asks.safes c.in_ok-safes.safes.items) old s0 _ to0 (clean0 clean) has
+            safes_are = read_later (AllAreRead safe_row safes_place asks.safes c.in_ok-safes.safes.items) old s0 _ to0 (clean0 clean) has
                 (c.in_ok-safes.ensures.exact (clean1 clean));
-            bags_are = read_later (AskedAreShown bag_row bags_place (has_text 0) asks.bags c.in_ok-bags.bags.items) old s1 _ to1 (clean1 clean) has
+            bags_are = read_later (SelectedAreRead bag_row bags_place (has_text 0) asks.bags c.in_ok-bags.bags.items) old s1 _ to1 (clean1 clean) has
                 (c.in_ok-bags.ensures.exact (clean2 clean));
-            items_are = read_later (AskedAreShown item_row items_place is_item_row asks.items c.in_ok-items.items.items) old s2 _ to2 (clean2 clean) has
+            items_are = read_later (SelectedAreRead item_row items_place is_item_row asks.items c.in_ok-items.items.items) old s2 _ to2 (clean2 clean) has
                 (c.in_ok-items.ensures.exact clean);
           };
       frame = reads_to old s3 _ _ tt (reads_then old s2 s3 _ _ to2 c.in_ok-items.ensures.frame);

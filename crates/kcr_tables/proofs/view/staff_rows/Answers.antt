@@ -3,8 +3,8 @@ use Rattle.sqlite.specs.Held.{state}
 use Rattle.sqlite.specs.State.{HasCleanDisk}
 use Rattle.kcr_rows.proofs.InsideLemmas.{was_clean}
 use Rattle.kcr_rows.specs.Rows.{withdrawal_row}
-use Rattle.kcr_tables.specs.Exact.{has_text, AskedAreShown, AppointmentsAreShown}
-use Rattle.kcr_tables.specs.Held.{withdrawals_place}
+use Rattle.kcr_tables.specs.Exact.{has_text, SelectedAreRead, AppointmentsAreShown}
+use Rattle.kcr_tables.specs.StoredTables.{withdrawals_place}
 use Rattle.kcr_tables.proofs.FrameLemmas.{reads_on, fails_as, reads_then, reads_to, read_later}
 use Rattle.kcr_tables.proofs.view.staff_rows.Goals as goal
 
@@ -23,9 +23,9 @@ returns-in_err-appointments-clause-frame g c = reads_on
 pub returns : goal.returns
 returns g c =
     let old = state g.S.Store c.args.tx.now.conn.now in
-    let s0 = state g.S.Store c.asked_trainings.new.tx.conn.now in
-    let s1 = state g.S.Store c.asked_rows.new.tx.conn.now in
-    let s2 = state g.S.Store c.asked_appointments.new.tx.conn.now in
+    let s0 = state g.S.Store c.select_trainings.new.tx.conn.now in
+    let s1 = state g.S.Store c.select_rows.new.tx.conn.now in
+    let s2 = state g.S.Store c.select_appointments.new.tx.conn.now in
     let to0 = c.in_ok-trainings.ensures.frame in
     let to1 = reads_then old s0 s1 _ _ to0 c.in_ok-withdrawals.ensures.frame in
     let clean1 : HasCleanDisk s2 → HasCleanDisk s1 = λ clean. was_clean s1 s2 _ c.in_ok-appointments.ensures.frame.within.survives clean in
@@ -38,7 +38,7 @@ returns g c =
           let asks = c.args.asks.now in record {
             trainings_are = c.in_ok-trainings.ensures.exact (clean0 clean) has;
             withdrawals_are = read_later
-                (AskedAreShown withdrawal_row withdrawals_place (has_text 0) asks.withdrawals c.in_ok-withdrawals.withdrawals.items) old s0 _ to0
+                (SelectedAreRead withdrawal_row withdrawals_place (has_text 0) asks.withdrawals c.in_ok-withdrawals.withdrawals.items) old s0 _ to0
                 (clean0 clean) has (c.in_ok-withdrawals.ensures.exact (clean1 clean));
             appointments_are = read_later (AppointmentsAreShown asks.appointments c.in_ok-appointments.appointments.items) old s1 _ to1 (clean1 clean) has
                 (c.in_ok-appointments.ensures.exact clean);

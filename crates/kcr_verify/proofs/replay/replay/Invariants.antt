@@ -3,7 +3,7 @@ use Rattle.sqlite.specs.Held.{state}
 use Rattle.sqlite.specs.State.{HasCleanDisk}
 use Rattle.kcr_history.specs.History.{History}
 use Rattle.kcr_history.specs.Machine.{IsOfMachine, IsRegister}
-use Rattle.kcr_verify.specs.Verified.{AreValues, HaveOwnKeys, IsIntact, rows_by_number}
+use Rattle.kcr_verify.specs.Verification.{AreValues, HaveOwnKeys, IsIntact, rows_by_number}
 use Rattle.kcr_verify.proofs.NumberLemmas.{IsGiven}
 use Rattle.kcr_verify.proofs.ReplayLemmas.{HasTaken}
 use Rattle.kcr_verify.proofs.replay.replay.Given as goal

@@ -3,13 +3,13 @@ use Rattle.std.proofs.lemmas.List.{length-map, length-reverse}
 use Rattle.kcr_history.specs.History.{History}
 use Rattle.kcr_history.specs.Machine.{IsOfMachine}
 use Rattle.kcr_history.specs.Tables.{tables, key_row}
-use Rattle.kcr_history.specs.declared.rows.KeyRow.{KeyRow}
-use Rattle.kcr_history.specs.declared.views.WholeView.{WholeView}
+use Rattle.kcr_history.specs.declared.row_types.KeyRow.{KeyRow}
+use Rattle.kcr_history.specs.declared.views.FullView.{FullView}
 use Rattle.kcr_history.proofs.Steps.{of_machine}
-use Rattle.kcr_store.specs.Whole.{IsListed}
-use Rattle.kcr_verify.specs.Verified.{HasAll, HaveOwnKeys, IsTold, StopsFor, rows_by_number}
+use Rattle.kcr_store.specs.FullView.{IsListed}
+use Rattle.kcr_verify.specs.Verification.{HasAll, HaveOwnKeys, IsVerification, StopsFor, rows_by_number}
 use Rattle.kcr_verify.specs.declared.verification.Difference.TheVariants as Differences
-use Rattle.kcr_verify.specs.declared.verification.Verified.TheVariants.{Whole, Differs}
+use Rattle.kcr_verify.specs.declared.verification.Verification.TheVariants.{Verified, Differs}
 use Rattle.kcr_verify.proofs.NumberLemmas.{in_number_order}
 use Rattle.kcr_verify.proofs.StepLemmas.{never_other}
 use Rattle.kcr_verify.proofs.VerifyLemmas.{IsInOrder, differs_of, none_differs, stopped_of, whole_of}
@@ -23,15 +23,15 @@ returns-in-Some-clause-told g c clean =
     let stops = rw is at said.told clean in
     record {
       of_machine = said.of_machine clean;
-      says = stopped_of c.args.rows c.put_in_order.new.rows.items c.replay.new.register.accepted c.in-Some.difference
-          (record { same = c.put_in_order.ensures.same; order = c.put_in_order.ensures.order })
+      says = stopped_of c.args.rows c.sort_by_number.new.rows.items c.replay.new.register.accepted c.in-Some.difference
+          (record { same = c.sort_by_number.ensures.same; order = c.sort_by_number.ensures.order })
           (subst (λ (rows : List KeyRow). StopsFor c.in-Some.difference rows c.replay.new.register.accepted) c.deref.ensures.value stops);
     }
 
 pub returns-in-Some-clause-register : goal.returns-in-Some-clause-register
 returns-in-Some-clause-register g c clean A h values listed =
-    let rows = in_number_order c.numbers_count_commands.ensures A c.args.rows.keys.items c.put_in_order.new.rows.items h listed.same.keys
-    c.put_in_order.ensures.same c.put_in_order.ensures.order in
+    let rows = in_number_order c.numbers_count_commands.ensures A c.args.rows.keys.items c.sort_by_number.new.rows.items h listed.same.keys
+    c.sort_by_number.ensures.same c.sort_by_number.ensures.order in
     let is : c.in_ok-difference.field-0 ≡ Some c.in-Some.difference = search rules in
     let all : HasAll A c.replay.new.register.accepted (Some c.in-Some.difference) =
     subst (HasAll A c.replay.new.register.accepted) is (c.in_ok-difference.ensures.own clean A h values (c.deref.ensures.value ∙ rows)) in
@@ -40,14 +40,14 @@ returns-in-Some-clause-register g c clean A h values listed =
 pub returns-in-Some-clause-own : goal.returns-in-Some-clause-own
 returns-in-Some-clause-own g c clean A h values listed =
     elim (returns-in-Some-clause-register g c clean A (of_machine A h) values listed) [
-      | inl whole ↦ absurd (let z : Differs c.in-Some.difference ≡ Whole (length A) = whole.0 in cc)
+      | inl whole ↦ absurd (let z : Differs c.in-Some.difference ≡ Verified (length A) = whole.0 in cc)
       | inr other ↦ absurd (never_other A h other.0 other.2)
     ]
 
 pub returns-clause-told : goal.returns-clause-told
 returns-clause-told g c clean =
-    let rows : WholeView = record c.args.rows { keys = c.put_in_order.new.rows } in
-    let o : IsInOrder c.args.rows rows = record { others = refl; keys = c.put_in_order.ensures.same } in
+    let rows : FullView = record c.args.rows { keys = c.sort_by_number.new.rows } in
+    let o : IsInOrder c.args.rows rows = record { others = refl; keys = c.sort_by_number.ensures.same } in
     let A = c.first_difference.new.register.accepted in
     let frame = c.in_ok-table.ensures.frame in
     let said = c.in_ok-difference.ensures in
@@ -59,24 +59,24 @@ returns-clause-told g c clean =
     elim c.match-branch-4.branch [
       | in-Some-2 w ↦ (
           let first = rw w.in-Some-2.is at c.in_ok-table.ensures.some clean in
-          let is : Differs (Differences.Rows w.in-Some-2.table) ≡ c.match-branch-4.result = search rules in
-          subst (IsTold c.args.rows A) is
-          (record { of_machine = made; says = differs_of A c.args.rows rows o c.put_in_order.ensures.order w.in-Some-2.table first all })
+          let is : Differs (Differences.Rows w.in-Some-2.table w.in-Some-2.row) ≡ c.match-branch-4.result = search rules in
+          subst (IsVerification c.args.rows A) is
+          (record { of_machine = made; says = differs_of A c.args.rows rows o c.sort_by_number.ensures.order w.in-Some-2.table w.in-Some-2.row first all })
           )
       | in-None w ↦ (
           let none : c.in_ok-table.field-0 ≡ None = search rules in
-          let is : Whole (length c.put_in_order.new.rows.items) ≡ c.match-branch-4.result = search rules in
-          subst (IsTold c.args.rows A) is
+          let is : Verified (length c.sort_by_number.new.rows.items) ≡ c.match-branch-4.result = search rules in
+          subst (IsVerification c.args.rows A) is
           (record { of_machine = made; says = whole_of A c.args.rows rows o (c.in_ok-table.ensures.none clean none) })
           )
     ]
 
 pub returns-clause-register : goal.returns-clause-register
 returns-clause-register g c clean A h values listed =
-    let rows : WholeView = record c.args.rows { keys = c.put_in_order.new.rows } in
-    let o : IsInOrder c.args.rows rows = record { others = refl; keys = c.put_in_order.ensures.same } in
-    let by_number = in_number_order c.numbers_count_commands.ensures A c.args.rows.keys.items rows.keys.items h listed.same.keys c.put_in_order.ensures.same
-    c.put_in_order.ensures.order in
+    let rows : FullView = record c.args.rows { keys = c.sort_by_number.new.rows } in
+    let o : IsInOrder c.args.rows rows = record { others = refl; keys = c.sort_by_number.ensures.same } in
+    let by_number = in_number_order c.numbers_count_commands.ensures A c.args.rows.keys.items rows.keys.items h listed.same.keys c.sort_by_number.ensures.same
+    c.sort_by_number.ensures.order in
     let frame = c.in_ok-table.ensures.frame in
     let nothing : c.in_ok-difference.field-0 ≡ None = search rules in
     let given : HasAll A c.replay.new.register.accepted None =
@@ -91,15 +91,15 @@ returns-clause-register g c clean A h values listed =
     inl (
       elim c.match-branch-4.branch [
         | in-Some-2 w ↦ search rules
-        | in-None w ↦ (let is : Whole (length rows.keys.items) ≡ c.match-branch-4.result = search rules in sym is ∙ ap Whole count)
+        | in-None w ↦ (let is : Verified (length rows.keys.items) ≡ c.match-branch-4.result = search rules in sym is ∙ ap Verified count)
       ],
       made,
     )
 
 pub returns-clause-own : goal.returns-clause-own
 returns-clause-own g c clean A h values listed =
-    let by_number = in_number_order c.numbers_count_commands.ensures A c.args.rows.keys.items c.put_in_order.new.rows.items (of_machine A h)
-    listed.same.keys c.put_in_order.ensures.same c.put_in_order.ensures.order in
+    let by_number = in_number_order c.numbers_count_commands.ensures A c.args.rows.keys.items c.sort_by_number.new.rows.items (of_machine A h)
+    listed.same.keys c.sort_by_number.ensures.same c.sort_by_number.ensures.order in
     let frame = c.in_ok-table.ensures.frame in
     let nothing : c.in_ok-difference.field-0 ≡ None = search rules in
     let given : HasAll A c.replay.new.register.accepted None =

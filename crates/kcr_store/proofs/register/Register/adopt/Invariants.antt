@@ -1,4 +1,4 @@
 use Rattle.kcr_store.proofs.register.Register.adopt.Given as goal
 
-abbrev pub ghost-of : goal.ghost-of
-ghost-of g a = g.past
+abbrev pub ghost-any : goal.ghost-any
+ghost-any g a = g.past

@@ -33,3 +33,15 @@ returns-in-Accepted-clause-step g c founded _ clean =
 
 pub returns-in-Accepted-clause-kept : goal.returns-in-Accepted-clause-kept
 returns-in-Accepted-clause-kept g c = (invariant_of-self g c).kept
+
+pub returns-in-Accepted-clause-kind : goal.returns-in-Accepted-clause-kind
+returns-in-Accepted-clause-kind g c _ = c.in-Accepted.ensures.kind
+
+pub returns-in-Refused-clause-kind : goal.returns-in-Refused-clause-kind
+returns-in-Refused-clause-kind g c _ = c.in-Refused.ensures.kind
+
+pub returns-in-Accepted-clause-by_row : goal.returns-in-Accepted-clause-by_row
+returns-in-Accepted-clause-by_row g c _ = rw (← c.self.view_is) c.in-Accepted.ensures.by_row
+
+pub returns-in-Refused-clause-by_row : goal.returns-in-Refused-clause-by_row
+returns-in-Refused-clause-by_row g c _ = rw (← c.self.view_is) c.in-Refused.ensures.by_row

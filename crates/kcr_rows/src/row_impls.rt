@@ -1,0 +1,373 @@
+//! The rows of the tables as values: how each is read back.
+
+ghost use Rattle.std.specs.Prelude.{⊤};
+ghost use Rattle.kcr_rows.specs.Rows.{person_row, training_row, appointment_row, box_row, safe_row, bag_row};
+ghost use Rattle.kcr_rows.specs.Rows.{item_row, ceremony_row, mark_row, step_row, seating_row, sheet_row};
+ghost use Rattle.kcr_rows.specs.Rows.{exception_row, version_row, key_row, stay_row, withdrawal_row};
+ghost use Rattle.kcr_rows.specs.States.{HasBoxNumber, HasOnlyTheseSeats};
+
+use crate::cells::{
+    ceremony_state_at, day_at, day_or_null_at, facility_at, initials_at, item_at, key_at, line_at,
+    moment_at, moment_or_null_at, number_at, number_or_null_at, place_at, rest_at, role_at,
+    safe_at, seats_at, serial_at, spot_at, step_state_at, text_at, truth_at, way_at,
+};
+use crate::from_row::FromRow;
+use kcr_base::Refusal;
+use kcr_custody::{Bag, BoxRow, Item, SafeRow};
+use kcr_history::{CeremonyRow, ExceptionRow, KeyRow, MarkRow, SeatingRow, StepRow};
+use kcr_people::{Appointment, Person, Training, Withdrawal};
+use kcr_room::{SheetRow, Stay};
+use sqlite::Row;
+use std::alloc::Global;
+
+impl FromRow for Person {
+    ghost row_of = { person_row };
+
+    ghost is_read = { λ _. ⊤ };
+
+    fn from_row(alloc: Global, row: &Row) -> Result<Person, Refusal> {
+        if row.column_count() != 2 {
+            return Err(Refusal::Disk);
+        }
+        let who = initials_at(row, 0)?;
+        let name = line_at(alloc, row, 1)?;
+        Ok(Person { who, name })
+    }
+}
+
+impl FromRow for Training {
+    ghost row_of = { training_row };
+
+    ghost is_read = { λ _. ⊤ };
+
+    fn from_row(_alloc: Global, row: &Row) -> Result<Training, Refusal> {
+        if row.column_count() != 4 {
+            return Err(Refusal::Disk);
+        }
+        let who = initials_at(row, 0)?;
+        let role = role_at(row, 1)?;
+        let since = day_at(row, 2)?;
+        let until = day_at(row, 3)?;
+        Ok(Training {
+            who,
+            role,
+            since,
+            until,
+        })
+    }
+}
+
+impl FromRow for Appointment {
+    ghost row_of = { appointment_row };
+
+    ghost is_read = { λ _. ⊤ };
+
+    fn from_row(_alloc: Global, row: &Row) -> Result<Appointment, Refusal> {
+        if row.column_count() != 4 {
+            return Err(Refusal::Disk);
+        }
+        let place = place_at(row, 0)?;
+        let since = day_at(row, 1)?;
+        let who = initials_at(row, 2)?;
+        let until = day_or_null_at(row, 3)?;
+        Ok(Appointment {
+            place,
+            since,
+            who,
+            until,
+        })
+    }
+}
+
+impl FromRow for BoxRow {
+    ghost row_of = { box_row };
+
+    ghost is_read = { λ _. ⊤ };
+
+    fn from_row(_alloc: Global, row: &Row) -> Result<BoxRow, Refusal> {
+        if row.column_count() != 3 {
+            return Err(Refusal::Disk);
+        }
+        let facility = facility_at(row, 0)?;
+        let number = number_at(row, 1)?;
+        let place = place_at(row, 2)?;
+        Ok(BoxRow {
+            facility,
+            number,
+            place,
+        })
+    }
+}
+
+impl FromRow for SafeRow {
+    ghost row_of = { safe_row };
+
+    ghost is_read = { λ _. ⊤ };
+
+    fn from_row(_alloc: Global, row: &Row) -> Result<SafeRow, Refusal> {
+        if row.column_count() != 3 {
+            return Err(Refusal::Disk);
+        }
+        let facility = facility_at(row, 0)?;
+        let safe = safe_at(row, 1)?;
+        let is_open = truth_at(row, 2)?;
+        Ok(SafeRow {
+            facility,
+            safe,
+            is_open,
+        })
+    }
+}
+
+impl FromRow for Bag {
+    ghost row_of = { bag_row };
+
+    ghost is_read = { HasBoxNumber };
+
+    fn from_row(_alloc: Global, row: &Row) -> Result<Bag, Refusal> {
+        if row.column_count() != 2 {
+            return Err(Refusal::Disk);
+        }
+        let serial = serial_at(row, 0)?;
+        let spot = spot_at(row, 1)?;
+        Ok(Bag { serial, spot })
+    }
+}
+
+impl FromRow for Item {
+    ghost row_of = { item_row };
+
+    ghost is_read = { λ _. ⊤ };
+
+    fn from_row(_alloc: Global, row: &Row) -> Result<Item, Refusal> {
+        if row.column_count() != 3 {
+            return Err(Refusal::Disk);
+        }
+        let code = item_at(row, 0)?;
+        let rest = rest_at(row, 1)?;
+        Ok(Item { code, rest })
+    }
+}
+
+impl FromRow for CeremonyRow {
+    ghost row_of = { ceremony_row };
+
+    ghost is_read = { λ _. ⊤ };
+
+    fn from_row(_alloc: Global, row: &Row) -> Result<CeremonyRow, Refusal> {
+        if row.column_count() != 6 {
+            return Err(Refusal::Disk);
+        }
+        let number = number_at(row, 0)?;
+        let facility = facility_at(row, 1)?;
+        let day = day_at(row, 2)?;
+        let state = ceremony_state_at(row, 3)?;
+        let opened = moment_or_null_at(row, 4)?;
+        let closed = moment_or_null_at(row, 5)?;
+        Ok(CeremonyRow {
+            number,
+            facility,
+            day,
+            state,
+            opened,
+            closed,
+        })
+    }
+}
+
+impl FromRow for MarkRow {
+    ghost row_of = { mark_row };
+
+    ghost is_read = { λ _. ⊤ };
+
+    fn from_row(_alloc: Global, row: &Row) -> Result<MarkRow, Refusal> {
+        if row.column_count() != 2 {
+            return Err(Refusal::Disk);
+        }
+        let ceremony = number_at(row, 0)?;
+        let at = moment_at(row, 1)?;
+        Ok(MarkRow { ceremony, at })
+    }
+}
+
+impl FromRow for StepRow {
+    ghost row_of = { step_row };
+
+    ghost is_read = { HasOnlyTheseSeats };
+
+    fn from_row(alloc: Global, row: &Row) -> Result<StepRow, Refusal> {
+        if row.column_count() != 6 {
+            return Err(Refusal::Disk);
+        }
+        let ceremony = number_at(row, 0)?;
+        let step = number_at(row, 1)?;
+        let activity = line_at(alloc, row, 2)?;
+        let seats = seats_at(alloc, row, 3)?;
+        let state = step_state_at(row, 4)?;
+        let at = moment_or_null_at(row, 5)?;
+        Ok(StepRow {
+            ceremony,
+            step,
+            activity,
+            seats,
+            state,
+            at,
+        })
+    }
+}
+
+impl FromRow for SeatingRow {
+    ghost row_of = { seating_row };
+
+    ghost is_read = { λ _. ⊤ };
+
+    fn from_row(_alloc: Global, row: &Row) -> Result<SeatingRow, Refusal> {
+        if row.column_count() != 4 {
+            return Err(Refusal::Disk);
+        }
+        let ceremony = number_at(row, 0)?;
+        let step = number_at(row, 1)?;
+        let seat = number_at(row, 2)?;
+        let who = initials_at(row, 3)?;
+        Ok(SeatingRow {
+            ceremony,
+            step,
+            seat,
+            who,
+        })
+    }
+}
+
+impl FromRow for SheetRow {
+    ghost row_of = { sheet_row };
+
+    ghost is_read = { λ _. ⊤ };
+
+    fn from_row(_alloc: Global, row: &Row) -> Result<SheetRow, Refusal> {
+        if row.column_count() != 4 {
+            return Err(Refusal::Disk);
+        }
+        let who = initials_at(row, 0)?;
+        let at = moment_at(row, 1)?;
+        let ceremony = number_at(row, 2)?;
+        let way = way_at(row, 3)?;
+        Ok(SheetRow {
+            who,
+            at,
+            ceremony,
+            way,
+        })
+    }
+}
+
+impl FromRow for ExceptionRow {
+    ghost row_of = { exception_row };
+
+    ghost is_read = { λ _. ⊤ };
+
+    fn from_row(alloc: Global, row: &Row) -> Result<ExceptionRow, Refusal> {
+        if row.column_count() != 5 {
+            return Err(Refusal::Disk);
+        }
+        let ceremony = number_at(row, 0)?;
+        let exception = number_at(row, 1)?;
+        let text = line_at(alloc, row, 2)?;
+        let at = moment_at(row, 3)?;
+        let passed = number_or_null_at(row, 4)?;
+        Ok(ExceptionRow {
+            ceremony,
+            exception,
+            text,
+            at,
+            passed,
+        })
+    }
+}
+
+/// The number of a schema, by which a later program knows which tables a file has.
+#[derive(Clone, Copy, PartialEq, Eq, Drop)]
+pub struct Version {
+    pub number: u32,
+}
+
+impl FromRow for Version {
+    ghost row_of = { version_row };
+
+    ghost is_read = { λ _. ⊤ };
+
+    fn from_row(_alloc: Global, row: &Row) -> Result<Version, Refusal> {
+        if row.column_count() != 1 {
+            return Err(Refusal::Disk);
+        }
+        let number = number_at(row, 0)?;
+        Ok(Version { number })
+    }
+}
+
+impl FromRow for KeyRow {
+    ghost row_of = { key_row };
+
+    ghost is_read = { λ _. ⊤ };
+
+    fn from_row(alloc: Global, row: &Row) -> Result<KeyRow, Refusal> {
+        if row.column_count() != 4 {
+            return Err(Refusal::Disk);
+        }
+        let key = key_at(row, 0)?;
+        let accepted = number_at(row, 1)?;
+        let command = text_at(alloc, row, 2)?;
+        let reply = text_at(alloc, row, 3)?;
+        Ok(KeyRow {
+            key,
+            accepted,
+            command,
+            reply,
+        })
+    }
+}
+
+impl FromRow for Stay {
+    ghost row_of = { stay_row };
+
+    ghost is_read = { λ _. ⊤ };
+
+    fn from_row(_alloc: Global, row: &Row) -> Result<Stay, Refusal> {
+        if row.column_count() != 4 {
+            return Err(Refusal::Disk);
+        }
+        let who = initials_at(row, 0)?;
+        let since = moment_at(row, 1)?;
+        let ceremony = number_at(row, 2)?;
+        let until = moment_or_null_at(row, 3)?;
+        Ok(Stay {
+            who,
+            since,
+            ceremony,
+            until,
+        })
+    }
+}
+
+impl FromRow for Withdrawal {
+    ghost row_of = { withdrawal_row };
+
+    ghost is_read = { λ _. ⊤ };
+
+    fn from_row(_alloc: Global, row: &Row) -> Result<Withdrawal, Refusal> {
+        if row.column_count() != 5 {
+            return Err(Refusal::Disk);
+        }
+        let who = initials_at(row, 0)?;
+        let role = role_at(row, 1)?;
+        let since = day_at(row, 2)?;
+        let until = day_at(row, 3)?;
+        let day = day_at(row, 4)?;
+        Ok(Withdrawal {
+            who,
+            role,
+            since,
+            until,
+            day,
+        })
+    }
+}

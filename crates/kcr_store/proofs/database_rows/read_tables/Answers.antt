@@ -1,0 +1,50 @@
+use Rattle.std.proofs.Common.{◌≢◌, rules, IsTrue}
+use Rattle.std.proofs.lemmas.Result.{IfOk-weaker}
+use Rattle.sqlite.specs.Held.{state}
+use Rattle.sqlite.specs.State.{HasCleanDisk}
+use Rattle.kcr_older.specs.Kind.{IsOfKind}
+use Rattle.kcr_older.specs.declared.kind.DatabaseKind.TheVariants.{Versioned}
+use Rattle.kcr_store.proofs.ListingLemmas.{answer_by, own_by, rows_by, older_by, version_by, known_by, not_strange}
+use Rattle.kcr_store.proofs.OpenLemmas.{is_taken, known_3, none_strange, of_strange, stranger_answer}
+use Rattle.kcr_rows.proofs.InsideLemmas.{was_clean}
+use Rattle.kcr_store.proofs.WholeLemmas.{if_ok}
+use Rattle.kcr_store.proofs.database_rows.read_tables.Goals as goal
+
+pub returns-in-Versioned-clause-taken : goal.returns-in-Versioned-clause-taken
+returns-in-Versioned-clause-taken g c clean live A founded =
+    let before = was_clean _ _ _ c.unknown_database_fault.ensures.frame.survives clean in
+    absurd (of_strange A (state g.S.Store c.args.conn.now) (search rules) c.inspect.ensures.live before live founded (search rules))
+
+pub returns-in-Versioned-clause-version : goal.returns-in-Versioned-clause-version
+returns-in-Versioned-clause-version g c clean t held = absurd (none_strange 3 _ (search rules) held.schema known_3)
+
+pub returns-in-Versioned-clause-older : goal.returns-in-Versioned-clause-older
+returns-in-Versioned-clause-older g c clean from t held = absurd (not_strange from t (state g.S.Store c.args.conn.now).now (search rules) held)
+
+pub returns-in-Versioned-clause-answer : goal.returns-in-Versioned-clause-answer
+returns-in-Versioned-clause-answer g c clean =
+    stranger_answer (state g.S.Store c.args.conn.now).now c.unknown_database_fault.result (search rules)
+    (c.unknown_database_fault.ensures.answer clean c.inspect.ensures.live (search rules))
+
+pub returns-in_default : goal.returns-in_default
+returns-in_default g c =
+    let old = state g.S.Store c.args.conn.now in
+    let standing = c.in_ok-standing.standing in
+    let result = c.rows_then_rollback.result in
+    let stands : IsOfKind old.now.schema standing = search rules in
+    let gives = λ (clean : HasCleanDisk (state g.S.Store c.rows_then_rollback.new.conn)). c.rows_then_rollback.ensures.gives clean c.inspect.ensures.live in
+    let before = was_clean _ _ _ c.rows_then_rollback.ensures.frame.survives in
+    let other : standing ≢ Versioned = search rules in
+    let answer = λ (clean : HasCleanDisk (state g.S.Store c.rows_then_rollback.new.conn)). answer_by standing old.now result stands (gives clean) other in
+    record {
+      own = λ clean A founded.
+          if_ok (IsTrue old.is_open) _ result (c.rows_then_rollback.ensures.opened clean)
+          (λ live. own_by A old (search rules) c.inspect.ensures.live (before clean) live founded standing result stands (gives clean));
+      taken = λ clean live A founded. is_taken A old (search rules) c.inspect.ensures.live (before clean) live founded result (answer clean);
+      rows = λ clean. rows_by standing old.now result stands (gives clean);
+      version = λ clean. version_by standing old.now result stands (gives clean);
+      older = λ clean. older_by standing old.now result stands (gives clean);
+      answer = answer;
+      known = IfOk-weaker result _ _ (λ view read. known_by standing old.now.schema stands read) c.rows_then_rollback.ensures.read;
+      frame = search rules;
+    }

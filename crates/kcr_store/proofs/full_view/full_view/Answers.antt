@@ -1,0 +1,35 @@
+use Rattle.std.proofs.Common.{rules}
+use Rattle.std.proofs.lemmas.Result.{IfOk-weaker}
+use Rattle.kcr_history.specs.Tables.{tables}
+use Rattle.kcr_tables.proofs.HoldLemmas.{held_of}
+use Rattle.kcr_tables.specs.MachineTables.{HoldsTables}
+use Rattle.kcr_store.proofs.StoreLemmas.{held_in, listed}
+use Rattle.kcr_rows.proofs.InsideLemmas.{was_clean}
+use Rattle.kcr_store.proofs.WholeLemmas.{begun_has, if_ok, read_back, read_stores}
+use Rattle.kcr_store.proofs.full_view.full_view.Goals as goal
+
+pub returns-clause-rows : goal.returns-clause-rows
+returns-clause-rows g c clean m held =
+    let before = was_clean _ _ _ c.rollback.ensures.survives (search rules) in
+    let begun = begun_has g.S.Store c.args.conn.now _ (HoldsTables m) c.transaction-tx.ensures.begun held in
+    IfOk-weaker c.read_full_view-view.result _ _ (λ view. listed begun.tables.kept begun.tables.stands) (c.read_full_view-view.ensures.rows before _ (held_of m _ begun))
+
+pub returns-clause-register : goal.returns-clause-register
+returns-clause-register g c accepted was clean =
+    let back = c.rollback.ensures.survives in
+    let before = was_clean _ _ _ back (search rules) in
+    let had =
+    read_stores g.S.Store c.args.conn.now _ c.transaction-tx.ensures.begun _ _ c.read_full_view-view.ensures.frame.within.survives back accepted was (search rules) in
+    if_ok _ _ c.read_full_view-view.result (c.read_full_view-view.ensures.opened before)
+    (λ live.
+    let held = held_in accepted _ (had live) in
+    IfOk-weaker c.read_full_view-view.result _ _ (λ view lists. ((had live).tables.register, listed held.tables.kept held.tables.stands lists))
+    (c.read_full_view-view.ensures.rows before _ (held_of (tables accepted) _ held)))
+
+pub returns-clause-frame : goal.returns-clause-frame
+returns-clause-frame g c =
+    let back = c.rollback.ensures in
+    let left =
+    read_back g.S.Store c.args.conn.now _ c.transaction-tx.ensures.begun c.rollback.new.self.0 c.read_full_view-view.ensures.frame.within
+    back.survives back.undone back.ended in
+    search rules

@@ -1,0 +1,33 @@
+use Rattle.kcr_tables.proofs.FrameLemmas.{fails_as, reads_to}
+use Rattle.kcr_store.proofs.full_view.read_full_view.Goals as goal
+
+pub returns-clause-rows : goal.returns-clause-rows
+returns-clause-rows g c clean t held =
+    let (
+      (((people, trainings), (withdrawals, appointments)), ((boxes, safes), (bags, items))),
+      (((ceremonies, marks), (steps, seatings)), ((sheet, stays), (exceptions, keys))),
+    ) = c.in_ok-people.ensures.rows clean t held
+    in λ i. record {
+      people = people i;
+      trainings = trainings i;
+      withdrawals = withdrawals i;
+      appointments = appointments i;
+      boxes = boxes i;
+      safes = safes i;
+      bags = bags i;
+      items = items i;
+      ceremonies = ceremonies i;
+      marks = marks i;
+      steps = steps i;
+      seatings = seatings i;
+      sheet = sheet i;
+      stays = stays i;
+      exceptions = exceptions i;
+      keys = keys i;
+    }
+
+pub returns-in_err-people-clause-frame : goal.returns-in_err-people-clause-frame
+returns-in_err-people-clause-frame g c = fails_as c.from_residual.ensures.1 c.in_err-people.ensures.frame
+
+pub returns-clause-frame : goal.returns-clause-frame
+returns-clause-frame g c = reads_to _ _ _ _ tt c.in_ok-people.ensures.frame

@@ -1,0 +1,28 @@
+use Rattle.std.proofs.Common.{◌∙◌, ap}
+use Rattle.kcr_reading.specs.Remaining.{seated_steps, exceptions_of}
+use Rattle.kcr_history.specs.Tables.{tables}
+use Rattle.kcr_rows.proofs.InsideLemmas.{was_clean}
+use Rattle.kcr_store.proofs.StoreLemmas.{held_in}
+use Rattle.kcr_store.proofs.lists.read_steps.Goals as goal
+
+pub returns-clause-shown : goal.returns-clause-shown
+returns-clause-shown g c clean accepted had =
+    let clean2 = was_clean _ _ _ c.in_ok-exceptions.ensures.frame.within.survives clean in
+    let clean1 = was_clean _ _ _ c.in_ok-steps.ensures.frame.within.survives clean2 in
+    let m = tables accepted in
+    let held = held_in accepted _ (had (c.in_ok-row.ensures.opened clean1)) in
+    let held1 = c.in_ok-row.ensures.tables clean1 m held in
+    let held2 = c.in_ok-steps.ensures.frame.tables clean2 m held1 in
+    let row = c.in_ok-row.ensures.row clean1 accepted had in
+    record {
+      planned = row.planned;
+      row = row.row_is;
+      steps =
+          c.in_ok-steps.ensures.rows clean2 m held1
+          ∙ c.new.ensures m
+          ∙ ap (λ n. seated_steps n m) c.get.ensures.value;
+      exceptions =
+          c.in_ok-exceptions.ensures.rows clean m held2
+          ∙ c.new-2.ensures m
+          ∙ ap (λ n. exceptions_of n m) c.get-2.ensures.value;
+    }

@@ -1,0 +1,70 @@
+use Rattle.std.proofs.Common.{rules, ap, length, sym}
+use Rattle.sqlite.specs.Held.{state}
+use Rattle.kcr_history.specs.History.{History}
+use Rattle.kcr_rows.proofs.InsideLemmas.{was_clean}
+use Rattle.kcr_store.proofs.WholeLemmas.{if_ok}
+use Rattle.kcr_store.proofs.OpenLemmas.{is_taken, nothing_accepted, number_answer, of_empty, of_ours, of_first_version, of_second_version, of_strange}
+use Rattle.kcr_store.proofs.OpenLemmas.{known_1, known_2, known_3}
+use Rattle.kcr_store.proofs.open.open_or_migrate.Goals as goal
+
+pub returns-in-Ok-clause-found : goal.returns-in-Ok-clause-found
+returns-in-Ok-clause-found g c clean accepted founded =
+    let before = was_clean _ _ _ c.create_tables.ensures.frame.survives clean in
+    let made = c.in-Ok.ensures.made clean in
+    let old = state g.S.Store c.args.conn.now in
+    record {
+      shows = of_empty accepted old (search rules) c.inspect.ensures.live before made.2 founded _ (search rules) made.0;
+      live = made.1;
+      counts = ap (λ (A : History). length A) (sym (nothing_accepted accepted old (search rules) c.inspect.ensures.live before made.2 founded (search rules)));
+    }
+
+pub returns-in-Current-clause-found : goal.returns-in-Current-clause-found
+returns-in-Current-clause-found g c clean accepted founded =
+    let before = was_clean _ _ _ c.open_current.ensures.frame.survives clean in
+    c.open_current.ensures.shows clean accepted
+    (λ live. of_ours accepted (state g.S.Store c.args.conn.now) (search rules) c.inspect.ensures.live before live founded (search rules))
+
+pub returns-in-Current-clause-taken : goal.returns-in-Current-clause-taken
+returns-in-Current-clause-taken g c clean live accepted founded =
+    let before = was_clean _ _ _ c.open_current.ensures.frame.survives clean in
+    let old = state g.S.Store c.args.conn.now in
+    is_taken accepted old (search rules) c.inspect.ensures.live before live founded c.open_current.result
+    (number_answer 3 known_3 old.now c.open_current.result (search rules) (c.open_current.ensures.answer clean c.inspect.ensures.live (search rules)))
+
+pub returns-in-Version2-clause-found : goal.returns-in-Version2-clause-found
+returns-in-Version2-clause-found g c clean accepted founded =
+    let before = was_clean _ _ _ c.migrate_database.ensures.frame.survives clean in
+    if_ok _ _ c.migrate_database.result (c.migrate_database.ensures.opened clean)
+    (λ live. c.migrate_database.ensures.shows clean accepted
+    (of_second_version accepted (state g.S.Store c.args.conn.now) (search rules) c.inspect.ensures.live before live founded (search rules)))
+
+pub returns-in-Version2-clause-taken : goal.returns-in-Version2-clause-taken
+returns-in-Version2-clause-taken g c clean live accepted founded =
+    let before = was_clean _ _ _ c.migrate_database.ensures.frame.survives clean in
+    let old = state g.S.Store c.args.conn.now in
+    is_taken accepted old (search rules) c.inspect.ensures.live before live founded c.migrate_database.result
+    (number_answer 2 known_2 old.now c.migrate_database.result (search rules) (c.migrate_database.ensures.answer clean c.inspect.ensures.live (search rules)))
+
+pub returns-in-Version1-clause-found : goal.returns-in-Version1-clause-found
+returns-in-Version1-clause-found g c clean accepted founded =
+    let before = was_clean _ _ _ c.migrate_database-in-Version1.ensures.frame.survives clean in
+    if_ok _ _ c.migrate_database-in-Version1.result (c.migrate_database-in-Version1.ensures.opened clean)
+    (λ live. c.migrate_database-in-Version1.ensures.shows clean accepted
+    (of_first_version accepted (state g.S.Store c.args.conn.now) (search rules) c.inspect.ensures.live before live founded (search rules)))
+
+pub returns-in-Version1-clause-taken : goal.returns-in-Version1-clause-taken
+returns-in-Version1-clause-taken g c clean live accepted founded =
+    let before = was_clean _ _ _ c.migrate_database-in-Version1.ensures.frame.survives clean in
+    let old = state g.S.Store c.args.conn.now in
+    is_taken accepted old (search rules) c.inspect.ensures.live before live founded c.migrate_database-in-Version1.result
+    (number_answer 1 known_1 old.now c.migrate_database-in-Version1.result (search rules)
+    (c.migrate_database-in-Version1.ensures.answer clean c.inspect.ensures.live (search rules)))
+
+pub returns-in-Versioned-clause-taken : goal.returns-in-Versioned-clause-taken
+returns-in-Versioned-clause-taken g c clean live accepted founded =
+    let before = was_clean _ _ _ c.unknown_database_fault.ensures.frame.survives clean in
+    absurd (of_strange accepted (state g.S.Store c.args.conn.now) (search rules) c.inspect.ensures.live before live founded (search rules))
+
+pub returns-in-Foreign-clause-taken : goal.returns-in-Foreign-clause-taken
+returns-in-Foreign-clause-taken g c clean live accepted founded =
+    absurd (of_strange accepted (state g.S.Store c.args.conn.now) (search rules) c.inspect.ensures.live clean live founded (search rules))

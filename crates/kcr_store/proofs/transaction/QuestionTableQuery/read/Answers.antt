@@ -1,0 +1,30 @@
+use Rattle.std.proofs.Common.{[], refl}
+use Rattle.kcr_audit.specs.Views.{tables_of}
+use Rattle.kcr_history.specs.Tables.{tables}
+use Rattle.kcr_store.proofs.StoreLemmas.{holds_in, listed}
+use Rattle.kcr_store.proofs.transaction.QuestionTableQuery.read.Goals as goal
+
+pub returns-in_ok-read_custodians-in-Custodians-clause-answer :
+    goal.returns-in_ok-read_custodians-in-Custodians-clause-answer
+returns-in_ok-read_custodians-in-Custodians-clause-answer g c clean A had =
+    rw c.in-Custodians.is (c.in_ok-read_custodians-in-Custodians.ensures.shown clean A had)
+
+pub returns-in_ok-read_steps-in-Steps-clause-by_rows : goal.returns-in_ok-read_steps-in-Steps-clause-by_rows
+returns-in_ok-read_steps-in-Steps-clause-by_rows g c = rw c.in-Steps.is (tables [], tt)
+
+pub returns-in_ok-read_sheet-in-Sheet-clause-by_rows : goal.returns-in_ok-read_sheet-in-Sheet-clause-by_rows
+returns-in_ok-read_sheet-in-Sheet-clause-by_rows g c = rw c.in-Sheet.is (tables [], tt)
+
+pub returns-in_ok-read_custody-in-Custody-clause-by_rows : goal.returns-in_ok-read_custody-in-Custody-clause-by_rows
+returns-in_ok-read_custody-in-Custody-clause-by_rows g c = rw c.in-Custody.is (tables [], tt)
+
+pub returns-in_ok-read_full_view-in-All-clause-answer : goal.returns-in_ok-read_full_view-in-All-clause-answer
+returns-in_ok-read_full_view-in-All-clause-answer g c clean A had =
+    let all = c.in_ok-read_full_view-in-All.ensures in
+    let was = had (all.opened clean) in
+    let kept = was.tables.kept in
+    rw c.in-All.is (listed kept.kept kept.stands (all.rows clean kept.t (holds_in A _ was)))
+
+pub returns-in_ok-read_full_view-in-All-clause-by_rows : goal.returns-in_ok-read_full_view-in-All-clause-by_rows
+returns-in_ok-read_full_view-in-All-clause-by_rows g c =
+    rw c.in-All.is (tables_of c.in_ok-read_full_view-in-All.field-0, refl)

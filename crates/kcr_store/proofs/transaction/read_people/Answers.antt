@@ -1,0 +1,46 @@
+use Rattle.std.proofs.Common.{◌∙◌, List, [], subst₂}
+use Rattle.std.specs.Prelude.{All}
+use Rattle.kcr_people.specs.declared.Training.{Training}
+use Rattle.kcr_people.specs.declared.Withdrawal.{Withdrawal}
+use Rattle.kcr_tables.proofs.JointLemmas.{kept_rises}
+use Rattle.kcr_history.specs.declared.questions.PersonShown.{PersonShown}
+use Rattle.kcr_history.specs.Tables.{tables}
+use Rattle.kcr_store.specs.Shown.{AreRolesOf}
+use Rattle.kcr_store.proofs.ShownLemmas.{people_shown}
+use Rattle.kcr_rows.proofs.InsideLemmas.{was_clean}
+use Rattle.kcr_store.proofs.StoreLemmas.{holds_in}
+use Rattle.kcr_store.proofs.transaction.read_people.Goals as goal
+
+pub returns-clause-shown : goal.returns-clause-shown
+returns-clause-shown g c clean accepted had =
+    let clean2 = was_clean _ _ _ c.in_ok-withdrawals.ensures.frame.within.survives clean in
+    let clean1 = was_clean _ _ _ c.in_ok-trainings.ensures.frame.within.survives clean2 in
+    let was = had (c.in_ok-people.ensures.opened clean1) in
+    let kept = was.tables.kept in
+    let held = holds_in accepted _ was in
+    let held1 = c.in_ok-people.ensures.frame.holds clean1 kept.t held in
+    let held2 = c.in_ok-trainings.ensures.frame.holds clean2 kept.t held1 in
+    let trainings = c.in_ok-trainings.ensures.rows clean2 kept.t held1 in
+    let withdrawals = c.in_ok-withdrawals.ensures.rows clean kept.t held2 in
+    let rows : List PersonShown = c.in_ok-people_shown.field-0.items in
+    let HaveRoles : List Training → List Withdrawal → Type 0 =
+    λ taught withdrawn. All (λ (shown : PersonShown). AreRolesOf taught withdrawn shown.who shown.roles.items) rows in
+    people_shown accepted kept.t.rows kept.stands.rows (kept_rises _ _ kept.kept) rows
+    (c.in_ok-people_shown.ensures.people ∙ c.in_ok-people.ensures.rows clean1 _ held)
+    (subst₂ HaveRoles (c.deref.ensures.value ∙ trainings) (c.deref-2.ensures.value ∙ withdrawals) c.in_ok-people_shown.ensures.roles)
+
+pub returns-clause-by_rows : goal.returns-clause-by_rows
+returns-clause-by_rows g c =
+    let rows : List PersonShown = c.in_ok-people_shown.field-0.items in
+    let HaveRoles : List Training → List Withdrawal → Type 0 =
+    λ taught withdrawn. All (λ (shown : PersonShown). AreRolesOf taught withdrawn shown.who shown.roles.items) rows in (
+      record (tables []) {
+        people = c.in_ok-people.people.items;
+        trainings = c.in_ok-trainings.trainings.items;
+        withdrawals = c.in_ok-withdrawals.withdrawals.items;
+      },
+      record {
+        people = c.in_ok-people_shown.ensures.people;
+        each = subst₂ HaveRoles c.deref.ensures.value c.deref-2.ensures.value c.in_ok-people_shown.ensures.roles;
+      },
+    )

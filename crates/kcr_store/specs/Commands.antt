@@ -1,0 +1,95 @@
+-- What a command makes of a register, and what a question is answered.
+use Rattle.std.specs.Prelude.{◌≡◌, ◌≢◌, ◌⊎◌, ℕ, true, false, Option, Some, None, Result, Ok, Err, MatchResult, IsSome, OnOk}
+use Rattle.sqlite.specs.State.{State, HasCleanDisk}
+use Rattle.kcr_base.specs.Same.{same_text}
+use Rattle.kcr_base.specs.declared.refusal.Refusal.{Refusal}
+use Rattle.kcr_base.specs.declared.refusal.Refusal.TheVariants.{Memory, Disk, Key}
+use Rattle.kcr_history.specs.declared.commands.ReplyData.{ReplyData}
+use Rattle.kcr_history.specs.declared.commands.Command.{Command}
+use Rattle.kcr_history.specs.declared.commands.Reply.{Reply}
+use Rattle.kcr_history.specs.History.{History}
+use Rattle.kcr_history.specs.declared.row_types.KeyRow.{KeyRow}
+use Rattle.kcr_history.specs.Texts.{reply_text, command_text}
+use Rattle.kcr_history.specs.Machine.{machine, Accepts, Refuses, with_command}
+use Rattle.kcr_history.specs.Tables.{Tables}
+use Rattle.kcr_history.specs.Views.{row_of_key}
+use Rattle.kcr_machine.specs.RowDecision.{IsReplyOf, IsOwnRefusal, MayBeRefused}
+use Rattle.kcr_tables.specs.MachineTables.{HoldsTables}
+use Rattle.kcr_tables.specs.Refusals.{IsFault}
+use Rattle.kcr_history.specs.Questions.{IsShown, NamesAsked, IsMissing}
+use Rattle.kcr_history.specs.Tables.{tables}
+use Rattle.kcr_history.specs.declared.questions.Question.{Question}
+use Rattle.kcr_history.specs.declared.questions.Question.TheVariants as asked
+use Rattle.kcr_history.specs.declared.questions.Shown.{Shown}
+use Rattle.kcr_history.specs.declared.questions.Shown.TheVariants as shown
+use Rattle.kcr_store.specs.FullView.{IsListed}
+
+-- The register went from A to A' by the command, and gave this result: the machine's answer as its text, or the
+-- machine's refusal. Out of memory and an I/O error say nothing of the command, and leave the list.
+abbrev pub AppliesCommand : History → Command → Result Reply Refusal → History → Type 0
+AppliesCommand A command (Ok reply) A' = (a : ReplyData) × machine A command (Accepts a) A' × (reply.text ≡ reply_text a)
+AppliesCommand A command (Err refusal) A' =
+    (A' ≡ A) × (refusal ≢ Memory → refusal ≢ Disk → machine A command (Refuses refusal) A')
+
+-- the history with the command in front, if it gets a new answer; a repeat gets none
+abbrev pub with_answer : History → Command → Option ReplyData → History
+with_answer A command None = A
+with_answer A command (Some answer) = with_command A command answer
+
+-- the number of the last command after it: that of the new answer; a repeat gets none
+abbrev pub number_after : ℕ → Option ReplyData → ℕ
+number_after count None = count
+number_after count (Some answer) = answer.accepted
+
+-- the history, or the one to which the machine goes from it if it accepts the command
+abbrev pub IsSameOrNext : History → Command → History → Type 0
+IsSameOrNext A command A' = (A' ≡ A) ⊎ ((a : ReplyData) × machine A command (Accepts a) A')
+
+-- what a question may be refused with, whatever the history: out of memory, an I/O error, or that what it asks
+-- for is unknown
+abbrev pub MayRefuseQuestion : Question → Refusal → Type 0
+MayRefuseQuestion question refusal = IsFault refusal ⊎ NamesAsked question refusal
+
+-- why a question is refused: out of memory or an I/O error, or what it asks for is not there
+abbrev pub IsQuestionRefusal : History → Question → Refusal → Type 0
+IsQuestionRefusal A question refusal = IsFault refusal ⊎ IsMissing A question refusal
+
+-- what a question is shown: for `All` the rows of all tables, each table's in the order of their keys
+abbrev pub IsShownTo : History → Question → Shown → Type 0
+IsShownTo A asked.All (shown.All view) = IsListed (tables A) view
+IsShownTo A question shown = IsShown A question shown
+
+-- the result of a question: what is shown, or why it is refused
+abbrev pub IsQuestionResult : History → Question → Result Shown Refusal → Type 0
+IsQuestionResult A question result = MatchResult result (IsShownTo A question) (IsQuestionRefusal A question)
+
+-- the reply by the row of the command's key: what the row keeps for this very command, or, where there is no row, the
+-- text of an answer of the command's kind
+abbrev pub IsRepliedBy : Option KeyRow → Command → Reply → Type 0
+IsRepliedBy None command reply = IsReplyOf command.act reply.text
+IsRepliedBy (Some row) command reply =
+    (same_text row.command (command_text command.act) ≡ true) × (reply.text ≡ row.reply)
+
+-- what a command may get, whatever the tables hold: such a reply by some row or by none, or a refusal of its own
+abbrev pub MayBeReplied : Command → Result Reply Refusal → Type 0
+MayBeReplied command result =
+    MatchResult result (λ reply. (row : Option KeyRow) × IsRepliedBy row command reply) (MayBeRefused command)
+
+-- the refusal by the row of the command's key: out of memory, an I/O error, or that the row is another command's; or,
+-- where there is no row, one that a command of this kind may get
+abbrev pub IsRefusedBy : Option KeyRow → Command → Refusal → Type 0
+IsRefusedBy None command refusal = IsOwnRefusal command refusal
+IsRefusedBy (Some row) command refusal =
+    IsFault refusal ⊎ ((same_text row.command (command_text command.act) ≡ false) × (refusal ≡ Key))
+
+-- what a command gets by the row of its key, or because there is none
+abbrev pub IsResultBy : Option KeyRow → Command → Result Reply Refusal → Type 0
+IsResultBy row command result = MatchResult result (IsRepliedBy row command) (IsRefusedBy row command)
+
+-- whatever rows the tables held, the row of the command's key among them tells the result; and a reply by a row leaves
+-- the tables as they were
+pub record GoesByRow (old new : State) (command : Command) (result : Result Reply Refusal) : Type 0 where
+  pub told : HasCleanDisk new → (m : Tables) → HoldsTables m old.now
+      → IsResultBy (row_of_key command.key m.keys) command result
+  pub same : HasCleanDisk new → (m : Tables) → HoldsTables m old.now → IsSome (row_of_key command.key m.keys)
+      → OnOk result (HoldsTables m new.now)

@@ -1,0 +1,201 @@
+//! All rows of a database of any version, which stays as it is.
+ghost use Rattle.std.specs.Prelude.{◌≡◌, ◌≢◌, ◌+◌, ◌⊎◌, [], false, pos, Ok, IfOk, IfErr, IsTrue};
+ghost use Rattle.std.specs.Prelude.{OnOk};
+ghost use Rattle.sqlite.specs.State.{HasCleanDisk, IsLive};
+ghost use Rattle.sqlite.specs.Held.{state};
+ghost use Rattle.kcr_history.specs.History.{History};
+ghost use Rattle.kcr_history.specs.Tables.{Tables, tables};
+ghost use Rattle.kcr_older.specs.OldFiles.{HoldsHistoryAs, HoldsFirst, numbered};
+ghost use Rattle.kcr_older.specs.Kind.{IsForeignSchema, no_schema};
+ghost use Rattle.kcr_older.specs.Migrated.{migrated_tables};
+ghost use Rattle.kcr_older.specs.Versions.{number_of};
+ghost use Rattle.kcr_tables.specs.Creation.{schema_prefix};
+ghost use Rattle.kcr_rows.specs.Frame.{StaysInTransaction};
+ghost use Rattle.kcr_store.specs.Frame.{StaysOutside};
+ghost use Rattle.kcr_store.specs.DatabaseRows.{Gives, GivesOr, IsBroughtView, IsKeptView, IsNumberedView, IsUnread};
+ghost use Rattle.kcr_store.specs.Opening.{IsAnswer, IsAnswerBy, IsGenuine};
+ghost use Rattle.kcr_store.specs.FullView.{IsListed};
+ghost use Rattle.kcr_tables.specs.StoredTables.{StoredTables as Held, Holds};
+ghost use Rattle.kcr_tables.specs.MachineTables.{HoldsTables};
+ghost use Rattle.kcr_tables.specs.Refusals.{IsFault};
+
+use crate::full_view::read_full_view;
+use crate::open::{OpenFault, VERSION, expect_number, fault_of, inspect, unknown_database_fault};
+use kcr_base::Refusal;
+use kcr_history::FullView;
+use kcr_older::{DatabaseKind, OldVersion, migrate};
+use kcr_tables::make;
+use sqlite::{Alter, Connection, Transaction};
+use std::alloc::Global;
+
+/// All rows of a new register, whose tables are made for it.
+fn empty_register_rows<S: Alter>(
+    alloc: Global,
+    tx: &mut Transaction<'_, S>,
+) -> Result<FullView, Refusal>
+    ensures same_reference { tx.new.conn.ghost_name ≡ tx.old.conn.ghost_name }
+    ensures rows { HasCleanDisk (state S.Store tx.new.conn.now) → (state S.Store tx.old.conn.now).now.schema ≡ no_schema
+        → IfOk result (IsListed (tables [])) }
+    ensures opened { HasCleanDisk (state S.Store tx.new.conn.now)
+        → IsTrue (state S.Store tx.old.conn.now).in_transaction
+        → OnOk result (IsTrue (state S.Store tx.old.conn.now).is_open) }
+    ensures frame { StaysInTransaction IsFault (state S.Store tx.old.conn.now) (state S.Store tx.new.conn.now) result }
+{
+    make(tx)?;
+    read_full_view(alloc, tx)
+}
+
+/// All rows that a register of an older version has once it is migrated to this version.
+fn migrated_rows<S: Alter>(
+    alloc: Global,
+    tx: &mut Transaction<'_, S>,
+    from: OldVersion,
+) -> Result<FullView, Refusal>
+    ensures same_reference { tx.new.conn.ghost_name ≡ tx.old.conn.ghost_name }
+    ensures rows { HasCleanDisk (state S.Store tx.new.conn.now) → (t : Held)
+        → HoldsFirst (14 + number_of from) (state S.Store tx.old.conn.now).now t → t.versions ≡ numbered (number_of from)
+        → IfOk result (IsKeptView (migrated_tables from t)) }
+    ensures own { HasCleanDisk (state S.Store tx.new.conn.now) → (A : History)
+        → HoldsHistoryAs (number_of from) A (state S.Store tx.old.conn.now).now → IfOk result (IsListed (tables A)) }
+    ensures opened { HasCleanDisk (state S.Store tx.new.conn.now)
+        → IsTrue (state S.Store tx.old.conn.now).in_transaction
+        → OnOk result (IsTrue (state S.Store tx.old.conn.now).is_open) }
+    ensures frame { StaysInTransaction IsFault (state S.Store tx.old.conn.now) (state S.Store tx.new.conn.now) result }
+{
+    migrate(alloc, tx, from)?;
+    read_full_view(alloc, tx)
+}
+
+/// The rows, or why there are none.
+fn given(rows: Result<FullView, Refusal>) -> Result<FullView, OpenFault>
+    ensures rows { IfOk result (λ view. rows ≡ Ok view) }
+    ensures kind { IfErr result (λ e. (e ≡ OpenFault.Memory) ⊎ (e ≡ OpenFault.Disk)) }
+{
+    match rows {
+        Ok(view) => Ok(view),
+        Err(refusal) => Err(fault_of(refusal)),
+    }
+}
+
+/// All rows of a register of this version, if the database has its number.
+fn current_rows<S: Alter>(alloc: Global, tx: &mut Transaction<'_, S>) -> Result<FullView, OpenFault>
+    ensures same_reference { tx.new.conn.ghost_name ≡ tx.old.conn.ghost_name }
+    ensures answer { HasCleanDisk (state S.Store tx.new.conn.now) → IsLive (state S.Store tx.old.conn.now)
+        → (state S.Store tx.old.conn.now).now.schema ≡ schema_prefix 17
+        → IsAnswerBy (pos 3) (state S.Store tx.old.conn.now).now result }
+    ensures rows { HasCleanDisk (state S.Store tx.new.conn.now) → (t : Held)
+        → Holds (state S.Store tx.old.conn.now).now t → IfOk result (IsKeptView t) }
+    ensures opened { HasCleanDisk (state S.Store tx.new.conn.now)
+        → IsTrue (state S.Store tx.old.conn.now).in_transaction
+        → OnOk result (IsTrue (state S.Store tx.old.conn.now).is_open) }
+    ensures frame { StaysInTransaction (λ _. Unit {0}) (state S.Store tx.old.conn.now) (state S.Store tx.new.conn.now) result }
+{
+    match expect_number(alloc, tx, VERSION) {
+        Ok(()) => given(read_full_view(alloc, tx)),
+        Err(fault) => Err(fault),
+    }
+}
+
+/// All rows that a register of an older version has once it is migrated to this version, if the database has its number.
+fn older_rows<S: Alter>(
+    alloc: Global,
+    tx: &mut Transaction<'_, S>,
+    from: OldVersion,
+) -> Result<FullView, OpenFault>
+    ensures same_reference { tx.new.conn.ghost_name ≡ tx.old.conn.ghost_name }
+    ensures answer { HasCleanDisk (state S.Store tx.new.conn.now) → IsLive (state S.Store tx.old.conn.now)
+        → (state S.Store tx.old.conn.now).now.schema ≡ schema_prefix (14 + number_of from)
+        → IsAnswerBy (pos (number_of from)) (state S.Store tx.old.conn.now).now result }
+    ensures rows { HasCleanDisk (state S.Store tx.new.conn.now) → (t : Held)
+        → HoldsFirst (14 + number_of from) (state S.Store tx.old.conn.now).now t → t.versions ≡ numbered (number_of from)
+        → IfOk result (IsKeptView (migrated_tables from t)) }
+    ensures own { HasCleanDisk (state S.Store tx.new.conn.now) → (A : History)
+        → HoldsHistoryAs (number_of from) A (state S.Store tx.old.conn.now).now → IfOk result (IsListed (tables A)) }
+    ensures opened { HasCleanDisk (state S.Store tx.new.conn.now)
+        → IsTrue (state S.Store tx.old.conn.now).in_transaction
+        → OnOk result (IsTrue (state S.Store tx.old.conn.now).is_open) }
+    ensures frame { StaysInTransaction (λ _. Unit {0}) (state S.Store tx.old.conn.now) (state S.Store tx.new.conn.now) result }
+{
+    match expect_number(alloc, tx, from.number()) {
+        Ok(()) => given(migrated_rows(alloc, tx, from)),
+        Err(fault) => Err(fault),
+    }
+}
+
+/// All rows of a database of this standing. What it makes for that is in the transaction, and the caller rolls it back.
+fn rows_as<S: Alter>(
+    alloc: Global,
+    tx: &mut Transaction<'_, S>,
+    standing: DatabaseKind,
+) -> Result<FullView, OpenFault>
+    ensures same_reference { tx.new.conn.ghost_name ≡ tx.old.conn.ghost_name }
+    ensures gives { HasCleanDisk (state S.Store tx.new.conn.now) → IsLive (state S.Store tx.old.conn.now)
+        → Gives standing (state S.Store tx.old.conn.now).now result }
+    ensures opened { HasCleanDisk (state S.Store tx.new.conn.now)
+        → IsTrue (state S.Store tx.old.conn.now).in_transaction
+        → OnOk result (IsTrue (state S.Store tx.old.conn.now).is_open) }
+    ensures read { IfOk result (λ _. ¬ IsUnread standing) }
+    ensures frame { StaysInTransaction (λ _. Unit {0}) (state S.Store tx.old.conn.now) (state S.Store tx.new.conn.now) result }
+{
+    match standing {
+        DatabaseKind::Empty => given(empty_register_rows(alloc, tx)),
+        DatabaseKind::Current => current_rows(alloc, tx),
+        DatabaseKind::Version2 => older_rows(alloc, tx, OldVersion::V2),
+        DatabaseKind::Version1 => older_rows(alloc, tx, OldVersion::V1),
+        DatabaseKind::Versioned | DatabaseKind::Foreign => Err(OpenFault::Foreign),
+    }
+}
+
+/// The same in a transaction that is rolled back.
+fn rows_then_rollback<S: Alter>(
+    alloc: Global,
+    conn: &mut Connection<S>,
+    standing: DatabaseKind,
+) -> Result<FullView, OpenFault>
+    requires autocommit { conn.old.in_transaction ≡ false }
+    ensures gives { HasCleanDisk (state S.Store conn.new) → IsLive (state S.Store conn.old)
+        → Gives standing (state S.Store conn.old).now result }
+    ensures opened { HasCleanDisk (state S.Store conn.new) → OnOk result (IsTrue (state S.Store conn.old).is_open) }
+    ensures read { IfOk result (λ _. ¬ IsUnread standing) }
+    ensures frame { StaysOutside S.Store (λ _. ⊥) conn.old conn.new }
+{
+    let mut tx = conn.transaction();
+    let rows = rows_as(alloc, &mut tx, standing);
+    tx.rollback();
+    rows
+}
+
+/// All rows of the register that a database holds, each table's in the order of their keys; their memory grows with
+/// their number. Nothing is committed, so the database stays as it is: a register of version 1 or 2 is brought to this
+/// version in a transaction that is rolled back, and of a database with nothing the rows are those of a new register.
+/// The faults are those of `Register::adopt`; `Disk` comes also for an invalid row.
+pub fn read_tables<S: Alter>(alloc: Global, conn: &mut Connection<S>) -> Result<FullView, OpenFault>
+    requires autocommit { conn.old.in_transaction ≡ false }
+
+    // Where the database is that of a history, in whichever version, the rows are its tables.
+    ensures own { HasCleanDisk (state S.Store conn.new) → (A : History) → IsGenuine A (state S.Store conn.old)
+        → IfOk result (IsListed (tables A)) }
+    ensures taken { HasCleanDisk (state S.Store conn.new) → IsTrue (state S.Store conn.old).is_open → (A : History)
+        → IsGenuine A (state S.Store conn.old) → IfErr result (λ e. (e ≡ OpenFault.Memory) ⊎ (e ≡ OpenFault.Disk)) }
+
+    // Whoever wrote them, they are the rows that the database holds. Those of an older version are migrated.
+    ensures rows { HasCleanDisk (state S.Store conn.new) → (m : Tables)
+        → HoldsTables m (state S.Store conn.old).now → IfOk result (IsListed m) }
+    ensures version { HasCleanDisk (state S.Store conn.new) → (t : Held) → Holds (state S.Store conn.old).now t
+        → GivesOr (t.versions ≢ numbered 3) (IsNumberedView t) result }
+    ensures older { HasCleanDisk (state S.Store conn.new) → (from : OldVersion) → (t : Held)
+        → HoldsFirst (14 + number_of from) (state S.Store conn.old).now t
+        → GivesOr (t.versions ≢ numbered (number_of from)) (IsBroughtView from t) result }
+
+    // What is taken, and each refusal, is what its name says, and no database is two of these.
+    ensures answer { HasCleanDisk (state S.Store conn.new) → IsAnswer (state S.Store conn.old).now result }
+    ensures known { IfOk result (λ _. ¬ IsForeignSchema (state S.Store conn.old).now.schema) }
+    ensures frame { StaysOutside S.Store (λ _. ⊥) conn.old conn.new }
+{
+    let is_settled = conn.is_autocommit();
+    prove!(is_settled);
+    match inspect(alloc, conn)? {
+        DatabaseKind::Versioned => Err(unknown_database_fault(alloc, conn)),
+        standing => rows_then_rollback(alloc, conn, standing),
+    }
+}

@@ -1,0 +1,143 @@
+//! All rows of a register's tables, and what an audit finds in them.
+ghost use Rattle.std.specs.Prelude.{◌≡◌, false, None, IfOk};
+ghost use Rattle.sqlite.specs.State.{HasCleanDisk};
+ghost use Rattle.sqlite.specs.Held.{state};
+ghost use Rattle.kcr_history.specs.History.{History};
+ghost use Rattle.kcr_history.specs.Machine.{IsRegister};
+ghost use Rattle.kcr_history.specs.Tables.{Tables, tables};
+ghost use Rattle.kcr_tables.specs.StoredTables.{StoredTables as Held};
+ghost use Rattle.kcr_tables.specs.MachineTables.{HoldsTables};
+ghost use Rattle.kcr_tables.specs.Refusals.{IsFault};
+ghost use Rattle.kcr_tables.specs.Frame.{ImpliesOpen, OfTables, Reads};
+ghost use Rattle.kcr_store.specs.Frame.{OnlyReads};
+ghost use Rattle.kcr_store.specs.Register.{IsDurable};
+ghost use Rattle.kcr_store.specs.FullView.{FindsIn, IsListed, AreRows, Lists};
+
+use kcr_audit::{audit, registers_pass};
+use kcr_base::Refusal;
+use kcr_history::{Finding, FullView, View};
+use kcr_tables::{TableRow, all_rows};
+use sqlite::{Alter, Connection, Transaction};
+use std::alloc::Global;
+
+/// Rows that are read whole: those of a table, or of several.
+trait ReadAll: Drop {
+    /// That they are all rows of these tables, each table's in the order of their keys.
+    ghost are_all: { Held → Self → Type 0 };
+
+    /// All rows. Nothing is changed; the errors are those of `all_rows`.
+    fn read_all<S: Alter>(alloc: Global, tx: &mut Transaction<'_, S>) -> Result<Self, Refusal>
+        ensures same_reference { tx.new.conn.ghost_name ≡ tx.old.conn.ghost_name }
+        ensures rows { OfTables (state S.Store tx.old.conn.now) (state S.Store tx.new.conn.now) result are_all }
+        ensures opened { ImpliesOpen (state S.Store tx.old.conn.now) (state S.Store tx.new.conn.now) result }
+        ensures frame { Reads (state S.Store tx.old.conn.now) (state S.Store tx.new.conn.now) result };
+}
+
+impl<T: TableRow> ReadAll for Vec<T> {
+    ghost are_all = { λ t rows. rows.items ≡ T.table.rows_in t };
+
+    fn read_all<S: Alter>(alloc: Global, tx: &mut Transaction<'_, S>) -> Result<Vec<T>, Refusal> {
+        all_rows(alloc, tx)
+    }
+}
+
+impl<A: ReadAll, B: ReadAll> ReadAll for (A, B) {
+    ghost are_all = { λ t both. A.are_all t both.0 × B.are_all t both.1 };
+
+    fn read_all<S: Alter>(alloc: Global, tx: &mut Transaction<'_, S>) -> Result<(A, B), Refusal> {
+        let ones = A::read_all(alloc, tx)?;
+        let others = B::read_all(alloc, tx)?;
+        Ok((ones, others))
+    }
+}
+
+/// All rows of each table.
+pub(crate) fn read_full_view<S: Alter>(
+    alloc: Global,
+    tx: &mut Transaction<'_, S>,
+) -> Result<FullView, Refusal>
+    ensures same_reference { tx.new.conn.ghost_name ≡ tx.old.conn.ghost_name }
+    ensures rows { OfTables (state S.Store tx.old.conn.now) (state S.Store tx.new.conn.now) result Lists }
+    ensures opened { ImpliesOpen (state S.Store tx.old.conn.now) (state S.Store tx.new.conn.now) result }
+    ensures frame { Reads (state S.Store tx.old.conn.now) (state S.Store tx.new.conn.now) result }
+{
+    let (
+        (((people, trainings), (withdrawals, appointments)), ((boxes, safes), (bags, items))),
+        (((ceremonies, marks), (steps, seatings)), ((sheet, stays), (exceptions, keys))),
+    ) = ReadAll::read_all(alloc, tx)?;
+    let asked = View {
+        people,
+        trainings,
+        withdrawals,
+        appointments,
+        boxes,
+        safes,
+        bags,
+        items,
+        ceremonies,
+        marks,
+        steps,
+        seatings,
+        stays,
+        stay_count: 0,
+        exceptions,
+    };
+    Ok(FullView {
+        view: asked,
+        sheet,
+        keys,
+    })
+}
+
+/// All rows of each table, read in a transaction that is rolled back.
+pub(crate) fn full_view<S: Alter>(
+    alloc: Global,
+    conn: &mut Connection<S>,
+) -> Result<FullView, Refusal>
+    requires autocommit { conn.old.in_transaction ≡ false }
+    ensures rows { HasCleanDisk (state S.Store conn.new) → (m : Tables)
+        → HoldsTables m (state S.Store conn.old).now → IfOk result (IsListed m) }
+    ensures register { (A : History) → IsDurable A (state S.Store conn.old) → HasCleanDisk (state S.Store conn.new)
+        → IfOk result (λ view. IsRegister A × IsListed (tables A) view) }
+    ensures frame { OnlyReads S.Store IsFault conn.old conn.new result }
+{
+    let mut tx = conn.transaction();
+    let view = read_full_view(alloc, &mut tx);
+    tx.rollback();
+    view
+}
+
+/// All rows of one table, read in a transaction that is rolled back.
+pub(crate) fn read_table<S: Alter, R: TableRow>(
+    alloc: Global,
+    conn: &mut Connection<S>,
+) -> Result<Vec<R>, Refusal>
+    requires autocommit { conn.old.in_transaction ≡ false }
+    ensures rows { HasCleanDisk (state S.Store conn.new) → (m : Tables)
+        → HoldsTables m (state S.Store conn.old).now → IfOk result (λ rows. AreRows R.table m rows.items) }
+    ensures register { (A : History) → IsDurable A (state S.Store conn.old) → HasCleanDisk (state S.Store conn.new)
+        → IfOk result (λ rows. IsRegister A × AreRows R.table (tables A) rows.items) }
+    ensures frame { OnlyReads S.Store IsFault conn.old conn.new result }
+{
+    let mut tx = conn.transaction();
+    let rows = all_rows(alloc, &mut tx);
+    tx.rollback();
+    rows
+}
+
+/// What an audit finds in the rows of a database, which it leaves as they are.
+pub(crate) fn audit_database<S: Alter>(
+    alloc: Global,
+    conn: &mut Connection<S>,
+) -> Result<Option<Finding>, Refusal>
+    requires autocommit { conn.old.in_transaction ≡ false }
+    ensures found { HasCleanDisk (state S.Store conn.new) → (m : Tables)
+        → HoldsTables m (state S.Store conn.old).now → IfOk result (FindsIn m) }
+    ensures nothing { (A : History) → IsDurable A (state S.Store conn.old) → HasCleanDisk (state S.Store conn.new)
+        → IfOk result (λ found. found ≡ None) }
+    ensures frame { OnlyReads S.Store IsFault conn.old conn.new result }
+{
+    let view = full_view(alloc, conn)?;
+    registers_pass();
+    Ok(audit(alloc, &view)?)
+}

@@ -1,0 +1,62 @@
+//! The history of a register, for clauses alone.
+ghost use Rattle.std.specs.Prelude.{◌≡◌, ◌∷◌, Bool};
+ghost use Rattle.std.specs.Borrow.{ftrue};
+ghost use Rattle.kcr_history.specs.History.{History};
+
+use kcr_history::{Command, ReplyData};
+use std::marker::Model;
+
+/// The commands that were accepted, each with its answer, the last one first. It takes no bytes, and only proofs read
+/// it.
+#[derive(Drop)]
+pub struct GhostHistory {
+    pub ghost entries: { History },
+    // The database that it began with was empty, or held the tables of the history.
+    pub ghost is_genuine: { Bool },
+}
+
+impl Model for GhostHistory {
+    ghost also_owns = { λ _. ftrue };
+}
+
+impl GhostHistory {
+    ghost use Rattle.kcr_store.specs.Commands.{with_answer};
+
+    /// Stands for whatever history the proof of the caller names.
+    pub fn any() -> GhostHistory
+        ghost past: { Bool × History }
+        ensures { (result.entries ≡ past.1) × (result.is_genuine ≡ past.0) }
+    {
+        GhostHistory {}
+    }
+
+    /// The same history.
+    pub fn copied(_other: &GhostHistory) -> GhostHistory
+        ensures { (result.entries ≡ _other.now.entries) × (result.is_genuine ≡ _other.now.is_genuine) }
+    {
+        GhostHistory {}
+    }
+
+    /// The history with this command in front, which was accepted with this answer.
+    pub fn pushed(_before: &GhostHistory, _command: &Command, _answer: &ReplyData) -> GhostHistory
+        ensures { (result.entries ≡ record { command = _command.now; answer = _answer.now } ∷ _before.now.entries)
+            × (result.is_genuine ≡ _before.now.is_genuine) }
+    {
+        GhostHistory {}
+    }
+
+    /// The history after a command: with it in front if its answer is new, and the same if it is a repeat.
+    pub fn after_verdict(
+        before: &GhostHistory,
+        command: &Command,
+        answer: &Option<ReplyData>,
+    ) -> GhostHistory
+        ensures entries { result.entries ≡ with_answer before.now.entries command.now answer.now }
+        ensures founded { result.is_genuine ≡ before.now.is_genuine }
+    {
+        match answer {
+            Some(answer) => GhostHistory::pushed(before, command, answer),
+            None => GhostHistory::copied(before),
+        }
+    }
+}

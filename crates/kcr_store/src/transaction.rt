@@ -1,0 +1,397 @@
+//! One command as one transaction, and one question or one row of a report as one that changes nothing.
+ghost use Rattle.std.specs.Prelude.{◌≡◌, false, [], length, Ok, IsTrue, IsSome, IfOk, OnOk, MatchResult, ⊤};
+ghost use Rattle.sqlite.specs.State.{HasCleanDisk, Survives};
+ghost use Rattle.sqlite.specs.Held.{state};
+ghost use Rattle.kcr_history.specs.History.{History};
+ghost use Rattle.kcr_history.specs.Machine.{IsDecision};
+ghost use Rattle.kcr_history.specs.Tables.{Tables, tables};
+ghost use Rattle.kcr_history.specs.Views.{row_of_key};
+ghost use Rattle.kcr_tables.specs.MachineTables.{HoldsTables};
+ghost use Rattle.kcr_tables.specs.Refusals.{IsFault};
+ghost use Rattle.kcr_rows.specs.Frame.{StaysInTransaction};
+ghost use Rattle.kcr_store.specs.Frame.{OnlyReads};
+ghost use Rattle.kcr_store.specs.Stored.{Stores, OfStored};
+ghost use Rattle.kcr_history.specs.Questions.{ArePeopleShown, AreCustodiansShown, IsBagShown, IsRoomShown};
+ghost use Rattle.kcr_store.specs.Commands as steps;
+ghost use Rattle.kcr_store.specs.Commands.{AppliesCommand, with_answer, IsSameOrNext, IsQuestionResult, IsQuestionRefusal, MayBeReplied, MayRefuseQuestion};
+ghost use Rattle.kcr_store.specs.Commands.{GoesByRow};
+ghost use Rattle.kcr_store.specs.TransactionResult.{ends_with};
+ghost use Rattle.kcr_store.specs.Register.{IsDurable, IsDurableWith, AfterCrash};
+ghost use Rattle.kcr_store.specs.Rows.{GivesNext, IsRowOf, HasNoRow, MayHaveNoRow};
+ghost use Rattle.kcr_store.specs.TransactionResult.{history_after, in_doubt_after, last_number_after, result_of, is_in_doubt};
+ghost use Rattle.kcr_store.specs.TransactionResult.{is_genuine_after, RefusesAsMachine};
+ghost use Rattle.kcr_store.specs.Shown.{IsShownByRows};
+
+use crate::full_view::read_full_view;
+use crate::ghost_history::GhostHistory;
+use crate::lists::{find_ceremony, read_custody, read_sheet, read_steps};
+use crate::shown::{codes_of, custodians_shown, people_shown};
+use kcr_base::{CeremonyNumber, Day, Key, Moment, Refusal, Serial, Thing};
+use kcr_custody::queries::spot;
+use kcr_custody::{Bag, Item};
+use kcr_history::{
+    BagShown, CeremonyRow, Command, CustodiansShown, KeyRow, PersonShown, Question, ReplyData,
+    RoomShown, Shown, Verdict, asks,
+};
+use kcr_machine::{decide_new, decide_repeat, refuse_early};
+use kcr_people::{Person, Training, Withdrawal};
+use kcr_reading::Cursor;
+use kcr_room::present_in;
+use kcr_tables::{
+    all_rows, appointments_ending_after, change_all, find_rows, read_early_rows,
+    read_remaining_rows, stays_ending_at_or_after,
+};
+use sqlite::{Alter, Connection, Error, ErrorCode, Transaction};
+use std::alloc::Global;
+
+/// A command whose turn it is.
+#[derive(Clone, Copy)]
+struct NextCommand<'a> {
+    command: &'a Command,
+    /// The number of the last one before it.
+    last_number: u32,
+}
+
+/// What becomes of the command: a repeat is decided by the row of its key alone, and a command whose key is new over
+/// the rows that it asks for and the number of the last one. Where the first part of these rows tells its refusal, the
+/// others are not read. Nothing is written.
+fn decide_command<S: Alter>(
+    alloc: Global,
+    tx: &mut Transaction<'_, S>,
+    turn: &NextCommand<'_>,
+) -> Result<Verdict, Refusal>
+    ensures same_reference { tx.new.conn.ghost_name ≡ tx.old.conn.ghost_name }
+
+    // Over the tables of a history it is the machine's, and the tables stay.
+    ensures decided { OfStored (state S.Store tx.old.conn.now) (state S.Store tx.new.conn.now)
+        (λ A. turn.now.last_number ≡ length A → IfOk result (λ verdict. IsDecision A turn.now.command.now (Ok verdict)
+        × HoldsTables (tables A) (state S.Store tx.new.conn.now).now)) }
+    ensures opened { HasCleanDisk (state S.Store tx.new.conn.now)
+        → OnOk result (IsTrue (state S.Store tx.old.conn.now).is_open) }
+
+    // Whatever the tables hold, the reply or the refusal is one of a command of this kind.
+    ensures kind { MayBeReplied turn.now.command.now (ends_with result) }
+
+    // Whatever rows they hold, the row of its key decides a repeat, for which no row is put.
+    ensures by_row { GoesByRow (state S.Store tx.old.conn.now) (state S.Store tx.new.conn.now)
+        turn.now.command.now (ends_with result) }
+    ensures unchanging { HasCleanDisk (state S.Store tx.new.conn.now) → (m : Tables)
+        → HoldsTables m (state S.Store tx.old.conn.now).now → IsSome (row_of_key turn.now.command.now.key m.keys)
+        → IfOk result (λ verdict. verdict.changes.items ≡ []) }
+    ensures frame { RefusesAsMachine turn.now.last_number turn.now.command.now
+        (state S.Store tx.old.conn.now) (state S.Store tx.new.conn.now) result }
+{
+    let NextCommand {
+        command,
+        last_number: count,
+    } = *turn;
+    let kept = find_rows::<_, Key, KeyRow>(alloc, tx, &command.key)?;
+    match kept.first() {
+        Some(row) => decide_repeat(alloc, row, command),
+        None => {
+            let asked = asks(alloc, command)?;
+            let front = read_early_rows(alloc, tx, &asked)?;
+            if let Some(refusal) = refuse_early(alloc, &front, count, command) {
+                return Err(refusal);
+            }
+            let view = read_remaining_rows(alloc, tx, &asked, front)?;
+            decide_new(alloc, &view, count, command)
+        }
+    }
+}
+
+/// Decides the command and puts the rows that the decision gives. Nothing is committed, and of a repeat nothing is
+/// written.
+fn decide_and_write<S: Alter>(
+    alloc: Global,
+    tx: &mut Transaction<'_, S>,
+    turn: &NextCommand<'_>,
+) -> Result<Verdict, Refusal>
+    ensures same_reference { tx.new.conn.ghost_name ≡ tx.old.conn.ghost_name }
+
+    // Over the tables of a history, an answer is the machine's, and the transaction then holds the tables after it.
+    ensures done { HasCleanDisk (state S.Store tx.new.conn.now) → IsTrue (state S.Store tx.old.conn.now).in_transaction
+        → (A : History) → turn.now.last_number ≡ length A
+        → (IsTrue (state S.Store tx.old.conn.now).is_open → Stores A (state S.Store tx.old.conn.now).now)
+        → IfOk result (λ verdict.
+        AppliesCommand A turn.now.command.now (Ok verdict.reply) (with_answer A turn.now.command.now verdict.answer)
+        × Stores (with_answer A turn.now.command.now verdict.answer) (state S.Store tx.new.conn.now).now
+        × IsTrue (state S.Store tx.new.conn.now).in_transaction) }
+    ensures kind { MayBeReplied turn.now.command.now (ends_with result) }
+
+    // Whatever rows the tables held, the row of its key decides a repeat, which leaves them as they were.
+    ensures by_row { GoesByRow (state S.Store tx.old.conn.now) (state S.Store tx.new.conn.now)
+        turn.now.command.now (ends_with result) }
+    ensures frame { RefusesAsMachine turn.now.last_number turn.now.command.now
+        (state S.Store tx.old.conn.now) (state S.Store tx.new.conn.now) result }
+{
+    let verdict = decide_command(alloc, tx, turn)?;
+    change_all(alloc, tx, verdict.changes.as_slice())?;
+    Ok(verdict)
+}
+
+/// How one command ended, with the history that stands now.
+#[derive(Drop)]
+pub(crate) enum TransactionResult {
+    Accepted(Verdict, GhostHistory),
+    /// Nothing was changed.
+    Refused(Refusal),
+    /// The commit failed, and a crash may leave what it would have made.
+    InDoubt(GhostHistory),
+}
+
+/// The number of the last command after one that is not refused: that of its answer, or the same after a repeat.
+pub(crate) fn number_after(count: u32, answer: Option<ReplyData>) -> u32
+    ensures { result ≡ steps.number_after count answer }
+{
+    match answer {
+        Some(answer) => answer.accepted,
+        None => count,
+    }
+}
+
+/// One command as one transaction, which is gone at the return. A repeat is committed as well: nothing was written,
+/// and the commit says that the store still serves. `last_number` is the number of the last command.
+pub(crate) fn run_command<S: Alter>(
+    alloc: Global,
+    conn: &mut Connection<S>,
+    past: &GhostHistory,
+    count: u32,
+    command: &Command,
+) -> TransactionResult
+    requires autocommit { conn.old.in_transaction ≡ false }
+    ensures autocommit { conn.new.in_transaction ≡ false }
+    ensures clean { HasCleanDisk (state S.Store conn.new) → HasCleanDisk (state S.Store conn.old) }
+    ensures founded { is_genuine_after past.now.is_genuine result ≡ past.now.is_genuine }
+    ensures step { IsDurableWith count past.now.entries (state S.Store conn.old) → HasCleanDisk (state S.Store conn.new)
+        → AppliesCommand past.now.entries command.now (result_of result) (history_after past.now.entries result) }
+    ensures kind { MayBeReplied command.now (result_of result) }
+    ensures by_row { GoesByRow (state S.Store conn.old) (state S.Store conn.new) command.now (result_of result) }
+    ensures served { HasCleanDisk (state S.Store conn.new)
+        → OnOk (result_of result) (IsTrue (state S.Store conn.new).is_open) }
+    ensures candidate { IsDurableWith count past.now.entries (state S.Store conn.old)
+        → HasCleanDisk (state S.Store conn.new)
+        → IsSameOrNext past.now.entries command.now (in_doubt_after past.now.entries result) }
+    ensures whole { IsDurableWith count past.now.entries (state S.Store conn.old) → is_in_doubt result ≡ false
+        → IsDurableWith (last_number_after count result) (history_after past.now.entries result) (state S.Store conn.new) }
+    ensures tried { IsDurableWith count past.now.entries (state S.Store conn.old)
+        → AfterCrash past.now.entries (in_doubt_after past.now.entries result) (state S.Store conn.new) }
+{
+    let mut tx = conn.transaction();
+    let turn = NextCommand {
+        command,
+        last_number: count,
+    };
+    let verdict = match decide_and_write(alloc, &mut tx, &turn) {
+        Ok(verdict) => verdict,
+        Err(refusal) => return TransactionResult::Refused(refusal),
+    };
+    let after = GhostHistory::after_verdict(past, command, &verdict.answer);
+    match tx.commit() {
+        Ok(()) => TransactionResult::Accepted(verdict, after),
+        Err(Error::SqliteFailure(ErrorCode::OutOfMemory)) => {
+            // The store may be shut, and then the commit may stand.
+            match conn.prepare("COMMIT") {
+                Ok(_) => TransactionResult::Refused(Refusal::Memory),
+                Err(_) => TransactionResult::InDoubt(after),
+            }
+        }
+        Err(_) => TransactionResult::InDoubt(after),
+    }
+}
+
+/// What is asked of the tables, and read in one transaction.
+pub(crate) trait TableQuery {
+    ghost use Rattle.std.specs.Prelude.{Result};
+    ghost use Rattle.kcr_base.specs.declared.refusal.Refusal.{Refusal};
+
+    type Answer;
+
+    /// What the answer is to a history.
+    ghost is_answer: { Self → History → Result Self.Answer Refusal → Type 0 };
+
+    /// What the answer may be, whatever the database holds.
+    ghost may_answer: { Self → Self.Answer → Type 0 };
+
+    /// What it may be refused with, whatever the history.
+    ghost may_refuse: { Self → Refusal → Type 0 };
+
+    /// The answer. Nothing is changed.
+    fn read<S: Alter>(
+        &self,
+        alloc: Global,
+        tx: &mut Transaction<'_, S>,
+    ) -> Result<Self::Answer, Refusal>
+        ensures same_reference { tx.new.conn.ghost_name ≡ tx.old.conn.ghost_name }
+        ensures answer { OfStored (state S.Store tx.old.conn.now) (state S.Store tx.new.conn.now)
+            (λ A. is_answer self.now A result) }
+        ensures by_rows { IfOk result (may_answer self.now) }
+        ensures frame { StaysInTransaction (may_refuse self.now) (state S.Store tx.old.conn.now)
+            (state S.Store tx.new.conn.now) result };
+}
+
+/// What is asked, read in a transaction that is rolled back.
+pub(crate) fn run_query<S: Alter, Q: TableQuery>(
+    alloc: Global,
+    conn: &mut Connection<S>,
+    asked: &Q,
+) -> Result<Q::Answer, Refusal>
+    requires autocommit { conn.old.in_transaction ≡ false }
+    ensures answer { (A : History) → IsDurable A (state S.Store conn.old) → HasCleanDisk (state S.Store conn.new)
+        → Q.is_answer asked.now A result }
+    ensures by_rows { IfOk result (Q.may_answer asked.now) }
+    ensures survives { Survives (state S.Store conn.old) (state S.Store conn.new) (λ _. ⊥) }
+    ensures frame { OnlyReads S.Store (Q.may_refuse asked.now) conn.old conn.new result }
+{
+    let mut tx = conn.transaction();
+    let answer = asked.read(alloc, &mut tx);
+    tx.rollback();
+    answer
+}
+
+impl TableQuery for Question {
+    type Answer = Shown;
+
+    ghost is_answer = { λ question A result. IsQuestionResult A question result };
+
+    ghost may_answer = { IsShownByRows };
+
+    ghost may_refuse = { MayRefuseQuestion };
+
+    fn read<S: Alter>(&self, alloc: Global, tx: &mut Transaction<'_, S>) -> Result<Shown, Refusal> {
+        match self {
+            Question::People => Ok(Shown::People(read_people(alloc, tx)?)),
+            Question::Custodians(day) => Ok(Shown::Custodians(read_custodians(alloc, tx, *day)?)),
+            Question::Bag(serial) => Ok(Shown::Bag(read_bag(alloc, tx, *serial)?)),
+            Question::Room(ceremony, at) => Ok(Shown::Room(read_room(alloc, tx, *ceremony, *at)?)),
+            Question::Steps(ceremony) => Ok(Shown::Steps(read_steps(alloc, tx, *ceremony)?)),
+            Question::Sheet(ceremony) => Ok(Shown::Sheet(read_sheet(alloc, tx, *ceremony)?)),
+            Question::Custody => Ok(Shown::Custody(read_custody(alloc, tx)?)),
+            Question::All => Ok(Shown::All(read_full_view(alloc, tx)?)),
+        }
+    }
+}
+
+/// Everybody who was entered, with their trainings.
+fn read_people<S: Alter>(
+    alloc: Global,
+    tx: &mut Transaction<'_, S>,
+) -> Result<Vec<PersonShown>, Refusal>
+    ensures same_reference { tx.new.conn.ghost_name ≡ tx.old.conn.ghost_name }
+    ensures shown { OfStored (state S.Store tx.old.conn.now)
+        (state S.Store tx.new.conn.now) (λ A. IfOk result (λ rows. ArePeopleShown A rows.items)) }
+    ensures by_rows { IfOk result (λ rows. IsShownByRows Question.People (Shown.People rows)) }
+    ensures frame { StaysInTransaction IsFault (state S.Store tx.old.conn.now) (state S.Store tx.new.conn.now) result }
+{
+    let people = all_rows::<_, Person>(alloc, tx)?;
+    let trainings = all_rows::<_, Training>(alloc, tx)?;
+    let withdrawals = all_rows::<_, Withdrawal>(alloc, tx)?;
+    Ok(people_shown(alloc, people, &trainings, &withdrawals)?)
+}
+
+/// Who holds which place on the day.
+fn read_custodians<S: Alter>(
+    alloc: Global,
+    tx: &mut Transaction<'_, S>,
+    day: Day,
+) -> Result<CustodiansShown, Refusal>
+    ensures same_reference { tx.new.conn.ghost_name ≡ tx.old.conn.ghost_name }
+    ensures shown { OfStored (state S.Store tx.old.conn.now)
+        (state S.Store tx.new.conn.now) (λ A. IfOk result (AreCustodiansShown A day)) }
+    ensures by_rows { IfOk result (λ shown. IsShownByRows (Question.Custodians day) (Shown.Custodians shown)) }
+    ensures frame { StaysInTransaction IsFault (state S.Store tx.old.conn.now) (state S.Store tx.new.conn.now) result }
+{
+    let appointments = appointments_ending_after(alloc, tx, day)?;
+    Ok(custodians_shown(alloc, &appointments, day)?)
+}
+
+/// Where the bag lies and what it holds; one that was never sealed is refused as unknown.
+fn read_bag<S: Alter>(
+    alloc: Global,
+    tx: &mut Transaction<'_, S>,
+    serial: Serial,
+) -> Result<BagShown, Refusal>
+    ensures same_reference { tx.new.conn.ghost_name ≡ tx.old.conn.ghost_name }
+    ensures shown { OfStored (state S.Store tx.old.conn.now)
+        (state S.Store tx.new.conn.now) (λ A. MatchResult result (IsBagShown A serial)
+        (IsQuestionRefusal A (Question.Bag serial))) }
+    ensures by_rows { IfOk result (λ shown. IsShownByRows (Question.Bag serial) (Shown.Bag shown)) }
+    ensures frame { StaysInTransaction (MayRefuseQuestion (Question.Bag serial)) (state S.Store tx.old.conn.now)
+        (state S.Store tx.new.conn.now) result }
+{
+    let bags = find_rows::<_, Serial, Bag>(alloc, tx, &serial)?;
+    let Some(here) = spot(&bags, serial) else {
+        return Err(Refusal::Unknown {
+            thing: Thing::Bag(serial),
+        });
+    };
+    let items = find_rows::<_, Serial, Item>(alloc, tx, &serial)?;
+    Ok(BagShown {
+        serial,
+        spot: here,
+        items: codes_of(alloc, &items)?,
+    })
+}
+
+/// Who is in the room of the ceremony at the moment; a ceremony that was never planned is refused as unknown.
+fn read_room<S: Alter>(
+    alloc: Global,
+    tx: &mut Transaction<'_, S>,
+    ceremony: CeremonyNumber,
+    at: Moment,
+) -> Result<RoomShown, Refusal>
+    ensures same_reference { tx.new.conn.ghost_name ≡ tx.old.conn.ghost_name }
+    ensures shown { OfStored (state S.Store tx.old.conn.now)
+        (state S.Store tx.new.conn.now) (λ A. MatchResult result (IsRoomShown A ceremony at)
+        (IsQuestionRefusal A (Question.Room ceremony at))) }
+    ensures by_rows { IfOk result (λ shown. IsShownByRows (Question.Room ceremony at) (Shown.Room shown)) }
+    ensures frame { StaysInTransaction (MayRefuseQuestion (Question.Room ceremony at)) (state S.Store tx.old.conn.now)
+        (state S.Store tx.new.conn.now) result }
+{
+    let number = ceremony.get();
+    let planned = find_rows::<_, u32, CeremonyRow>(alloc, tx, &number)?;
+    if planned.is_empty() {
+        return Err(Refusal::Unknown {
+            thing: Thing::Ceremony(number),
+        });
+    }
+    let stays = stays_ending_at_or_after(alloc, tx, number, at)?;
+    let people = present_in(alloc, &stays, number, at)?;
+    Ok(RoomShown { at, people })
+}
+
+/// The next row of a reading, in a transaction that is rolled back.
+pub(crate) fn next_row<S: Alter, R: Cursor>(
+    alloc: Global,
+    conn: &mut Connection<S>,
+    reading: &mut R,
+) -> Result<Option<R::Row>, Refusal>
+    requires autocommit { conn.old.in_transaction ≡ false }
+    ensures gives { (A : History) → IsDurable A (state S.Store conn.old) → HasCleanDisk (state S.Store conn.new)
+        → GivesNext R.to_come reading.old reading.new result A }
+    ensures frame { OnlyReads S.Store IsFault conn.old conn.new result }
+{
+    let mut tx = conn.transaction();
+    let row = reading.next(alloc, &mut tx);
+    tx.rollback();
+    row
+}
+
+/// A ceremony's number asks for its row; one that was never planned is refused as unknown.
+impl TableQuery for CeremonyNumber {
+    type Answer = CeremonyRow;
+
+    ghost is_answer = { λ ceremony A result. MatchResult result (IsRowOf A ceremony) (HasNoRow A ceremony) };
+
+    ghost may_answer = { λ ceremony row. ⊤ };
+
+    ghost may_refuse = { MayHaveNoRow };
+
+    fn read<S: Alter>(
+        &self,
+        alloc: Global,
+        tx: &mut Transaction<'_, S>,
+    ) -> Result<CeremonyRow, Refusal> {
+        find_ceremony(alloc, tx, *self)
+    }
+}

@@ -1,0 +1,45 @@
+use Rattle.std.proofs.Common.{rules, arith, ◌≡◌, ◌<◌, ◌∙◌, length, get_or, sym, ap, subst}
+use Rattle.std.proofs.lemmas.List.{take_all}
+use Rattle.std.proofs.lemmas.List.Sums.{fold_more}
+use Rattle.sqlite.specs.Held.{state}
+use Rattle.kcr_history.specs.declared.views.Change.{Change}
+use Rattle.kcr_history.specs.Tables as machine
+use Rattle.kcr_tables.specs.StoredTables.{Holds}
+use Rattle.kcr_tables.specs.Changed.{rows_after, changed_all}
+use Rattle.kcr_rows.proofs.InsideLemmas.{was_clean}
+use Rattle.kcr_rows.proofs.FrameLemmas.{within_then}
+use Rattle.kcr_tables.proofs.HoldLemmas.{held_of}
+use Rattle.kcr_tables.proofs.JointLemmas.{changes_hold}
+use Rattle.kcr_tables.proofs.changes.change_all.Goals as goal
+
+pub loop-change-preserved : goal.loop-change-preserved
+loop-change-preserved g c =
+    let old = state g.S.Store c.args.tx.now.conn.now in
+    let mid = state g.S.Store c.loop-change.tx.conn.now in
+    let new = state g.S.Store c.make_change.new.tx.conn.now in
+    let had = c.loop-change.invariant in
+    let step = c.in_ok-make_change.ensures in record {
+      same_reference = step.same_reference ∙ had.same_reference;
+      frame = within_then had.frame step.frame;
+      built = λ clean t held.
+          let changes = c.args.changes.now in
+          let i = c.loop-change.change-index in
+          let item = c.change-item.result in
+          let was = had.built (was_clean mid new _ step.frame.survives clean) t held in
+          let low : i < length changes = search rules in
+          let at : get_or changes i item ≡ item = search rules in
+          let more = fold_more (λ (rows : machine.Tables) (x : Change). rows_after x rows) t.rows changes i item low
+          ∙ ap (λ (x : Change). rows_after x (changed_all (Rattle.std.proofs.Common.take i changes) t).rows) at in
+          subst (λ (rows : machine.Tables). Holds new.now (record t { rows = rows })) (sym more) (step.holds clean _ was);
+    }
+
+pub returns-clause-holds : goal.returns-clause-holds
+returns-clause-holds g c clean t held =
+    subst (λ l. Holds (state g.S.Store c.loop-change.tx.conn.now).now (changed_all l t)) (take_all c.loop-change.change-index c.args.changes.now (omega arith))
+    (c.loop-change.invariant.built clean t held)
+
+pub returns-clause-tables : goal.returns-clause-tables
+returns-clause-tables g c clean m h =
+    let old = state g.S.Store c.args.tx.now.conn.now in
+    let new = state g.S.Store c.loop-change.tx.conn.now in
+    changes_hold c.args.changes.now m old.now new.now h (returns-clause-holds g c clean h.tables.t (held_of m old.now h))

@@ -1,0 +1,23 @@
+use Rattle.std.proofs.Common.{◌≡◌, Ok, take, filter, IsPermutation}
+use Rattle.sqlite.specs.Held.{state}
+use Rattle.sqlite.specs.State.{HasCleanDisk}
+use Rattle.kcr_tables.specs.Selected.{is_under_any}
+use Rattle.kcr_tables.specs.Exact.{rows_at, has_key}
+use Rattle.kcr_tables.specs.Frame.{Reads}
+use Rattle.kcr_tables.specs.Schema.{register_schema}
+use Rattle.kcr_tables.specs.StoredTables.{StoredTables, Holds}
+use Rattle.kcr_tables.proofs.ExactLemmas.{EachAreShown}
+use Rattle.kcr_tables.proofs.select_by_keys.rows_named.Given as goal
+
+abbrev pub invariant-loop-at : goal.invariant-loop-at
+invariant-loop-at g l =
+    let old = state g.S.Store l.fn.tx.conn.now in
+    let now = state g.S.Store l.tx.conn.now in record {
+      same_reference : l.tx.conn.ghost_name ≡ l.fn.tx.conn.ghost_name;
+      frame : Reads {A = Unit {0}} old now (Ok tt);
+      rows : HasCleanDisk now → (t : StoredTables) → Holds old.now t
+          → IsPermutation (filter (is_under_any g.T.LookupBy.lookup_spec.is_under (take l.at l.keys)) (g.T.TableRow.table.rows_in t)) l.rows.items;
+      exact : HasCleanDisk now → old.now.schema ≡ register_schema
+          → EachAreShown g.T.FromRow.row_of (has_key g.T.LookupBy.lookup_spec.column g.K.AsCell.value_of) (rows_at g.T.TableRow.table.place old.now.trees) l.rows.items
+          (take l.at l.keys);
+    }

@@ -1,0 +1,22 @@
+use Rattle.std.proofs.Common.{◌≡◌, Ok, take, filter}
+use Rattle.sqlite.specs.Held.{state}
+use Rattle.sqlite.specs.State.{HasCleanDisk}
+use Rattle.kcr_tables.specs.Frame.{Reads}
+use Rattle.kcr_room.specs.Stays.{stay_reaches}
+use Rattle.kcr_rows.specs.Rows.{stay_row}
+use Rattle.kcr_tables.specs.Exact.{rows_at, is_stay_row, AreShown}
+use Rattle.kcr_tables.specs.Schema.{register_schema}
+use Rattle.kcr_tables.specs.StoredTables.{stays_place, StoredTables, Holds}
+use Rattle.kcr_tables.proofs.StayLemmas.{Gathered}
+use Rattle.kcr_tables.proofs.select_stays.stays_and_last.Given as goal
+
+abbrev pub invariant-loop-who : goal.invariant-loop-who
+invariant-loop-who g l =
+    let old = state g.S.Store l.fn.tx.conn.now in
+    let now = state g.S.Store l.tx.conn.now in record {
+      same_reference : l.tx.conn.ghost_name ≡ l.fn.tx.conn.ghost_name;
+      frame : Reads {A = Unit {0}} old now (Ok tt);
+      rows : HasCleanDisk now → (t : StoredTables) → Holds old.now t → Gathered (stay_reaches l.asked.ceremony l.asked.at) (take l.who-index l.people) t.rows.stays l.rows.items;
+      exact : HasCleanDisk now → old.now.schema ≡ register_schema
+          → AreShown stay_row l.rows.items (filter (is_stay_row l.asked) (rows_at stays_place old.now.trees));
+    }

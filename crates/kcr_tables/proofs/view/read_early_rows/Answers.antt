@@ -1,0 +1,75 @@
+use Rattle.std.proofs.Common.{rules}
+use Rattle.sqlite.specs.Held.{state}
+use Rattle.sqlite.specs.State.{HasCleanDisk}
+use Rattle.kcr_history.specs.Views.{is_of_people, is_of_serial, is_item_of, is_of_number, is_mark_of, is_exception_of}
+use Rattle.kcr_rows.proofs.InsideLemmas.{was_clean}
+use Rattle.kcr_tables.specs.Exact.{CustodyIsShown, CeremoniesAreShown}
+use Rattle.kcr_tables.proofs.FrameLemmas.{reads_on, fails_as, reads_then, reads_to, read_later}
+use Rattle.kcr_tables.proofs.FrontLemmas.{custody_front, ceremonies_front}
+use Rattle.kcr_tables.proofs.HoldLemmas.{held_of}
+use Rattle.kcr_tables.proofs.ScriptLemmas.{steps_on}
+use Rattle.kcr_tables.proofs.ViewLemmas.{shows_on, asked_shows, all_shows}
+use Rattle.kcr_tables.proofs.view.read_early_rows.Goals as goal
+
+pub returns-in_err-people-clause-frame : goal.returns-in_err-people-clause-frame
+returns-in_err-people-clause-frame g c = fails_as c.from_residual.ensures.1 c.in_err-people.ensures.frame
+
+pub returns-in_err-custody-clause-frame : goal.returns-in_err-custody-clause-frame
+returns-in_err-custody-clause-frame g c = reads_on c.in_ok-people.ensures.frame
+    (fails_as c.from_residual-in_err-custody.ensures.1 c.in_err-custody.ensures.frame)
+
+pub returns-in_err-ceremony-clause-frame : goal.returns-in_err-ceremony-clause-frame
+returns-in_err-ceremony-clause-frame g c = reads_on (reads_on c.in_ok-people.ensures.frame c.in_ok-custody.ensures.frame)
+    (fails_as c.from_residual-in_err-ceremony.ensures.1 c.in_err-ceremony.ensures.frame)
+
+pub returns : goal.returns
+returns g c =
+    let old = state g.S.Store c.args.tx.now.conn.now in
+    let s1 = state g.S.Store c.select_people.new.tx.conn.now in
+    let s2 = state g.S.Store c.custody_rows.new.tx.conn.now in
+    let s3 = state g.S.Store c.ceremony_rows.new.tx.conn.now in
+    let to1 = c.in_ok-people.ensures.frame in
+    let to2 = reads_then old s1 s2 _ _ to1 c.in_ok-custody.ensures.frame in
+    let clean2 : HasCleanDisk s3 → HasCleanDisk s2 = λ clean. was_clean s2 s3 _ c.in_ok-ceremony.ensures.frame.within.survives clean in
+    let clean1 : HasCleanDisk s3 → HasCleanDisk s1 = λ clean. was_clean s1 s2 _ c.in_ok-custody.ensures.frame.within.survives (clean2 clean) in record {
+      same_reference = search rules;
+      view = λ clean m h.
+          let t = h.tables.t in
+          let asks = c.args.asks.now in
+          let s = h.tables.stands.rows in
+          let held = held_of m old.now h in
+          let held2 = to1.holds (clean1 clean) t held in
+          let held3 = to2.holds (clean2 clean) t held in
+          let custody = c.in_ok-custody.ensures in
+          let ceremony = c.in_ok-ceremony.ensures in record {
+            people = shows_on is_of_people asks.people m.people t.rows.people _ s.people (c.in_ok-people.ensures.rows (clean1 clean) t held);
+            trainings = tt;
+            withdrawals = tt;
+            appointments = tt;
+            boxes = all_shows asks.boxes m.boxes t.rows.boxes _ s.boxes (custody.boxes (clean2 clean) t held2);
+            safes = all_shows asks.safes m.safes t.rows.safes _ s.safes (custody.safes (clean2 clean) t held2);
+            bags = asked_shows is_of_serial asks.bags m.bags t.rows.bags _ s.bags (custody.bags (clean2 clean) t held2);
+            items = shows_on is_item_of asks.items m.items t.rows.items _ s.items (custody.items (clean2 clean) t held2);
+            ceremonies = asked_shows is_of_number asks.ceremonies m.ceremonies t.rows.ceremonies _ s.ceremonies (ceremony.ceremonies clean t held3);
+            marks = asked_shows is_mark_of asks.marks m.marks t.rows.marks _ s.marks (ceremony.marks clean t held3);
+            steps = steps_on asks.steps m.seatings t.rows.seatings _ m.steps t.rows.steps _ s.seatings s.steps (ceremony.steps clean t held3);
+            exceptions = asked_shows is_exception_of asks.exceptions m.exceptions t.rows.exceptions _ s.exceptions (ceremony.exceptions clean t held3);
+            stays = tt;
+            entries = tt;
+          };
+      exact = λ clean has.
+          let asks = c.args.asks.now in record {
+            people = c.in_ok-people.ensures.exact (clean1 clean) has;
+            staff = record { trainings_are = tt; withdrawals_are = tt; appointments_are = tt };
+            custody = custody_front (read_later
+                (CustodyIsShown asks c.in_ok-custody.custody.boxes.items c.in_ok-custody.custody.safes.items c.in_ok-custody.custody.bags.items
+                c.in_ok-custody.custody.items.items) old s1 _ to1 (clean1 clean) has (c.in_ok-custody.ensures.exact (clean2 clean)));
+            ceremonies = ceremonies_front (read_later
+                (CeremoniesAreShown asks c.in_ok-ceremony.ceremony.ceremonies.items c.in_ok-ceremony.ceremony.marks.items c.in_ok-ceremony.ceremony.steps.items
+                c.in_ok-ceremony.ceremony.seatings.items c.in_ok-ceremony.ceremony.exceptions.items) old s2 _ to2
+                (clean2 clean) has
+                (c.in_ok-ceremony.ensures.exact clean));
+            stays = tt;
+          };
+      frame = reads_to old s3 _ _ tt (reads_then old s2 s3 _ _ to2 c.in_ok-ceremony.ensures.frame);
+    }

@@ -1,0 +1,73 @@
+use Rattle.std.proofs.Common.{rules}
+use Rattle.sqlite.specs.Held.{state}
+use Rattle.sqlite.specs.State.{HasCleanDisk}
+use Rattle.kcr_history.specs.Views.{is_training_asked, is_withdrawal_of}
+use Rattle.kcr_rows.proofs.InsideLemmas.{was_clean}
+use Rattle.kcr_rows.specs.Rows.{stay_row}
+use Rattle.kcr_tables.specs.Exact.{is_stay_row, SelectedAreRead}
+use Rattle.kcr_tables.specs.StoredTables.{stays_place}
+use Rattle.kcr_tables.proofs.AppointmentLemmas.{appointments_shown}
+use Rattle.kcr_tables.proofs.FrameLemmas.{reads_on, fails_as, reads_then, reads_to, read_later}
+use Rattle.kcr_tables.proofs.FrontLemmas.{custody_whole, ceremonies_whole}
+use Rattle.kcr_tables.proofs.HoldLemmas.{held_of}
+use Rattle.kcr_tables.proofs.StayLemmas.{stays_shown, entries_shown, apart_of}
+use Rattle.kcr_tables.proofs.ViewLemmas.{shows_on, asked_shows}
+use Rattle.kcr_tables.proofs.view.read_remaining_rows.Goals as goal
+
+pub returns-in_err-staff-clause-frame : goal.returns-in_err-staff-clause-frame
+returns-in_err-staff-clause-frame g c = fails_as c.from_residual.ensures.1 c.in_err-staff.ensures.frame
+
+pub returns-in_err-stays-clause-frame : goal.returns-in_err-stays-clause-frame
+returns-in_err-stays-clause-frame g c = reads_on c.in_ok-staff.ensures.frame
+    (fails_as c.from_residual-in_err-stays.ensures.1 c.in_err-stays.ensures.frame)
+
+pub returns-in_err-entries-clause-frame : goal.returns-in_err-entries-clause-frame
+returns-in_err-entries-clause-frame g c = reads_on (reads_on c.in_ok-staff.ensures.frame c.in_ok-stays.ensures.frame)
+    (fails_as c.from_residual-in_err-entries.ensures.1 c.in_err-entries.ensures.frame)
+
+pub returns : goal.returns
+returns g c =
+    let old = state g.S.Store c.args.tx.now.conn.now in
+    let s1 = state g.S.Store c.staff_rows.new.tx.conn.now in
+    let s2 = state g.S.Store c.select_stays.new.tx.conn.now in
+    let s3 = state g.S.Store c.select_stay_count.new.tx.conn.now in
+    let to1 = c.in_ok-staff.ensures.frame in
+    let to2 = reads_then old s1 s2 _ _ to1 c.in_ok-stays.ensures.frame in
+    let clean2 : HasCleanDisk s3 → HasCleanDisk s2 = λ clean. was_clean s2 s3 _ c.in_ok-entries.ensures.frame.within.survives clean in
+    let clean1 : HasCleanDisk s3 → HasCleanDisk s1 = λ clean. was_clean s1 s2 _ c.in_ok-stays.ensures.frame.within.survives (clean2 clean) in record {
+      same_reference = search rules;
+      view = λ clean m h front.
+          let t = h.tables.t in
+          let asks = c.args.asks.now in
+          let s = h.tables.stands.rows in
+          let held = held_of m old.now h in
+          let staff = c.in_ok-staff.ensures in record {
+            people = front.people;
+            trainings = shows_on is_training_asked asks.trainings m.trainings t.rows.trainings _ s.trainings (staff.trainings (clean1 clean) t held);
+            withdrawals = asked_shows is_withdrawal_of asks.withdrawals m.withdrawals t.rows.withdrawals _ s.withdrawals
+                (staff.withdrawals (clean1 clean) t held);
+            appointments = appointments_shown asks.appointments m.appointments t.rows.appointments _ s.appointments (staff.appointments (clean1 clean) t held);
+            boxes = front.boxes;
+            safes = front.safes;
+            bags = front.bags;
+            items = front.items;
+            ceremonies = front.ceremonies;
+            marks = front.marks;
+            steps = front.steps;
+            exceptions = front.exceptions;
+            stays = stays_shown asks.stays m.stays t.rows.stays _ (apart_of t.rows.stays h.tables.kept.stays.rising) s.stays
+                (c.in_ok-stays.ensures.rows (clean2 clean) t (to1.holds (clean1 clean) t held));
+            entries = entries_shown asks.stay_count m.stays t.rows.stays _ s.stays
+                (c.in_ok-entries.ensures.rows clean t (to2.holds (clean2 clean) t held));
+          };
+      exact = λ clean has front.
+          let asks = c.args.asks.now in record {
+            people = front.people;
+            staff = c.in_ok-staff.ensures.exact (clean1 clean) has;
+            custody = custody_whole front.custody;
+            ceremonies = ceremonies_whole front.ceremonies;
+            stays = read_later (SelectedAreRead stay_row stays_place is_stay_row asks.stays c.in_ok-stays.stays.items) old s1 _ to1 (clean1 clean) has
+                (c.in_ok-stays.ensures.exact (clean2 clean));
+          };
+      frame = reads_to old s3 _ _ tt (reads_then old s2 s3 _ _ to2 c.in_ok-entries.ensures.frame);
+    }

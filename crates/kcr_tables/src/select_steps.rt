@@ -1,0 +1,113 @@
+//! The step of a ceremony's script that is asked for, and one row of the ceremony's last seating, which tells how many
+//! steps are done.
+
+ghost use Rattle.std.specs.Prelude.{◌≡◌, filter, map, MatchOption, ◌<◌};
+ghost use Rattle.std.specs.List.Sorted.{IsPermutation};
+ghost use Rattle.sqlite.specs.Held.{state};
+ghost use Rattle.kcr_history.specs.Views.{is_step_at, step_asked, IncludesStep, ShowsStepOf};
+ghost use Rattle.kcr_rows.specs.Rows.{step_row};
+ghost use Rattle.kcr_tables.specs.Exact.{rows_at, is_row_of_step, OneSeatingIsShown, StepIsShown, StepsAreShown};
+ghost use Rattle.kcr_tables.specs.StoredTables.{steps_place};
+ghost use Rattle.kcr_tables.specs.Frame.{OfTables, OfTrees, Reads};
+
+use crate::last::last_seating_of;
+use kcr_base::Refusal;
+use kcr_history::{SeatingRow, StepFilter, StepRow, last_seated};
+use kcr_rows::cells::number_cell;
+use kcr_rows::statements::query_rows;
+use sqlite::{Alter, Transaction};
+use std::alloc::Global;
+
+/// The row of the step that is asked for, alone, or none, and one row of the ceremony's last seating, alone, or none.
+#[derive(Drop)]
+pub struct StepRows {
+    pub steps: Vec<StepRow>,
+    pub seatings: Vec<SeatingRow>,
+}
+
+/// The row of the ceremony's step with this number, alone, or none. Nothing is changed. The error is `Memory` when out
+/// of memory, and else `Disk`: the device failed, or the row is invalid.
+fn step_at<S: Alter>(
+    alloc: Global,
+    tx: &mut Transaction<'_, S>,
+    ceremony: u32,
+    step: u32,
+) -> Result<Vec<StepRow>, Refusal>
+    ensures same_reference { tx.new.conn.ghost_name ≡ tx.old.conn.ghost_name }
+    ensures rows { OfTables (state S.Store tx.old.conn.now) (state S.Store tx.new.conn.now) result
+        (λ t all. all.items ≡ filter (is_step_at ceremony step) t.rows.steps) }
+    ensures exact { OfTrees (state S.Store tx.old.conn.now) (state S.Store tx.new.conn.now) result
+        (λ db all. IsPermutation (filter (is_row_of_step ceremony step) (rows_at steps_place db))
+        (map step_row all.items)) }
+    ensures frame { Reads (state S.Store tx.old.conn.now) (state S.Store tx.new.conn.now) result }
+{
+    let c0 = number_cell(ceremony);
+    let c1 = number_cell(step);
+    query_rows(
+        alloc,
+        tx,
+        "SELECT ceremony, step, activity, seats, state, at FROM steps WHERE ceremony = ?1 AND step = ?2 ORDER BY ceremony, step",
+        &[c0, c1],
+    )
+}
+
+/// The number of the step that is asked for, if these are seatings of its ceremony; `None` if it would be past the
+/// greatest number there is.
+fn number_asked(asked: StepFilter, seatings: &[SeatingRow]) -> Option<u32>
+    ensures { MatchOption result
+        (4294967295 < step_asked asked seatings.now)
+        (λ step. step ≡ step_asked asked seatings.now) }
+{
+    match asked.step {
+        Some(step) => Some(step),
+        None => last_seated(seatings, asked.ceremony).checked_add(1),
+    }
+}
+
+/// The step that is asked for. The errors are those of `select_steps`.
+fn step_of<S: Alter>(
+    alloc: Global,
+    tx: &mut Transaction<'_, S>,
+    asked: &StepFilter,
+) -> Result<StepRows, Refusal>
+    ensures same_reference { tx.new.conn.ghost_name ≡ tx.old.conn.ghost_name }
+    ensures rows { OfTables (state S.Store tx.old.conn.now) (state S.Store tx.new.conn.now) result
+        (λ t all. ShowsStepOf asked.now t.rows.seatings all.seatings.items t.rows.steps all.steps.items) }
+    ensures seating { OfTrees (state S.Store tx.old.conn.now) (state S.Store tx.new.conn.now) result
+        (λ db all. OneSeatingIsShown asked.now.ceremony all.seatings.items db) }
+    ensures step { OfTrees (state S.Store tx.old.conn.now) (state S.Store tx.new.conn.now) result
+        (λ db all. StepIsShown asked.now all.seatings.items all.steps.items db) }
+    ensures frame { Reads (state S.Store tx.old.conn.now) (state S.Store tx.new.conn.now) result }
+{
+    let seatings = last_seating_of(alloc, tx, asked.ceremony)?;
+    let Some(number) = number_asked(*asked, seatings.as_slice()) else {
+        return Err(Refusal::Disk);
+    };
+    let steps = step_at(alloc, tx, asked.ceremony, number)?;
+    Ok(StepRows { steps, seatings })
+}
+
+/// The step that is asked for, and one row of the ceremony's last seating; if none is asked for nothing is read.
+/// Nothing is changed. The error is `Memory` when out of memory, and else `Disk`: the device failed, or a row that is
+/// read is invalid, such as a seating of the step with the greatest number there is, if the step
+/// after it is asked for.
+pub fn select_steps<S: Alter>(
+    alloc: Global,
+    tx: &mut Transaction<'_, S>,
+    asked: &Option<StepFilter>,
+) -> Result<StepRows, Refusal>
+    ensures same_reference { tx.new.conn.ghost_name ≡ tx.old.conn.ghost_name }
+    ensures rows { OfTables (state S.Store tx.old.conn.now) (state S.Store tx.new.conn.now) result
+        (λ t all. IncludesStep asked.now t.rows.seatings all.seatings.items t.rows.steps all.steps.items) }
+    ensures exact { OfTrees (state S.Store tx.old.conn.now) (state S.Store tx.new.conn.now) result
+        (λ db all. StepsAreShown asked.now all.seatings.items all.steps.items db) }
+    ensures frame { Reads (state S.Store tx.old.conn.now) (state S.Store tx.new.conn.now) result }
+{
+    match asked {
+        None => Ok(StepRows {
+            steps: Vec::new(alloc),
+            seatings: Vec::new(alloc),
+        }),
+        Some(asked) => step_of(alloc, tx, asked),
+    }
+}

@@ -1,0 +1,66 @@
+//! The trainings that are asked for: those of a person, or those of anybody that last to a day.
+
+ghost use Rattle.std.specs.Prelude.{◌≡◌, filter, map, IsPermutation};
+ghost use Rattle.sqlite.specs.Held.{state};
+ghost use Rattle.kcr_history.specs.Views.{Includes, is_training_asked, training_reaches};
+ghost use Rattle.kcr_rows.specs.Rows.{training_row};
+ghost use Rattle.kcr_tables.specs.Exact.{rows_at, has_from, is_training_row, SelectedAreRead};
+ghost use Rattle.kcr_tables.specs.StoredTables.{trainings_place};
+ghost use Rattle.kcr_tables.specs.Frame.{OfTables, OfTrees, Reads};
+
+use crate::table::{all_rows, find_rows};
+use kcr_base::{Day, Refusal};
+use kcr_history::{Selection, TrainingFilter};
+use kcr_people::Training;
+use kcr_rows::cells::day_cell;
+use kcr_rows::statements::query_rows;
+use sqlite::{Alter, Transaction};
+use std::alloc::Global;
+
+/// The trainings whose last day is this day or a later one, in no order that is told. No index begins with the last
+/// day, so every row is read: by the row ids the engine goes along the table itself, where in the order of the keys it
+/// goes along the index of the key, which costs twice as much. Nothing is changed. The error is `Memory` when out of
+/// memory, and else `Disk`: the device failed, or a row that is shown is invalid.
+fn trainings_ending_on_or_after<S: Alter>(
+    alloc: Global,
+    tx: &mut Transaction<'_, S>,
+    day: Day,
+) -> Result<Vec<Training>, Refusal>
+    ensures same_reference { tx.new.conn.ghost_name ≡ tx.old.conn.ghost_name }
+    ensures rows { OfTables (state S.Store tx.old.conn.now) (state S.Store tx.new.conn.now) result
+        (λ t all. IsPermutation (filter (training_reaches day) t.rows.trainings) all.items) }
+    ensures exact { OfTrees (state S.Store tx.old.conn.now) (state S.Store tx.new.conn.now) result
+        (λ db all. IsPermutation (filter (has_from 3 day) (rows_at trainings_place db)) (map training_row all.items)) }
+    ensures frame { Reads (state S.Store tx.old.conn.now) (state S.Store tx.new.conn.now) result }
+{
+    let c0 = day_cell(day);
+    query_rows(
+        alloc,
+        tx,
+        "SELECT who, role, since, until FROM trainings WHERE until >= ?1 ORDER BY rowid",
+        &[c0],
+    )
+}
+
+/// The trainings that are asked for, in any order: all, those of a person, or those of anybody that last to a day.
+pub fn select_trainings<S: Alter>(
+    alloc: Global,
+    tx: &mut Transaction<'_, S>,
+    asked: &Selection<TrainingFilter>,
+) -> Result<Vec<Training>, Refusal>
+    ensures same_reference { tx.new.conn.ghost_name ≡ tx.old.conn.ghost_name }
+    ensures rows { OfTables (state S.Store tx.old.conn.now) (state S.Store tx.new.conn.now) result
+        (λ t all. Includes is_training_asked asked.now t.rows.trainings all.items) }
+    ensures exact { OfTrees (state S.Store tx.old.conn.now) (state S.Store tx.new.conn.now) result
+        (λ db all. SelectedAreRead training_row trainings_place is_training_row asked.now all.items db) }
+    ensures frame { Reads (state S.Store tx.old.conn.now) (state S.Store tx.new.conn.now) result }
+{
+    match asked {
+        Selection::Nothing => Ok(Vec::new(alloc)),
+        Selection::Matching(TrainingFilter::Person(who)) => find_rows(alloc, tx, who),
+        Selection::Matching(TrainingFilter::EndingOnOrAfter(day)) => trainings_ending_on_or_after(
+            alloc, tx, *day,
+        ),
+        Selection::All => all_rows(alloc, tx),
+    }
+}

@@ -1,0 +1,7 @@
+use Rattle.std.proofs.Common.{◌≡◌, take}
+use Rattle.sqlite.specs.Values.{bound}
+use Rattle.kcr_verify.specs.Quoted.{row_text}
+use Rattle.kcr_verify.proofs.quoted.joined.Given as goal
+
+abbrev pub invariant-loop-index : goal.invariant-loop-index
+invariant-loop-index l = l.line.items ≡ row_text (bound (take l.index l.cells))

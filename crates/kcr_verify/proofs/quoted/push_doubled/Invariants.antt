@@ -1,0 +1,6 @@
+use Rattle.std.proofs.Common.{◌≡◌, ◌++◌, take}
+use Rattle.kcr_verify.specs.Quoted.{doubled}
+use Rattle.kcr_verify.proofs.quoted.push_doubled.Given as goal
+
+abbrev pub invariant-loop-byte : goal.invariant-loop-byte
+invariant-loop-byte l = l.line.items ≡ l.fn.line.items ++ doubled (take l.byte-index l.text)

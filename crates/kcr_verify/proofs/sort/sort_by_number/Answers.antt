@@ -1,0 +1,7 @@
+use Rattle.std.proofs.Common.{rules}
+use Rattle.std.proofs.lemmas.List.Sorted.{answers_always}
+use Rattle.kcr_history.specs.declared.row_types.KeyRow.{KeyRow}
+use Rattle.kcr_verify.proofs.sort.sort_by_number.Goals as goal
+
+pub returns-clause-order : goal.returns-clause-order
+returns-clause-order c = c.sort_unstable_by_key.ensures.sorted (λ (row : KeyRow). row.accepted) (answers_always _ _ _ (λ f a r f' k. search rules))

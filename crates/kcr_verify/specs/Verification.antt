@@ -1,0 +1,296 @@
+-- What a verification of a register's tables says.
+use Rattle.std.specs.Prelude.{◌≡◌, ◌≢◌, ◌⊎◌, ℕ, ◌+◌, List, [], ◌∷◌, ◌++◌, Result, true, Option, None, Some, IfOk, IfErr}
+use Rattle.std.specs.Prelude.{IsPermutation, MatchOption, length, map, reverse, codes}
+use Rattle.std.specs.declared.cmp.Ordering.{Ordering}
+use Rattle.std.specs.Ordering.{nat_cmp}
+use Rattle.std.specs.List.{AllByRecursion}
+use Rattle.std.specs.List.Sorted.{IsSorted}
+use Rattle.sqlite.specs.Held.{state}
+use Rattle.sqlite.specs.State.{HasCleanDisk}
+use Rattle.sqlite.specs.Store.{Ghosts}
+use Rattle.kcr_forms.specs.Acts.{IsAct}
+pub use Rattle.kcr_forms.specs.Values.{AreValues}
+use Rattle.kcr_base.specs.Rows.{IsIn}
+use Rattle.kcr_base.specs.declared.refusal.Refusal.{Refusal}
+use Rattle.kcr_history.specs.History.{History}
+use Rattle.kcr_history.specs.Laws.{IsSeatedFirst, HasFirstSeatings}
+use Rattle.kcr_history.specs.Machine.{machine, Accepts, Refuses, IsOfMachine, seat_request}
+use Rattle.kcr_history.specs.Tables.{Tables, tables, key_row}
+use Rattle.kcr_history.specs.Texts.{reply_text, command_text}
+use Rattle.kcr_history.specs.declared.commands.Act.{Act}
+use Rattle.kcr_history.specs.declared.commands.ReplyData.{ReplyData}
+use Rattle.kcr_history.specs.declared.commands.Command.{Command}
+use Rattle.kcr_history.specs.declared.commands.Entry.{Entry}
+use Rattle.kcr_history.specs.declared.row_types.KeyRow.{KeyRow}
+use Rattle.kcr_history.specs.declared.views.FullView.{FullView}
+use Rattle.kcr_store.specs.Register.{RegisterState, IsConsistent}
+use Rattle.kcr_store.specs.FullView.{AreRows}
+use Rattle.kcr_tables.specs.Refusals.{IsFault}
+use Rattle.kcr_tables.specs.PeopleLaws as people
+use Rattle.kcr_tables.specs.TrainingsLaws as trainings
+use Rattle.kcr_tables.specs.WithdrawalsLaws as withdrawals
+use Rattle.kcr_tables.specs.AppointmentsLaws as appointments
+use Rattle.kcr_tables.specs.BoxesLaws as boxes
+use Rattle.kcr_tables.specs.SafesLaws as safes
+use Rattle.kcr_tables.specs.BagsLaws as bags
+use Rattle.kcr_tables.specs.ItemsLaws as items
+use Rattle.kcr_tables.specs.CeremoniesLaws as ceremonies
+use Rattle.kcr_tables.specs.MarksLaws as marks
+use Rattle.kcr_tables.specs.StepsLaws as steps
+use Rattle.kcr_tables.specs.SeatingsLaws as seatings
+use Rattle.kcr_tables.specs.SheetLaws as sheet
+use Rattle.kcr_tables.specs.StaysLaws as stays
+use Rattle.kcr_tables.specs.ExceptionsLaws as exceptions
+use Rattle.kcr_rows.specs.Rows as stored
+use Rattle.kcr_verify.specs.FirstRow.{DiffersAt, IsFirstRow}
+use Rattle.kcr_verify.specs.declared.compare.RowDifference.{RowDifference}
+use Rattle.kcr_verify.specs.declared.compare.TableName.{TableName}
+use Rattle.kcr_verify.specs.declared.compare.TableName.TheVariants.{People, Trainings, Withdrawals, Appointments, Boxes}
+use Rattle.kcr_verify.specs.declared.compare.TableName.TheVariants.{Safes, Bags, Items, Ceremonies, Marks, Steps, Seatings}
+use Rattle.kcr_verify.specs.declared.compare.TableName.TheVariants.{Sheet, Stays, Exceptions, Keys}
+use Rattle.kcr_verify.specs.declared.verification.Difference.{Difference}
+use Rattle.kcr_verify.specs.declared.verification.Difference.TheVariants as Differences
+use Rattle.kcr_verify.specs.declared.verification.Verification.{Verification}
+use Rattle.kcr_verify.specs.declared.verification.Verification.TheVariants.{Verified, Differs}
+
+-- the table's name in the database
+abbrev pub name_of : TableName → List ℕ
+name_of People = codes "people"
+name_of Trainings = codes "trainings"
+name_of Withdrawals = codes "withdrawals"
+name_of Appointments = codes "appointments"
+name_of Boxes = codes "boxes"
+name_of Safes = codes "safes"
+name_of Bags = codes "bags"
+name_of Items = codes "items"
+name_of Ceremonies = codes "ceremonies"
+name_of Marks = codes "marks"
+name_of Steps = codes "steps"
+name_of Seatings = codes "seatings"
+name_of Sheet = codes "sheet"
+name_of Stays = codes "stays"
+name_of Exceptions = codes "exceptions"
+name_of Keys = codes "keys"
+
+-- the view has the machine's rows of this table, in the order in which a database keeps them; the accepted commands in
+-- any order
+abbrev pub HasRows : TableName → Tables → FullView → Type 0
+HasRows People m view = AreRows people.table m view.view.people.items
+HasRows Trainings m view = AreRows trainings.table m view.view.trainings.items
+HasRows Withdrawals m view = AreRows withdrawals.table m view.view.withdrawals.items
+HasRows Appointments m view = AreRows appointments.table m view.view.appointments.items
+HasRows Boxes m view = AreRows boxes.table m view.view.boxes.items
+HasRows Safes m view = AreRows safes.table m view.view.safes.items
+HasRows Bags m view = AreRows bags.table m view.view.bags.items
+HasRows Items m view = AreRows items.table m view.view.items.items
+HasRows Ceremonies m view = AreRows ceremonies.table m view.view.ceremonies.items
+HasRows Marks m view = AreRows marks.table m view.view.marks.items
+HasRows Steps m view = AreRows steps.table m view.view.steps.items
+HasRows Seatings m view = AreRows seatings.table m view.view.seatings.items
+HasRows Sheet m view = AreRows sheet.table m view.sheet.items
+HasRows Stays m view = AreRows stays.table m view.view.stays.items
+HasRows Exceptions m view = AreRows exceptions.table m view.view.exceptions.items
+HasRows Keys m view = IsPermutation m.keys view.keys.items
+
+-- a register whose history is known, and that no fault has broken
+pub record IsIntact {S : Type 0} (g : Ghosts S) (register : RegisterState S) : Type 0 where
+  pub founded : register.is_genuine ≡ true
+  pub in_doubt : register.in_doubt ≡ None
+  pub kept : IsConsistent g register
+
+-- what a call that only reads leaves of such a register, whatever it answers
+pub record OnlyLooks {A S : Type 0} (g : Ghosts S) (old new : RegisterState S) (result : Result A Refusal) : Type 0 where
+  pub founded : new.is_genuine ≡ true
+  pub in_doubt : IfOk result (λ _. new.in_doubt ≡ None)
+  pub same : new.accepted ≡ old.accepted
+  pub cause : IfErr result IsFault
+  pub clean : HasCleanDisk (state g new.conn) → HasCleanDisk (state g old.conn)
+  pub kept : IsConsistent g new
+
+-- COMMANDS IN ORDER
+
+-- the order of accepted commands by their numbers
+abbrev pub by_number : KeyRow → KeyRow → Ordering
+by_number a b = nat_cmp a.accepted b.accepted
+
+-- the rows of the accepted commands of a history, in that order
+abbrev pub rows_by_number : History → List KeyRow
+rows_by_number A = reverse (map key_row A)
+
+-- the same rows, in that order
+pub record AreInOrder (rows sorted : List KeyRow) : Type 0 where
+  pub same : IsPermutation rows sorted
+  pub order : IsSorted by_number sorted
+
+-- the first row in which accepted commands differ from the machine's, both in that order
+pub record IsFirstCommand (own rows : List KeyRow) (row : RowDifference) : Type 0 where
+  pub own_sorted : List KeyRow
+  pub sorted : List KeyRow
+  pub own_order : AreInOrder own own_sorted
+  pub order : AreInOrder rows sorted
+  pub differs : DiffersAt stored.key_row own_sorted sorted row
+
+-- each row has a key of its own, as it has in every database
+abbrev pub HaveOwnKeys : List KeyRow → Type 0
+HaveOwnKeys rows = (a b : KeyRow) → IsIn a rows → IsIn b rows → a.key ≡ b.key → a ≡ b
+
+-- WHAT BECOMES OF A ROW'S COMMAND
+
+-- the command has the key and the text of the row
+pub record IsToldBy (row : KeyRow) (command : Command) : Type 0 where
+  pub key : command.key ≡ row.key
+  pub text : command_text command.act ≡ row.command
+
+-- the text of the row is no command's
+abbrev pub TellsNothing : KeyRow → Type 0
+TellsNothing row = (act : Act) → IsAct act → command_text act ≢ row.command
+
+-- the machine accepts the row's command and goes from A to B; this is so of the text of its answer
+pub record TakesWith (Is : List ℕ → Type 0) (row : KeyRow) (A B : History) : Type 0 where
+  pub command : Command
+  pub told : IsToldBy row command
+  pub answer : ReplyData
+  pub step : machine A command (Accepts answer) B
+  pub reply : Is (reply_text answer)
+
+-- and answers as the row says, or otherwise
+abbrev pub Takes : KeyRow → History → History → Type 0
+Takes row A B = TakesWith (λ text. text ≡ row.reply) row A B
+
+abbrev pub AnswersElse : KeyRow → History → History → Type 0
+AnswersElse row A B = TakesWith (λ text. text ≢ row.reply) row A B
+
+-- the machine refuses the row's command
+pub record RefusesRow (row : KeyRow) (A : History) : Type 0 where
+  pub command : Command
+  pub told : IsToldBy row command
+  pub refusal : Refusal
+  pub step : machine A command (Refuses refusal) A
+
+-- the row's command is not taken as the row says, for this reason; the history was A and is B
+abbrev pub Declines : Difference → KeyRow → History → History → Type 0
+Declines (Differences.Command number) row A B = (number ≡ row.accepted) × TellsNothing row × (B ≡ A)
+Declines (Differences.Refused number) row A B = (number ≡ row.accepted) × RefusesRow row A × (B ≡ A)
+Declines (Differences.Reply number) row A B = (number ≡ row.accepted) × AnswersElse row A B
+Declines difference row A B = ⊥
+
+-- after A the row is not the next: its number is not, or it is and the row's command is not taken as the row says
+abbrev pub IsNotNext : Difference → KeyRow → History → History → Type 0
+IsNotNext (Differences.Number place) row A B = (place ≡ length A + 1) × (row.accepted ≢ place) × (B ≡ A)
+IsNotNext difference row A B = (row.accepted ≡ length A + 1) × Declines difference row A B
+
+-- rows in the order of their numbers: first those of the commands that were taken, then one that is not the next, and
+-- others
+pub record StopsIn (difference : Difference) (sorted : List KeyRow) (B : History) : Type 0 where
+  pub taken : History
+  pub row : KeyRow
+  pub later : List KeyRow
+  pub rows : sorted ≡ rows_by_number taken ++ row ∷ later
+  pub why : IsNotNext difference row taken B
+
+-- no table is such a row; and of rows that have keys of their own it stops at one
+abbrev pub StopsFor : Difference → List KeyRow → History → Type 0
+StopsFor (Differences.Rows table row) sorted B = ⊥
+StopsFor difference sorted B = HaveOwnKeys sorted → StopsIn difference sorted B
+
+-- WHAT IS SAID
+
+-- the order in which tables are compared
+abbrev pub compared : List TableName
+compared =
+    Keys ∷ People ∷ Trainings ∷ Withdrawals ∷ Appointments ∷ Boxes ∷ Safes ∷ Bags ∷ Items ∷ Ceremonies ∷ Marks ∷ Steps
+    ∷ Seatings ∷ Sheet ∷ Stays ∷ Exceptions ∷ []
+
+-- in this list the table is the first whose rows are not those of the history
+pub record IsFirstTable (tables_in : List TableName) (A : History) (view : FullView) (table : TableName) : Type 0 where
+  pub before : List TableName
+  pub behind : List TableName
+  pub listed : tables_in ≡ before ++ table ∷ behind
+  pub same : AllByRecursion (λ one. HasRows one (tables A) view) before
+  pub other : ¬ HasRows table (tables A) view
+
+-- of this table, this is the first row in which the view differs from the machine
+abbrev pub DiffersIn : TableName → Tables → FullView → RowDifference → Type 0
+DiffersIn People m view row = IsFirstRow people.table stored.person_row m view.view.people.items row
+DiffersIn Trainings m view row = IsFirstRow trainings.table stored.training_row m view.view.trainings.items row
+DiffersIn Withdrawals m view row = IsFirstRow withdrawals.table stored.withdrawal_row m view.view.withdrawals.items row
+DiffersIn Appointments m view row =
+    IsFirstRow appointments.table stored.appointment_row m view.view.appointments.items row
+DiffersIn Boxes m view row = IsFirstRow boxes.table stored.box_row m view.view.boxes.items row
+DiffersIn Safes m view row = IsFirstRow safes.table stored.safe_row m view.view.safes.items row
+DiffersIn Bags m view row = IsFirstRow bags.table stored.bag_row m view.view.bags.items row
+DiffersIn Items m view row = IsFirstRow items.table stored.item_row m view.view.items.items row
+DiffersIn Ceremonies m view row = IsFirstRow ceremonies.table stored.ceremony_row m view.view.ceremonies.items row
+DiffersIn Marks m view row = IsFirstRow marks.table stored.mark_row m view.view.marks.items row
+DiffersIn Steps m view row = IsFirstRow steps.table stored.step_row m view.view.steps.items row
+DiffersIn Seatings m view row = IsFirstRow seatings.table stored.seating_row m view.view.seatings.items row
+DiffersIn Sheet m view row = IsFirstRow sheet.table stored.sheet_row m view.sheet.items row
+DiffersIn Stays m view row = IsFirstRow stays.table stored.stay_row m view.view.stays.items row
+DiffersIn Exceptions m view row = IsFirstRow exceptions.table stored.exception_row m view.view.exceptions.items row
+DiffersIn Keys m view row = IsFirstCommand m.keys view.keys.items row
+
+-- the view has the machine's rows of this table; or it has not, and this is the first row that differs
+abbrev pub IsCompared : TableName → Tables → FullView → Option RowDifference → Type 0
+IsCompared table m view found =
+    MatchOption found (HasRows table m view) (λ row. (¬ HasRows table m view) × DiffersIn table m view row)
+
+-- in this list the table is the first whose rows are not those of the history, and this is its first row that differs
+abbrev pub IsFirst : List TableName → History → FullView → TableName × RowDifference → Type 0
+IsFirst tables_in A view it = IsFirstTable tables_in A view it.0 × DiffersIn it.0 (tables A) view it.1
+
+-- the history has all commands of the view
+abbrev pub HasCommands : History → FullView → Type 0
+HasCommands A view = AreInOrder view.keys.items (rows_by_number A)
+
+-- the first thing that is not as the commands of the view say, if they led to the history B
+abbrev pub IsDifference : FullView → History → Difference → Type 0
+IsDifference view B (Differences.Rows table row) =
+    IsFirst compared B view (table, row) × (HaveOwnKeys view.keys.items → HasCommands B view)
+IsDifference view B difference =
+    HaveOwnKeys view.keys.items
+    → (sorted : List KeyRow) × AreInOrder view.keys.items sorted × StopsIn difference sorted B
+
+-- what a verification says of the rows of the view, if their commands led to the history A: that they are its
+-- tables, or what the first difference is
+abbrev pub Says : FullView → History → Verification → Type 0
+Says view A (Verified count) = ((table : TableName) → HasRows table (tables A) view) × (length A ≡ count)
+Says view A (Differs difference) = IsDifference view A difference
+
+-- it is so, whoever wrote the rows, and the machine leads to the history
+pub record IsVerification (view : FullView) (A : History) (told : Verification) : Type 0 where
+  pub of_machine : IsOfMachine A
+  pub says : Says view A told
+
+-- OTHER SEATINGS
+
+-- the entry was accepted after A with people who are not the first seating
+abbrev pub IsOther : History → Entry → Type 0
+IsOther A entry = ¬ IsSeatedFirst A (seat_request A entry.command.act) entry.answer.seating
+
+-- of the commands of A whose recorded seating is not the first one, the first has this number
+pub record IsFirstOther (A : History) (number : ℕ) : Type 0 where
+  pub later : History
+  pub entry : Entry
+  pub before : History
+  pub whole : A ≡ later ++ entry ∷ before
+  pub counted : number ≡ length (entry ∷ before)
+  pub first : HasFirstSeatings before
+  pub other : IsOther before entry
+
+-- the entry's command was given to a register of A: it has the entry now, or the reply differs, since another seating
+-- comes before the recorded one
+abbrev pub HasNext : History → Entry → History → Option Difference → Type 0
+HasNext A entry A' None = A' ≡ entry ∷ A
+HasNext A entry A' (Some difference) = (difference ≡ Differences.Reply entry.answer.accepted) × IsOther A entry
+
+-- so with all commands of A, which were given to an empty register
+abbrev pub HasAll : History → History → Option Difference → Type 0
+HasAll A A' None = A' ≡ A
+HasAll A A' (Some difference) = (number : ℕ) × (difference ≡ Differences.Reply number) × IsFirstOther A number
+
+-- what is said of a register's tables: that they are those of its own commands, which is so if the machine leads to
+-- its history; or that the reply of the first command with another seating differs
+abbrev pub IsToldOf : History → Verification → Type 0
+IsToldOf A told =
+    ((told ≡ Verified (length A)) × IsOfMachine A)
+    ⊎ ((number : ℕ) × (told ≡ Differs (Differences.Reply number)) × IsFirstOther A number)
