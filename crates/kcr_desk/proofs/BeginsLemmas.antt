@@ -1,15 +1,15 @@
--- What was written after a fault is a beginning of what the whole input asks for.
+-- What was written after a fault is a prefix of what the whole input asks for.
 use Rattle.std.proofs.Common.{◌≡◌, ℕ, List, [], ◌∷◌, ◌++◌, refl, sym, ap, ◌∙◌, subst, append_assoc, inl, inr}
 use Rattle.std.specs.Prelude.{true, MatchBool, Ok}
 use Rattle.std.specs.List.{flat_map}
 use Rattle.std.proofs.lemmas.List.{append-nil}
 use Rattle.httparse.specs.Grammar.{RequestHead}
-use Rattle.kcr_desk.specs.declared.head.Plan.{Plan}
+use Rattle.kcr_desk.specs.declared.head.Framing.{Framing}
 use Rattle.kcr_base.specs.declared.refusal.Refusal.TheVariants.{Cut}
-use Rattle.kcr_desk.specs.Plans.{is_head}
-use Rattle.kcr_desk.specs.Stream.{Ending, quiet, refused, cut_off, IsCut, plan_of}
-use Rattle.kcr_desk.specs.Texts.{answer_text, continue_text, told_of}
-use Rattle.kcr_desk.specs.Run.{Exchange, exchange_text, messages_of, ending_text, output, Begins, IsNext, nothing, continues, ends}
+use Rattle.kcr_desk.specs.Framing.{is_head}
+use Rattle.kcr_desk.specs.Stream.{Ending, clean_end, refused, cut_off, AreMessages, framing_of}
+use Rattle.kcr_desk.specs.Texts.{answer_text, continue_text, fault_response}
+use Rattle.kcr_desk.specs.Run.{Exchange, exchange_text, messages_of, ending_text, output, Begins, IsNextOutput, nothing, continues, ends}
 use Rattle.kcr_desk.proofs.CutLemmas.{match_both, EndsBy, end_by, same_plan, message_unique, message_not_end, end_unique}
 
 -- front begins text
@@ -22,15 +22,15 @@ starts_after x a b c d s =
     let e : a ++ (b ++ s.0) ≡ c ++ d = simp append_assoc at s.1 in (s.0, simp append_assoc (ap (λ (t : List ℕ). x ++ t) e))
 
 -- what an end answers to a head that is planned so begins with its continuation
-continue_ends : (h : RequestHead) (r : List ℕ) (plan : Plan) (e : Ending) → plan_of h ≡ Ok plan → EndsBy h r e
+continue_ends : (h : RequestHead) (r : List ℕ) (plan : Framing) (e : Ending) → framing_of h ≡ Ok plan → EndsBy h r e
     → Starts (continue_text plan) (ending_text e)
-continue_ends h r plan quiet why n = absurd n
-continue_ends h r plan (refused bad bare) why n = cc (why, n.0)
-continue_ends h r plan (cut_off p bare) why n =
+continue_ends h r plan clean_end why n = absurd n
+continue_ends h r plan (refused bad head_only) why n = cc (why, n.0)
+continue_ends h r plan (cut_off p head_only) why n =
     let same : plan ≡ p = cc (why, n.0) in
-    let rest = answer_text bare true (told_of Cut) in (rest, ap (λ t. continue_text t ++ rest) same)
+    let rest = answer_text head_only true (fault_response Cut) in (rest, ap (λ t. continue_text t ++ rest) same)
 
-next_starts : (b next : List ℕ) (zs : List Exchange) (e : Ending) → IsNext b next → IsCut b (messages_of zs) e → Starts next (output zs e)
+next_starts : (b next : List ℕ) (zs : List Exchange) (e : Ending) → IsNextOutput b next → AreMessages b (messages_of zs) e → Starts next (output zs e)
 next_starts b next zs e nothing cut = (output zs e, refl)
 next_starts b next [] e (continues h r has why) cut = continue_ends h r _ e why (end_by b h r e has cut)
 next_starts b next (z ∷ zs) e (continues {plan = p} h r has why) cut =
@@ -46,11 +46,11 @@ none_left (z ∷ zs) e = cc
 
 -- after the same first messages, whatever the others are told
 pub begins_output : (b next : List ℕ) (xs zs : List Exchange) (e : Ending) → Begins b (messages_of xs) next
-    → IsCut b (messages_of (xs ++ zs)) e → Starts (flat_map exchange_text xs ++ next) (output (xs ++ zs) e)
+    → AreMessages b (messages_of (xs ++ zs)) e → Starts (flat_map exchange_text xs ++ next) (output (xs ++ zs) e)
 begins_output b next [] zs e begins cut = next_starts b next zs e begins cut
 begins_output b next (x ∷ xs) zs e begins cut =
     let same = message_unique b x.message x.message begins.0 cut.0 begins.1 cut.1 in
-    let P : List ℕ → Type 0 = λ t. MatchBool x.message.plan.closes ((messages_of (xs ++ zs) ≡ []) × (e ≡ quiet)) (IsCut t (messages_of (xs ++ zs)) e) in
+    let P : List ℕ → Type 0 = λ t. MatchBool x.message.plan.closes ((messages_of (xs ++ zs) ≡ []) × (e ≡ clean_end)) (AreMessages t (messages_of (xs ++ zs)) e) in
     let there : Starts (flat_map exchange_text xs ++ next) (output (xs ++ zs) e) =
     elim (match_both x.message.plan.closes begins.2 (subst P (sym same.1) cut.2)) [
       | inl p ↦ (output (xs ++ zs) e, rw (none_left xs p.0.0, p.0.1) refl)

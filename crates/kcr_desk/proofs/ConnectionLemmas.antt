@@ -2,16 +2,16 @@
 use Rattle.std.proofs.Common.{ℕ, ◌+◌, List, [], ◌∷◌, ◌++◌, refl, sym, subst, arith, length-append, ◌∙◌}
 use Rattle.std.specs.Prelude.{Option, Result, Ok, Err}
 use Rattle.sqlite.specs.Store.{Ghosts}
-use Rattle.kcr_store.specs.Register.{Seen}
-use Rattle.kcr_desk.specs.Answers.{Standing, AreOfMachine, AreRegisters, IsAnswer, IsReply, standing}
+use Rattle.kcr_store.specs.Register.{RegisterState}
+use Rattle.kcr_desk.specs.Answers.{RegisterHistory, AreOfMachine, AreRegisters, IsAnswer, IsReply, history_of}
 use Rattle.kcr_desk.specs.Connections.{Connects, Ends, Leads, Runs}
-use Rattle.kcr_desk.specs.Run.{Asked, Exchange, Run}
-use Rattle.kcr_desk.specs.Texts.{Told}
+use Rattle.kcr_desk.specs.Run.{Request, Exchange, Run}
+use Rattle.kcr_desk.specs.Texts.{ResponseValue}
 use Rattle.kcr_desk.specs.declared.fault.DeskFault.{DeskFault}
 use Rattle.kcr_desk.specs.declared.stream.Served.{Served}
 use Rattle.kcr_desk.proofs.RegisterLemmas.{run_keeps, run_leads}
 
-module _ {S : Type 0} (step : S → Asked → Told → S → Type 0) where
+module _ {S : Type 0} (step : S → Request → ResponseValue → S → Type 0) where
   runs_both : (a b c : S) (xs ys : List (List Exchange)) → Runs step a xs b → Runs step b ys c → Runs step a (xs ++ ys) c
   runs_both a b c [] ys first later = subst (λ (s : S). Runs step s ys c) (sym first) later
   runs_both a b c (x ∷ xs) ys first later = (first.0, first.1, runs_both first.0 b c xs ys first.2 later)
@@ -33,7 +33,7 @@ module _ {S : Type 0} (step : S → Asked → Told → S → Type 0) where
 
 module _ {S : Type 0} (g : Ghosts S) where
   -- no connection was served
-  pub connects_none : (a : Seen S) → Connects g a a 0
+  pub connects_none : (a : RegisterState S) → Connects g a a 0
   connects_none a = record {
     answers = λ founded clean. ([], refl, refl);
     replies = ([], refl, refl);
@@ -42,32 +42,32 @@ module _ {S : Type 0} (g : Ghosts S) where
   }
 
   -- one was served that was not read
-  pub connects_unread : (a : Seen S) → Connects g a a 1
+  pub connects_unread : (a : RegisterState S) → Connects g a a 1
   connects_unread a = record {
-    answers = λ founded clean. leads_unread IsAnswer (standing a);
-    replies = leads_unread IsReply (standing a);
+    answers = λ founded clean. leads_unread IsAnswer (history_of a);
+    replies = leads_unread IsReply (history_of a);
     founded = refl;
     clean = λ clean. clean;
   }
 
   -- some were served, and then others
-  pub connects_both : (a b c : Seen S) (m n : ℕ) → Connects g a b m → Connects g b c n → Connects g a c (m + n)
+  pub connects_both : (a b c : RegisterState S) (m n : ℕ) → Connects g a b m → Connects g b c n → Connects g a c (m + n)
   connects_both a b c m n first later = record {
-    answers = λ founded clean. leads_both IsAnswer (standing a) (standing b) (standing c) m n (first.answers founded (later.clean clean))
+    answers = λ founded clean. leads_both IsAnswer (history_of a) (history_of b) (history_of c) m n (first.answers founded (later.clean clean))
         (later.answers (first.founded ∙ founded) clean);
-    replies = leads_both IsReply (standing a) (standing b) (standing c) m n first.replies later.replies;
+    replies = leads_both IsReply (history_of a) (history_of b) (history_of c) m n first.replies later.replies;
     founded = later.founded ∙ first.founded;
     clean = λ clean. first.clean (later.clean clean);
   }
 
 -- what each run keeps, connections keep
-module _ (P : Standing → Type 0) (keeps : (before : Standing) (xs : List Exchange) (after : Standing) → P before → Run IsAnswer before xs after → P after) where
-  runs_keep : (before : Standing) (connections : List (List Exchange)) (after : Standing) → P before → Runs IsAnswer before connections after → P after
+module _ (P : RegisterHistory → Type 0) (keeps : (before : RegisterHistory) (xs : List Exchange) (after : RegisterHistory) → P before → Run IsAnswer before xs after → P after) where
+  runs_keep : (before : RegisterHistory) (connections : List (List Exchange)) (after : RegisterHistory) → P before → Runs IsAnswer before connections after → P after
   runs_keep before [] after are runs = subst P runs are
   runs_keep before (xs ∷ connections) after are runs = runs_keep runs.0 connections after (keeps before xs runs.0 are runs.1) runs.2
 
-pub leads_keep : (before after : Standing) (count : ℕ) → AreRegisters before → Leads IsAnswer before after count → AreRegisters after
+pub leads_keep : (before after : RegisterHistory) (count : ℕ) → AreRegisters before → Leads IsAnswer before after count → AreRegisters after
 leads_keep before after count are leads = runs_keep AreRegisters run_keeps before leads.0 after are leads.2
 
-pub leads_follow : (before after : Standing) (count : ℕ) → AreOfMachine before → Leads IsAnswer before after count → AreOfMachine after
+pub leads_follow : (before after : RegisterHistory) (count : ℕ) → AreOfMachine before → Leads IsAnswer before after count → AreOfMachine after
 leads_follow before after count are leads = runs_keep AreOfMachine run_leads before leads.0 after are leads.2

@@ -4,8 +4,8 @@ use Rattle.std.specs.Prelude.{Bool, true, false, MatchBool, Ok, Err}
 use Rattle.std.proofs.Math.Seq.{take-append_seam, drop-append_seam}
 use Rattle.httparse.specs.Grammar.{RequestHead}
 use Rattle.httparse.proofs.GrammarLemmas.{request_unique}
-use Rattle.kcr_desk.specs.Plans.{is_head}
-use Rattle.kcr_desk.specs.Stream.{HasHead, plan_of, Message, IsMessage, IsEnd, Ending, quiet, refused, cut_off, is_quiet, no_head, fails, is_cut, IsCut}
+use Rattle.kcr_desk.specs.Framing.{is_head}
+use Rattle.kcr_desk.specs.Stream.{HasHead, framing_of, Message, IsMessage, IsEnd, Ending, clean_end, refused, cut_off, is_blank_rest, no_head, fails, is_cut, AreMessages}
 use Rattle.kcr_desk.proofs.HeadLemmas.{head_not_quiet}
 
 same_front : (a b x y : List ℕ) → length a ≡ length b → a ++ x ≡ b ++ y → (a ≡ b) × (x ≡ y)
@@ -18,30 +18,30 @@ pub head_unique : (b : List ℕ) (h k : RequestHead) (r q : List ℕ) → HasHea
 head_unique b h k r q x y = request_unique b h k r q x.reads y.reads
 
 -- two heads of the same bytes ask for the same
-pub same_plan : (b : List ℕ) (h k : RequestHead) (r q : List ℕ) → HasHead b h r → HasHead b k q → plan_of h ≡ plan_of k
-same_plan b h k r q x y = ap plan_of (head_unique b h k r q x y).0
+pub same_plan : (b : List ℕ) (h k : RequestHead) (r q : List ℕ) → HasHead b h r → HasHead b k q → framing_of h ≡ framing_of k
+same_plan b h k r q x y = ap framing_of (head_unique b h k r q x y).0
 
 pub message_unique : (b : List ℕ) (m n : Message) (r q : List ℕ) → IsMessage b m r → IsMessage b n q → (m ≡ n) × (r ≡ q)
 message_unique b m n r q x y =
     let heads = head_unique b m.head n.head (m.body ++ r) (n.body ++ q) x.head y.head in
-    let plans : m.plan ≡ n.plan = cc (ap plan_of heads.0, x.plan, y.plan) in
+    let plans : m.plan ≡ n.plan = cc (ap framing_of heads.0, x.plan, y.plan) in
     let bodies = same_front m.body n.body r q (x.body ∙ ap (λ p. p.length) plans ∙ sym y.body) heads.1 in
     (λ i. record { head = heads.0 i; plan = plans i; body = bodies.0 i }, bodies.1)
 
--- what an end is, where the bytes begin with this head and then rest
+-- what an end is, if the bytes begin with this head and then rest
 abbrev pub EndsBy : RequestHead → List ℕ → Ending → Type 0
-EndsBy h rest quiet = ⊥
-EndsBy h rest (refused r bare) = (plan_of h ≡ Err r) × (is_head h.method ≡ bare)
-EndsBy h rest (cut_off plan bare) = (plan_of h ≡ Ok plan) × (is_head h.method ≡ bare) × (length rest < plan.length)
+EndsBy h rest clean_end = ⊥
+EndsBy h rest (refused r head_only) = (framing_of h ≡ Err r) × (is_head h.method ≡ head_only)
+EndsBy h rest (cut_off plan head_only) = (framing_of h ≡ Ok plan) × (is_head h.method ≡ head_only) × (length rest < plan.length)
 
 pub end_by : (b : List ℕ) (h : RequestHead) (rest : List ℕ) (e : Ending) → HasHead b h rest → IsEnd b e → EndsBy h rest e
-end_by b h rest e has (is_quiet q) = head_not_quiet b h rest has.reads q
+end_by b h rest e has (is_blank_rest q) = head_not_quiet b h rest has.reads q
 end_by b h rest e has (no_head none loud) = absurd (none h rest has)
 end_by b h rest e has (fails k q has' why) =
-    let heads = head_unique b h k rest q has has' in (ap plan_of heads.0 ∙ why, ap (λ t. is_head t.method) heads.0)
+    let heads = head_unique b h k rest q has has' in (ap framing_of heads.0 ∙ why, ap (λ t. is_head t.method) heads.0)
 end_by b h rest e has (is_cut k q has' why short) =
     let heads = head_unique b h k rest q has has' in
-    (ap plan_of heads.0 ∙ why, ap (λ t. is_head t.method) heads.0, rw heads.1 short)
+    (ap framing_of heads.0 ∙ why, ap (λ t. is_head t.method) heads.0, rw heads.1 short)
 
 pub message_not_end : (b : List ℕ) (m : Message) (r : List ℕ) (e : Ending) → IsMessage b m r → IsEnd b e → ⊥
 message_not_end b m r e x end' =
@@ -58,9 +58,9 @@ end_unique b e f (fails h rest has why) y = same_ends h rest e f (why, refl) (en
 end_unique b e f (is_cut h rest has why short) y = same_ends h rest e f (why, refl, short) (end_by b h rest f has y)
 end_unique b e f x (fails h rest has why) = same_ends h rest e f (end_by b h rest e has x) (why, refl)
 end_unique b e f x (is_cut h rest has why short) = same_ends h rest e f (end_by b h rest e has x) (why, refl, short)
-end_unique b e f (is_quiet p) (is_quiet q) = refl
-end_unique b e f (is_quiet p) (no_head none loud) = absurd (loud p)
-end_unique b e f (no_head none loud) (is_quiet q) = absurd (loud q)
+end_unique b e f (is_blank_rest p) (is_blank_rest q) = refl
+end_unique b e f (is_blank_rest p) (no_head none loud) = absurd (loud p)
+end_unique b e f (no_head none loud) (is_blank_rest q) = absurd (loud q)
 end_unique b e f (no_head none loud) (no_head x y) = refl
 
 -- two choices by one test
@@ -69,13 +69,13 @@ match_both true p q = inl (p, q)
 match_both false p q = inr (p, q)
 
 -- two cuts of one input are one
-pub cut_unique : (b : List ℕ) (ms ns : List Message) (e f : Ending) → IsCut b ms e → IsCut b ns f → (ms ≡ ns) × (e ≡ f)
+pub cut_unique : (b : List ℕ) (ms ns : List Message) (e f : Ending) → AreMessages b ms e → AreMessages b ns f → (ms ≡ ns) × (e ≡ f)
 cut_unique b [] [] e f x y = (refl, end_unique b e f x y)
 cut_unique b [] (n ∷ ns) e f x y = absurd (message_not_end b n y.0 e y.1 x)
 cut_unique b (m ∷ ms) [] e f x y = absurd (message_not_end b m x.0 f x.1 y)
 cut_unique b (m ∷ ms) (n ∷ ns) e f x y =
     let same = message_unique b m n x.0 y.0 x.1 y.1 in
-    let P : Message → List ℕ → Type 0 = λ t rest. MatchBool t.plan.closes ((ns ≡ []) × (f ≡ quiet)) (IsCut rest ns f) in
+    let P : Message → List ℕ → Type 0 = λ t rest. MatchBool t.plan.closes ((ns ≡ []) × (f ≡ clean_end)) (AreMessages rest ns f) in
     let other : P m x.0 = subst (λ t. P t x.0) (sym same.0) (subst (P n) (sym same.1) y.2) in
     let rest : (ms ≡ ns) × (e ≡ f) = elim (match_both m.plan.closes x.2 other) [
       | inl p ↦ (p.0.0 ∙ sym p.1.0, p.0.1 ∙ sym p.1.1)

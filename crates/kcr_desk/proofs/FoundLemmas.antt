@@ -7,10 +7,10 @@ use Rattle.httparse.specs.Grammar.{RequestHead}
 use Rattle.httparse.specs.Spans.{span_bytes}
 use Rattle.httparse.specs.declared.spans.RequestSpans.{RequestSpans}
 use Rattle.kcr_base.specs.declared.refusal.Refusal.{Refusal}
-use Rattle.kcr_desk.specs.Plans.{is_head}
-use Rattle.kcr_desk.specs.Stream.{Ending, plan_of, IsEnd, refused, fails}
+use Rattle.kcr_desk.specs.Framing.{is_head}
+use Rattle.kcr_desk.specs.Stream.{Ending, framing_of, IsEnd, refused, fails}
 use Rattle.kcr_desk.specs.Heads.{IsHeadAt, IsWhole}
-use Rattle.kcr_desk.specs.Found.{EndsAs}
+use Rattle.kcr_desk.specs.NextHead.{EndsAs}
 
 -- what is known of the stream: the buffer, and then the bytes that are unread
 pub known_split : (buf : List ℕ) (unread : Option (List ℕ)) (p : List ℕ) → prepend_known buf unread ≡ Some p
@@ -22,7 +22,7 @@ known_split buf (Some u) p e = (u, refl, cc)
 pub ends_all : (buf : List ℕ) (unread : Option (List ℕ)) (e : Ending) → ((u : List ℕ) → IsEnd (buf ++ u) e) → EndsAs (prepend_known buf unread) e
 ends_all buf unread e end p known = let k = known_split buf unread p known in subst (λ t. IsEnd t e) k.2 (end k.0)
 
--- an end of the buffer, where nothing is unread
+-- an end of the buffer, if nothing is unread
 pub ends_here : (buf : List ℕ) (unread : Option (List ℕ)) (e : Ending) → IsAtEnd unread → IsEnd buf e → EndsAs (prepend_known buf unread) e
 ends_here buf None e end is p known = cc
 ends_here buf (Some u) e end is p known =
@@ -34,6 +34,6 @@ pub head_here : (buf : List ℕ) (spans : RequestSpans) (h : RequestHead) → Is
 head_here buf spans h whole = subst (λ t. IsHeadAt t spans h) (append-nil buf) (whole.at [])
 
 pub failed_ends : (buf : List ℕ) (unread : Option (List ℕ)) (spans : RequestSpans) (h : RequestHead) (r : Refusal)
-    → IsWhole buf spans h → plan_of h ≡ Err r → EndsAs (prepend_known buf unread) (refused r (is_head (span_bytes buf spans.method)))
+    → IsWhole buf spans h → framing_of h ≡ Err r → EndsAs (prepend_known buf unread) (refused r (is_head (span_bytes buf spans.method)))
 failed_ends buf unread spans h r whole bad =
     rw (head_here buf spans h whole).method (ends_all buf unread _ (λ u. fails h _ (whole.at u).head bad))

@@ -13,13 +13,13 @@ use Rattle.httparse.specs.declared.spans.HeaderSpan.{HeaderSpan}
 use Rattle.httparse.specs.declared.spans.Span.{Span}
 use Rattle.httparse.proofs.GrammarLemmas.{ReadsRequest-append, print_request-append}
 use Rattle.httparse.proofs.PieceLemmas.{Stops_token}
-use Rattle.kcr_desk.specs.Stream.{HasNoHead, IsQuiet}
+use Rattle.kcr_desk.specs.Stream.{HasNoHead, IsBlankRest}
 use Rattle.kcr_desk.specs.Heads.{IsWhole, IsHopeless}
 use Rattle.kcr_desk.proofs.QuietLemmas.{blank_not_more}
 
 -- ---- a head is no quiet rest
 
-pub head_not_quiet : (bytes : List ℕ) (h : RequestHead) (rest : List ℕ) → ReadsRequest bytes h rest → IsQuiet bytes → ⊥
+pub head_not_quiet : (bytes : List ℕ) (h : RequestHead) (rest : List ℕ) → ReadsRequest bytes h rest → IsBlankRest bytes → ⊥
 head_not_quiet bytes h rest reads quiet =
     blank_not_more quiet.ends h.blank _ (Stops_token h.method _ reads.0.method.0 reads.0.method.1)
     (sym quiet.is ∙ reads.1 ∙ print_request-append h rest)
@@ -81,14 +81,14 @@ short_front bytes n h rest reads le =
 pub none_is_no_head : (buf : List ℕ) → HasNoRequest (take 8192 buf) → HasNoHead buf
 none_is_no_head buf none h rest has = none h _ (short_front buf 8192 h rest has.reads has.short)
 
-quiet_alone : (buf more : List ℕ) → 8192 ≤ length buf → IsQuiet (buf ++ more) → IsQuiet buf
+quiet_alone : (buf more : List ℕ) → 8192 ≤ length buf → IsBlankRest (buf ++ more) → IsBlankRest buf
 quiet_alone buf more long quiet =
     let short : length (buf ++ more) ≤ 8192 = quiet.short in
     let none : length more ≡ 0 = omega (arith, length-append buf more, short) in
     let e : buf ++ more ≡ buf = ap (λ (t : List ℕ). buf ++ t) (nil_from_length more none) ∙ append-nil buf in
-    subst IsQuiet e quiet
+    subst IsBlankRest e quiet
 
-pub full_hopeless : (buf : List ℕ) → HasNoRequest (take 8192 buf) → 8192 ≤ length buf → ¬ (IsQuiet buf) → IsHopeless buf
+pub full_hopeless : (buf : List ℕ) → HasNoRequest (take 8192 buf) → 8192 ≤ length buf → ¬ (IsBlankRest buf) → IsHopeless buf
 full_hopeless buf none long loud = record {
   no_head = λ more. none_is_no_head (buf ++ more) (rw (take-append-le 8192 buf more long) none);
   not_quiet = λ more quiet. loud (quiet_alone buf more long quiet);

@@ -16,3 +16,5 @@ pub mod RegisterLemmas
 pub mod ReportLemmas
 pub mod PlainLemmas
 pub mod ConnectionLemmas
+pub mod Posted
+pub mod Exports

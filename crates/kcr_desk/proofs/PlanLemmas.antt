@@ -4,9 +4,9 @@ use Rattle.std.proofs.Common.{◌≡◌, ℕ, List, refl, arith}
 use Rattle.std.specs.Prelude.{Bool, not, Option, Err, codes, if◌then◌else◌}
 use Rattle.kcr_base.specs.declared.refusal.Refusal.TheVariants.{Host}
 use Rattle.kcr_desk.specs.Members.{some_has_member}
-use Rattle.kcr_desk.specs.Plans.{planned, measured, is_hosted, values_of, length_in, bounded_length, is_empty}
+use Rattle.kcr_desk.specs.Framing.{planned, measured, is_hosted, values_of, length_in, bounded_length, is_empty}
 
--- a length that is too large is so too where it is counted as one more than the largest
+-- a length that is too large is so too if it is counted as one more than the largest
 bounded_alike : (minor : ℕ) (coded closing expecting : Bool) (n : Option ℕ)
     → measured minor coded closing expecting n ≡ measured minor coded closing expecting (bounded_length n)
 bounded_alike minor coded closing expecting n = grind (arith, nat_tests)

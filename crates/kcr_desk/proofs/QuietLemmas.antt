@@ -5,7 +5,7 @@ use Rattle.std.specs.List.{list_all}
 use Rattle.std.proofs.lemmas.List.Folds.{list_all-append}
 use Rattle.httparse.specs.Grammar.{LineEnd, crlf, lf, print_blank}
 use Rattle.httparse.specs.Pieces.{Stops, is_newline}
-use Rattle.kcr_desk.specs.Quiet.{blank_from}
+use Rattle.kcr_desk.specs.BlankRest.{blank_from}
 
 -- the bytes, with the CR that stands before them
 abbrev with_cr : Bool → List ℕ → List ℕ

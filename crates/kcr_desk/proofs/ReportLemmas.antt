@@ -1,21 +1,24 @@
 -- What a report that was printed into memory is told.
-use Rattle.std.proofs.Common.{◌≡◌, ℕ, List, [], refl, ap, inl}
-use Rattle.std.specs.Prelude.{◌↔◌, ⊤, Option, Some, Result, Ok, Err, IfErr, OnOk, IsTrue}
+use Rattle.std.proofs.Common.{◌≡◌, ℕ, List, [], refl, ap, inl, inr}
+use Rattle.std.specs.Prelude.{◌↔◌, ◌⊎◌, ⊤, Option, Some, Result, Ok, Err, IfErr, OnOk, IsTrue}
 use Rattle.sqlite.specs.Store.{Ghosts}
 use Rattle.kcr_base.specs.declared.counted.Counted.{Counted}
 use Rattle.kcr_base.specs.declared.refusal.Refusal.{Refusal}
 use Rattle.kcr_base.specs.declared.refusal.Refusal.TheVariants as Refusals
+use Rattle.kcr_forms.specs.Values.{AreValues}
 use Rattle.kcr_history.specs.Ceremonies.{is_ceremony}
 use Rattle.kcr_history.specs.History.{History}
-use Rattle.kcr_store.specs.Register.{Seen}
-use Rattle.kcr_store.specs.Calls.{Looks, OfHistory}
+use Rattle.kcr_tables.specs.Refusals.{IsFault}
+use Rattle.kcr_store.specs.Register.{RegisterState}
+use Rattle.kcr_store.specs.Calls.{ReadsHistory, OfHistory}
 use Rattle.kcr_store.specs.Rows.{IsNotPlanned, MayHaveNoRow, NamesCeremony}
 use Rattle.kcr_print.specs.Reports.{IsPrinted, Prints, Stops}
+use Rattle.kcr_print.specs.Requests.{Exports}
 use Rattle.kcr_print.specs.declared.fault.PrintFault.{PrintFault}
 use Rattle.kcr_print.specs.declared.fault.PrintFault.TheVariants.{Refused, Write}
-use Rattle.kcr_desk.specs.declared.reply.Kind.{Kind}
-use Rattle.kcr_desk.specs.Answers.{IsReported, MayBeReported, outcome_of, told_report, TellsOrMemory, AnswersReading}
-use Rattle.kcr_desk.specs.Texts.{Told}
+use Rattle.kcr_desk.specs.declared.response.MediaType.{MediaType}
+use Rattle.kcr_desk.specs.Answers.{IsReported, IsText, IsFeed, feed, MayBeReported, MayBeText, outcome_of, report_response, RespondsOrMemory, AnswersReading}
+use Rattle.kcr_desk.specs.Texts.{ResponseValue}
 use Rattle.kcr_desk.proofs.AnswerLemmas.{reading_answered}
 
 disk_outcome : (outcome : Result ⊤ PrintFault) (text : List ℕ)
@@ -31,33 +34,74 @@ reported report ceremony A (Ok done) text printed planned = (planned, printed)
 reported report ceremony A (Err (Refused refusal)) text printed planned = printed.1
 reported report ceremony A (Err Write) text printed planned = inl (inl refl)
 
--- a report that is not whole is refused as it may be
-may_have_none : (ceremony : ℕ) (outcome : Result ⊤ PrintFault) (text : List ℕ) → IfErr outcome (Stops (NamesCeremony ceremony))
-    → MayBeReported ceremony (outcome_of outcome text)
-may_have_none ceremony (Ok done) text h = tt
-may_have_none ceremony (Err (Refused refusal)) text h = h
-may_have_none ceremony (Err Write) text h = inl (inl refl)
+-- what is denied nothing fails by a fault alone
+undenied : (r : Refusal) → IsFault r ⊎ ⊥ → IsFault r
+undenied r (inl fault) = fault
+undenied r (inr never) = absurd never
 
-pub report_answered : {S W : Type 0} (g : Ghosts S) {contents : W → Option (List ℕ)} {before after : Seen S} {x y : Counted W} {outcome : Result ⊤ PrintFault}
-    {D : History → Refusal → Type 0} {t : History → List ℕ} (target : List ℕ) (told : Told) (kind : Kind)
-    (report : History → ℕ → List ℕ) (ceremony : ℕ) (text : List ℕ) → Prints g contents before after x y outcome D (NamesCeremony ceremony) t
-    → OfHistory g before after (λ A. IsPrinted (IsNotPlanned A ceremony) (report A ceremony) outcome (Some []) (Some text))
-    → OfHistory g before after (λ A. OnOk outcome (IsTrue (is_ceremony A ceremony)))
-    → TellsOrMemory (told_report kind target) target (outcome_of outcome text) told
-    → AnswersReading g before target told after (told_report kind target) (MayBeReported ceremony) (IsReported report ceremony)
-report_answered g {before = before} {after} {outcome = outcome} target told kind report ceremony text prints printed planned =
-    let disk = disk_outcome outcome text in
-    let leaves = prints.leaves in
-    let looks : Looks g (MayHaveNoRow ceremony) before after (outcome_of outcome text) = record {
-      broken = λ some. let b = prints.broken some in (ap (λ o. outcome_of o text) b.0, b.1);
-      cause = λ none. may_have_none ceremony outcome text (prints.cause none);
-      breaks = λ none. let b = leaves.breaks none in ((λ some. disk.0 (b.0 some)), (λ is. b.1 (disk.1 is)));
-      same = leaves.same;
-      tried = leaves.tried;
-      founded = leaves.founded;
-      clean = prints.clean;
-      kept = prints.kept;
-    } in
-    reading_answered g before after target told (told_report kind target) (λ r. refl) (outcome_of outcome text) (IsReported report ceremony)
-    (MayBeReported ceremony) (inl (inl refl)) (λ none. may_have_none ceremony outcome text (prints.cause none)) looks
-    (λ f none c. reported report ceremony before.accepted outcome text (printed f none c) (planned f none c))
+is_text : (text_of : History → List ℕ) (A : History) (outcome : Result ⊤ PrintFault) (text : List ℕ)
+    → IsPrinted (λ _. ⊥) (text_of A) outcome (Some []) (Some text) → IsText text_of A (outcome_of outcome text)
+is_text text_of A (Ok done) text printed = printed
+is_text text_of A (Err (Refused refusal)) text printed = undenied refusal printed.1
+is_text text_of A (Err Write) text printed = inl refl
+
+-- a report that is not whole is refused as it may be
+may_fail : {MayDeny MayFail : Refusal → Type 0} → ((r : Refusal) → IsFault r ⊎ MayDeny r → MayFail r) → (outcome : Result ⊤ PrintFault) (text : List ℕ)
+    → IfErr outcome (Stops MayDeny) → IfErr (outcome_of outcome text) MayFail
+may_fail may (Ok done) text h = tt
+may_fail may (Err (Refused refusal)) text h = may refusal h
+may_fail may (Err Write) text h = may Refusals.Memory (inl (inl refl))
+
+-- what was printed into memory, of which this can be said
+module _ {S W : Type 0} (g : Ghosts S) {contents : W → Option (List ℕ)} {before after : RegisterState S} {x y : Counted W} {outcome : Result ⊤ PrintFault}
+    (target : List ℕ) (told : ResponseValue) (kind : MediaType) (text : List ℕ) where
+  says_answered : {D : History → Refusal → Type 0} {t : History → List ℕ} (MayDeny MayFail : Refusal → Type 0) (Says : History → Result (List ℕ) Refusal → Type 0)
+      → ((r : Refusal) → IsFault r ⊎ MayDeny r → MayFail r) → Prints g contents before after x y outcome D MayDeny t
+      → OfHistory g before after (λ A. Says A (outcome_of outcome text))
+      → RespondsOrMemory (report_response kind target) target (outcome_of outcome text) told
+      → AnswersReading g before target told after (report_response kind target) (λ result. IfErr result MayFail) Says
+  says_answered MayDeny MayFail Says may prints says =
+      let disk = disk_outcome outcome text in
+      let leaves = prints.leaves in
+      let looks : ReadsHistory g MayFail before after (outcome_of outcome text) = record {
+        broken = λ some. let b = prints.broken some in (ap (λ o. outcome_of o text) b.0, b.1);
+        cause = λ none. may_fail may outcome text (prints.cause none);
+        breaks = λ none. let b = leaves.breaks none in ((λ some. disk.0 (b.0 some)), (λ is. b.1 (disk.1 is)));
+        same = leaves.same;
+        tried = leaves.tried;
+        founded = leaves.founded;
+        clean = prints.clean;
+        kept = prints.kept;
+      } in
+      reading_answered g before after target told (report_response kind target) (λ r. refl) (outcome_of outcome text) Says
+      (λ result. IfErr result MayFail) (may Refusals.Memory (inl (inl refl))) looks.cause looks says
+
+  -- a report of a ceremony
+  pub report_answered : {D : History → Refusal → Type 0} {t : History → List ℕ} (report : History → ℕ → List ℕ) (ceremony : ℕ)
+      → Prints g contents before after x y outcome D (NamesCeremony ceremony) t
+      → OfHistory g before after (λ A. IsPrinted (IsNotPlanned A ceremony) (report A ceremony) outcome (Some []) (Some text))
+      → OfHistory g before after (λ A. OnOk outcome (IsTrue (is_ceremony A ceremony)))
+      → RespondsOrMemory (report_response kind target) target (outcome_of outcome text) told
+      → AnswersReading g before target told after (report_response kind target) (MayBeReported ceremony) (IsReported report ceremony)
+  report_answered report ceremony prints printed planned =
+      says_answered (NamesCeremony ceremony) (MayHaveNoRow ceremony) (IsReported report ceremony) (λ r h. h) prints
+      (λ f none c. reported report ceremony before.accepted outcome text (printed f none c) (planned f none c))
+
+  -- a report of the whole register
+  pub text_answered : {D : History → Refusal → Type 0} {t : History → List ℕ} (text_of : History → List ℕ)
+      → Prints g contents before after x y outcome D (λ _. ⊥) t
+      → OfHistory g before after (λ A. IsPrinted (λ _. ⊥) (text_of A) outcome (Some []) (Some text))
+      → RespondsOrMemory (report_response kind target) target (outcome_of outcome text) told
+      → AnswersReading g before target told after (report_response kind target) MayBeText (IsText text_of)
+  text_answered text_of prints printed =
+      says_answered (λ _. ⊥) IsFault (IsText text_of) (λ r h. undenied r h) prints
+      (λ f none c. is_text text_of before.accepted outcome text (printed f none c))
+
+  -- the feed
+  pub feed_answered : {n u : ℕ} (number : ℕ) → Exports g contents before after x y outcome n u
+      → OfHistory g before after (λ A. AreValues A → IsPrinted (λ _. ⊥) (feed number A) outcome (Some []) (Some text))
+      → RespondsOrMemory (report_response kind target) target (outcome_of outcome text) told
+      → AnswersReading g before target told after (report_response kind target) MayBeText (IsFeed number)
+  feed_answered number exports requests =
+      says_answered (λ _. ⊥) IsFault (IsFeed number) (λ r h. undenied r h) exports.prints
+      (λ f none c values. is_text (feed number) before.accepted outcome text (requests f none c values))

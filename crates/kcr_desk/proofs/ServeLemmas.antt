@@ -7,39 +7,39 @@ use Rattle.std.specs.Io.KnownBytes.{Appends, prepend_known}
 use Rattle.std.proofs.lemmas.List.{append-nil, map-append, take-append-drop, take-append-le, drop-append-le, length-take-le, drop-drop}
 use Rattle.std.proofs.lemmas.Grind.{flat_map-append}
 use Rattle.httparse.specs.declared.spans.RequestSpans.{RequestSpans}
-use Rattle.kcr_desk.specs.declared.head.Plan.{Plan}
-use Rattle.kcr_desk.specs.Intake.{Stays}
-use Rattle.kcr_desk.specs.Plans.{is_head}
-use Rattle.kcr_desk.specs.Stream.{Message, Ending, quiet, HasHead, IsMessage, IsCut, IsFront}
-use Rattle.kcr_desk.specs.Found.{EndsAs, IsReady, message_of}
-use Rattle.kcr_desk.specs.Texts.{Told, answer_text, continue_text}
-use Rattle.kcr_desk.specs.Run.{Asked, asked_of, Exchange, Run, exchange_text, messages_of, ending_text, Begins, IsServed, IsBroken, nothing}
-use Rattle.kcr_desk.specs.Turn.{BreaksTurn, asked_by}
-use Rattle.kcr_desk.specs.Waiting.{Gathered}
-use Rattle.kcr_print.specs.Written.{WritesFront}
+use Rattle.kcr_desk.specs.declared.head.Framing.{Framing}
+use Rattle.kcr_desk.specs.Input.{Stays}
+use Rattle.kcr_desk.specs.Framing.{is_head}
+use Rattle.kcr_desk.specs.Stream.{Message, Ending, clean_end, HasHead, IsMessage, AreMessages, IsFront}
+use Rattle.kcr_desk.specs.NextHead.{EndsAs, IsReady, message_of}
+use Rattle.kcr_desk.specs.Texts.{ResponseValue, answer_text, continue_text}
+use Rattle.kcr_desk.specs.Run.{Request, request_of, Exchange, Run, exchange_text, messages_of, ending_text, Begins, IsServed, IsServedInPart, nothing}
+use Rattle.kcr_desk.specs.NextItem.{BreaksItem, request_of_buffer}
+use Rattle.kcr_desk.specs.Output.{IsQueued}
+use Rattle.kcr_print.specs.Written.{WritesPrefix}
 use Rattle.kcr_desk.proofs.FoundLemmas.{known_split, head_here}
 use Rattle.kcr_desk.proofs.WaitingLemmas.{gathered_nothing, with_more, sent_whole, sent_front, sent_on}
 use Rattle.kcr_desk.proofs.TurnLemmas.{breaks_ending}
 
 -- what holds between two messages
 pub record Serving
-    {S : Type 0} (step : S → Asked → Told → S → Type 0) (input left old_contents new_contents : Option (List ℕ))
-    (waiting : List ℕ) (before now : S) (count : ℕ) : Type 0 where
+    {S : Type 0} (step : S → Request → ResponseValue → S → Type 0) (input left old_contents new_contents : Option (List ℕ))
+    (queue : List ℕ) (before now : S) (count : ℕ) : Type 0 where
   pub exchanges : List Exchange
   pub front : (bytes : List ℕ) → input ≡ Some bytes
       → (rest : List ℕ) × (left ≡ Some rest) × IsFront bytes (messages_of exchanges) rest
   pub run : Run step before exchanges now
-  pub written : Gathered old_contents new_contents (flat_map exchange_text exchanges) waiting
+  pub written : IsQueued old_contents new_contents (flat_map exchange_text exchanges) queue
   pub requests : count ≡ length exchanges
 
 -- before the first message nothing is held and nothing waits
-pub serving_first : {S : Type 0} (step : S → Asked → Told → S → Type 0) (input contents : Option (List ℕ)) (s : S) (held waiting : List ℕ) → held ≡ []
-    → waiting ≡ [] → Serving step input (prepend_known held input) contents contents waiting s s 0
-serving_first step input contents s held waiting none_held none_waits = record {
+pub serving_first : {S : Type 0} (step : S → Request → ResponseValue → S → Type 0) (input contents : Option (List ℕ)) (s : S) (held queue : List ℕ) → held ≡ []
+    → queue ≡ [] → Serving step input (prepend_known held input) contents contents queue s s 0
+serving_first step input contents s held queue none_held none_waits = record {
   exchanges = [];
   front = λ bytes is. (bytes, ap (λ l. prepend_known l input) none_held ∙ ap (prepend_known []) is, refl);
   run = refl;
-  written = subst (Gathered contents contents []) (sym none_waits) (gathered_nothing contents []);
+  written = subst (IsQueued contents contents []) (sym none_waits) (gathered_nothing contents []);
   requests = refl;
 }
 
@@ -53,8 +53,8 @@ from_front P grows bytes [] rest ns e more = subst (λ t. P t ns) (sym e) more
 from_front P grows bytes (m ∷ ms) rest ns x more = grows bytes m x.0 (ms ++ ns) x.1 x.2 (from_front P grows x.0 ms rest ns x.3 more)
 
 cut_from_front : (e : Ending) (bytes : List ℕ) (ms : List Message) (rest : List ℕ) (ns : List Message)
-    → IsFront bytes ms rest → IsCut rest ns e → IsCut bytes (ms ++ ns) e
-cut_from_front e = from_front (λ b ms. IsCut b ms e) (λ bytes m rest ms is open' more. (rest, is, rw open' more))
+    → IsFront bytes ms rest → AreMessages rest ns e → AreMessages bytes (ms ++ ns) e
+cut_from_front e = from_front (λ b ms. AreMessages b ms e) (λ bytes m rest ms is open' more. (rest, is, rw open' more))
 
 begins_from_front : (next bytes : List ℕ) (ms : List Message) (rest : List ℕ) (ns : List Message)
     → IsFront bytes ms rest → Begins rest ns next → Begins bytes (ms ++ ns) next
@@ -65,9 +65,9 @@ begins_last : (closes : Bool) (rest : List ℕ) → MatchBool closes ((◌≡◌
 begins_last true rest = (refl, refl)
 begins_last false rest = nothing
 
-run_snoc : {S : Type 0} (step : S → Asked → Told → S → Type 0) (a : S) (xs : List Exchange) (b : S) (x : Exchange) (c : S)
-    → Run step a xs b → step b (asked_of x.message) x.reply c → Run step a (xs ++ x ∷ []) c
-run_snoc step a [] b x c e s = (c, subst (λ t. step t (asked_of x.message) x.reply c) (sym e) s, refl)
+run_snoc : {S : Type 0} (step : S → Request → ResponseValue → S → Type 0) (a : S) (xs : List Exchange) (b : S) (x : Exchange) (c : S)
+    → Run step a xs b → step b (request_of x.message) x.reply c → Run step a (xs ++ x ∷ []) c
+run_snoc step a [] b x c e s = (c, subst (λ t. step t (request_of x.message) x.reply c) (sym e) s, refl)
 run_snoc step a (y ∷ xs) b x c r s = (r.0, r.1, run_snoc step r.0 xs b x c r.2 s)
 
 -- ---- the message that a buffer begins with
@@ -85,7 +85,7 @@ split_body buf u at n fits =
     ∙ ap (λ t. t ++ drop n (drop at (buf ++ u))) (take-append-le n (drop at buf) u room ∙ sym (body_of buf at n))
     ∙ ap (λ t. slice_range buf at (at + n) ++ t) (drop-drop n at (buf ++ u))
 
-pub message_is : (buf u : List ℕ) (spans : RequestSpans) (plan : Plan) (is : IsReady buf spans plan)
+pub message_is : (buf u : List ℕ) (spans : RequestSpans) (plan : Framing) (is : IsReady buf spans plan)
     → IsMessage (buf ++ u) (message_of buf spans plan is) (drop (spans.len + plan.length) (buf ++ u))
 message_is buf u spans plan is =
     let h = is.front.head in
@@ -97,15 +97,15 @@ message_is buf u spans plan is =
       body = ap length (body_of buf spans.len plan.length) ∙ length-take-le plan.length (drop spans.len buf) room;
     }
 
-asked_same : (buf : List ℕ) (spans : RequestSpans) (plan : Plan) (is : IsReady buf spans plan)
-    → asked_by buf spans plan ≡ asked_of (message_of buf spans plan is)
+asked_same : (buf : List ℕ) (spans : RequestSpans) (plan : Framing) (is : IsReady buf spans plan)
+    → request_of_buffer buf spans plan ≡ request_of (message_of buf spans plan is)
 asked_same buf spans plan is =
     let at = head_here buf spans is.front.head is.front.whole in
     λ i. record { method = at.method i; target = at.path i; body = slice_range buf spans.len (spans.len + plan.length) }
 
 -- ---- a turn
 
-module _ {S : Type 0} {step : S → Asked → Told → S → Type 0} {input left a b : Option (List ℕ)} {w : List ℕ}
+module _ {S : Type 0} {step : S → Request → ResponseValue → S → Type 0} {input left a b : Option (List ℕ)} {w : List ℕ}
     {before now : S} {n : ℕ} (so_far : Serving step input left a b w before now n) where
   abbrev messages : List Message
   messages = messages_of so_far.exchanges
@@ -113,20 +113,20 @@ module _ {S : Type 0} {step : S → Asked → Told → S → Type 0} {input left
   abbrev texts : List ℕ
   texts = flat_map exchange_text so_far.exchanges
 
-  pub ended_served : (e : Ending) (c d : Option (List ℕ)) {v : List ℕ} → EndsAs left e → Gathered b c (w ++ ending_text e) v
+  pub ended_served : (e : Ending) (c d : Option (List ℕ)) {v : List ℕ} → EndsAs left e → IsQueued b c (w ++ ending_text e) v
       → Appends c d v → IsServed step input a d before now n
   ended_served e c d end gathered written = record {
     exchanges = so_far.exchanges;
     ending = e;
     cut = λ bytes is.
         let f = so_far.front bytes is in
-        subst (λ t. IsCut bytes t e) (append-nil messages) (cut_from_front e bytes messages f.0 [] f.2 (end f.0 f.1));
+        subst (λ t. AreMessages bytes t e) (append-nil messages) (cut_from_front e bytes messages f.0 [] f.2 (end f.0 f.1));
     run = so_far.run;
     written = sent_whole d (sent_on (with_more (ending_text e) so_far.written) gathered) written;
     requests = so_far.requests;
   }
 
-  pub turn_broken : {c : Option (List ℕ)} → BreaksTurn left b c w → IsBroken step input a c before now
+  pub turn_broken : {c : Option (List ℕ)} → BreaksItem left b c w → IsServedInPart step input a c before now
   turn_broken {c} breaks = record {
     exchanges = so_far.exchanges;
     next = breaks.next;
@@ -138,16 +138,16 @@ module _ {S : Type 0} {step : S → Asked → Told → S → Type 0} {input left
     written = sent_front c (with_more breaks.next so_far.written) breaks.written;
   }
 
-  pub ended_broken : (e : Ending) (c d : Option (List ℕ)) {v : List ℕ} → EndsAs left e → Gathered b c (w ++ ending_text e) v
-      → WritesFront c d v → IsBroken step input a d before now
+  pub ended_broken : (e : Ending) (c d : Option (List ℕ)) {v : List ℕ} → EndsAs left e → IsQueued b c (w ++ ending_text e) v
+      → WritesPrefix c d v → IsServedInPart step input a d before now
   ended_broken e c d end gathered front =
       turn_broken {c = d} (breaks_ending e end (sent_front d gathered front))
 
   -- a message that buf begins with, and that was answered
-  module _ {buf : List ℕ} {spans : RequestSpans} {plan : Plan} (is : IsReady buf spans plan) (unread : Option (List ℕ))
-      (stays : Stays left (prepend_known buf unread)) (reply : Told) (after : S)
-      (told : step now (asked_by buf spans plan) reply after) (c d : Option (List ℕ)) {v : List ℕ}
-      (continued : Gathered b c (w ++ continue_text plan) v) where
+  module _ {buf : List ℕ} {spans : RequestSpans} {plan : Framing} (is : IsReady buf spans plan) (unread : Option (List ℕ))
+      (stays : Stays left (prepend_known buf unread)) (reply : ResponseValue) (after : S)
+      (told : step now (request_of_buffer buf spans plan) reply after) (c d : Option (List ℕ)) {v : List ℕ}
+      (continued : IsQueued b c (w ++ continue_text plan) v) where
     abbrev exchange : Exchange
     exchange = record { message = message_of buf spans plan is; reply = reply }
 
@@ -155,7 +155,7 @@ module _ {S : Type 0} {step : S → Asked → Told → S → Type 0} {input left
     exchanges_then = so_far.exchanges ++ exchange ∷ []
 
     abbrev answer : List ℕ
-    answer = answer_text (is_head (asked_by buf spans plan).method) plan.closes reply
+    answer = answer_text (is_head (request_of_buffer buf spans plan).method) plan.closes reply
 
     run_then : Run step before exchanges_then after
     run_then = run_snoc step before so_far.exchanges now exchange after so_far.run
@@ -180,12 +180,12 @@ module _ {S : Type 0} {step : S → Asked → Told → S → Type 0} {input left
         let at = head_here buf spans is.front.head is.front.whole in rw at.method (simp (flat_map-append, append-nil, append_assoc))
 
     -- what waits, and the answer behind it
-    answered : Gathered a c (flat_map exchange_text exchanges_then) (v ++ answer)
+    answered : IsQueued a c (flat_map exchange_text exchanges_then) (v ++ answer)
     answered =
-        subst (λ t. Gathered a c t (v ++ answer)) all_texts
+        subst (λ t. IsQueued a c t (v ++ answer)) all_texts
         (with_more answer (sent_on (with_more (continue_text plan) so_far.written) continued))
 
-    pub serving_then : {u : List ℕ} → plan.closes ≡ false → Gathered c d (v ++ answer) u
+    pub serving_then : {u : List ℕ} → plan.closes ≡ false → IsQueued c d (v ++ answer) u
         → Serving step input (prepend_known (drop (spans.len + plan.length) buf) unread) a d u before after (n + 1)
     serving_then open' gathered = record {
       exchanges = exchanges_then;
@@ -202,23 +202,23 @@ module _ {S : Type 0} {step : S → Asked → Told → S → Type 0} {input left
       requests = count_then;
     }
 
-    pub closed_served : (e : Option (List ℕ)) {u : List ℕ} → plan.closes ≡ true → Gathered c d (v ++ answer) u → Appends d e u
+    pub closed_served : (e : Option (List ℕ)) {u : List ℕ} → plan.closes ≡ true → IsQueued c d (v ++ answer) u → Appends d e u
         → IsServed step input a e before after (n + 1)
     closed_served e closed gathered written = record {
       exchanges = exchanges_then;
-      ending = quiet;
+      ending = clean_end;
       cut = λ bytes known.
           let r = rest_then bytes known in
-          let P : Bool → Type 0 = λ v. MatchBool v ((◌≡◌ {A = List Message} [] []) × (quiet ≡ quiet)) (IsCut (behind r.0) [] quiet) in
-          rw map-append (cut_from_front quiet bytes messages (buf ++ r.0) (exchange.message ∷ []) r.2
+          let P : Bool → Type 0 = λ v. MatchBool v ((◌≡◌ {A = List Message} [] []) × (clean_end ≡ clean_end)) (AreMessages (behind r.0) [] clean_end) in
+          rw map-append (cut_from_front clean_end bytes messages (buf ++ r.0) (exchange.message ∷ []) r.2
           (behind r.0, r.3, subst P (sym closed) (refl, refl)));
       run = run_then;
       written = rw append-nil (sent_whole e (sent_on answered gathered) written);
       requests = count_then;
     }
 
-    -- a beginning of what was answered was written
-    begun : (e : Option (List ℕ)) → WritesFront a e (flat_map exchange_text exchanges_then) → IsBroken step input a e before after
+    -- a prefix of what was answered was written
+    begun : (e : Option (List ℕ)) → WritesPrefix a e (flat_map exchange_text exchanges_then) → IsServedInPart step input a e before after
     begun e front = record {
       exchanges = exchanges_then;
       next = [];
@@ -230,9 +230,9 @@ module _ {S : Type 0} {step : S → Asked → Told → S → Type 0} {input left
       written = rw append-nil front;
     }
 
-    pub answer_broken : WritesFront c d (v ++ answer) → IsBroken step input a d before after
+    pub answer_broken : WritesPrefix c d (v ++ answer) → IsServedInPart step input a d before after
     answer_broken front = begun d (sent_front d answered front)
 
-    pub closed_broken : (e : Option (List ℕ)) {u : List ℕ} → Gathered c d (v ++ answer) u → WritesFront d e u
-        → IsBroken step input a e before after
+    pub closed_broken : (e : Option (List ℕ)) {u : List ℕ} → IsQueued c d (v ++ answer) u → WritesPrefix d e u
+        → IsServedInPart step input a e before after
     closed_broken e gathered front = begun e (sent_front e (sent_on answered gathered) front)

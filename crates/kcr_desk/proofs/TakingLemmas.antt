@@ -2,21 +2,21 @@
 use Rattle.std.proofs.Common.{◌≡◌, ◌≤◌, ◌+◌, ◌*◌, ◌++◌, List, ℕ, length, sym, ap, ◌∙◌, append_assoc}
 use Rattle.std.specs.Prelude.{Option, Some, None}
 use Rattle.std.specs.Io.KnownBytes.{prepend_known, Consumes}
-use Rattle.kcr_base.specs.Counted.{inner_of, failures_of, gifts_of}
+use Rattle.kcr_base.specs.Counted.{inner_of, failures_of, nonempty_reads_of}
 use Rattle.kcr_base.specs.declared.counted.Counted.{Counted}
-use Rattle.kcr_desk.specs.Intake.{Stays, held, left}
-use Rattle.kcr_desk.specs.Waiting.{Gathered}
-use Rattle.kcr_desk.specs.declared.intake.Intake.{Intake}
+use Rattle.kcr_desk.specs.Input.{Stays, unread, left}
+use Rattle.kcr_desk.specs.Output.{IsQueued}
+use Rattle.kcr_desk.specs.declared.input_buffer.InputBuffer.{InputBuffer}
 
 -- no read and no write failed so far, and each read that gave a byte is counted
-pub record TakesSoFar {R W : Type 0} (remaining : R → Option (List ℕ)) (contents : W → Option (List ℕ)) (old new : Intake)
-    (reader read : Counted R) (writer written : Counted W) (waited waiting : List ℕ) : Type 0 where
+pub record TakesSoFar {R W : Type 0} (remaining : R → Option (List ℕ)) (contents : W → Option (List ℕ)) (old new : InputBuffer)
+    (reader read : Counted R) (writer written : Counted W) (waited queue : List ℕ) : Type 0 where
   pub kept : Stays (left remaining old reader) (left remaining new read)
-  pub room : length (held new) + 4096 * old.reads ≤ length (held old) + 4096 * new.reads
-  pub gathered : Gathered (contents (inner_of writer)) (contents (inner_of written)) waited waiting
+  pub room : length (unread new) + 4096 * old.reads ≤ length (unread old) + 4096 * new.reads
+  pub gathered : IsQueued (contents (inner_of writer)) (contents (inner_of written)) waited queue
   pub calm_reader : failures_of read ≡ failures_of reader
   pub calm_writer : failures_of written ≡ failures_of writer
-  pub counted : gifts_of read + old.reads ≡ gifts_of reader + new.reads
+  pub counted : nonempty_reads_of read + old.reads ≡ nonempty_reads_of reader + new.reads
 
 -- bytes that were read go behind those that were held
 pub read_behind : (old new chunk : List ℕ) (unread after : Option (List ℕ)) → new ≡ old ++ chunk → Consumes unread after chunk

@@ -5,56 +5,56 @@ use Rattle.std.specs.Io.KnownBytes.{prepend_known, IsAtEnd}
 use Rattle.std.proofs.lemmas.List.{append-nil}
 use Rattle.httparse.specs.Spans.{span_bytes}
 use Rattle.httparse.specs.declared.spans.RequestSpans.{RequestSpans}
-use Rattle.kcr_desk.specs.declared.head.Plan.{Plan}
-use Rattle.kcr_desk.specs.Intake.{Stays}
-use Rattle.kcr_desk.specs.Plans.{is_head}
+use Rattle.kcr_desk.specs.declared.head.Framing.{Framing}
+use Rattle.kcr_desk.specs.Input.{Stays}
+use Rattle.kcr_desk.specs.Framing.{is_head}
 use Rattle.kcr_desk.specs.Stream.{Ending, cut_off, is_cut}
 use Rattle.kcr_desk.specs.Heads.{IsWhole, IsHeadAt}
-use Rattle.kcr_desk.specs.Found.{EndsAs, HasPlan}
+use Rattle.kcr_desk.specs.NextHead.{EndsAs, HasFraming}
 use Rattle.kcr_desk.specs.Texts.{continue_text}
-use Rattle.kcr_desk.specs.Run.{ending_text, IsNext, nothing, continues, ends}
-use Rattle.kcr_desk.specs.declared.stream.Turn.{Turn}
-use Rattle.kcr_desk.specs.declared.stream.Turn.TheVariants.{Message, Ended}
-use Rattle.kcr_desk.specs.Turn.{IsTurn, BreaksTurn}
-use Rattle.kcr_desk.specs.Waiting.{Gathered}
-use Rattle.kcr_print.specs.Written.{WritesFront}
+use Rattle.kcr_desk.specs.Run.{ending_text, IsNextOutput, nothing, continues, ends}
+use Rattle.kcr_desk.specs.declared.stream.NextItem.{NextItem}
+use Rattle.kcr_desk.specs.declared.stream.NextItem.TheVariants.{Message, Ended}
+use Rattle.kcr_desk.specs.NextItem.{IsNextItem, BreaksItem}
+use Rattle.kcr_desk.specs.Output.{IsQueued}
+use Rattle.kcr_print.specs.Written.{WritesPrefix}
 use Rattle.kcr_desk.proofs.FoundLemmas.{known_split, ends_here, head_here}
 use Rattle.kcr_desk.proofs.HeadLemmas.{within_more}
 use Rattle.kcr_desk.proofs.WaitingLemmas.{with_more, sent_front, sent_on}
 
-pub breaks_at_once : (left a b : Option (List ℕ)) {w : List ℕ} → WritesFront a b w → BreaksTurn left a b w
+pub breaks_at_once : (left a b : Option (List ℕ)) {w : List ℕ} → WritesPrefix a b w → BreaksItem left a b w
 breaks_at_once left a b {w} front = record {
   next = [];
   is_next = λ bytes e. nothing;
-  written = subst (WritesFront a b) (sym (append-nil w)) front;
+  written = subst (WritesPrefix a b) (sym (append-nil w)) front;
 }
 
 pub ends_before : (old new : Option (List ℕ)) (e : Ending) → Stays old new → EndsAs new e → EndsAs old e
 ends_before old new e stays at_new bytes is = at_new bytes (stays bytes is)
 
-pub breaks_ending : {left a b : Option (List ℕ)} {w : List ℕ} (e : Ending) → EndsAs left e → WritesFront a b (w ++ ending_text e) → BreaksTurn left a b w
+pub breaks_ending : {left a b : Option (List ℕ)} {w : List ℕ} (e : Ending) → EndsAs left e → WritesPrefix a b (w ++ ending_text e) → BreaksItem left a b w
 breaks_ending e end front = record { next = ending_text e; is_next = λ bytes is. ends e (end bytes is); written = front }
 
-pub breaks_continue : {buf : List ℕ} {left a b : Option (List ℕ)} {w : List ℕ} {spans : RequestSpans} {plan : Plan} (unread : Option (List ℕ))
-    → HasPlan buf spans plan → Stays left (prepend_known buf unread) → WritesFront a b (w ++ continue_text plan) → BreaksTurn left a b w
+pub breaks_continue : {buf : List ℕ} {left a b : Option (List ℕ)} {w : List ℕ} {spans : RequestSpans} {plan : Framing} (unread : Option (List ℕ))
+    → HasFraming buf spans plan → Stays left (prepend_known buf unread) → WritesPrefix a b (w ++ continue_text plan) → BreaksItem left a b w
 breaks_continue {buf} {plan = plan} unread has stays front = record {
   next = continue_text plan;
   is_next = λ bytes is.
       let k = known_split buf unread bytes (stays bytes is) in
-      let P : List ℕ → Type 0 = λ t. IsNext t (continue_text plan) in
+      let P : List ℕ → Type 0 = λ t. IsNextOutput t (continue_text plan) in
       subst P k.2 (continues has.head _ (has.whole.at k.0).head has.planned);
   written = front;
 }
 
 -- a turn, behind what was read before it
 pub turn_later : {old left a b : Option (List ℕ)} {w v : List ℕ} (buf : List ℕ) (c : Option (List ℕ)) (u : List ℕ) → Stays old left
-    → Gathered a b w v → (turn : Turn) → IsTurn left buf b c v u turn → IsTurn old buf a c w u turn
+    → IsQueued a b w v → (turn : NextItem) → IsNextItem left buf b c v u turn → IsNextItem old buf a c w u turn
 turn_later buf c u stays so_far (Message spans plan) is = (is.0, sent_on (with_more (continue_text plan) so_far) is.1)
 turn_later {old} {left} buf c u stays so_far Ended is =
     (is.0, ends_before old left is.0 stays is.1, sent_on (with_more (ending_text is.0) so_far) is.2)
 
-pub breaks_later : {old left a b : Option (List ℕ)} {w v : List ℕ} (c : Option (List ℕ)) → Stays old left → Gathered a b w v
-    → BreaksTurn left b c v → BreaksTurn old a c w
+pub breaks_later : {old left a b : Option (List ℕ)} {w v : List ℕ} (c : Option (List ℕ)) → Stays old left → IsQueued a b w v
+    → BreaksItem left b c v → BreaksItem old a c w
 breaks_later c stays so_far breaks = record {
   next = breaks.next;
   is_next = λ bytes is. breaks.is_next bytes (stays bytes is);
@@ -62,8 +62,8 @@ breaks_later c stays so_far breaks = record {
 }
 
 -- a head that more follows
-pub plan_more : {buf new : List ℕ} {spans : RequestSpans} {plan : Plan} (more : List ℕ) → HasPlan buf spans plan → new ≡ buf ++ more
-    → HasPlan new spans plan
+pub plan_more : {buf new : List ℕ} {spans : RequestSpans} {plan : Framing} (more : List ℕ) → HasFraming buf spans plan → new ≡ buf ++ more
+    → HasFraming new spans plan
 plan_more {buf} {new} {spans} {plan} more has e =
     let w = has.whole in
     let longer : length buf ≤ length (buf ++ more) = simp length-append (omega arith) in
@@ -75,9 +75,9 @@ plan_more {buf} {new} {spans} {plan} more has e =
       method = within_more spans.method longer w.method;
       path = within_more spans.path longer w.path;
     } in
-    subst (λ t. HasPlan t spans plan) (sym e) (record { head = has.head; whole = whole; planned = has.planned; fits = has.fits })
+    subst (λ t. HasFraming t spans plan) (sym e) (record { head = has.head; whole = whole; planned = has.planned; fits = has.fits })
 
-pub cut_ends : {buf : List ℕ} {spans : RequestSpans} {plan : Plan} (unread : Option (List ℕ)) → HasPlan buf spans plan
+pub cut_ends : {buf : List ℕ} {spans : RequestSpans} {plan : Framing} (unread : Option (List ℕ)) → HasFraming buf spans plan
     → length buf < spans.len + plan.length → IsAtEnd unread
     → EndsAs (prepend_known buf unread) (cut_off plan (is_head (span_bytes buf spans.method)))
 cut_ends {buf} {spans} {plan} unread has few end =

@@ -4,39 +4,39 @@ use Rattle.std.specs.Prelude.{Option, Result, Ok, Err}
 use Rattle.std.specs.Io.KnownBytes.{Appends}
 use Rattle.std.proofs.lemmas.List.{append-nil}
 use Rattle.std.proofs.Math.Seq.{take-length}
-use Rattle.kcr_desk.specs.Waiting.{Gathered, Gathers}
-use Rattle.kcr_print.specs.Written.{WritesFront, Writes}
+use Rattle.kcr_desk.specs.Output.{IsQueued, Enqueues}
+use Rattle.kcr_print.specs.Written.{WritesPrefix, Writes}
 use Rattle.kcr_print.proofs.WrittenLemmas.{appends_both, appends_nothing, front_both}
 
-pub gathered_nothing : (a : Option (List ℕ)) (w : List ℕ) → Gathered a a w w
+pub gathered_nothing : (a : Option (List ℕ)) (w : List ℕ) → IsQueued a a w w
 gathered_nothing a w = record { sent = []; written = appends_nothing a; rest = refl }
 
 -- what was written whole was written up to its end
-pub front_of_whole : (a b : Option (List ℕ)) (x : List ℕ) → Appends a b x → WritesFront a b x
+pub front_of_whole : (a b : Option (List ℕ)) (x : List ℕ) → Appends a b x → WritesPrefix a b x
 front_of_whole a b x h = (length x, subst (Appends a b) (sym (take-length x)) h)
 
 -- more behind all, and behind what waits
-pub with_more : {a b : Option (List ℕ)} {x w : List ℕ} (y : List ℕ) → Gathered a b x w → Gathered a b (x ++ y) (w ++ y)
+pub with_more : {a b : Option (List ℕ)} {x w : List ℕ} (y : List ℕ) → IsQueued a b x w → IsQueued a b (x ++ y) (w ++ y)
 with_more {x = x} {w = w} y p = record {
   sent = p.sent;
   written = p.written;
   rest = let e : (p.sent ++ w) ++ y ≡ x ++ y = ap (λ t. t ++ y) p.rest in simp append_assoc at e;
 }
 
-pub with_more_behind : {a b : Option (List ℕ)} {w : List ℕ} (x y z : List ℕ) → Gathered a b (x ++ y) w → Gathered a b (x ++ (y ++ z)) (w ++ z)
+pub with_more_behind : {a b : Option (List ℕ)} {w : List ℕ} (x y z : List ℕ) → IsQueued a b (x ++ y) w → IsQueued a b (x ++ (y ++ z)) (w ++ z)
 with_more_behind {a} {b} {w} x y z p =
-    let e : (x ++ y) ++ z ≡ x ++ (y ++ z) = simp append_assoc in subst (λ t. Gathered a b t (w ++ z)) e (with_more z p)
+    let e : (x ++ y) ++ z ≡ x ++ (y ++ z) = simp append_assoc in subst (λ t. IsQueued a b t (w ++ z)) e (with_more z p)
 
 -- what waits is written
-pub sent_whole : {a b : Option (List ℕ)} (c : Option (List ℕ)) {x w : List ℕ} → Gathered a b x w → Appends b c w → Appends a c x
+pub sent_whole : {a b : Option (List ℕ)} (c : Option (List ℕ)) {x w : List ℕ} → IsQueued a b x w → Appends b c w → Appends a c x
 sent_whole {a} {b} c {w = w} p q = subst (Appends a c) p.rest (appends_both a b c p.sent w p.written q)
 
--- a beginning of it is
-pub sent_front : {a b : Option (List ℕ)} (c : Option (List ℕ)) {x w : List ℕ} → Gathered a b x w → WritesFront b c w → WritesFront a c x
-sent_front {a} {b} c {w = w} p q = subst (WritesFront a c) p.rest (front_both a b c p.sent w p.written q)
+-- a prefix of it is
+pub sent_front : {a b : Option (List ℕ)} (c : Option (List ℕ)) {x w : List ℕ} → IsQueued a b x w → WritesPrefix b c w → WritesPrefix a c x
+sent_front {a} {b} c {w = w} p q = subst (WritesPrefix a c) p.rest (front_both a b c p.sent w p.written q)
 
 -- and the rest of it waits
-pub sent_on : {a b c : Option (List ℕ)} {x w v : List ℕ} → Gathered a b x w → Gathered b c w v → Gathered a c x v
+pub sent_on : {a b c : Option (List ℕ)} {x w v : List ℕ} → IsQueued a b x w → IsQueued b c w v → IsQueued a c x v
 sent_on {a} {b} {c} {x} p q = record {
   sent = p.sent ++ q.sent;
   written = appends_both a b c p.sent q.sent p.written q.written;
@@ -45,11 +45,11 @@ sent_on {a} {b} {c} {x} p q = record {
 
 -- likewise after Ok, and after a fault
 pub gathers_on : {T E : Type 0} (r : Result T E) {a b : Option (List ℕ)} (c : Option (List ℕ)) {x w : List ℕ} (v : List ℕ)
-    → Gathered a b x w → Gathers r b c w v → Gathers r a c x v
+    → IsQueued a b x w → Enqueues r b c w v → Enqueues r a c x v
 gathers_on (Ok t) c v p q = sent_on p q
 gathers_on (Err e) c v p q = sent_front c p q
 
--- where nothing waits behind it all was written
-pub gathers_written : {T E : Type 0} (r : Result T E) (a b : Option (List ℕ)) (x : List ℕ) → Writes r a b x → Gathers r a b x []
+-- if nothing waits behind it all was written
+pub gathers_written : {T E : Type 0} (r : Result T E) (a b : Option (List ℕ)) (x : List ℕ) → Writes r a b x → Enqueues r a b x []
 gathers_written (Ok v) a b x p = record { sent = x; written = p; rest = append-nil x }
 gathers_written (Err e) a b x p = p

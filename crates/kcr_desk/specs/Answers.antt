@@ -1,5 +1,5 @@
 -- What a message is told, and what it leaves of the register.
-use Rattle.std.specs.Prelude.{◌≡◌, ◌⊎◌, ◌↔◌, ◌≢◌, ⊤, ℕ, List, Option, None, Result, Ok, Err, MatchOption, MatchResult}
+use Rattle.std.specs.Prelude.{◌+◌, ◌≡◌, ◌⊎◌, ◌↔◌, ◌≢◌, ⊤, ℕ, List, Option, None, Result, Ok, Err, MatchOption, MatchResult}
 use Rattle.std.specs.Prelude.{IfErr, IsSome, IsTrue, unwrap_or, codes, if◌then◌else◌}
 use Rattle.std.specs.Str.{bytes_eq}
 use Rattle.sqlite.specs.Held.{state}
@@ -16,38 +16,41 @@ use Rattle.kcr_history.specs.Refusals.{refusal_text}
 use Rattle.kcr_history.specs.declared.commands.Command.{Command}
 use Rattle.kcr_history.specs.declared.commands.Reply.{Reply}
 use Rattle.kcr_history.specs.Ceremonies.{is_ceremony}
-use Rattle.kcr_history.specs.Prints.{annotated, attendance}
-use Rattle.kcr_store.specs.Register.{Seen}
+use Rattle.kcr_history.specs.Prints.{annotated, attendance, custody}
+use Rattle.kcr_tables.specs.Refusals.{IsFault}
+use Rattle.kcr_store.specs.Register.{RegisterState}
 use Rattle.kcr_store.specs.Rows.{HasNoRow, MayHaveNoRow}
-use Rattle.kcr_store.specs.Steps.{Steps, IsNext, IsAsked, MayRefuse}
+use Rattle.kcr_store.specs.Shown.{IsShownByRows}
+use Rattle.kcr_store.specs.Commands.{AppliesCommand, IsSameOrNext, IsQuestionResult, MayBeReplied, MayRefuseQuestion}
 use Rattle.kcr_history.specs.declared.questions.Question.{Question}
 use Rattle.kcr_history.specs.declared.questions.Shown.{Shown}
 use Rattle.kcr_wire.specs.Commands.{command_of}
-use Rattle.kcr_wire.specs.Inquiries.{inquiry_of}
-use Rattle.kcr_wire.specs.Shows.{shown_text}
-use Rattle.kcr_wire.specs.Targets.{allow_of}
+use Rattle.kcr_wire.specs.Questions.{question_of}
+use Rattle.kcr_wire.specs.ShownJson.{shown_text}
+use Rattle.kcr_wire.specs.Endpoints.{allow_of}
 use Rattle.kcr_wire.specs.declared.allow.Allow.{Allow}
-use Rattle.kcr_wire.specs.declared.inquiry.Inquiry.{Inquiry}
-use Rattle.kcr_wire.specs.declared.inquiry.Inquiry.TheVariants as inquiry
+use Rattle.kcr_wire.specs.declared.question.Inquiry.{Inquiry}
+use Rattle.kcr_wire.specs.declared.question.Inquiry.TheVariants as inquiry
 use Rattle.kcr_wire.specs.declared.method.Method.{Method}
 use Rattle.kcr_wire.specs.declared.method.Method.TheVariants.{Get, Head, Post, Other}
-use Rattle.kcr_desk.specs.declared.reply.Kind.{Kind}
-use Rattle.kcr_desk.specs.declared.reply.Kind.TheVariants.{Json, Text, Csv}
+use Rattle.kcr_desk.specs.declared.response.MediaType.{MediaType}
+use Rattle.kcr_desk.specs.declared.response.MediaType.TheVariants.{Json, Text, Csv}
 use Rattle.kcr_print.specs.declared.reports.CeremonyReport.{CeremonyReport}
 use Rattle.kcr_print.specs.declared.reports.CeremonyReport.TheVariants.{Script, Attendance}
+use Rattle.kcr_print.specs.Requests.{requests_between}
 use Rattle.kcr_print.specs.declared.fault.PrintFault.{PrintFault}
 use Rattle.kcr_print.specs.declared.fault.PrintFault.TheVariants.{Refused, Write}
-use Rattle.kcr_desk.specs.Run.{Asked}
-use Rattle.kcr_desk.specs.Texts.{Told}
+use Rattle.kcr_desk.specs.Run.{Request}
+use Rattle.kcr_desk.specs.Texts.{ResponseValue}
 
 -- what the register is to the desk: the history of what it accepted and, once it is broken, the history that a crash
 -- may have left
-pub record Standing : Type 0 where
+pub record RegisterHistory : Type 0 where
   pub accepted : History
-  pub torn : Option History
+  pub in_doubt : Option History
 
-abbrev pub standing : {S : Type 0} → Seen S → Standing
-standing register = record { accepted = register.accepted; torn = register.torn }
+abbrev pub history_of : {S : Type 0} → RegisterState S → RegisterHistory
+history_of register = record { accepted = register.accepted; in_doubt = register.in_doubt }
 
 -- the method that a token names, in capitals
 unfoldable pub method_of : List ℕ → Method
@@ -57,204 +60,228 @@ method_of token =
     if bytes_eq token (codes "POST") then Post else Other
 
 -- 200 with a text of this kind
-abbrev pub told_as : Kind → List ℕ → Told
-told_as kind text = record { heading = record { status = 200; kind = kind; allow = None }; body = text }
+abbrev pub ok_response : MediaType → List ℕ → ResponseValue
+ok_response kind text = record { heading = record { status = 200; kind = kind; allow = None }; body = text }
 
 -- 200 with a JSON text
-abbrev pub told_text : List ℕ → Told
-told_text text = told_as Json text
+abbrev pub json_response : List ℕ → ResponseValue
+json_response text = ok_response Json text
 
--- the methods of a path, where the method of a message is not one of them
+-- the methods of a path, if the method of a message is not one of them
 abbrev pub allowed : List ℕ → Refusal → Option Allow
 allowed target Refusals.Method = allow_of target
 allowed target refusal = None
 
 -- a refusal of a message with this target
-abbrev pub told_refusal : List ℕ → Refusal → Told
-told_refusal target refusal = record {
+abbrev pub refusal_response : List ℕ → Refusal → ResponseValue
+refusal_response target refusal = record {
   heading = record { status = status_of refusal; kind = Json; allow = allowed target refusal };
   body = refusal_text refusal;
 }
 
 -- what a command is told
-abbrev pub told_reply : List ℕ → Result Reply Refusal → Told
-told_reply target (Ok reply) = told_text reply.text
-told_reply target (Err refusal) = told_refusal target refusal
+abbrev pub reply_response : List ℕ → Result Reply Refusal → ResponseValue
+reply_response target (Ok reply) = json_response reply.text
+reply_response target (Err refusal) = refusal_response target refusal
 
 -- what a question is told
-abbrev pub told_shown : List ℕ → Result Shown Refusal → Told
-told_shown target (Ok shown) = told_text (shown_text shown)
-told_shown target (Err refusal) = told_refusal target refusal
+abbrev pub shown_response : List ℕ → Result Shown Refusal → ResponseValue
+shown_response target (Ok shown) = json_response (shown_text shown)
+shown_response target (Err refusal) = refusal_response target refusal
 
 -- what a report is told
-abbrev pub told_report : Kind → List ℕ → Result (List ℕ) Refusal → Told
-told_report kind target (Ok text) = told_as kind text
-told_report kind target (Err refusal) = told_refusal target refusal
+abbrev pub report_response : MediaType → List ℕ → Result (List ℕ) Refusal → ResponseValue
+report_response kind target (Ok text) = ok_response kind text
+report_response kind target (Err refusal) = refusal_response target refusal
 
 -- the media type of a report of a ceremony
-abbrev pub kind_of : CeremonyReport → Kind
-kind_of (Script ceremony) = Text
-kind_of (Attendance ceremony) = Csv
+abbrev pub media_type_of : CeremonyReport → MediaType
+media_type_of (Script ceremony) = Text
+media_type_of (Attendance ceremony) = Csv
 
 -- a register that is not broken takes the command, whose parts are values of their types, as the machine does. A fault
 -- of the device breaks it, and then a crash may have left the history with the command
-pub record Performs (A : History) (x : Command) (result : Result Reply Refusal) (after : Standing) : Type 0 where
+pub record AppliesAsMachine (A : History) (x : Command) (result : Result Reply Refusal) (after : RegisterHistory) : Type 0 where
   pub values : IsAct x.act
-  pub step : Steps A x result after.accepted
-  pub breaks : IsSome after.torn ↔ (result ≡ Err Refusals.Disk)
-  pub tried : IsNext A x (unwrap_or after.torn after.accepted)
+  pub step : AppliesCommand A x result after.accepted
+  pub breaks : IsSome after.in_doubt ↔ (result ≡ Err Refusals.Disk)
+  pub tried : IsSameOrNext A x (unwrap_or after.in_doubt after.accepted)
 
 -- it says this of the history, and keeps the history
-pub record Inquires {Value : Type 0} (Says : History → Result Value Refusal → Type 0) (A : History)
-    (result : Result Value Refusal) (after : Standing) : Type 0 where
+pub record ReadsAsHistory {Value : Type 0} (Says : History → Result Value Refusal → Type 0) (A : History)
+    (result : Result Value Refusal) (after : RegisterHistory) : Type 0 where
   pub says : Says A result
   pub same : after.accepted ≡ A
-  pub breaks : IsSome after.torn ↔ (result ≡ Err Refusals.Disk)
-  pub tried : unwrap_or after.torn after.accepted ≡ A
+  pub breaks : IsSome after.in_doubt ↔ (result ≡ Err Refusals.Disk)
+  pub tried : unwrap_or after.in_doubt after.accepted ≡ A
 
 -- a planned ceremony has this report; another has none
 abbrev pub IsReported : (History → ℕ → List ℕ) → ℕ → History → Result (List ℕ) Refusal → Type 0
 IsReported report ceremony A result =
     MatchResult result (λ text. IsTrue (is_ceremony A ceremony) × (text ≡ report A ceremony)) (HasNoRow A ceremony)
 
+-- the text of the history; or out of memory, or an I/O error
+abbrev pub IsText : (History → List ℕ) → History → Result (List ℕ) Refusal → Type 0
+IsText text_of A result = MatchResult result (λ text. text ≡ text_of A) IsFault
+
+-- the requests of the accepted commands after the first N, at most 1,000 of them
+abbrev pub feed : ℕ → History → List ℕ
+feed after A = requests_between after (after + 1000) A
+
+-- of a history whose commands are of values the feed; or out of memory, or an I/O error
+abbrev pub IsFeed : ℕ → History → Result (List ℕ) Refusal → Type 0
+IsFeed after A result = AreValues A → IsText (feed after) A result
+
 -- the refusal is told, and the register stays as it was
-abbrev pub IsRefused : Standing → List ℕ → Told → Standing → Refusal → Type 0
-IsRefused before target told after refusal = (told ≡ told_refusal target refusal) × (after ≡ before)
+abbrev pub RespondsRefusal : RegisterHistory → List ℕ → ResponseValue → RegisterHistory → Refusal → Type 0
+RespondsRefusal before target told after refusal = (told ≡ refusal_response target refusal) × (after ≡ before)
 
 -- a command: a broken register says so, and stays as it was
-abbrev pub TakesCommand : Standing → List ℕ → Told → Standing → Command → Type 0
+abbrev pub TakesCommand : RegisterHistory → List ℕ → ResponseValue → RegisterHistory → Command → Type 0
 TakesCommand before target told after x =
-    MatchOption before.torn
-    ((result : Result Reply Refusal) × (told ≡ told_reply target result) × Performs before.accepted x result after)
-    (λ _. IsRefused before target told after Refusals.Broken)
+    MatchOption before.in_doubt
+    ((result : Result Reply Refusal) × (told ≡ reply_response target result) × AppliesAsMachine before.accepted x result after)
+    (λ _. RespondsRefusal before target told after Refusals.Broken)
 
--- what only reads likewise
-abbrev pub Reads : {Value : Type 0} → (Result Value Refusal → Told) → (History → Result Value Refusal → Type 0)
-    → Standing → List ℕ → Told → Standing → Type 0
-Reads {Value} told_by Says before target told after =
-    MatchOption before.torn
-    ((result : Result Value Refusal) × (told ≡ told_by result) × Inquires Says before.accepted result after)
-    (λ _. IsRefused before target told after Refusals.Broken)
+-- the same for a call that only reads
+abbrev pub TakesReading : {Value : Type 0} → (Result Value Refusal → ResponseValue) → (History → Result Value Refusal → Type 0)
+    → RegisterHistory → List ℕ → ResponseValue → RegisterHistory → Type 0
+TakesReading {Value} told_by Says before target told after =
+    MatchOption before.in_doubt
+    ((result : Result Value Refusal) × (told ≡ told_by result) × ReadsAsHistory Says before.accepted result after)
+    (λ _. RespondsRefusal before target told after Refusals.Broken)
 
 -- a question, or a report
-abbrev pub TakesInquiry : Standing → List ℕ → Told → Standing → Inquiry → Type 0
+abbrev pub TakesInquiry : RegisterHistory → List ℕ → ResponseValue → RegisterHistory → Inquiry → Type 0
 TakesInquiry before target told after (inquiry.Question question) =
-    Reads (told_shown target) (λ A result. IsAsked A question result) before target told after
+    TakesReading (shown_response target) (λ A result. IsQuestionResult A question result) before target told after
 TakesInquiry before target told after (inquiry.Script ceremony) =
-    Reads (told_report Text target) (IsReported annotated ceremony) before target told after
+    TakesReading (report_response Text target) (IsReported annotated ceremony) before target told after
 TakesInquiry before target told after (inquiry.Attendance ceremony) =
-    Reads (told_report Csv target) (IsReported attendance ceremony) before target told after
+    TakesReading (report_response Csv target) (IsReported attendance ceremony) before target told after
+TakesInquiry before target told after inquiry.Custody =
+    TakesReading (report_response Text target) (IsText custody) before target told after
+TakesInquiry before target told after (inquiry.Commands count) =
+    TakesReading (report_response Text target) (IsFeed count) before target told after
 
 -- a POST is a command, and all else asks for something, or is refused for its path, its method, its text or its form
-abbrev pub AnswersBy : Method → Standing → Asked → Told → Standing → Type 0
+abbrev pub AnswersBy : Method → RegisterHistory → Request → ResponseValue → RegisterHistory → Type 0
 AnswersBy Post before asked told after =
     MatchResult (command_of asked.target asked.body)
-    (TakesCommand before asked.target told after) (IsRefused before asked.target told after)
+    (TakesCommand before asked.target told after) (RespondsRefusal before asked.target told after)
 AnswersBy method before asked told after =
-    MatchResult (inquiry_of method asked.target)
-    (TakesInquiry before asked.target told after) (IsRefused before asked.target told after)
+    MatchResult (question_of method asked.target)
+    (TakesInquiry before asked.target told after) (RespondsRefusal before asked.target told after)
 
--- what a message is told, and what it leaves. Any message may be told that memory is wanting, and then the register
+-- what a message is told, and what it leaves. Any message may be told that memory runs out, and then the register
 -- stays as it was
-abbrev pub IsAnswer : Standing → Asked → Told → Standing → Type 0
+abbrev pub IsAnswer : RegisterHistory → Request → ResponseValue → RegisterHistory → Type 0
 IsAnswer before asked told after =
-    IsRefused before asked.target told after Refusals.Memory
+    RespondsRefusal before asked.target told after Refusals.Memory
     ⊎ AnswersBy (method_of asked.method) before asked told after
 
 -- WHATEVER THE REGISTER IS
 
--- what a question may get, whatever the tables hold
+-- what a question may get, whatever the tables hold: what some rows show to it, or a refusal of its own
 abbrev pub MayBeShown : Question → Result Shown Refusal → Type 0
-MayBeShown question result = IfErr result (MayRefuse question)
+MayBeShown question result = MatchResult result (IsShownByRows question) (MayRefuseQuestion question)
 
 -- what a report of a ceremony may get
 abbrev pub MayBeReported : ℕ → Result (List ℕ) Refusal → Type 0
 MayBeReported ceremony result = IfErr result (MayHaveNoRow ceremony)
 
--- a request that could be read is told its result, one that it may get, and a fault of the device alone breaks the
+-- what a report of the whole register may get
+abbrev pub MayBeText : Result (List ℕ) Refusal → Type 0
+MayBeText result = IfErr result IsFault
+
+-- a request that could be read is told its result, one that it may get, and an I/O error alone breaks the
 -- register; of its history nothing is said. A broken one says so, and stays as it was
-abbrev pub Replies : {Value : Type 0} → (Result Value Refusal → Told) → (Result Value Refusal → Type 0) → Standing
-    → List ℕ → Told → Standing → Type 0
+abbrev pub Replies : {Value : Type 0} → (Result Value Refusal → ResponseValue) → (Result Value Refusal → Type 0) → RegisterHistory
+    → List ℕ → ResponseValue → RegisterHistory → Type 0
 Replies {Value} told_by MayBe before target told after =
-    MatchOption before.torn
+    MatchOption before.in_doubt
     ((result : Result Value Refusal) × (told ≡ told_by result)
-    × (MayBe result × (IsSome after.torn ↔ (result ≡ Err Refusals.Disk))))
-    (λ _. IsRefused before target told after Refusals.Broken)
+    × (MayBe result × (IsSome after.in_doubt ↔ (result ≡ Err Refusals.Disk))))
+    (λ _. RespondsRefusal before target told after Refusals.Broken)
 
 -- a question, or a report
-abbrev pub RepliesInquiry : Standing → List ℕ → Told → Standing → Inquiry → Type 0
+abbrev pub RepliesInquiry : RegisterHistory → List ℕ → ResponseValue → RegisterHistory → Inquiry → Type 0
 RepliesInquiry before target told after (inquiry.Question question) =
-    Replies (told_shown target) (MayBeShown question) before target told after
+    Replies (shown_response target) (MayBeShown question) before target told after
 RepliesInquiry before target told after (inquiry.Script ceremony) =
-    Replies (told_report Text target) (MayBeReported ceremony) before target told after
+    Replies (report_response Text target) (MayBeReported ceremony) before target told after
 RepliesInquiry before target told after (inquiry.Attendance ceremony) =
-    Replies (told_report Csv target) (MayBeReported ceremony) before target told after
+    Replies (report_response Csv target) (MayBeReported ceremony) before target told after
+RepliesInquiry before target told after inquiry.Custody =
+    Replies (report_response Text target) MayBeText before target told after
+RepliesInquiry before target told after (inquiry.Commands count) =
+    Replies (report_response Text target) MayBeText before target told after
 
 -- a POST is a command, and all else asks for something, or is refused for its path, its method, its text or its form
-abbrev pub RepliesBy : Method → Standing → Asked → Told → Standing → Type 0
+abbrev pub RepliesBy : Method → RegisterHistory → Request → ResponseValue → RegisterHistory → Type 0
 RepliesBy Post before asked told after =
     MatchResult (command_of asked.target asked.body)
-    (λ _. Replies (told_reply asked.target) (λ _. ⊤) before asked.target told after)
-    (IsRefused before asked.target told after)
+    (λ x. Replies (reply_response asked.target) (MayBeReplied x) before asked.target told after)
+    (RespondsRefusal before asked.target told after)
 RepliesBy method before asked told after =
-    MatchResult (inquiry_of method asked.target)
-    (RepliesInquiry before asked.target told after) (IsRefused before asked.target told after)
+    MatchResult (question_of method asked.target)
+    (RepliesInquiry before asked.target told after) (RespondsRefusal before asked.target told after)
 
 -- what a message is told by any register, whatever its database holds and whatever its disk does
-abbrev pub IsReply : Standing → Asked → Told → Standing → Type 0
+abbrev pub IsReply : RegisterHistory → Request → ResponseValue → RegisterHistory → Type 0
 IsReply before asked told after =
-    IsRefused before asked.target told after Refusals.Memory
+    RespondsRefusal before asked.target told after Refusals.Memory
     ⊎ RepliesBy (method_of asked.method) before asked told after
 
 -- REGISTERS
 
 -- its history, and the one that a crash may have left in its place, are those of registers
-abbrev pub AreRegisters : Standing → Type 0
-AreRegisters s = IsRegister s.accepted × IsRegister (unwrap_or s.torn s.accepted)
+abbrev pub AreRegisters : RegisterHistory → Type 0
+AreRegisters s = IsRegister s.accepted × IsRegister (unwrap_or s.in_doubt s.accepted)
 
 -- the machine leads to both from the empty history
-abbrev pub AreOfMachine : Standing → Type 0
-AreOfMachine s = IsOfMachine s.accepted × IsOfMachine (unwrap_or s.torn s.accepted)
+abbrev pub AreOfMachine : RegisterHistory → Type 0
+AreOfMachine s = IsOfMachine s.accepted × IsOfMachine (unwrap_or s.in_doubt s.accepted)
 
 -- the parts of the commands of both are values of their types
-abbrev pub AreOfValues : Standing → Type 0
-AreOfValues s = AreValues s.accepted × AreValues (unwrap_or s.torn s.accepted)
+abbrev pub AreOfValues : RegisterHistory → Type 0
+AreOfValues s = AreValues s.accepted × AreValues (unwrap_or s.in_doubt s.accepted)
 
 -- a message is answered by a register: in any case a reply; and over a database that was empty or a register's at
 -- first, as long as its disk is clean, the answer
 pub record Answered
-    {S : Type 0} (g : Ghosts S) (before : Seen S) (target : List ℕ) (told : Told) (after : Seen S)
-    (Answer Reply : Standing → Standing → Type 0) : Type 0 where
-  pub founded : after.is_founded ≡ before.is_founded
+    {S : Type 0} (g : Ghosts S) (before : RegisterState S) (target : List ℕ) (told : ResponseValue) (after : RegisterState S)
+    (Answer Reply : RegisterHistory → RegisterHistory → Type 0) : Type 0 where
+  pub founded : after.is_genuine ≡ before.is_genuine
   pub clean : HasCleanDisk (state g after.conn) → HasCleanDisk (state g before.conn)
-  pub reply : IsRefused (standing before) target told (standing after) Refusals.Memory
-      ⊎ Reply (standing before) (standing after)
-  pub answer : IsTrue before.is_founded → HasCleanDisk (state g after.conn)
-      → IsRefused (standing before) target told (standing after) Refusals.Memory
-      ⊎ Answer (standing before) (standing after)
+  pub reply : RespondsRefusal (history_of before) target told (history_of after) Refusals.Memory
+      ⊎ Reply (history_of before) (history_of after)
+  pub answer : IsTrue before.is_genuine → HasCleanDisk (state g after.conn)
+      → RespondsRefusal (history_of before) target told (history_of after) Refusals.Memory
+      ⊎ Answer (history_of before) (history_of after)
 
 -- a command
-abbrev pub AnswersCommand : {S : Type 0} → Ghosts S → Seen S → List ℕ → Told → Seen S → Command → Type 0
+abbrev pub AnswersCommand : {S : Type 0} → Ghosts S → RegisterState S → List ℕ → ResponseValue → RegisterState S → Command → Type 0
 AnswersCommand g before target told after x =
     Answered g before target told after
     (λ old new. TakesCommand old target told new x)
-    (λ old new. Replies (told_reply target) (λ _. ⊤) old target told new)
+    (λ old new. Replies (reply_response target) (MayBeReplied x) old target told new)
 
 -- what only reads: how its result is told, what it may get, and what it says of the history
-abbrev pub AnswersReading : {S Value : Type 0} → Ghosts S → Seen S → List ℕ → Told → Seen S
-    → (Result Value Refusal → Told) → (Result Value Refusal → Type 0) → (History → Result Value Refusal → Type 0)
+abbrev pub AnswersReading : {S Value : Type 0} → Ghosts S → RegisterState S → List ℕ → ResponseValue → RegisterState S
+    → (Result Value Refusal → ResponseValue) → (Result Value Refusal → Type 0) → (History → Result Value Refusal → Type 0)
     → Type 0
 AnswersReading g before target told after told_by MayBe Says =
     Answered g before target told after
-    (λ old new. Reads told_by Says old target told new) (λ old new. Replies told_by MayBe old target told new)
+    (λ old new. TakesReading told_by Says old target told new) (λ old new. Replies told_by MayBe old target told new)
 
 -- a question, or a report
-abbrev pub AnswersInquiry : {S : Type 0} → Ghosts S → Seen S → List ℕ → Told → Seen S → Inquiry → Type 0
+abbrev pub AnswersInquiry : {S : Type 0} → Ghosts S → RegisterState S → List ℕ → ResponseValue → RegisterState S → Inquiry → Type 0
 AnswersInquiry g before target told after inquiry =
     Answered g before target told after
     (λ old new. TakesInquiry old target told new inquiry) (λ old new. RepliesInquiry old target told new inquiry)
 
--- why a report was not printed whole into memory, where a write fails for want of it
+-- why a report was not printed whole into memory, if a write fails because memory ran out
 abbrev pub refusal_of : PrintFault → Refusal
 refusal_of (Refused refusal) = refusal
 refusal_of Write = Refusals.Memory
@@ -265,17 +292,17 @@ outcome_of (Ok done) text = Ok text
 outcome_of (Err fault) text = Err (refusal_of fault)
 
 -- a result is told, or out of memory in the place of one that is no fault of the device and not of a broken register
-abbrev pub TellsOrMemory : {Value : Type 0} → (Result Value Refusal → Told) → List ℕ → Result Value Refusal → Told
+abbrev pub RespondsOrMemory : {Value : Type 0} → (Result Value Refusal → ResponseValue) → List ℕ → Result Value Refusal → ResponseValue
     → Type 0
-TellsOrMemory {Value} told_by target result told =
+RespondsOrMemory {Value} told_by target result told =
     (told ≡ told_by result)
-    ⊎ ((told ≡ told_refusal target Refusals.Memory) × (result ≢ Err Refusals.Disk) × (result ≢ Err Refusals.Broken))
+    ⊎ ((told ≡ refusal_response target Refusals.Memory) × (result ≢ Err Refusals.Disk) × (result ≢ Err Refusals.Broken))
 
 -- a message by its method
-abbrev pub AnswersAs : {S : Type 0} → Method → Ghosts S → Seen S → Asked → Told → Seen S → Type 0
+abbrev pub AnswersAs : {S : Type 0} → Method → Ghosts S → RegisterState S → Request → ResponseValue → RegisterState S → Type 0
 AnswersAs method g before asked told after =
     Answered g before asked.target told after
     (λ old new. AnswersBy method old asked told new) (λ old new. RepliesBy method old asked told new)
 
-abbrev pub Answers : {S : Type 0} → Ghosts S → Seen S → Asked → Told → Seen S → Type 0
+abbrev pub Answers : {S : Type 0} → Ghosts S → RegisterState S → Request → ResponseValue → RegisterState S → Type 0
 Answers g before asked told after = AnswersAs (method_of asked.method) g before asked told after

@@ -3,9 +3,9 @@ use Rattle.std.specs.Prelude.{◌≡◌, ℕ, ◌≤◌, ◌<◌, List, ◌++◌
 use Rattle.httparse.specs.Grammar.{RequestHead}
 use Rattle.httparse.specs.Spans.{span_bytes, IsWithin}
 use Rattle.httparse.specs.declared.spans.RequestSpans.{RequestSpans}
-use Rattle.kcr_desk.specs.declared.head.Tried.{Tried}
-use Rattle.kcr_desk.specs.declared.head.Tried.TheVariants.{Whole, More, Nothing}
-use Rattle.kcr_desk.specs.Stream.{HasHead, HasNoHead, IsQuiet, plan_of}
+use Rattle.kcr_desk.specs.declared.head.HeadParse.{HeadParse}
+use Rattle.kcr_desk.specs.declared.head.HeadParse.TheVariants.{Whole, More, Nothing}
+use Rattle.kcr_desk.specs.Stream.{HasHead, HasNoHead, IsBlankRest, framing_of}
 
 -- text begins with the head h, and the spans cover its parts
 pub record IsHeadAt (text : List ℕ) (spans : RequestSpans) (h : RequestHead) : Type 0 where
@@ -25,10 +25,10 @@ pub record IsWhole (buf : List ℕ) (spans : RequestSpans) (h : RequestHead) : T
 -- no text that begins with buf begins with a head, or is a rest of empty lines
 pub record IsHopeless (buf : List ℕ) : Type 0 where
   pub no_head : (more : List ℕ) → HasNoHead (buf ++ more)
-  pub not_quiet : (more : List ℕ) → ¬ (IsQuiet (buf ++ more))
+  pub not_quiet : (more : List ℕ) → ¬ (IsBlankRest (buf ++ more))
 
-abbrev pub IsTried : List ℕ → Tried → Type 0
-IsTried buf (Whole spans judged) = (h : RequestHead) × IsWhole buf spans h × (plan_of h ≡ judged)
+abbrev pub IsHeadParse : List ℕ → HeadParse → Type 0
+IsHeadParse buf (Whole spans judged) = (h : RequestHead) × IsWhole buf spans h × (framing_of h ≡ judged)
     × IfOk judged (λ plan. plan.length ≤ 131072)
-IsTried buf More = HasNoHead buf
-IsTried buf Nothing = IsHopeless buf
+IsHeadParse buf More = HasNoHead buf
+IsHeadParse buf Nothing = IsHopeless buf

@@ -4,15 +4,15 @@ use Rattle.std.specs.Fmt.{decimal}
 use Rattle.http.specs.StatusCode.{reason_phrase}
 use Rattle.kcr_base.specs.Refusal.{number_of, word_of, status_of}
 use Rattle.kcr_base.specs.declared.refusal.Refusal.{Refusal}
-use Rattle.kcr_desk.specs.declared.head.Plan.{Plan}
-use Rattle.kcr_desk.specs.declared.reply.Heading.{Heading}
-use Rattle.kcr_desk.specs.declared.reply.Kind.{Kind}
-use Rattle.kcr_desk.specs.declared.reply.Kind.TheVariants.{Json, Text, Csv}
-use Rattle.kcr_wire.specs.Targets.{allow_text as methods_text}
+use Rattle.kcr_desk.specs.declared.head.Framing.{Framing}
+use Rattle.kcr_desk.specs.declared.response.Heading.{Heading}
+use Rattle.kcr_desk.specs.declared.response.MediaType.{MediaType}
+use Rattle.kcr_desk.specs.declared.response.MediaType.TheVariants.{Json, Text, Csv}
+use Rattle.kcr_wire.specs.Endpoints.{allow_text as methods_text}
 use Rattle.kcr_wire.specs.declared.allow.Allow.{Allow}
 
 -- a reply without where it lies in memory
-pub record Told : Type 0 where
+pub record ResponseValue : Type 0 where
   pub heading : Heading
   pub body : List ℕ
 
@@ -32,7 +32,7 @@ unfoldable pub phrase_of : ℕ → List ℕ
 phrase_of status = unwrap_or (reason_phrase status) []
 
 -- the media type of a body
-abbrev pub kind_text : Kind → List ℕ
+abbrev pub kind_text : MediaType → List ℕ
 kind_text Json = codes "application/json"
 kind_text Text = codes "text/plain; charset=utf-8"
 kind_text Csv = codes "text/csv; charset=utf-8"
@@ -46,7 +46,7 @@ allow_line (Some allow) = field (codes "allow") (methods_text allow)
 abbrev pub close_text : Bool → List ℕ
 close_text closes = if closes then field (codes "connection") (codes "close") else []
 
--- the head of an answer with a body of so many bytes
+-- the head of an answer whose body has this many bytes
 unfoldable pub head_text : Bool → Heading → ℕ → List ℕ
 head_text closes heading bytes =
     line (codes "HTTP/1.1 " ++ decimal heading.status ++ codes " " ++ phrase_of heading.status)
@@ -58,23 +58,23 @@ head_text closes heading bytes =
 
 -- what is written of a body
 abbrev pub shown_text : Bool → List ℕ → List ℕ
-shown_text bare body = if bare then [] else body
+shown_text head_only body = if head_only then [] else body
 
--- an answer, without its body where it is bare
-unfoldable pub answer_text : Bool → Bool → Told → List ℕ
-answer_text bare closes t = head_text closes t.heading (length t.body) ++ shown_text bare t.body
+-- an answer, without its body if it is bare
+unfoldable pub answer_text : Bool → Bool → ResponseValue → List ℕ
+answer_text head_only closes t = head_text closes t.heading (length t.body) ++ shown_text head_only t.body
 
 -- what goes before the answer to a message that waits for it
-abbrev pub continue_text : Plan → List ℕ
-continue_text plan = if plan.waits then codes "HTTP/1.1 100 Continue" ++ (crlf ++ crlf) else []
+abbrev pub continue_text : Framing → List ℕ
+continue_text plan = if plan.expects_continue then codes "HTTP/1.1 100 Continue" ++ (crlf ++ crlf) else []
 
 -- the JSON of a refusal that carries nothing
 abbrev pub plain_text : Refusal → List ℕ
 plain_text r = codes "{\"number\":" ++ decimal (number_of r) ++ codes ",\"refusal\":\"" ++ word_of r ++ codes "\"}"
 
 -- what a faulty item is told
-abbrev pub told_of : Refusal → Told
-told_of r = record {
+abbrev pub fault_response : Refusal → ResponseValue
+fault_response r = record {
   heading = record { status = status_of r; kind = Json; allow = None };
   body = plain_text r;
 }

@@ -3,27 +3,30 @@ ghost use Rattle.std.specs.Prelude.{◌≡◌, ◌⊎◌, ℕ, List, IsTrue, Mat
 ghost use Rattle.sqlite.specs.Held.{state};
 ghost use Rattle.sqlite.specs.State.{HasCleanDisk};
 ghost use Rattle.kcr_wire.specs.Commands.{command_of};
-ghost use Rattle.kcr_wire.specs.Inquiries.{inquiry_of};
-ghost use Rattle.kcr_store.specs.Steps.{IsAsked};
+ghost use Rattle.kcr_wire.specs.Questions.{question_of};
+ghost use Rattle.kcr_store.specs.Commands.{IsQuestionResult};
 ghost use Rattle.kcr_print.specs.Reports.{ceremony_of, text_of};
 ghost use Rattle.kcr_wire.specs.declared.method.Method.TheVariants.{Post};
 ghost use Rattle.kcr_history.specs.Refusals.{carries};
 ghost use Rattle.kcr_base.specs.declared.refusal.Refusal.TheVariants as Refusals;
 ghost use Rattle.kcr_desk.specs.Answers.{Answers, AnswersAs, Answered, AnswersCommand, AnswersReading, AnswersInquiry};
-ghost use Rattle.kcr_desk.specs.Answers.{IsReported, method_of, told_text, told_refusal, told_shown, told_report};
-ghost use Rattle.kcr_desk.specs.Answers.{allowed, IsRefused, TakesInquiry, RepliesInquiry, TellsOrMemory, refusal_of};
-ghost use Rattle.kcr_desk.specs.Answers.{kind_of, outcome_of, MayBeReported, MayBeShown};
-ghost use Rattle.kcr_desk.specs.Told.{told};
+ghost use Rattle.kcr_desk.specs.Answers.{IsReported, method_of, json_response, refusal_response, shown_response, report_response};
+ghost use Rattle.kcr_desk.specs.Answers.{allowed, RespondsRefusal, TakesInquiry, RepliesInquiry, RespondsOrMemory, refusal_of};
+ghost use Rattle.kcr_desk.specs.Answers.{media_type_of, outcome_of, MayBeReported, MayBeShown, MayBeText, IsText};
+ghost use Rattle.kcr_desk.specs.Answers.{IsFeed};
+ghost use Rattle.kcr_desk.specs.declared.response.MediaType.TheVariants as kinds;
+ghost use Rattle.kcr_history.specs.Prints as prints;
+ghost use Rattle.kcr_desk.specs.Responses.{response_value};
 
-use crate::reply::{Body, Heading, Kind, Response, refusal_heading};
-use crate::responder::{Asked, Responder};
+use crate::responder::{Request, Responder};
+use crate::response::{Body, Heading, MediaType, Response, refusal_heading};
 use http::StatusCode;
 use kcr_base::{Counted, Refusal, Text};
 use kcr_forms::laws::acts_are_values;
 use kcr_history::{Command, Question, fixed_text};
-use kcr_print::{CeremonyReport, PrintFault, ceremony_report};
+use kcr_print::{CeremonyReport, PrintFault, ceremony_report, custody, export};
 use kcr_store::Register;
-use kcr_wire::{Allow, Inquiry, Method, Paths, write_refusal, write_shown};
+use kcr_wire::{After, Allow, Inquiry, Method, RouteTable, write_refusal, write_shown};
 use sqlite::Alter;
 use std::alloc::Global;
 
@@ -44,21 +47,21 @@ fn method_of(token: &[u8]) -> Method
 }
 
 /// 200 with this JSON text.
-fn text_reply(text: Text) -> Response
-    ensures { told result ≡ told_text text }
+fn json_response(text: Text) -> Response
+    ensures { response_value result ≡ json_response text }
 {
     Response {
         heading: Heading {
             status: StatusCode::OK,
-            kind: Kind::Json,
+            kind: MediaType::Json,
             allow: None,
         },
         body: Body::Made(text),
     }
 }
 
-/// The methods of a path, where the method of a message is not one of them.
-fn allowed(paths: &Paths, target: &[u8], refusal: &Refusal) -> Option<Allow>
+/// The methods of a path, if the method of a message is not one of them.
+fn allowed(paths: &RouteTable, target: &[u8], refusal: &Refusal) -> Option<Allow>
     ensures { result ≡ allowed target.now refusal.now }
 {
     match refusal {
@@ -68,8 +71,8 @@ fn allowed(paths: &Paths, target: &[u8], refusal: &Refusal) -> Option<Allow>
 }
 
 /// Out of memory, which takes none.
-fn memory_reply() -> Response
-    ensures { (target : List ℕ) → told result ≡ told_refusal target Refusals.Memory }
+fn memory_response() -> Response
+    ensures { (target : List ℕ) → response_value result ≡ refusal_response target Refusals.Memory }
 {
     let Some(text) = fixed_text(&Refusal::Memory) else {
         unreachable!()
@@ -81,9 +84,9 @@ fn memory_reply() -> Response
 }
 
 /// A refusal of a message. Where it carries something, out of memory may be told in its place.
-fn refused_reply(alloc: Global, paths: &Paths, target: &[u8], refusal: &Refusal) -> Response
-    ensures { (told result ≡ told_refusal target.now refusal.now)
-        ⊎ (IsTrue (carries refusal.now) × (told result ≡ told_refusal target.now Refusals.Memory)) }
+fn refusal_response(alloc: Global, paths: &RouteTable, target: &[u8], refusal: &Refusal) -> Response
+    ensures { (response_value result ≡ refusal_response target.now refusal.now)
+        ⊎ (IsTrue (carries refusal.now) × (response_value result ≡ refusal_response target.now Refusals.Memory)) }
 {
     let heading = refusal_heading(refusal, allowed(paths, target, refusal));
     if let Some(text) = fixed_text(refusal) {
@@ -99,50 +102,50 @@ fn refused_reply(alloc: Global, paths: &Paths, target: &[u8], refusal: &Refusal)
                 body: Body::Made(text),
             }
         }
-        Err(_) => memory_reply(),
+        Err(_) => memory_response(),
     }
 }
 
 /// Has the register take a command, and tells its reply.
-fn take_command<S: Alter>(
+fn answer_command<S: Alter>(
     alloc: Global,
     register: &mut Register<S>,
-    paths: &Paths,
+    paths: &RouteTable,
     target: &[u8],
     command: &Command,
 ) -> Response
-    ensures { AnswersCommand S.Store register.old target.now (told result) register.new command.now }
+    ensures { AnswersCommand S.Store register.old target.now (response_value result) register.new command.now }
 {
     acts_are_values(&command.act);
     match register.apply(command) {
-        Ok(reply) => text_reply(reply.text),
-        Err(refusal) => refused_reply(alloc, paths, target, &refusal),
+        Ok(reply) => json_response(reply.text),
+        Err(refusal) => refusal_response(alloc, paths, target, &refusal),
     }
 }
 
 /// Asks the register a question, and tells what it shows.
-fn take_question<S: Alter>(
+fn answer_question<S: Alter>(
     alloc: Global,
     register: &mut Register<S>,
-    paths: &Paths,
+    paths: &RouteTable,
     target: &[u8],
     question: &Question,
 ) -> Response
-    ensures { AnswersReading S.Store register.old target.now (told result) register.new
-        (told_shown target.now) (MayBeShown question.now) (λ A shown. IsAsked A question.now shown) }
+    ensures { AnswersReading S.Store register.old target.now (response_value result) register.new
+        (shown_response target.now) (MayBeShown question.now) (λ A shown. IsQuestionResult A question.now shown) }
 {
     match register.look(question) {
         Ok(shown) => {
             match write_shown(alloc, &shown) {
-                Ok(text) => text_reply(text),
-                Err(_) => memory_reply(),
+                Ok(text) => json_response(text),
+                Err(_) => memory_response(),
             }
         }
-        Err(refusal) => refused_reply(alloc, paths, target, &refusal),
+        Err(refusal) => refusal_response(alloc, paths, target, &refusal),
     }
 }
 
-/// Why a report was not printed whole into memory, where a write fails for want of it.
+/// Why a report was not printed whole into memory, if a write fails because memory ran out.
 fn refusal_of(fault: PrintFault) -> Refusal
     ensures { result ≡ refusal_of fault }
 {
@@ -153,15 +156,15 @@ fn refusal_of(fault: PrintFault) -> Refusal
 }
 
 /// Tells a report of this kind that was printed into memory, or why it was not printed whole.
-fn report_reply(
+fn report_response(
     alloc: Global,
-    paths: &Paths,
+    paths: &RouteTable,
     target: &[u8],
-    kind: Kind,
+    kind: MediaType,
     text: Vec<u8>,
     outcome: Result<(), PrintFault>,
 ) -> Response
-    ensures { TellsOrMemory (told_report kind target.now) target.now (outcome_of outcome text.items) (told result) }
+    ensures { RespondsOrMemory (report_response kind target.now) target.now (outcome_of outcome text.items) (response_value result) }
 {
     match outcome {
         Ok(()) => {
@@ -174,58 +177,109 @@ fn report_reply(
                 body: Body::Printed(text),
             }
         }
-        Err(fault) => refused_reply(alloc, paths, target, &refusal_of(fault)),
+        Err(fault) => refusal_response(alloc, paths, target, &refusal_of(fault)),
     }
 }
 
 /// The media type of a report of a ceremony.
-fn kind_of(report: &CeremonyReport) -> Kind
-    ensures { result ≡ kind_of report.now }
+fn media_type_of(report: &CeremonyReport) -> MediaType
+    ensures { result ≡ media_type_of report.now }
 {
     match report {
-        CeremonyReport::Script(_) => Kind::Text,
-        CeremonyReport::Attendance(_) => Kind::Csv,
+        CeremonyReport::Script(_) => MediaType::Text,
+        CeremonyReport::Attendance(_) => MediaType::Csv,
     }
 }
 
 /// Prints a report of a ceremony into memory, and tells it.
-fn take_report<S: Alter>(
+fn answer_report<S: Alter>(
     alloc: Global,
     register: &mut Register<S>,
-    paths: &Paths,
+    paths: &RouteTable,
     target: &[u8],
     report: CeremonyReport,
 ) -> Response
-    ensures { AnswersReading S.Store register.old target.now (told result) register.new
-        (told_report (kind_of report) target.now) (MayBeReported (ceremony_of report))
+    ensures { AnswersReading S.Store register.old target.now (response_value result) register.new
+        (report_response (media_type_of report) target.now) (MayBeReported (ceremony_of report))
         (IsReported (text_of report) (ceremony_of report)) }
 {
-    let kind = kind_of(&report);
+    let kind = media_type_of(&report);
     let mut page = Counted::new(Vec::new(alloc));
     let outcome = ceremony_report(alloc, register, report, &mut page);
-    report_reply(alloc, paths, target, kind, page.into_inner(), outcome)
+    report_response(alloc, paths, target, kind, page.into_inner(), outcome)
+}
+
+/// Prints custody into memory, and tells it.
+fn take_custody<S: Alter>(
+    alloc: Global,
+    register: &mut Register<S>,
+    paths: &RouteTable,
+    target: &[u8],
+) -> Response
+    ensures { AnswersReading S.Store register.old target.now (response_value result) register.new
+        (report_response kinds.Text target.now) MayBeText (IsText prints.custody) }
+{
+    let mut page = Counted::new(Vec::new(alloc));
+    let outcome = custody(alloc, register, &mut page);
+    report_response(
+        alloc,
+        paths,
+        target,
+        MediaType::Text,
+        page.into_inner(),
+        outcome,
+    )
+}
+
+/// The most commands of one answer.
+const MAX_FEED_COMMANDS: u32 = 1_000;
+
+/// Writes the requests of the commands behind those that the client has into memory, and tells them.
+fn take_commands<S: Alter>(
+    alloc: Global,
+    register: &mut Register<S>,
+    paths: &RouteTable,
+    target: &[u8],
+    after: After,
+) -> Response
+    ensures { AnswersReading S.Store register.old target.now (response_value result) register.new
+        (report_response kinds.Text target.now) MayBeText (IsFeed after) }
+{
+    let after = after.get();
+    let mut page = Counted::new(Vec::new(alloc));
+    let outcome = export(alloc, register, after, after + MAX_FEED_COMMANDS, &mut page);
+    report_response(
+        alloc,
+        paths,
+        target,
+        MediaType::Text,
+        page.into_inner(),
+        outcome,
+    )
 }
 
 /// Asks the register for what a GET or HEAD asks for, and tells it.
-fn take_inquiry<S: Alter>(
+fn answer_get<S: Alter>(
     alloc: Global,
     register: &mut Register<S>,
-    paths: &Paths,
+    paths: &RouteTable,
     target: &[u8],
     inquiry: Inquiry,
 ) -> Response
-    ensures { AnswersInquiry S.Store register.old target.now (told result) register.new inquiry }
+    ensures { AnswersInquiry S.Store register.old target.now (response_value result) register.new inquiry }
 {
     match inquiry {
-        Inquiry::Question(question) => take_question(alloc, register, paths, target, &question),
+        Inquiry::Question(question) => answer_question(alloc, register, paths, target, &question),
         Inquiry::Script(ceremony) => {
             let report = CeremonyReport::Script(ceremony);
-            take_report(alloc, register, paths, target, report)
+            answer_report(alloc, register, paths, target, report)
         }
         Inquiry::Attendance(ceremony) => {
             let report = CeremonyReport::Attendance(ceremony);
-            take_report(alloc, register, paths, target, report)
+            answer_report(alloc, register, paths, target, report)
         }
+        Inquiry::Custody => take_custody(alloc, register, paths, target),
+        Inquiry::Commands(after) => take_commands(alloc, register, paths, target, after),
     }
 }
 
@@ -233,15 +287,15 @@ fn take_inquiry<S: Alter>(
 fn answer_post<S: Alter>(
     alloc: Global,
     register: &mut Register<S>,
-    paths: &Paths,
-    asked: &Asked<'_>,
+    paths: &RouteTable,
+    asked: &Request<'_>,
 ) -> Response
-    ensures { AnswersAs Post S.Store register.old asked.now (told result) register.new }
+    ensures { AnswersAs Post S.Store register.old asked.now (response_value result) register.new }
 {
     let target = asked.target;
     match paths.read_command(alloc, target, asked.body) {
-        Ok(command) => take_command(alloc, register, paths, target, &command),
-        Err(refusal) => refused_reply(alloc, paths, target, &refusal),
+        Ok(command) => answer_command(alloc, register, paths, target, &command),
+        Err(refusal) => refusal_response(alloc, paths, target, &refusal),
     }
 }
 
@@ -249,19 +303,19 @@ fn answer_post<S: Alter>(
 fn answer_inquiry<S: Alter>(
     alloc: Global,
     register: &mut Register<S>,
-    paths: &Paths,
+    paths: &RouteTable,
     method: Method,
     target: &[u8],
 ) -> Response
-    ensures { Answered S.Store register.old target.now (told result) register.new
-        (λ before after. MatchResult (inquiry_of method target.now)
-        (TakesInquiry before target.now (told result) after) (IsRefused before target.now (told result) after))
-        (λ before after. MatchResult (inquiry_of method target.now)
-        (RepliesInquiry before target.now (told result) after) (IsRefused before target.now (told result) after)) }
+    ensures { Answered S.Store register.old target.now (response_value result) register.new
+        (λ before after. MatchResult (question_of method target.now)
+        (TakesInquiry before target.now (response_value result) after) (RespondsRefusal before target.now (response_value result) after))
+        (λ before after. MatchResult (question_of method target.now)
+        (RepliesInquiry before target.now (response_value result) after) (RespondsRefusal before target.now (response_value result) after)) }
 {
-    match paths.read_inquiry(method, target) {
-        Ok(inquiry) => take_inquiry(alloc, register, paths, target, inquiry),
-        Err(refusal) => refused_reply(alloc, paths, target, &refusal),
+    match paths.read_question(method, target) {
+        Ok(inquiry) => answer_get(alloc, register, paths, target, inquiry),
+        Err(refusal) => refusal_response(alloc, paths, target, &refusal),
     }
 }
 
@@ -269,10 +323,10 @@ fn answer_inquiry<S: Alter>(
 fn answer_by<S: Alter>(
     alloc: Global,
     register: &mut Register<S>,
-    paths: &Paths,
-    asked: &Asked<'_>,
+    paths: &RouteTable,
+    asked: &Request<'_>,
 ) -> Response
-    ensures { Answers S.Store register.old asked.now (told result) register.new }
+    ensures { Answers S.Store register.old asked.now (response_value result) register.new }
 {
     match method_of(asked.method) {
         Method::Post => answer_post(alloc, register, paths, asked),
@@ -283,13 +337,18 @@ fn answer_by<S: Alter>(
 impl<S: Alter> Responder for Register<S> {
     ghost step = { Answers S.Store };
 
-    fn respond(&mut self, alloc: Global, paths: &mut Option<Paths>, asked: &Asked<'_>) -> Response {
+    fn respond(
+        &mut self,
+        alloc: Global,
+        paths: &mut Option<RouteTable>,
+        asked: &Request<'_>,
+    ) -> Response {
         if paths.is_none() {
-            *paths = Paths::new(alloc).ok();
+            *paths = RouteTable::new(alloc).ok();
         }
         match paths {
             Some(paths) => answer_by(alloc, self, paths, asked),
-            None => memory_reply(),
+            None => memory_response(),
         }
     }
 }

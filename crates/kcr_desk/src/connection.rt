@@ -2,9 +2,9 @@
 ghost use Rattle.std.specs.Prelude.{◌≡◌, ◌+◌, ◌<◌, ◌≤◌, ◌⊎◌, ◌↔◌, ℕ, IsErrOf, IsSome, IsTrue};
 ghost use Rattle.sqlite.specs.Held.{state};
 ghost use Rattle.sqlite.specs.State.{HasCleanDisk};
-ghost use Rattle.kcr_base.specs.Counted.{inner_of, failures_of, gifts_of};
-ghost use Rattle.kcr_store.specs.Register.{IsKept};
-ghost use Rattle.kcr_desk.specs.Answers.{Standing, AreOfMachine, AreRegisters, IsAnswer, IsReply, standing};
+ghost use Rattle.kcr_base.specs.Counted.{inner_of, failures_of, nonempty_reads_of};
+ghost use Rattle.kcr_store.specs.Register.{IsConsistent};
+ghost use Rattle.kcr_desk.specs.Answers.{RegisterHistory, AreOfMachine, AreRegisters, IsAnswer, IsReply, history_of};
 ghost use Rattle.kcr_desk.specs.Connections.{Connects, Ends, Leads};
 
 use crate::desk::serve;
@@ -33,22 +33,22 @@ pub fn one<R: Read, W: Write, S: Alter>(
     writer: &mut Counted<W>,
     register: &mut Register<S>,
 ) -> Ended
-    // The bytes written are the answers of the messages of the input, by a run of the machine, or a beginning of them
+    // The bytes written are the answers of the messages of the input, by a run of the machine, or a prefix of them
     // after a fault. The register has the commands of this run and no other.
-    ensures answered { IsTrue register.old.is_founded → HasCleanDisk (state S.Store register.new.conn)
+    ensures answered { IsTrue register.old.is_genuine → HasCleanDisk (state S.Store register.new.conn)
         → Ends IsAnswer (R.remaining (inner_of reader.old)) (W.contents (inner_of writer.old))
-        (W.contents (inner_of writer.new)) (standing register.old) (standing register.new) result.stream }
+        (W.contents (inner_of writer.new)) (history_of register.old) (history_of register.new) result.stream }
 
     // Whatever the database held, each message gets one reply, in their order.
     ensures replied { Ends IsReply (R.remaining (inner_of reader.old)) (W.contents (inner_of writer.old))
-        (W.contents (inner_of writer.new)) (standing register.old) (standing register.new) result.stream }
+        (W.contents (inner_of writer.new)) (history_of register.old) (history_of register.new) result.stream }
     ensures read_fault { IsErrOf result.stream DeskFault.Read
-        → (failures_of reader.old < failures_of reader.new) ⊎ (gifts_of reader.new ≡ gifts_of reader.old + 1000000) }
+        → (failures_of reader.old < failures_of reader.new) ⊎ (nonempty_reads_of reader.new ≡ nonempty_reads_of reader.old + 1000000) }
     ensures write_fault { IsErrOf result.stream DeskFault.Write → failures_of writer.old < failures_of writer.new }
-    ensures bound { gifts_of reader.new ≤ gifts_of reader.old + 1000000 }
-    ensures broken { IsTrue result.is_broken ↔ IsSome register.new.torn }
+    ensures bound { nonempty_reads_of reader.new ≤ nonempty_reads_of reader.old + 1000000 }
+    ensures broken { IsTrue result.is_broken ↔ IsSome register.new.in_doubt }
     ensures connects { Connects S.Store register.old register.new 1 }
-    ensures kept { IsKept S.Store register.new }
+    ensures kept { IsConsistent S.Store register.new }
 {
     let stream = serve(alloc, reader, writer, register);
     Ended {
@@ -60,8 +60,8 @@ pub fn one<R: Read, W: Write, S: Alter>(
 /// Connections that are served one after the other lead from registers to registers. If the machine leads to the
 /// histories before, it leads to those after.
 pub fn connections_keep_registers()
-    ensures kept { (before after : Standing) (count : ℕ) → AreRegisters before → Leads IsAnswer before after count
+    ensures kept { (before after : RegisterHistory) (count : ℕ) → AreRegisters before → Leads IsAnswer before after count
         → AreRegisters after }
-    ensures led { (before after : Standing) (count : ℕ) → AreOfMachine before → Leads IsAnswer before after count
+    ensures led { (before after : RegisterHistory) (count : ℕ) → AreOfMachine before → Leads IsAnswer before after count
         → AreOfMachine after }
 {}

@@ -2,13 +2,13 @@
 ghost use Rattle.std.specs.Prelude.{◌≡◌, ◌+◌, ◌<◌, ◌≤◌, ◌⊎◌, ℕ, List, Option, IfOk, OnErr, IsErrOf, IsTrue, false};
 ghost use Rattle.sqlite.specs.Held.{state};
 ghost use Rattle.sqlite.specs.State.{HasCleanDisk};
-ghost use Rattle.kcr_base.specs.Counted.{inner_of, failures_of, gifts_of};
+ghost use Rattle.kcr_base.specs.Counted.{inner_of, failures_of, nonempty_reads_of};
 ghost use Rattle.kcr_base.specs.declared.refusal.Refusal.{Refusal};
 ghost use Rattle.kcr_history.specs.Refusals.{carries, refusal_text};
-ghost use Rattle.kcr_store.specs.Register.{IsKept};
-ghost use Rattle.kcr_desk.specs.Answers.{Standing, IsAnswer, IsReply, standing};
+ghost use Rattle.kcr_store.specs.Register.{IsConsistent};
+ghost use Rattle.kcr_desk.specs.Answers.{RegisterHistory, IsAnswer, IsReply, history_of};
 ghost use Rattle.kcr_desk.specs.Answers.{AreRegisters, AreOfMachine, AreOfValues};
-ghost use Rattle.kcr_desk.specs.Run.{IsServed, IsBroken};
+ghost use Rattle.kcr_desk.specs.Run.{IsServed, IsServedInPart};
 ghost use Rattle.kcr_desk.specs.Texts.{plain_text};
 
 use crate::fault::DeskFault;
@@ -22,8 +22,8 @@ use std::io::{Read, Write};
 /// Answers a stream of messages by a register, until the stream ends or a message closes it. Answers may go out
 /// together; each is written before another read is made.
 ///
-/// Refusals are answers. `Read` comes where a read failed or 1,000,000 reads gave a byte, `Write` where a write failed,
-/// `Memory` where the bytes of a message found no room. What was written then is a beginning of the answers, the
+/// Refusals are answers. `Read` comes if a read failed or 1,000,000 reads gave a byte, `Write` if a write failed,
+/// `Memory` if the bytes of a message found no room. What was written then is a prefix of the answers, the
 /// register stands after the commands that it took, and another stream may be served.
 pub fn serve<R: Read, W: Write, S: Alter>(
     alloc: Global,
@@ -32,33 +32,33 @@ pub fn serve<R: Read, W: Write, S: Alter>(
     register: &mut Register<S>,
 ) -> Result<Served, DeskFault>
     // The bytes written are exactly the answers of the messages of the input, by a run of the machine.
-    ensures served { IsTrue register.old.is_founded → HasCleanDisk (state S.Store register.new.conn)
+    ensures served { IsTrue register.old.is_genuine → HasCleanDisk (state S.Store register.new.conn)
         → IfOk result (λ served.
         IsServed IsAnswer (R.remaining (inner_of reader.old)) (W.contents (inner_of writer.old))
-        (W.contents (inner_of writer.new)) (standing register.old) (standing register.new) served.requests) }
+        (W.contents (inner_of writer.new)) (history_of register.old) (history_of register.new) served.requests) }
 
     // After a fault they are a beginning of those, and the register stands after the commands that it took.
-    ensures broken { IsTrue register.old.is_founded → HasCleanDisk (state S.Store register.new.conn) → OnErr result
-        (IsBroken IsAnswer (R.remaining (inner_of reader.old)) (W.contents (inner_of writer.old))
-        (W.contents (inner_of writer.new)) (standing register.old) (standing register.new)) }
+    ensures broken { IsTrue register.old.is_genuine → HasCleanDisk (state S.Store register.new.conn) → OnErr result
+        (IsServedInPart IsAnswer (R.remaining (inner_of reader.old)) (W.contents (inner_of writer.old))
+        (W.contents (inner_of writer.new)) (history_of register.old) (history_of register.new)) }
 
     // Whatever the database held and whatever its disk does, each message gets one answer, in their order, and it is a
     // reply to it.
     ensures answered { IfOk result (λ served.
         IsServed IsReply (R.remaining (inner_of reader.old)) (W.contents (inner_of writer.old))
-        (W.contents (inner_of writer.new)) (standing register.old) (standing register.new) served.requests) }
+        (W.contents (inner_of writer.new)) (history_of register.old) (history_of register.new) served.requests) }
     ensures answered_in_part { OnErr result
-        (IsBroken IsReply (R.remaining (inner_of reader.old)) (W.contents (inner_of writer.old))
-        (W.contents (inner_of writer.new)) (standing register.old) (standing register.new)) }
+        (IsServedInPart IsReply (R.remaining (inner_of reader.old)) (W.contents (inner_of writer.old))
+        (W.contents (inner_of writer.new)) (history_of register.old) (history_of register.new)) }
 
     // The register is whole, and stays as founded as it was. A disk that is clean at the end was so at the beginning.
-    ensures kept { IsKept S.Store register.new }
-    ensures founded { register.new.is_founded ≡ register.old.is_founded }
+    ensures kept { IsConsistent S.Store register.new }
+    ensures founded { register.new.is_genuine ≡ register.old.is_genuine }
     ensures clean { HasCleanDisk (state S.Store register.new.conn) → HasCleanDisk (state S.Store register.old.conn) }
     ensures read_fault { IsErrOf result DeskFault.Read
-        → (failures_of reader.old < failures_of reader.new) ⊎ (gifts_of reader.new ≡ gifts_of reader.old + 1000000) }
+        → (failures_of reader.old < failures_of reader.new) ⊎ (nonempty_reads_of reader.new ≡ nonempty_reads_of reader.old + 1000000) }
     ensures write_fault { IsErrOf result DeskFault.Write → failures_of writer.old < failures_of writer.new }
-    ensures bound { gifts_of reader.new ≤ gifts_of reader.old + 1000000 }
+    ensures bound { nonempty_reads_of reader.new ≤ nonempty_reads_of reader.old + 1000000 }
 {
     let result = serve_stream(alloc, reader, writer, register);
     // Any use of a register tells that it is whole, also of one that no message reached.
@@ -68,26 +68,26 @@ pub fn serve<R: Read, W: Write, S: Alter>(
 
 /// A faulty item is told the JSON that every refusal with nothing to carry has: its number and its word.
 #[tactic(auto, using(crate::proofs::PlainLemmas::plain_refusal))]
-pub fn one_text_of_a_refusal()
+pub fn refusal_text_is_unique()
     ensures { (r : Refusal) → carries r ≡ false → plain_text r ≡ refusal_text r }
 {}
 
 /// Every stream leads from registers to registers, whether it was served whole or in part. So what holds of every
 /// register holds of the history that a stream leaves, and of the one that a crash may leave in its place. Where the
-/// machine leads to the histories before, it leads to those after; and where the parts of their commands are values of
+/// machine leads to the histories before, it leads to those after; and if the parts of their commands are values of
 /// their types, so are those of the commands after. So of the tables that a stream leaves of a new register a
 /// verification says that nothing differs.
 pub fn streams_keep_registers()
-    ensures served { (input old new : Option (List ℕ)) (before after : Standing) (count : ℕ) → AreRegisters before →
+    ensures served { (input old new : Option (List ℕ)) (before after : RegisterHistory) (count : ℕ) → AreRegisters before →
         IsServed IsAnswer input old new before after count → AreRegisters after }
-    ensures broken { (input old new : Option (List ℕ)) (before after : Standing) → AreRegisters before →
-        IsBroken IsAnswer input old new before after → AreRegisters after }
-    ensures led { (input old new : Option (List ℕ)) (before after : Standing) (count : ℕ) → AreOfMachine before →
+    ensures broken { (input old new : Option (List ℕ)) (before after : RegisterHistory) → AreRegisters before →
+        IsServedInPart IsAnswer input old new before after → AreRegisters after }
+    ensures led { (input old new : Option (List ℕ)) (before after : RegisterHistory) (count : ℕ) → AreOfMachine before →
         IsServed IsAnswer input old new before after count → AreOfMachine after }
-    ensures led_in_part { (input old new : Option (List ℕ)) (before after : Standing) → AreOfMachine before →
-        IsBroken IsAnswer input old new before after → AreOfMachine after }
-    ensures values { (input old new : Option (List ℕ)) (before after : Standing) (count : ℕ) → AreOfValues before →
+    ensures led_in_part { (input old new : Option (List ℕ)) (before after : RegisterHistory) → AreOfMachine before →
+        IsServedInPart IsAnswer input old new before after → AreOfMachine after }
+    ensures values { (input old new : Option (List ℕ)) (before after : RegisterHistory) (count : ℕ) → AreOfValues before →
         IsServed IsAnswer input old new before after count → AreOfValues after }
-    ensures values_in_part { (input old new : Option (List ℕ)) (before after : Standing) → AreOfValues before →
-        IsBroken IsAnswer input old new before after → AreOfValues after }
+    ensures values_in_part { (input old new : Option (List ℕ)) (before after : RegisterHistory) → AreOfValues before →
+        IsServedInPart IsAnswer input old new before after → AreOfValues after }
 {}

@@ -1,8 +1,8 @@
 //! Why a stream was not answered to its end.
-use kcr_print::Unwritten;
+use kcr_print::WriteFailed;
 use std::alloc::AllocError;
 
-/// Why a stream was not answered to its end. What was written is a beginning of the answers of its messages.
+/// Why a stream was not answered to its end. What was written is a prefix of the answers of its messages.
 #[derive(Clone, Copy, PartialEq, Eq)]
 pub enum DeskFault {
     /// A read failed, or more than 1,000,000 reads would be needed.
@@ -24,13 +24,13 @@ impl From<AllocError> for DeskFault {
     }
 }
 
-impl From<Unwritten> for DeskFault {
+impl From<WriteFailed> for DeskFault {
     ghost use Rattle.std.specs.Prelude.{◌≡◌};
     ghost use Rattle.kcr_desk.specs.declared.fault.DeskFault.TheVariants.{Write};
 
     ghost from_gives = { λ _ e. e ≡ Write };
 
-    fn from(_error: Unwritten) -> DeskFault {
+    fn from(_error: WriteFailed) -> DeskFault {
         DeskFault::Write
     }
 }

@@ -5,11 +5,11 @@ ghost use Rattle.std.specs.Prelude.{if◌then◌else◌};
 ghost use Rattle.httparse.specs.Spans.{header_bytes, IsHeaderWithin};
 ghost use Rattle.std.specs.Str.Parse.{digits_value};
 ghost use Rattle.kcr_desk.specs.Members.{some_has_member};
-ghost use Rattle.kcr_desk.specs.Plans.{planned, is_head, is_named, is_number, values_of, IsNamed, is_hosted, length_in};
-ghost use Rattle.kcr_desk.specs.Plans.{bounded_length, is_empty};
-ghost use Rattle.kcr_desk.specs.Stream.{IsQuiet};
-ghost use Rattle.kcr_desk.specs.Heads.{IsTried};
-ghost use Rattle.kcr_desk.specs.Quiet.{blank_from};
+ghost use Rattle.kcr_desk.specs.Framing.{planned, is_head, is_named, is_number, values_of, IsNamed, is_hosted, length_in};
+ghost use Rattle.kcr_desk.specs.Framing.{bounded_length, is_empty};
+ghost use Rattle.kcr_desk.specs.Stream.{IsBlankRest};
+ghost use Rattle.kcr_desk.specs.Heads.{IsHeadParse};
+ghost use Rattle.kcr_desk.specs.BlankRest.{blank_from};
 
 use crate::members::has_member;
 use httparse::Status;
@@ -18,19 +18,19 @@ use kcr_base::Refusal;
 
 /// What a head asks for.
 #[derive(Clone, Copy)]
-pub struct Plan {
+pub struct Framing {
     /// The body's length in bytes (RFC 9112, section 6.2), at most 131,072.
     pub length: usize,
     /// Nothing more is answered after this message: it is HTTP/1.0, or Connection has the member `close` (RFC 9112,
     /// section 9.6).
     pub closes: bool,
     /// `100 Continue` goes out before the body is read (RFC 9110, section 10.1.1).
-    pub waits: bool,
+    pub expects_continue: bool,
 }
 
 /// The values of the fields of one name.
 #[derive(Clone, Copy)]
-pub(crate) enum Named {
+pub(crate) enum FieldValues {
     Absent,
     One(Span),
     Many,
@@ -45,23 +45,23 @@ fn is_named(buf: &[u8], header: HeaderSpan, name: &[u8]) -> bool
 }
 
 /// The values of the fields of this name.
-fn fields_named(buf: &[u8], headers: &[HeaderSpan], name: &[u8]) -> Named
+fn field_values(buf: &[u8], headers: &[HeaderSpan], name: &[u8]) -> FieldValues
     requires { All (IsHeaderWithin (length buf.now)) headers.now }
     ensures { IsNamed buf.now (values_of name.now (map (header_bytes buf.now) headers.now)) result }
 {
-    let mut found = Named::Absent;
+    let mut found = FieldValues::Absent;
     for header in headers {
         if is_named(buf, *header, name) {
             match found {
-                Named::Absent => found = Named::One(header.value),
-                _ => return Named::Many,
+                FieldValues::Absent => found = FieldValues::One(header.value),
+                _ => return FieldValues::Many,
             }
         }
     }
     found
 }
 
-/// The number that digits write, up to a bound, and nothing where they are none.
+/// The number that digits write, up to a bound, and nothing if they are none.
 fn number(digits: &[u8]) -> Option<usize>
     ensures { result ≡ if is_number digits.now then Some (min (digits_value 10 digits.now) 131073) else None }
 {
@@ -84,23 +84,23 @@ fn has_host(version: u8, buf: &[u8], headers: &[HeaderSpan]) -> bool
     requires { All (IsHeaderWithin (length buf.now)) headers.now }
     ensures { result ≡ is_hosted version (values_of (codes "host") (map (header_bytes buf.now) headers.now)) }
 {
-    match fields_named(buf, headers, b"host") {
-        Named::Absent => version == 0,
-        Named::One(_) => true,
-        Named::Many => false,
+    match field_values(buf, headers, b"host") {
+        FieldValues::Absent => version == 0,
+        FieldValues::One(_) => true,
+        FieldValues::Many => false,
     }
 }
 
-/// The body's length, up to a bound, and nothing where it is not stated in one number.
+/// The body's length, up to a bound, and nothing if it is not stated in one number.
 fn body_length(buf: &[u8], headers: &[HeaderSpan]) -> Option<usize>
     requires { All (IsHeaderWithin (length buf.now)) headers.now }
     ensures { result ≡ bounded_length
         (length_in (values_of (codes "content-length") (map (header_bytes buf.now) headers.now))) }
 {
-    match fields_named(buf, headers, b"content-length") {
-        Named::Absent => Some(0),
-        Named::One(span) => number(span.of(buf)),
-        Named::Many => None,
+    match field_values(buf, headers, b"content-length") {
+        FieldValues::Absent => Some(0),
+        FieldValues::One(span) => number(span.of(buf)),
+        FieldValues::Many => None,
     }
 }
 
@@ -109,9 +109,9 @@ fn has_coding(buf: &[u8], headers: &[HeaderSpan]) -> bool
     requires { All (IsHeaderWithin (length buf.now)) headers.now }
     ensures { result ≡ not (is_empty (values_of (codes "transfer-encoding") (map (header_bytes buf.now) headers.now))) }
 {
-    match fields_named(buf, headers, b"transfer-encoding") {
-        Named::Absent => false,
-        Named::One(_) | Named::Many => true,
+    match field_values(buf, headers, b"transfer-encoding") {
+        FieldValues::Absent => false,
+        FieldValues::One(_) | FieldValues::Many => true,
     }
 }
 
@@ -131,7 +131,11 @@ fn some_has_member(buf: &[u8], headers: &[HeaderSpan], name: &[u8], text: &[u8])
 /// What the fields ask for, or the refusal of the first test that fails: Host, Content-Length, Transfer-Encoding, and
 /// a body that is too long.
 #[tactic(auto, using(crate::proofs::PlanLemmas::planned_bounded))]
-pub(crate) fn judge(version: u8, buf: &[u8], headers: &[HeaderSpan]) -> Result<Plan, Refusal>
+pub(crate) fn read_framing(
+    version: u8,
+    buf: &[u8],
+    headers: &[HeaderSpan],
+) -> Result<Framing, Refusal>
     requires { All (IsHeaderWithin (length buf.now)) headers.now }
     ensures value { result ≡ planned version (map (header_bytes buf.now) headers.now) }
     ensures short { IfOk result (λ plan. plan.length ≤ MAX_BODY) }
@@ -150,10 +154,10 @@ pub(crate) fn judge(version: u8, buf: &[u8], headers: &[HeaderSpan]) -> Result<P
     }
     let closing = some_has_member(buf, headers, b"connection", b"close");
     let expecting = some_has_member(buf, headers, b"expect", b"100-continue");
-    Ok(Plan {
+    Ok(Framing {
         length,
         closes: (version == 0) | closing,
-        waits: (version == 1) & (length > 0) & expecting,
+        expects_continue: (version == 1) & (length > 0) & expecting,
     })
 }
 
@@ -165,9 +169,9 @@ pub const MAX_HEAD: usize = 8192;
 
 /// What the bytes at the front of a stream are.
 #[derive(Clone, Copy)]
-pub(crate) enum Tried {
+pub(crate) enum HeadParse {
     /// A whole head, and what it asks for or the refusal of its first test that fails.
-    Whole(RequestSpans, Result<Plan, Refusal>),
+    Whole(RequestSpans, Result<Framing, Refusal>),
     /// No whole head.
     More,
     /// No whole head, whatever follows.
@@ -175,7 +179,7 @@ pub(crate) enum Tried {
 }
 
 /// Whether the method is HEAD, to which an answer has no body.
-#[tactic(auto, unfolding(crate::specs::Plans::is_head))]
+#[tactic(auto, unfolding(crate::specs::Framing::is_head))]
 pub(crate) fn is_head_method(method: &[u8]) -> bool
     ensures { result ≡ is_head method.now }
 {
@@ -200,14 +204,14 @@ fn is_blank(bytes: &[u8]) -> bool
 }
 
 /// Whether this is a rest that gets no answer.
-pub(crate) fn is_quiet(bytes: &[u8]) -> bool
-    ensures { IsTrue result ↔ IsQuiet bytes.now }
+pub(crate) fn is_blank_rest(bytes: &[u8]) -> bool
+    ensures { IsTrue result ↔ IsBlankRest bytes.now }
 {
     bytes.len() <= MAX_HEAD && is_blank(bytes)
 }
 
 /// The bytes that a head may have.
-fn front_of(buf: &[u8]) -> &[u8]
+fn head_window(buf: &[u8]) -> &[u8]
     ensures { result.now ≡ take MAX_HEAD buf.now }
 {
     if buf.len() < MAX_HEAD {
@@ -218,24 +222,24 @@ fn front_of(buf: &[u8]) -> &[u8]
 }
 
 /// What the bytes at the front of a stream are. It does not depend on what follows them.
-pub(crate) fn try_head(buf: &[u8]) -> Tried
-    ensures { IsTried buf.now result }
+pub(crate) fn parse_head(buf: &[u8]) -> HeadParse
+    ensures { IsHeadParse buf.now result }
 {
-    let front = front_of(buf);
+    let front = head_window(buf);
     let mut headers = [EMPTY_HEADER_SPAN; 64];
     match parse_request(front, &mut headers) {
         Ok(Status::Complete(spans)) => {
-            Tried::Whole(
+            HeadParse::Whole(
                 spans,
-                judge(spans.version, front, &headers[..spans.headers]),
+                read_framing(spans.version, front, &headers[..spans.headers]),
             )
         }
-        Err(_) => Tried::Nothing,
+        Err(_) => HeadParse::Nothing,
         Ok(Status::Partial) => {
-            if is_quiet(buf) || buf.len() < MAX_HEAD {
-                Tried::More
+            if is_blank_rest(buf) || buf.len() < MAX_HEAD {
+                HeadParse::More
             } else {
-                Tried::Nothing
+                HeadParse::Nothing
             }
         }
     }

@@ -7,17 +7,19 @@
 mod answer;
 pub mod connection;
 pub mod desk;
+pub mod export;
 pub mod fault;
 pub mod head;
-mod intake;
+mod input_buffer;
 mod members;
-mod page;
-mod put;
-pub mod reply;
+mod output;
+mod output_buffer;
 mod responder;
+pub mod response;
 pub mod stream;
 
 pub use connection::{Ended, connections_keep_registers, one};
-pub use desk::{one_text_of_a_refusal, serve, streams_keep_registers};
+pub use desk::{refusal_text_is_unique, serve, streams_keep_registers};
+pub use export::{exports_are_messages, exports_lead_to_registers};
 pub use fault::DeskFault;
-pub use stream::{Served, broken_begins_output, one_cut};
+pub use stream::{Served, messages_are_unique, partial_output_is_prefix};

@@ -1,28 +1,28 @@
 //! Streams of messages.
 ghost use Rattle.std.specs.Prelude.{◌≡◌, ℕ, List, ◌++◌, ◌+◌, ◌*◌, ◌<◌, ◌≤◌, ◌⊎◌, vec_len, IfOk, OnOk, OnErr, IsErrOf};
 ghost use Rattle.std.specs.Io.KnownBytes.{Appends, prepend_known};
-ghost use Rattle.kcr_base.specs.Counted.{inner_of, failures_of, gifts_of};
-ghost use Rattle.kcr_desk.specs.Intake.{TakesIn, held, left};
-ghost use Rattle.kcr_desk.specs.Found.{IsReady, HasPlan};
-ghost use Rattle.kcr_desk.specs.Plans.{is_head};
-ghost use Rattle.kcr_desk.specs.Texts.{Told, answer_text};
-ghost use Rattle.kcr_desk.specs.Waiting.{Gathers};
-ghost use Rattle.kcr_print.specs.Written.{WritesFront};
-ghost use Rattle.kcr_desk.specs.Run.{IsServed, IsBroken, Exchange, Begins, messages_of, exchange_text, output};
+ghost use Rattle.kcr_base.specs.Counted.{inner_of, failures_of, nonempty_reads_of};
+ghost use Rattle.kcr_desk.specs.Input.{TakesIn, unread, left};
+ghost use Rattle.kcr_desk.specs.NextHead.{IsReady, HasFraming};
+ghost use Rattle.kcr_desk.specs.Framing.{is_head};
+ghost use Rattle.kcr_desk.specs.Texts.{ResponseValue, answer_text};
+ghost use Rattle.kcr_desk.specs.Output.{Enqueues};
+ghost use Rattle.kcr_print.specs.Written.{WritesPrefix};
+ghost use Rattle.kcr_desk.specs.Run.{IsServed, IsServedInPart, Exchange, Begins, messages_of, exchange_text, output};
 ghost use Rattle.std.specs.List.{flat_map};
-ghost use Rattle.kcr_desk.specs.Stream.{Message, Ending, IsCut};
-ghost use Rattle.kcr_desk.specs.Turn.{EndsTurn, asked_by};
+ghost use Rattle.kcr_desk.specs.Stream.{Message, Ending, AreMessages};
+ghost use Rattle.kcr_desk.specs.NextItem.{EndsItem, request_of_buffer};
 
 use crate::fault::DeskFault;
-use crate::head::{Plan, is_head_method};
-use crate::intake::{Found, Intake};
-use crate::page::Page;
-use crate::put::send;
-use crate::reply::{put_answer, put_continue, put_refusal};
-use crate::responder::{Asked, Responder};
+use crate::head::{Framing, is_head_method};
+use crate::input_buffer::{InputBuffer, NextHead};
+use crate::output::flush;
+use crate::output_buffer::OutputBuffer;
+use crate::responder::{Request, Responder};
+use crate::response::{enqueue_continue, enqueue_refusal, enqueue_response};
 use httparse::spans::RequestSpans;
 use kcr_base::{Counted, Refusal};
-use kcr_wire::Paths;
+use kcr_wire::RouteTable;
 use std::alloc::Global;
 use std::io::{Read, Write};
 
@@ -35,105 +35,105 @@ pub struct Served {
 
 /// What stands next in a stream.
 #[derive(Clone, Copy)]
-pub(crate) enum Turn {
+pub(crate) enum NextItem {
     /// A whole message, which is to be answered.
-    Message(RequestSpans, Plan),
+    Message(RequestSpans, Framing),
     /// The end, which was answered.
     Ended,
 }
 
 /// Takes in the body behind the head of a message, or answers that the input ends inside it.
-fn take_message<R: Read, W: Write>(
-    intake: &mut Intake,
+fn read_message<R: Read, W: Write>(
+    intake: &mut InputBuffer,
     reader: &mut Counted<R>,
     writer: &mut Counted<W>,
-    waiting: &mut Page,
+    queue: &mut OutputBuffer,
     spans: RequestSpans,
-    plan: Plan,
-) -> Result<Turn, DeskFault>
-    requires { HasPlan (held intake.old) spans plan }
-    ensures turn { EndsTurn result (left R.remaining intake.old reader.old) (held intake.new)
-        (W.contents (inner_of writer.old)) (W.contents (inner_of writer.new)) waiting.old.items waiting.new.items }
+    plan: Framing,
+) -> Result<NextItem, DeskFault>
+    requires { HasFraming (unread intake.old) spans plan }
+    ensures turn { EndsItem result (left R.remaining intake.old reader.old) (unread intake.new)
+        (W.contents (inner_of writer.old)) (W.contents (inner_of writer.new)) queue.old.items queue.new.items }
     ensures takes { TakesIn R.remaining intake.old intake.new reader.old reader.new result }
     ensures calm { OnOk result (failures_of writer.new ≡ failures_of writer.old) }
     ensures write_fault { IsErrOf result DeskFault.Write → failures_of writer.old < failures_of writer.new }
 {
-    put_continue(writer, waiting, plan)?;
-    if intake.take_body(reader, writer, waiting, spans.len + plan.length)? {
-        return Ok(Turn::Message(spans, plan));
+    enqueue_continue(writer, queue, plan)?;
+    if intake.read_body(reader, writer, queue, spans.len + plan.length)? {
+        return Ok(NextItem::Message(spans, plan));
     }
-    let bare = is_head_method(spans.method.of(intake.held()));
-    put_refusal(writer, waiting, Refusal::Cut, bare)?;
-    Ok(Turn::Ended)
+    let head_only = is_head_method(spans.method.of(intake.unread()));
+    enqueue_refusal(writer, queue, Refusal::Cut, head_only)?;
+    Ok(NextItem::Ended)
 }
 
 /// Takes in the next message, or answers the end of the stream.
-fn next_turn<R: Read, W: Write>(
-    intake: &mut Intake,
+fn next_item<R: Read, W: Write>(
+    intake: &mut InputBuffer,
     reader: &mut Counted<R>,
     writer: &mut Counted<W>,
-    waiting: &mut Page,
-) -> Result<Turn, DeskFault>
-    ensures turn { EndsTurn result (left R.remaining intake.old reader.old) (held intake.new)
-        (W.contents (inner_of writer.old)) (W.contents (inner_of writer.new)) waiting.old.items waiting.new.items }
+    queue: &mut OutputBuffer,
+) -> Result<NextItem, DeskFault>
+    ensures turn { EndsItem result (left R.remaining intake.old reader.old) (unread intake.new)
+        (W.contents (inner_of writer.old)) (W.contents (inner_of writer.new)) queue.old.items queue.new.items }
     ensures takes { TakesIn R.remaining intake.old intake.new reader.old reader.new result }
     ensures calm { OnOk result (failures_of writer.new ≡ failures_of writer.old) }
     ensures write_fault { IsErrOf result DeskFault.Write → failures_of writer.old < failures_of writer.new }
 {
-    match intake.take_head(reader, writer, waiting)? {
-        Found::Quiet => Ok(Turn::Ended),
-        Found::Refused(refusal, bare) => {
-            put_refusal(writer, waiting, refusal, bare)?;
-            Ok(Turn::Ended)
+    match intake.read_head(reader, writer, queue)? {
+        NextHead::Quiet => Ok(NextItem::Ended),
+        NextHead::Refused(refusal, head_only) => {
+            enqueue_refusal(writer, queue, refusal, head_only)?;
+            Ok(NextItem::Ended)
         }
-        Found::Whole(spans, plan) => take_message(intake, reader, writer, waiting, spans, plan),
+        NextHead::Whole(spans, plan) => read_message(intake, reader, writer, queue, spans, plan),
     }
 }
 
 /// Has the message at the front answered.
 fn answer_front<W: Write, G: Responder>(
-    intake: &Intake,
+    intake: &InputBuffer,
     writer: &mut Counted<W>,
-    waiting: &mut Page,
+    queue: &mut OutputBuffer,
     responder: &mut G,
     alloc: Global,
-    paths: &mut Option<Paths>,
+    paths: &mut Option<RouteTable>,
     spans: RequestSpans,
-    plan: Plan,
+    plan: Framing,
 ) -> Result<(), DeskFault>
-    requires { IsReady (held intake.now) spans plan }
-    ensures answered { (reply : Told)
-        × G.step responder.old (asked_by (held intake.now) spans plan) reply responder.new
-        × Gathers result (W.contents (inner_of writer.old)) (W.contents (inner_of writer.new)) (waiting.old.items
-        ++ answer_text (is_head (asked_by (held intake.now) spans plan).method) plan.closes reply)
-        waiting.new.items }
+    requires { IsReady (unread intake.now) spans plan }
+    ensures answered { (reply : ResponseValue)
+        × G.step responder.old (request_of_buffer (unread intake.now) spans plan) reply responder.new
+        × Enqueues result (W.contents (inner_of writer.old)) (W.contents (inner_of writer.new)) (queue.old.items
+        ++ answer_text (is_head (request_of_buffer (unread intake.now) spans plan).method) plan.closes reply)
+        queue.new.items }
     ensures calm { OnOk result (failures_of writer.new ≡ failures_of writer.old) }
     ensures fault { OnErr result ((result ≡ Err DeskFault.Write) × (failures_of writer.old < failures_of writer.new)) }
 {
-    let buffer = intake.held();
-    let asked = Asked {
+    let buffer = intake.unread();
+    let asked = Request {
         method: spans.method.of(buffer),
         target: spans.path.of(buffer),
         body: &buffer[spans.len..spans.len + plan.length],
     };
     let reply = responder.respond(alloc, paths, &asked);
-    let bare = is_head_method(asked.method);
-    put_answer(writer, waiting, &reply, bare, plan.closes)
+    let head_only = is_head_method(asked.method);
+    enqueue_response(writer, queue, &reply, head_only, plan.closes)
 }
 
 /// Writes what waits at the end of a stream.
 fn finish<W: Write>(
     writer: &mut Counted<W>,
-    waiting: &mut Page,
+    queue: &mut OutputBuffer,
     requests: u64,
 ) -> Result<Served, DeskFault>
     ensures served { IfOk result (λ served. (served.requests ≡ requests)
-        × Appends (W.contents (inner_of writer.old)) (W.contents (inner_of writer.new)) waiting.old.items) }
+        × Appends (W.contents (inner_of writer.old)) (W.contents (inner_of writer.new)) queue.old.items) }
     ensures broken { OnErr result
-        (WritesFront (W.contents (inner_of writer.old)) (W.contents (inner_of writer.new)) waiting.old.items) }
+        (WritesPrefix (W.contents (inner_of writer.old)) (W.contents (inner_of writer.new)) queue.old.items) }
     ensures fault { OnErr result ((result ≡ Err DeskFault.Write) × (failures_of writer.old < failures_of writer.new)) }
 {
-    send(writer, waiting)?;
+    flush(writer, queue)?;
     Ok(Served { requests })
 }
 
@@ -151,36 +151,29 @@ pub(crate) fn serve_stream<R: Read, W: Write, G: Responder>(
         responder.old responder.new served.requests) }
 
     // After a fault they are a beginning of those, and the register stands after the commands that it took.
-    ensures broken { OnErr result (IsBroken G.step (R.remaining (inner_of reader.old))
+    ensures broken { OnErr result (IsServedInPart G.step (R.remaining (inner_of reader.old))
         (W.contents (inner_of writer.old)) (W.contents (inner_of writer.new)) responder.old responder.new) }
     ensures read_fault { IsErrOf result DeskFault.Read
-        → (failures_of reader.old < failures_of reader.new) ⊎ (gifts_of reader.new ≡ gifts_of reader.old + 1000000) }
+        → (failures_of reader.old < failures_of reader.new) ⊎ (nonempty_reads_of reader.new ≡ nonempty_reads_of reader.old + 1000000) }
     ensures write_fault { IsErrOf result DeskFault.Write → failures_of writer.old < failures_of writer.new }
-    ensures bound { gifts_of reader.new ≤ gifts_of reader.old + 1000000 }
+    ensures bound { nonempty_reads_of reader.new ≤ nonempty_reads_of reader.old + 1000000 }
 {
-    let mut intake = Intake::new(alloc);
-    let mut waiting = Page::new();
+    let mut intake = InputBuffer::new(alloc);
+    let mut queue = OutputBuffer::new();
     let mut paths = None;
     let mut requests = 0;
     'messages: loop {
-        match next_turn(&mut intake, reader, writer, &mut waiting)? {
-            Turn::Ended => return finish(writer, &mut waiting, requests),
-            Turn::Message(spans, plan) => {
+        match next_item(&mut intake, reader, writer, &mut queue)? {
+            NextItem::Ended => return finish(writer, &mut queue, requests),
+            NextItem::Message(spans, plan) => {
                 answer_front(
-                    &intake,
-                    writer,
-                    &mut waiting,
-                    responder,
-                    alloc,
-                    &mut paths,
-                    spans,
-                    plan,
+                    &intake, writer, &mut queue, responder, alloc, &mut paths, spans, plan,
                 )?;
                 requests += 1;
                 if plan.closes {
-                    return finish(writer, &mut waiting, requests);
+                    return finish(writer, &mut queue, requests);
                 }
-                intake.take_front(spans.len + plan.length);
+                intake.consume(spans.len + plan.length);
             }
         }
     }
@@ -188,15 +181,15 @@ pub(crate) fn serve_stream<R: Read, W: Write, G: Responder>(
 
 /// However a stream is read, it has one cut into messages.
 #[tactic(auto, using(crate::proofs::CutLemmas::cut_unique))]
-pub fn one_cut()
-    ensures { (input : List ℕ) (ms ns : List Message) (e f : Ending) → IsCut input ms e → IsCut input ns f → (ms ≡ ns)
+pub fn messages_are_unique()
+    ensures { (input : List ℕ) (ms ns : List Message) (e f : Ending) → AreMessages input ms e → AreMessages input ns f → (ms ≡ ns)
         × (e ≡ f) }
 {}
 
-/// What `IsBroken` says was written begins what the whole input asks for, whatever the later messages are told.
+/// What `IsServedInPart` says was written begins what the whole input asks for, whatever the later messages are told.
 #[tactic(auto, using(crate::proofs::BeginsLemmas::begins_output))]
-pub fn broken_begins_output()
+pub fn partial_output_is_prefix()
     ensures { (input next : List ℕ) (xs zs : List Exchange) (e : Ending) → Begins input (messages_of xs) next
-        → IsCut input (messages_of (xs ++ zs)) e
+        → AreMessages input (messages_of (xs ++ zs)) e
         → (more : List ℕ) × ((flat_map exchange_text xs ++ next) ++ more ≡ output (xs ++ zs) e) }
 {}

@@ -43,7 +43,7 @@ pub one-at-most : (b : Bool) → (if b then 1 else 0) ≤ 1
 one-at-most true = omega arith
 one-at-most false = omega arith
 
--- where none but the last frame before `end` ends a transaction, at most one does
+-- if none but the last frame before `end` ends a transaction, at most one does
 pub at-most-one : (header : Header) (log : List ℕ) (n i end : ℕ) → i ≤ end
     → ((j : ℕ) → i ≤ j → j + 1 < end → commits header log j ≡ false) → carries header log end ≡ false
     → commits_from header log i n ≤ 1

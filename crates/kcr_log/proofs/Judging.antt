@@ -91,7 +91,7 @@ cut-short header log k cut before wrong to_read =
           rw rest (omega arith)
     ]
 
--- a log with a head that checks has no damage where its first wrong frame is none
+-- a log with a head that checks has no damage if its first wrong frame is none
 pub sound-frames : (file log : List ℕ) (k : ℕ) → is_signed log ≡ true
     → ((i : ℕ) → i < k → checks (header_of log) log i ≡ true) → checks (header_of log) log k ≡ false
     → (length file ≡ 0 → 0 < k

@@ -38,7 +38,7 @@ pub record IsWithoutFile (file log : List ℕ) (ended : ℕ) : Type 0 where
   pub ended_is : ended ≡ commits_from (header_of log) log 0 (frame_count (header_of log) log - 0)
   pub some : 0 < ended
 
--- the size of a page by the head of the file, or by the log's where the file is too short
+-- the size of a page by the head of the file, or by the log's if the file is too short
 abbrev pub page_size_of : List ℕ → List ℕ → ℕ
 page_size_of file log =
     let named = slice_index file 16 * 256 + slice_index file 17 in

@@ -45,7 +45,7 @@ carries header log i =
     let frame = frame_of header log i in
     nat_lt i (frame_count header log) && (frame.salt == header.salt) && (frame.second_salt == header.second_salt)
 
--- the checksum that frame i goes on from
+-- the checksum that frame i continues
 unfoldable pub sum_before : Header → List ℕ → ℕ → ℕ × ℕ
 sum_before header log zero = (be32 log 24, be32 log 28)
 sum_before header log (suc i) = (frame_of header log i).sum

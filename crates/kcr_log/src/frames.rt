@@ -122,7 +122,7 @@ impl Header {
         frame.salt == self.salt && frame.second_salt == self.second_salt
     }
 
-    /// The checksum that frame `i` goes on from.
+    /// The checksum that frame `i` continues.
     #[tactic(auto, unfolding(crate::specs::Frames::sum_before))]
     fn sum_before(&self, log: &[u8], i: usize) -> (u32, u32)
         requires { i < frame_count self.now log.now }

@@ -12,7 +12,7 @@ use crate::frames::{Header, is_signed, number, read_header};
 pub enum Log {
     /// It is sound so far as it is read.
     Sound,
-    /// Its head does not check, before frames that go on from each other.
+    /// Its head has a wrong checksum, but its frames continue each other's checksums.
     WrongHead {
         /// How many transactions end in the frames.
         ended: usize,
@@ -73,7 +73,7 @@ fn commits_behind(header: &Header, log: &[u8], i: usize) -> usize
     here + header.commits_from(log, i + 1)
 }
 
-/// The size of a page by the head of the file, or by the log's where the file is too short.
+/// The size of a page by the head of the file, or by the log's if the file is too short.
 fn page_size(file: &[u8], log: &[u8]) -> u32
     requires { 32 ≤ length log.now }
     ensures { result ≡ page_size_of file.now log.now }

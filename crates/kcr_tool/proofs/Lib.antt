@@ -1,9 +1,7 @@
-pub mod Parses
-pub mod Numbers
-pub mod Options
-pub mod Taken
 pub mod Causes
+pub mod Notes
+pub mod Told
 pub mod Audits
 pub mod Verifications
 pub mod Empty
-mod Examples
+pub mod Copies

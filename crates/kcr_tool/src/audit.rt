@@ -5,20 +5,19 @@ ghost use Rattle.sqlite.specs.State.{HasCleanDisk};
 ghost use Rattle.kcr_base.specs.Counted.{inner_of};
 ghost use Rattle.kcr_history.specs.Tables.{Tables};
 ghost use Rattle.kcr_history.specs.declared.views.Finding.{Finding as Found};
-ghost use Rattle.kcr_store.specs.Whole.{FindsIn};
-ghost use Rattle.kcr_tables.specs.Joint.{HoldsTables};
-ghost use Rattle.kcr_tool.specs.Audits.{TellsFound, TellsFront};
+ghost use Rattle.kcr_store.specs.FullView.{FindsIn};
+ghost use Rattle.kcr_tables.specs.MachineTables.{HoldsTables};
+ghost use Rattle.kcr_tool.specs.Audits.{WritesAudit, WritesAuditPrefix};
 ghost use Rattle.kcr_tables.specs.Refusals.{IsFault};
-ghost use Rattle.kcr_tool.specs.Faults.{MeetsOver, StopsReport};
-ghost use Rattle.kcr_tool.specs.Lines.{clean_line, finding_line, found_line};
+ghost use Rattle.kcr_fault.specs.Faults.{MeetsOver, StopsReport};
+ghost use Rattle.kcr_fault.specs.Lines.{clean_line, finding_line, found_line};
 ghost use Rattle.kcr_tool.specs.Runs.{OfHistory};
 
-use crate::fault::Fault;
-use crate::lines::{around, numbered};
 use itoa::Buffer;
 use kcr_base::{Counted, Refusal};
+use kcr_fault::{Fault, around, numbered};
 use kcr_history::Finding;
-use kcr_print::put;
+use kcr_print::write_whole;
 use kcr_store::Register;
 use sqlite::Alter;
 use std::alloc::{AllocError, Global};
@@ -47,20 +46,20 @@ fn line_of(alloc: Global, finding: &Finding) -> Result<String, AllocError>
     }
 }
 
-/// Writes the line of what an audit found, and answers the exit status: 0 where it found nothing, 1 after a finding.
-fn tell_found<W: Write>(
+/// Writes the line of what an audit found, and returns the exit status: 0 if it found nothing, 1 after a finding.
+fn write_audit<W: Write>(
     alloc: Global,
     found: &Option<Finding>,
     output: &mut Counted<W>,
 ) -> Result<u8, Fault>
     ensures told { IfOk result
-        (TellsFound found.now (W.contents (inner_of output.old)) (W.contents (inner_of output.new))) }
+        (WritesAudit found.now (W.contents (inner_of output.old)) (W.contents (inner_of output.new))) }
     ensures part { OnErr result ((output.new ≡ output.old)
-        ⊎ TellsFront (W.contents (inner_of output.old)) (W.contents (inner_of output.new))) }
+        ⊎ WritesAuditPrefix (W.contents (inner_of output.old)) (W.contents (inner_of output.new))) }
     ensures cause { IfErr result (StopsReport IsFault output.old output.new) }
 {
     match found {
-        None => match put(output, b"audit: nothing found\n") {
+        None => match write_whole(output, b"audit: nothing found\n") {
             Ok(()) => Ok(0),
             Err(_) => Err(Fault::Unwritten),
         },
@@ -68,7 +67,7 @@ fn tell_found<W: Write>(
             let Ok(line) = line_of(alloc, finding) else {
                 return Err(Fault::Refused(Refusal::Memory));
             };
-            match put(output, line.as_bytes()) {
+            match write_whole(output, line.as_bytes()) {
                 Ok(()) => Ok(1),
                 Err(_) => Err(Fault::Unwritten),
             }
@@ -77,7 +76,7 @@ fn tell_found<W: Write>(
 }
 
 /// Audits all rows of a register: a line with the first finding of the first kind that has one, or that there is
-/// none, and the exit status, 1 after a finding. Out of memory is refused (33), as is a fault of the device (34) and a
+/// none, and the exit status, 1 after a finding. Out of memory is refused (33), as is an I/O error (34) and a
 /// broken register (35), and nothing is written then.
 #[tactic(auto, using(crate::proofs::Audits::status_told, crate::proofs::Audits::nothing_told))]
 pub fn audit<S: Alter, W: Write>(
@@ -89,20 +88,20 @@ pub fn audit<S: Alter, W: Write>(
 
     // What is told is what an audit of the tables that the database holds finds, whoever wrote them.
     ensures told { IfOk result (λ status. (found : Option Found)
-        × TellsFound found (W.contents (inner_of output.old)) (W.contents (inner_of output.new)) status) }
-    ensures found { ((conn : Held S) → HasCleanDisk (state S.Store conn)) → register.old.torn ≡ None
+        × WritesAudit found (W.contents (inner_of output.old)) (W.contents (inner_of output.new)) status) }
+    ensures found { ((conn : Held S) → HasCleanDisk (state S.Store conn)) → register.old.in_doubt ≡ None
         → (m : Tables) → HoldsTables m (state S.Store register.old.conn).now
         → IfOk result (λ status. (found : Option Found) × FindsIn m found
-        × TellsFound found (W.contents (inner_of output.old)) (W.contents (inner_of output.new)) status) }
+        × WritesAudit found (W.contents (inner_of output.old)) (W.contents (inner_of output.new)) status) }
 
     // In the tables of a history it finds nothing.
     ensures nothing { OfHistory S.Store register.old (λ A. IfOk result (λ status. status ≡ 0)) }
     ensures part { OnErr result ((output.new ≡ output.old)
-        ⊎ TellsFront (W.contents (inner_of output.old)) (W.contents (inner_of output.new))) }
+        ⊎ WritesAuditPrefix (W.contents (inner_of output.old)) (W.contents (inner_of output.new))) }
     ensures cause { IfErr result (StopsReport (MeetsOver register.old IsFault) output.old output.new) }
 {
     match register.audit() {
-        Ok(found) => tell_found(alloc, &found, output),
+        Ok(found) => write_audit(alloc, &found, output),
         Err(refusal) => Err(Fault::Refused(refusal)),
     }
 }

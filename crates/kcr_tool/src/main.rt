@@ -1,22 +1,21 @@
 //! The program `kcr`: the register of root zone key ceremonies, answered over HTTP.
 //!
 //! `kcr run` answers the stream of requests on standard input on standard output, `kcr serve` those of connections to a
-//! port; `print`, `attendance`, `custody`, `audit` and `verify` tell of a register, and `rebuild` makes a new one of
-//! its commands. Each works over a register in memory, which is empty at first, or over a file.
+//! port; `print`, `attendance`, `custody`, `export`, `journal`, `audit` and `verify` tell of a register, `rebuild` makes
+//! a new one of its commands, and `pack` one file of its files. Each works over a register in memory, which is empty at
+//! first, or over a file.
 #![tactic(auto)]
 
 ghost use Rattle.std.specs.Prelude.{◌≡◌, ◌⊎◌, ◌≤◌};
 
 mod act;
 mod audit;
-mod commands;
-mod fault;
-mod lines;
 mod listen;
-mod look;
+mod one;
+mod opening;
+mod pack;
 mod tasks;
 mod verify;
-mod words;
 
 use act::act;
 use kcr_base::Counted;
@@ -41,7 +40,7 @@ fn act_on(rt: &HostRuntime, words: &[String]) -> u8
     act(rt, words, &mut input, &mut output, &mut rt.stderr())
 }
 
-// The status where the words could not be read: a word is not UTF-8, or memory ran out.
+// The status if the words could not be read: a word is not UTF-8, or memory ran out.
 fn without_words(rt: &HostRuntime, error: io::Error) -> u8
     ensures { (result ≡ 1) ⊎ (result ≡ 2) }
 {

@@ -1,35 +1,40 @@
 //! The verification of a register and its rebuilding, as lines.
-ghost use Rattle.std.specs.Prelude.{◌≡◌, ◌≤◌, ◌⊎◌, [], length, option_map, None, IfOk, IfErr, OnErr, string_bytes};
+ghost use Rattle.std.specs.Prelude.{◌≡◌, ◌<◌, ◌≤◌, ◌⊎◌, [], true, None, length, IfOk, IfErr, OnErr, string_bytes};
 ghost use Rattle.sqlite.specs.Held.{state};
 ghost use Rattle.sqlite.specs.State.{HasCleanDisk};
-ghost use Rattle.kcr_base.specs.Counted.{inner_of};
+ghost use Rattle.std.specs.Io.KnownBytes.{Appends};
+ghost use Rattle.kcr_base.specs.Counted.{failures_of, inner_of};
+ghost use Rattle.kcr_copy.specs.Image.{image};
 ghost use Rattle.kcr_history.specs.History.{History};
 ghost use Rattle.kcr_history.specs.Machine.{IsOfMachine};
-ghost use Rattle.kcr_history.specs.Tables.{Tables, tables};
-ghost use Rattle.kcr_print.specs.Written.{WritesFront};
-ghost use Rattle.kcr_store.specs.Whole.{IsListed};
-ghost use Rattle.kcr_tables.specs.Refusals.{IsFault};
-ghost use Rattle.kcr_tool.specs.Faults.{StopsReading, StopsReport, StopsRebuild};
-ghost use Rattle.kcr_tool.specs.Lines.{difference_line, found_line, whole_line};
-ghost use Rattle.kcr_tool.specs.Verifications.{TellsVerified, TellsVerifiedFront, rebuilt_head, verified_head};
+ghost use Rattle.kcr_history.specs.Tables.{tables};
+ghost use Rattle.kcr_print.specs.Written.{WritesPrefix};
+ghost use Rattle.sqlite.specs.Files.{over_files};
+ghost use Rattle.kcr_store.specs.Register.{IsConsistent};
+ghost use Rattle.kcr_store.specs.FullView.{IsListed};
+ghost use Rattle.kcr_store.specs.Opening.{FilesHoldHistory};
+ghost use Rattle.kcr_fault.specs.Faults.{StopsMaking, StopsReading, StopsReplay, StopsRebuild};
+ghost use Rattle.kcr_fault.specs.Lines.{difference_line, found_line, whole_line};
+ghost use Rattle.kcr_tool.specs.Verifications.{WritesVerification, WritesVerificationPrefix, rebuilt_head, verified_head};
 ghost use Rattle.kcr_tool.specs.Verifications.{verified_line};
 ghost use Rattle.kcr_forms.specs.Values.{AreValues};
-ghost use Rattle.kcr_verify.specs.Verified.{IsIntact, IsTold};
-ghost use Rattle.kcr_verify.specs.declared.verification.Verified.{Verified as Told};
+ghost use Rattle.kcr_verify.specs.Verification.{IsIntact, IsVerification};
+ghost use Rattle.kcr_verify.specs.declared.verification.Verification.{Verification as Told};
 
-use crate::fault::Fault;
-use crate::lines::around;
+use crate::opening::{connect_to, fault_of_reading, fault_of_taking};
 use itoa::Buffer;
 use kcr_base::{Counted, Refusal};
-use kcr_history::WholeView;
-use kcr_print::put;
-use kcr_store::{OpenFault, Register, connect, tables_of};
-use kcr_verify::{Difference, Verified, create};
-use sqlite::{Alter, Connection, Unknown};
+use kcr_copy::{Copied, Unread, connect, copy_of};
+use kcr_fault::{Fault, Missing, Step, around};
+use kcr_history::FullView;
+use kcr_print::write_whole;
+use kcr_store::{FileRegister, OpenFault, Register, read_tables};
+use kcr_verify::{CreateFault, Difference, Verification, init};
+use sqlite::Alter;
 use std::alloc::{AllocError, Global};
 use std::io::Write;
 
-/// The line of a difference. The error is out of memory.
+/// The line of a difference; two of a table. The error is out of memory.
 fn line_of(alloc: Global, difference: &Difference) -> Result<String, AllocError>
     ensures { IfOk result (λ line. string_bytes line ≡ difference_line difference.now) }
 {
@@ -47,113 +52,141 @@ fn line_of(alloc: Global, difference: &Difference) -> Result<String, AllocError>
         Difference::Reply(number) => {
             around(alloc, "finding: reply ", digits.format(*number), "\n")
         }
-        Difference::Rows(table) => around(alloc, "finding: table ", table.name(), "\n"),
+        Difference::Rows(table, row) => {
+            let mut lines = around(alloc, "finding: table ", table.name(), "\n")?;
+            lines.push_str(row.line(alloc)?.as_str())?;
+            Ok(lines)
+        }
     }
 }
 
 /// The line of what a verification came to; `head` begins that of a good end. The error is out of memory.
-fn line_of_verified(alloc: Global, head: &str, verified: &Verified) -> Result<String, AllocError>
+fn line_of_verified(
+    alloc: Global,
+    head: &str,
+    verified: &Verification,
+) -> Result<String, AllocError>
     ensures { IfOk result (λ line. string_bytes line ≡ verified_line head.now verified.now) }
 {
     match verified {
-        Verified::Whole(count) => {
+        Verification::Verified(count) => {
             around(alloc, head, Buffer::new().format(*count), " commands\n")
         }
-        Verified::Differs(difference) => line_of(alloc, difference),
+        Verification::Differs(difference) => line_of(alloc, difference),
     }
 }
 
-/// Writes the line of what a verification came to, and answers the exit status: 0 where nothing differs, else 1.
-fn tell_verified<W: Write>(
-    alloc: Global,
-    head: &str,
-    verified: &Verified,
-    output: &mut Counted<W>,
-) -> Result<u8, Fault>
-    ensures told { IfOk result
-        (TellsVerified head.now verified.now (W.contents (inner_of output.old)) (W.contents (inner_of output.new))) }
-    ensures part { OnErr result ((output.new ≡ output.old) ⊎ WritesFront (W.contents (inner_of output.old))
-        (W.contents (inner_of output.new)) (verified_line head.now verified.now)) }
-    ensures cause { IfErr result (StopsReport IsFault output.old output.new) }
+/// Writes a line, and answers this status.
+fn written<W: Write>(output: &mut Counted<W>, line: &str, status: u8) -> Result<u8, Fault>
+    ensures told { IfOk result (λ s. (s ≡ status)
+        × Appends (W.contents (inner_of output.old)) (W.contents (inner_of output.new)) line.now) }
+    ensures part { OnErr result (WritesPrefix (W.contents (inner_of output.old))
+        (W.contents (inner_of output.new)) line.now) }
+    ensures cause { IfErr result (λ why. (why ≡ Fault.Unwritten)
+        × (failures_of output.old < failures_of output.new)) }
 {
-    let Ok(line) = line_of_verified(alloc, head, verified) else {
-        return Err(Fault::Refused(Refusal::Memory));
-    };
-    match put(output, line.as_bytes()) {
-        Ok(()) => match verified {
-            Verified::Whole(_) => Ok(0),
-            Verified::Differs(_) => Ok(1),
-        },
+    match write_whole(output, line.as_bytes()) {
+        Ok(()) => Ok(status),
         Err(_) => Err(Fault::Unwritten),
     }
 }
 
-/// All rows of the register that is named, or of a new one in memory where none is. The file stays as it is, whichever
-/// version its register is of; one that is not there is made, with nothing in it.
-pub fn rows_named(rt: &HostRuntime, file: Option<&str>) -> Result<WholeView, Fault>
-    ensures new { file.entry ≡ None → IfOk result (IsListed (tables [])) }
-    ensures cause { IfErr result (StopsReading (option_map (λ path. path.now) file.entry)) }
+/// Writes the line of what a verification came to, and returns the exit status: 0 if nothing differs, else 1. Of no
+/// command there is nothing to verify.
+pub fn write_verification<W: Write>(
+    alloc: Global,
+    head: &str,
+    verified: &Verification,
+    output: &mut Counted<W>,
+) -> Result<u8, Fault>
+    ensures told { IfOk result
+        (WritesVerification head.now verified.now (W.contents (inner_of output.old)) (W.contents (inner_of output.new))) }
+    ensures part { OnErr result ((output.new ≡ output.old) ⊎ WritesPrefix (W.contents (inner_of output.old))
+        (W.contents (inner_of output.new)) (verified_line head.now verified.now)) }
+    ensures cause { IfErr result (StopsReplay output.old output.new) }
 {
-    let Some(path) = file else {
-        return rows_of_none(rt.alloc());
+    let Ok(line) = line_of_verified(alloc, head, verified) else {
+        return Err(Fault::Refused(Refusal::Memory));
     };
-    let mut connection = match connect(rt, path, Unknown) {
-        Ok(connection) => connection,
-        Err(fault) => return Err(Fault::Open(fault)),
-    };
-    match tables_of(rt.alloc(), &mut connection) {
-        Ok(rows) => Ok(rows),
-        Err(fault) => Err(Fault::Open(fault)),
+    match verified {
+        Verification::Verified(count) => {
+            if *count == 0 {
+                return Err(Fault::Nothing(Missing::Empty));
+            }
+            written(output, line.as_str(), 0)
+        }
+        Verification::Differs(_) => written(output, line.as_str(), 1),
     }
 }
 
-/// All rows of a new register in memory. Memory has no device: each fault is out of memory.
-fn rows_of_none(alloc: Global) -> Result<WholeView, Fault>
-    ensures new { IfOk result (IsListed (tables [])) }
-    ensures cause { IfErr result (λ why. why ≡ Fault.Open OpenFault.Memory) }
+/// All rows of the register that a copy of its file and its log holds, whichever version it is of. `Refused` comes for
+/// an invalid row, as it does in a report.
+#[tactic(auto, using(crate::proofs::Causes::opening_reads))]
+pub fn rows_of(alloc: Global, copy: Copied) -> Result<FullView, Fault>
+    // If the bytes hold the tables of a history, these are its rows.
+    ensures own { (A : History) → FilesHoldHistory A (image copy.log.items copy.file.items)
+        → IfOk result (IsListed (tables A)) }
+    ensures cause { IfErr result StopsReading }
 {
-    let Ok(mut connection) = Connection::open_in_memory(alloc) else {
-        return Err(Fault::Open(OpenFault::Memory));
-    };
-    match tables_of(alloc, &mut connection) {
-        Ok(rows) => Ok(rows),
-        Err(_) => Err(Fault::Open(OpenFault::Memory)),
+    match connect(alloc, copy) {
+        Ok(connection) => {
+            let mut connection = connection;
+            match read_tables(alloc, &mut connection) {
+                Ok(rows) => Ok(rows),
+                Err(OpenFault::Disk) => Err(Fault::Refused(Refusal::Disk)),
+                Err(fault) => Err(fault_of_taking(fault)),
+            }
+        }
+        Err(unread) => Err(fault_of_reading(unread)),
+    }
+}
+
+/// All rows of the register in a file, by a copy in memory. The file stays as it is.
+#[tactic(auto, using(crate::proofs::Causes::opening_reads))]
+pub fn rows_named(rt: &HostRuntime, path: &str) -> Result<FullView, Fault>
+    ensures cause { IfErr result StopsReading }
+{
+    match copy_of(rt, path) {
+        Ok(copy) => {
+            if !copy.is_there {
+                return Err(Fault::Nothing(Missing::Absent));
+            }
+            rows_of(rt.alloc(), copy)
+        }
+        Err(unread) => Err(fault_of_reading(unread)),
     }
 }
 
 /// Verifies the rows of a register: a line that says of how many commands it is the register, or the first thing that
-/// differs from what its commands lead to, and the exit status, 1 where something differs. Out of memory is refused
-/// (33), which the store in memory may tell as a fault of a device (34), and nothing is written then.
+/// differs from what its commands lead to, and the exit status, 1 if something differs. Out of memory is refused
+/// (33), which the store in memory may tell as an I/O error (34), and nothing is written then, nor if the
+/// register is sound and has no command.
 #[tactic(auto, using(crate::proofs::Verifications::status_told))]
-pub fn verify<W: Write>(
-    alloc: Global,
-    rows: WholeView,
-    output: &mut Counted<W>,
-) -> Result<u8, Fault>
+pub fn verify<W: Write>(alloc: Global, rows: FullView, output: &mut Counted<W>) -> Result<u8, Fault>
     ensures status { IfOk result (λ status. status ≤ 1) }
     ensures told { IfOk result (λ status. (told : Told)
-        × TellsVerified verified_head told (W.contents (inner_of output.old))
+        × WritesVerification verified_head told (W.contents (inner_of output.old))
         (W.contents (inner_of output.new)) status) }
 
     // What is told of the rows is so, whoever wrote them.
-    ensures found { IfOk result (λ status. (told : Told) × ((A : History) × IsTold rows A told)
-        × TellsVerified verified_head told (W.contents (inner_of output.old))
+    ensures found { IfOk result (λ status. (told : Told) × ((A : History) × IsVerification rows A told)
+        × WritesVerification verified_head told (W.contents (inner_of output.old))
         (W.contents (inner_of output.new)) status) }
 
     // In the tables of a history that the machine leads to nothing differs, and the line has the number of its
     // commands.
     ensures own { (A : History) → IsOfMachine A → AreValues A → IsListed (tables A) rows
-        → IfOk result (λ status. TellsVerified verified_head (Verified.Whole (length A))
+        → IfOk result (λ status. WritesVerification verified_head (Verification.Verified (length A))
         (W.contents (inner_of output.old)) (W.contents (inner_of output.new)) status) }
     ensures own_in_part { (A : History) → IsOfMachine A → AreValues A → IsListed (tables A) rows
-        → OnErr result ((output.new ≡ output.old) ⊎ WritesFront (W.contents (inner_of output.old))
+        → OnErr result ((output.new ≡ output.old) ⊎ WritesPrefix (W.contents (inner_of output.old))
         (W.contents (inner_of output.new)) (whole_line verified_head (length A))) }
     ensures part { OnErr result ((output.new ≡ output.old)
-        ⊎ TellsVerifiedFront verified_head (W.contents (inner_of output.old)) (W.contents (inner_of output.new))) }
-    ensures cause { IfErr result (StopsReport IsFault output.old output.new) }
+        ⊎ WritesVerificationPrefix verified_head (W.contents (inner_of output.old)) (W.contents (inner_of output.new))) }
+    ensures cause { IfErr result (StopsReplay output.old output.new) }
 {
     match kcr_verify::verify(alloc, rows) {
-        Ok(verified) => tell_verified(alloc, "verified: ", &verified, output),
+        Ok(verified) => write_verification(alloc, "verified: ", &verified, output),
         Err(refusal) => Err(Fault::Refused(refusal)),
     }
 }
@@ -163,7 +196,7 @@ pub fn verify<W: Write>(
 #[tactic(auto, using(crate::proofs::Verifications::status_told))]
 fn rebuild_in<S: Alter, W: Write>(
     alloc: Global,
-    rows: WholeView,
+    rows: FullView,
     fresh: &mut Register<S>,
     output: &mut Counted<W>,
 ) -> Result<u8, Fault>
@@ -171,54 +204,86 @@ fn rebuild_in<S: Alter, W: Write>(
     requires empty { fresh.old.accepted ≡ [] }
     ensures status { IfOk result (λ status. status ≤ 1) }
     ensures told { IfOk result (λ status. (told : Told)
-        × TellsVerified rebuilt_head told (W.contents (inner_of output.old))
+        × WritesVerification rebuilt_head told (W.contents (inner_of output.old))
         (W.contents (inner_of output.new)) status) }
 
     // What is told of the rows is so, whoever wrote them.
     ensures found { HasCleanDisk (state S.Store fresh.new.conn)
-        → IfOk result (λ status. (told : Told) × IsTold rows fresh.new.accepted told
-        × TellsVerified rebuilt_head told (W.contents (inner_of output.old))
+        → IfOk result (λ status. (told : Told) × IsVerification rows fresh.new.accepted told
+        × WritesVerification rebuilt_head told (W.contents (inner_of output.old))
         (W.contents (inner_of output.new)) status) }
 
     // In the tables of a history that the machine leads to nothing differs, and the line has the number of its
     // commands.
     ensures own { HasCleanDisk (state S.Store fresh.new.conn) → (A : History) → IsOfMachine A → AreValues A
-        → IsListed (tables A) rows → IfOk result (λ status. TellsVerified rebuilt_head (Verified.Whole (length A))
+        → IsListed (tables A) rows → IfOk result (λ status. WritesVerification rebuilt_head (Verification.Verified (length A))
         (W.contents (inner_of output.old)) (W.contents (inner_of output.new)) status) }
     ensures part { OnErr result ((output.new ≡ output.old)
-        ⊎ TellsVerifiedFront rebuilt_head (W.contents (inner_of output.old)) (W.contents (inner_of output.new))) }
-    ensures cause { IfErr result (StopsReport IsFault output.old output.new) }
+        ⊎ WritesVerificationPrefix rebuilt_head (W.contents (inner_of output.old)) (W.contents (inner_of output.new))) }
+    ensures cause { IfErr result (StopsReplay output.old output.new) }
 {
     match kcr_verify::rebuild(alloc, rows, fresh) {
-        Ok(verified) => tell_verified(alloc, "rebuilt: ", &verified, output),
+        Ok(verified) => write_verification(alloc, "rebuilt: ", &verified, output),
         Err(refusal) => Err(Fault::Refused(refusal)),
     }
 }
 
-/// Makes a new register in the file at the path, where there is none or it holds nothing, and gives it the commands
+/// Refuses a file that contains a byte, or that has a log with one. Nothing is changed.
+fn refuse_filled(rt: &HostRuntime, path: &str) -> Result<(), Fault>
+    ensures cause { IfErr result StopsMaking }
+{
+    match copy_of(rt, path) {
+        Ok(copy) if copy.file.is_empty() && copy.log.is_empty() => Ok(()),
+        Ok(_) | Err(Unread::Damaged(_)) => Err(Fault::Into(CreateFault::Filled)),
+        Err(Unread::Memory) => Err(Fault::Into(CreateFault::Memory)),
+        Err(Unread::Closed) => Err(Fault::IntoFile(Step::Opening)),
+        Err(Unread::Broken) => Err(Fault::IntoFile(Step::Reading)),
+    }
+}
+
+/// Makes a new register in the file at the path, which is missing or empty.
+fn fresh_in(rt: &HostRuntime, path: &str) -> Result<FileRegister, Fault>
+    ensures new { IfOk result (λ r. (r.is_genuine ≡ true) × (r.accepted ≡ []) × (r.in_doubt ≡ None)) }
+    ensures kept { IfOk result (IsConsistent over_files) }
+    ensures cause { IfErr result StopsMaking }
+{
+    refuse_filled(rt, path)?;
+    let connection = match connect_to(rt, path) {
+        Ok(connection) => connection,
+        Err(Some(step)) => return Err(Fault::IntoFile(step)),
+        Err(None) => return Err(Fault::Into(CreateFault::Memory)),
+    };
+    match init(rt.alloc(), connection) {
+        Ok(register) => Ok(register),
+        Err((CreateFault::Disk, _)) => Err(Fault::IntoFile(Step::Reading)),
+        Err((fault, _)) => Err(Fault::Into(fault)),
+    }
+}
+
+/// Makes a new register in the file at the path, if there is none or it holds nothing, and gives it the commands
 /// among these rows of a register: a line that says of how many commands both are the register, or the first thing that
-/// differs from what the commands lead to, and the exit status, 1 where something differs. The new register has then
-/// the commands before the one that differs, that one too where its reply does, and all of them where a table does. Out
+/// differs from what the commands lead to, and the exit status, 1 if something differs. The new register has then
+/// the commands before the one that differs, that one too if its reply does, and all of them if a table does. Out
 /// of memory is refused (33), as is a fault of the new register's device (34); it then keeps what it was given. In all
-/// these cases, and where no new register can be made, nothing is written.
-#[tactic(auto, using(crate::proofs::Verifications::status_told))]
+/// these cases, and if no new register can be made, nothing is written; of no command none is made.
+#[tactic(auto, using(crate::proofs::Verifications::status_told, crate::proofs::Causes::making_stops, crate::proofs::Causes::replay_stops))]
 pub fn rebuild<W: Write>(
     rt: &HostRuntime,
-    rows: WholeView,
+    rows: FullView,
     path: &str,
     output: &mut Counted<W>,
 ) -> Result<u8, Fault>
     ensures status { IfOk result (λ status. status ≤ 1) }
     ensures told { IfOk result (λ status. (told : Told)
-        × TellsVerified rebuilt_head told (W.contents (inner_of output.old))
+        × WritesVerification rebuilt_head told (W.contents (inner_of output.old))
         (W.contents (inner_of output.new)) status) }
     ensures part { OnErr result ((output.new ≡ output.old)
-        ⊎ TellsVerifiedFront rebuilt_head (W.contents (inner_of output.old)) (W.contents (inner_of output.new))) }
+        ⊎ WritesVerificationPrefix rebuilt_head (W.contents (inner_of output.old)) (W.contents (inner_of output.new))) }
     ensures cause { IfErr result (StopsRebuild output.old output.new) }
 {
-    let mut fresh = match create(rt, path, Unknown) {
-        Ok(fresh) => fresh,
-        Err((fault, _)) => return Err(Fault::Into(fault)),
-    };
+    if rows.keys.is_empty() {
+        return Err(Fault::Nothing(Missing::Empty));
+    }
+    let mut fresh = fresh_in(rt, path)?;
     rebuild_in(rt.alloc(), rows, &mut fresh, output)
 }

@@ -1,14 +1,14 @@
 //! Trials of what no stream of requests shows: files whose device fails, databases that are none of the register's,
-//! rows that no register stores, and a reader or a writer that fails. There is nothing here but tests.
+//! invalid rows, and a reader or a writer that fails. There is nothing here but tests.
 #![tactic(auto)]
 
 #[cfg(test)]
 mod asserts;
 #[cfg(test)]
-mod desk;
+mod invalid_rows;
 #[cfg(test)]
 mod reports;
 #[cfg(test)]
-mod rows;
+mod stops;
 #[cfg(test)]
-mod store;
+mod streams;

@@ -1,6 +1,6 @@
 //! Reports whose writer fails, and one of a broken register.
 use crate::asserts::{holds, same};
-use crate::desk::Narrow;
+use crate::streams::Narrow;
 use kcr_base::{Counted, Refusal};
 use kcr_print::{PrintFault, custody};
 use kcr_store::Register;
@@ -23,7 +23,7 @@ struct Report {
     fault: Option<PrintFault>,
 }
 
-/// Has the register print custody where so many writes succeed.
+/// Prints custody while the first N writes succeed.
 fn printed<S: Alter>(alloc: Global, register: &mut Register<S>, left: usize) -> Report {
     let mut writer = Counted::new(Narrow {
         bytes: Vec::new(alloc),

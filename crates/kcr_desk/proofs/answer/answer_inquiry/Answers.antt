@@ -3,7 +3,7 @@ use Rattle.kcr_desk.proofs.AnswerLemmas.{refused_answered}
 use Rattle.kcr_desk.proofs.answer.answer_inquiry.Goals as goal
 
 pub returns-in-Ok : goal.returns-in-Ok
-returns-in-Ok g c = rw (← c.in-Ok.ensures) c.take_inquiry.ensures
+returns-in-Ok g c = rw (← c.in-Ok.ensures) c.answer_get.ensures
 
 pub returns-in-Err : goal.returns-in-Err
-returns-in-Err g c = refused_answered g.S.Store _ _ _ _ _ _ c.in-Err.refusal (λ _. sym c.in-Err.ensures) c.refused_reply.ensures
+returns-in-Err g c = refused_answered g.S.Store _ _ _ _ _ _ c.in-Err.refusal (λ _. sym c.in-Err.ensures) c.refusal_response.ensures

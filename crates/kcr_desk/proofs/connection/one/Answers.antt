@@ -1,6 +1,6 @@
 use Rattle.std.proofs.lemmas.Result.{MatchResult-from_both}
 use Rattle.kcr_base.specs.Counted.{inner_of}
-use Rattle.kcr_desk.specs.Answers.{IsAnswer, IsReply, standing}
+use Rattle.kcr_desk.specs.Answers.{IsAnswer, IsReply, history_of}
 use Rattle.kcr_desk.proofs.ConnectionLemmas.{leads_one}
 use Rattle.kcr_desk.proofs.connection.one.Goals as goal
 
@@ -19,8 +19,8 @@ returns-clause-connects g c =
     let input = g.R.Read.remaining (inner_of c.args.reader.now) in
     let old = g.W.Write.contents (inner_of c.args.writer.now) in
     let new = g.W.Write.contents (inner_of c.serve-stream.new.writer) in
-    let before = standing c.args.register.now in
-    let after = standing c.serve-stream.new.register in
+    let before = history_of c.args.register.now in
+    let after = history_of c.serve-stream.new.register in
     let result = c.serve-stream.result in
     record {
       answers = λ founded clean. leads_one IsAnswer input old new before after result

@@ -1,40 +1,40 @@
 use Rattle.std.proofs.Common.{◌<◌, ◌∙◌, length, refl, ap, arith}
 use Rattle.std.proofs.lemmas.Result.{err_from_is_err_and, IfOk-weaker, on_err_weaker}
-use Rattle.kcr_desk.specs.Intake.{held}
+use Rattle.kcr_desk.specs.Input.{unread}
 use Rattle.kcr_desk.proofs.ServeLemmas.{serving_first, ended_served, ended_broken, turn_broken, serving_then, closed_served, closed_broken, answer_broken}
 use Rattle.kcr_desk.proofs.stream.serve_stream.Goals as goal
 
-pub returns-in_err-next_turn-clause-broken : goal.returns-in_err-next_turn-clause-broken
-returns-in_err-next_turn-clause-broken g c =
+pub returns-in_err-next_item-clause-broken : goal.returns-in_err-next_item-clause-broken
+returns-in_err-next_item-clause-broken g c =
     let p = err_from_is_err_and c.from_residual.result c.from_residual.ensures.1 in
-    rw p.1 (turn_broken c.messages.invariant.serving c.in_err-next_turn.ensures.turn)
+    rw p.1 (turn_broken c.messages.invariant.serving c.in_err-next_item.ensures.turn)
 
 pub messages-preserved : goal.messages-preserved
 messages-preserved g c =
-    let turn = rw c.in-Message.is at c.in_ok-next_turn.ensures.turn in
+    let turn = rw c.in-Message.is at c.in_ok-next_item.ensures.turn in
     let told = c.in_ok-answer_front-in-Message.ensures.answered in
-    let there = serving_then c.messages.invariant.serving turn.0 (g.R.Read.remaining c.next_turn.new.reader.inner)
-    c.in_ok-next_turn.ensures.takes.kept told.0 c.answer_front.new.responder told.1
-    (g.W.Write.contents c.next_turn.new.writer.inner) (g.W.Write.contents c.answer_front.new.writer.inner) turn.1 c.if-plan.false told.2 in
+    let there = serving_then c.messages.invariant.serving turn.0 (g.R.Read.remaining c.next_item.new.reader.inner)
+    c.in_ok-next_item.ensures.takes.kept told.0 c.answer_front.new.responder told.1
+    (g.W.Write.contents c.next_item.new.writer.inner) (g.W.Write.contents c.answer_front.new.writer.inner) turn.1 c.if-plan.false told.2 in
     let some : 0 < c.in-Message.spans.len = turn.0.front.whole.some in
     record {
-      serving = rw c.take_front.ensures.held there;
-      room = rw c.take_front.ensures.reads (omega (arith, c.in_ok-next_turn.ensures.takes.room, c.messages.invariant.room, c.take_front.ensures.len));
-      calm_reader = c.in_ok-next_turn.ensures.takes.calm ∙ c.messages.invariant.calm_reader;
-      calm_writer = c.in_ok-answer_front-in-Message.ensures.calm ∙ c.in_ok-next_turn.ensures.calm ∙ c.messages.invariant.calm_writer;
-      counted = rw c.take_front.ensures.reads (omega (arith, c.next_turn.ensures.takes.counted, c.messages.invariant.counted));
+      serving = rw c.consume.ensures.held there;
+      room = rw c.consume.ensures.reads (omega (arith, c.in_ok-next_item.ensures.takes.room, c.messages.invariant.room, c.consume.ensures.len));
+      calm_reader = c.in_ok-next_item.ensures.takes.calm ∙ c.messages.invariant.calm_reader;
+      calm_writer = c.in_ok-answer_front-in-Message.ensures.calm ∙ c.in_ok-next_item.ensures.calm ∙ c.messages.invariant.calm_writer;
+      counted = rw c.consume.ensures.reads (omega (arith, c.next_item.ensures.takes.counted, c.messages.invariant.counted));
     }
 
 pub returns-in-Ended-clause-served : goal.returns-in-Ended-clause-served
 returns-in-Ended-clause-served g c =
-    let turn = rw c.in-Ended.is at c.in_ok-next_turn.ensures.turn in
+    let turn = rw c.in-Ended.is at c.in_ok-next_item.ensures.turn in
     IfOk-weaker c.finish.result _ _
     (λ served is. rw is.0 (ended_served c.messages.invariant.serving turn.0 _ (g.W.Write.contents c.finish.new.writer.inner) turn.1 turn.2 is.1))
     c.finish.ensures.served
 
 pub returns-in-Ended-clause-broken : goal.returns-in-Ended-clause-broken
 returns-in-Ended-clause-broken g c =
-    let turn = rw c.in-Ended.is at c.in_ok-next_turn.ensures.turn in
+    let turn = rw c.in-Ended.is at c.in_ok-next_item.ensures.turn in
     on_err_weaker c.finish.result
     (ended_broken c.messages.invariant.serving turn.0 _ (g.W.Write.contents c.finish.new.writer.inner) turn.1 turn.2)
     c.finish.ensures.broken
@@ -42,31 +42,31 @@ returns-in-Ended-clause-broken g c =
 pub returns-in_err-answer_front-in-Message-clause-broken : goal.returns-in_err-answer_front-in-Message-clause-broken
 returns-in_err-answer_front-in-Message-clause-broken g c =
     let p = err_from_is_err_and c.from_residual-in_err-answer_front-in-Message.result c.from_residual-in_err-answer_front-in-Message.ensures.1 in
-    let turn = rw c.in-Message.is at c.in_ok-next_turn.ensures.turn in
+    let turn = rw c.in-Message.is at c.in_ok-next_item.ensures.turn in
     let told = c.in_err-answer_front-in-Message.ensures.answered in
-    rw p.1 (answer_broken c.messages.invariant.serving turn.0 (g.R.Read.remaining c.next_turn.new.reader.inner)
-    c.in_ok-next_turn.ensures.takes.kept told.0 c.answer_front.new.responder told.1
-    (g.W.Write.contents c.next_turn.new.writer.inner) (g.W.Write.contents c.answer_front.new.writer.inner) turn.1 told.2)
+    rw p.1 (answer_broken c.messages.invariant.serving turn.0 (g.R.Read.remaining c.next_item.new.reader.inner)
+    c.in_ok-next_item.ensures.takes.kept told.0 c.answer_front.new.responder told.1
+    (g.W.Write.contents c.next_item.new.writer.inner) (g.W.Write.contents c.answer_front.new.writer.inner) turn.1 told.2)
 
 pub returns-then-plan-clause-served : goal.returns-then-plan-clause-served
 returns-then-plan-clause-served g c =
-    let turn = rw c.in-Message.is at c.in_ok-next_turn.ensures.turn in
+    let turn = rw c.in-Message.is at c.in_ok-next_item.ensures.turn in
     let told = c.in_ok-answer_front-in-Message.ensures.answered in
     IfOk-weaker c.finish-then-plan.result _ _
-    (λ served is. rw is.0 (closed_served c.messages.invariant.serving turn.0 (g.R.Read.remaining c.next_turn.new.reader.inner)
-    c.in_ok-next_turn.ensures.takes.kept told.0 c.answer_front.new.responder told.1
-    (g.W.Write.contents c.next_turn.new.writer.inner) (g.W.Write.contents c.answer_front.new.writer.inner) turn.1
+    (λ served is. rw is.0 (closed_served c.messages.invariant.serving turn.0 (g.R.Read.remaining c.next_item.new.reader.inner)
+    c.in_ok-next_item.ensures.takes.kept told.0 c.answer_front.new.responder told.1
+    (g.W.Write.contents c.next_item.new.writer.inner) (g.W.Write.contents c.answer_front.new.writer.inner) turn.1
     (g.W.Write.contents c.finish-then-plan.new.writer.inner) c.if-plan.true told.2 is.1))
     c.finish-then-plan.ensures.served
 
 pub returns-then-plan-clause-broken : goal.returns-then-plan-clause-broken
 returns-then-plan-clause-broken g c =
-    let turn = rw c.in-Message.is at c.in_ok-next_turn.ensures.turn in
+    let turn = rw c.in-Message.is at c.in_ok-next_item.ensures.turn in
     let told = c.in_ok-answer_front-in-Message.ensures.answered in
     on_err_weaker c.finish-then-plan.result
-    (closed_broken c.messages.invariant.serving turn.0 (g.R.Read.remaining c.next_turn.new.reader.inner)
-    c.in_ok-next_turn.ensures.takes.kept told.0 c.answer_front.new.responder told.1
-    (g.W.Write.contents c.next_turn.new.writer.inner) (g.W.Write.contents c.answer_front.new.writer.inner) turn.1
+    (closed_broken c.messages.invariant.serving turn.0 (g.R.Read.remaining c.next_item.new.reader.inner)
+    c.in_ok-next_item.ensures.takes.kept told.0 c.answer_front.new.responder told.1
+    (g.W.Write.contents c.next_item.new.writer.inner) (g.W.Write.contents c.answer_front.new.writer.inner) turn.1
     (g.W.Write.contents c.finish-then-plan.new.writer.inner) told.2)
     c.finish-then-plan.ensures.broken
 
@@ -74,7 +74,7 @@ pub messages-init : goal.messages-init
 messages-init g c = record {
   serving =
       serving_first _ (g.R.Read.remaining c.args.reader.now.inner) (g.W.Write.contents c.args.writer.now.inner) c.args.responder.now
-      (held c.new-intake.result) c.new-waiting.result.items c.new-intake.ensures.held c.new-waiting.ensures;
+      (unread c.new-intake.result) c.new-queue.result.items c.new-intake.ensures.held c.new-queue.ensures;
   room = omega (arith, ap length c.new-intake.ensures.held);
   calm_reader = refl;
   calm_writer = refl;

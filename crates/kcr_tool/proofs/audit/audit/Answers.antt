@@ -4,4 +4,4 @@ use Rattle.kcr_tool.proofs.audit.audit.Goals as goal
 pub returns-in-Ok-clause-found : goal.returns-in-Ok-clause-found
 returns-in-Ok-clause-found g c certain whole m held =
     let finds = c.in-Ok.ensures.found whole (certain c.audit.new.self.conn) m held in
-    IfOk-weaker c.tell_found.result _ _ (λ status told. (c.in-Ok.found, finds, told)) c.tell_found.ensures.told
+    IfOk-weaker c.write_audit.result _ _ (λ status told. (c.in-Ok.found, finds, told)) c.write_audit.ensures.told

@@ -6,7 +6,7 @@ abbrev pub invariant-loop-served : goal.invariant-loop-served
 invariant-loop-served g l = record {
   within : l.served ≤ l.connections;
   connects : Connects g.S.Store l.initial.register l.register l.served;
-  whole : l.initial.register.torn ≡ None → l.register.torn ≡ None;
+  whole : l.initial.register.in_doubt ≡ None → l.register.in_doubt ≡ None;
 }
 
 abbrev pub decreases-loop-served : goal.decreases-loop-served

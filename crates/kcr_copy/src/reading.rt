@@ -1,0 +1,115 @@
+//! A register's file and its log, read into memory.
+ghost use Rattle.std.specs.Prelude.{◌≡◌, ◌⊎◌, IfOk, IfErr, IfSome};
+ghost use Rattle.kcr_log.specs.Damage.{IsJudged};
+ghost use Rattle.kcr_copy.specs.Unread.{IsCause};
+
+use crate::Unread;
+use crate::files::{begins_still, beside, bytes_of, has_journal, is_still, unless_missing};
+use kcr_log::{Log, judge};
+use std::fs;
+use std::io::{self, ErrorKind};
+
+/// How often two files are read that change meanwhile.
+const TIMES: u32 = 10;
+
+/// The bytes of the head of a log.
+const HEAD: usize = 32;
+
+/// The bytes of a register's file and of the log beside it, as they were at one moment.
+#[derive(Drop)]
+pub struct Copied {
+    /// The bytes of the file; empty if it is missing.
+    pub file: Vec<u8>,
+    /// The bytes of its log; empty if it is missing.
+    pub log: Vec<u8>,
+    /// Whether the file is there.
+    pub is_there: bool,
+}
+
+/// Reads the file, then its log, then the file again and the head of the log: `None` if one of them differs.
+///
+/// Where none does, the file was the same while the log was read, and the log is one, since each emptying of it writes
+/// another salt into its head. A log is only added to, behind the last transaction that is safe, and its reading stops
+/// at the first frame that is not whole. So what was read is the register as it was after one of its commands.
+fn read_once(rt: &HostRuntime, path: &str) -> io::Result<Option<Copied>> {
+    let name = beside(rt, path, "-wal")?;
+    let file = bytes_of(rt, path)?;
+    let log = bytes_of(rt, name.as_str())?.unwrap_or(Vec::new(rt.alloc()));
+    let is_there = file.is_some();
+    let file = file.unwrap_or(Vec::new(rt.alloc()));
+    let head = log.len().min(HEAD);
+    if !is_still(rt, path, &file)? || !begins_still(rt, name.as_str(), &log[..head])? {
+        return Ok(None);
+    }
+    Ok(Some(Copied {
+        file,
+        log,
+        is_there,
+    }))
+}
+
+/// Reads until nothing changes meanwhile, up to ten times. Links are followed to the file; its log is beside it.
+fn read_steadily(rt: &HostRuntime, path: &str) -> io::Result<Option<Copied>> {
+    let real = unless_missing(fs::canonicalize(rt, path))?;
+    let real = match &real {
+        Some(real) => real.as_str(),
+        None => path,
+    };
+    if has_journal(rt, real)? {
+        return Err(ErrorKind::Unsupported.into());
+    }
+    for _ in 0..TIMES {
+        if let Some(copy) = read_once(rt, real)? {
+            return Ok(Some(copy));
+        }
+    }
+    Ok(None)
+}
+
+/// Why nothing was read, by the error.
+fn unread(error: io::Error) -> Unread
+    ensures { (result ≡ Unread.Memory) ⊎ (result ≡ Unread.Closed) }
+{
+    match error.kind() {
+        ErrorKind::OutOfMemory => Unread::Memory,
+        _ => Unread::Closed,
+    }
+}
+
+/// Reads a register's file and its log, and says what the log is.
+fn judged(rt: &HostRuntime, path: &str) -> Result<(Copied, Log), Unread>
+    ensures judged { IfOk result (λ both. IsJudged both.0.file.items both.0.log.items both.1) }
+    ensures cause { IfErr result IsCause }
+{
+    match read_steadily(rt, path) {
+        Ok(Some(copy)) => {
+            let log = judge(&copy.file, &copy.log);
+            Ok((copy, log))
+        }
+        Ok(None) => Err(Unread::Broken),
+        Err(error) => Err(unread(error)),
+    }
+}
+
+/// Reads a register's file and its log into memory, as they were at one moment, also while another process writes
+/// them. Nothing is written, and nothing stays open. The memory is that of the bytes of both. A log that was damaged
+/// after it was safe, and one whose file is missing, is refused if a second reading finds it so.
+///
+/// No clause says what a file gives.
+pub fn copy_of(rt: &HostRuntime, path: &str) -> Result<Copied, Unread>
+    ensures sound { IfOk result (λ copy. IsJudged copy.file.items copy.log.items Log.Sound) }
+    ensures cause { IfErr result IsCause }
+{
+    if path.is_empty() || path == ":memory:" || path.starts_with("file:") {
+        return Err(Unread::Closed);
+    }
+    let (copy, log) = judged(rt, path)?;
+    if log == Log::Sound {
+        return Ok(copy);
+    }
+    let (copy, log) = judged(rt, path)?;
+    if log == Log::Sound {
+        return Ok(copy);
+    }
+    Err(Unread::Damaged(log))
+}

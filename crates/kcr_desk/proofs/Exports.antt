@@ -1,0 +1,219 @@
+-- The requests of commands are messages, and a run over those of a register leads to the register.
+use Rattle.std.proofs.Common.{◌≡◌, ◌≢◌, ◌⊎◌, ℕ, ◌≤◌, ◌<◌, Bool, true, false, not, nat_lt, eqb, List, [], ◌∷◌, ◌++◌, length, map, codes, inl, inr, Option, Some, None, Result, Ok, Err, IsTrue, refl, sym, ap, ◌∙◌, subst, arith, All, append_assoc}
+use Rattle.std.specs.Prelude.{MatchOption, MatchResult, IsSome, ◌↔◌, unwrap_or}
+use Rattle.std.specs.List.{flat_map, AllByRecursion}
+use Rattle.std.proofs.lemmas.Bool.Decides.{nat_tests}
+use Rattle.std.proofs.lemmas.List.Elements.{All-weaker}
+use Rattle.httparse.specs.Grammar.{AllPass, is_uri_byte}
+use Rattle.kcr_base.specs.declared.refusal.Refusal.{Refusal}
+use Rattle.kcr_base.specs.declared.refusal.Refusal.TheVariants.{Memory, Disk}
+use Rattle.kcr_history.specs.History.{History, pushed_onto, entry_of}
+use Rattle.kcr_history.specs.Machine.{Outcome, Accepts, Refuses, machine, IsOfMachine, IsRegister}
+use Rattle.kcr_history.specs.Texts.{reply_text, command_text}
+use Rattle.kcr_history.specs.declared.commands.ReplyData.{ReplyData}
+use Rattle.kcr_history.specs.declared.commands.Command.{Command}
+use Rattle.kcr_history.specs.declared.commands.Entry.{Entry}
+use Rattle.kcr_history.specs.declared.commands.Reply.{Reply}
+use Rattle.kcr_base.specs.Same.{same_text}
+use Rattle.kcr_base.proofs.SameLemmas.{same-is, same-itself}
+use Rattle.kcr_history.proofs.Steps.{of_machine}
+use Rattle.kcr_laws.proofs.Accepted.{repeated}
+use Rattle.kcr_laws.proofs.Fixed.{accepted_fixed, never_both}
+use Rattle.kcr_wire.specs.Commands.{command_of}
+use Rattle.kcr_wire.specs.declared.method.Method.{Method}
+use Rattle.kcr_wire.specs.declared.method.Method.TheVariants.{Post}
+use Rattle.kcr_export.specs.Bodies.{body_text}
+use Rattle.kcr_export.specs.Requests.{head_text, path_text, request_text}
+use Rattle.kcr_export.proofs.Again.{told_again}
+use Rattle.kcr_export.proofs.Paths.{act-path}
+use Rattle.kcr_export.proofs.Pieces.{IsPathByte, path-utf8}
+use Rattle.kcr_desk.specs.Answers.{RegisterHistory, method_of, AnswersBy, IsAnswer, TakesCommand, AppliesAsMachine, refusal_response, reply_response, json_response}
+use Rattle.kcr_desk.specs.Export.{message_of, IsSendable, requests_text, whole, HadNoFault, kept_reply, commands_of, AreSendable}
+use Rattle.kcr_desk.specs.Run.{Request, request_of, Exchange, messages_of, Run}
+use Rattle.kcr_desk.specs.Stream.{IsMessage, AreMessages, Message, clean_end, is_blank_rest}
+use Rattle.kcr_desk.specs.Texts.{ResponseValue}
+use Rattle.kcr_desk.proofs.Posted.{message}
+
+-- ---- requests are messages
+
+uri-byte : (b : ℕ) → IsPathByte b → IsTrue (is_uri_byte b)
+uri-byte b h = grind (arith, nat_tests)
+
+pub request_message : (x : Command) (rest : List ℕ) → IsSendable x → IsMessage (request_text x ++ rest) (message_of x) rest
+unfolding request_text
+request_message x rest is =
+    let path = path_text x.act in
+    let body = body_text x in
+    let good = act-path x.act is.act in
+    subst (λ bytes. IsMessage bytes (message_of x) rest) (sym (append_assoc (head_text path (length body)) body rest))
+    (message path body rest good.some (All-weaker IsPathByte (λ b. IsTrue (is_uri_byte b)) uri-byte path good.bytes) (path-utf8 path good.bytes)
+    (omega (arith, good.short)) is.short)
+
+pub requests_cut : (xs : List Command) → AllByRecursion IsSendable xs → AreMessages (requests_text xs) (map message_of xs) clean_end
+requests_cut [] each = is_blank_rest (record { ends = []; is = refl; short = omega arith })
+requests_cut (x ∷ xs) each = (requests_text xs, request_message x (requests_text xs) each.0, requests_cut xs each.1)
+
+-- each asks its command
+pub request_asks : (x : Command) → IsSendable x → command_of (request_of (message_of x)).target (request_of (message_of x)).body ≡ Ok x
+request_asks x is = told_again x is.key is.act
+
+-- ---- one command
+
+posts : method_of (codes "POST") ≡ Post
+unfolding method_of
+posts = refl
+
+-- not broken, and the history is this one
+whole-is : (A : History) (after : RegisterHistory) (in_doubt : Option History) → after.in_doubt ≡ in_doubt → in_doubt ≡ None → A ≡ after.accepted → after ≡ whole A
+whole-is A after in_doubt e none same = λ j. record { accepted = sym same j; in_doubt = (e ∙ none) j }
+
+not-in_doubt : (in_doubt : Option History) (r : Reply) → (IsSome in_doubt ↔ ◌≡◌ {A = Result Reply Refusal} (Ok r) (Err Disk)) → in_doubt ≡ None
+not-in_doubt None r breaks = refl
+not-in_doubt (Some A) r breaks = absurd (let both = breaks.0 refl in cc)
+
+-- what a command is told by a register that is not broken, if memory is not wanting
+answered : {G : Type 0} (x : Command) (B : History) (told : ResponseValue) (after : RegisterHistory) → IsSendable x
+    → told ≢ refusal_response (path_text x.act) Memory → IsAnswer (whole B) (request_of (message_of x)) told after
+    → ((result : Result Reply Refusal) → told ≡ reply_response (path_text x.act) result → AppliesAsMachine B x result after → G) → G
+answered x B told after is no_memory (inl refused) next = absurd (no_memory refused.0)
+answered x B told after is no_memory (inr answers) next =
+    let path = path_text x.act in
+    let by_post : AnswersBy Post (whole B) (request_of (message_of x)) told after =
+    subst (λ (m : Method). AnswersBy m (whole B) (request_of (message_of x)) told after) posts answers in
+    let by_command : TakesCommand (whole B) path told after x =
+    subst (λ (r : Result Command Refusal). MatchResult r (TakesCommand (whole B) path told after)
+    (λ refusal. (told ≡ refusal_response path refusal) × (after ≡ whole B))) (told_again x is.key is.act) by_post in
+    next by_command.0 by_command.1 by_command.2
+
+-- an accepted command leads to the history with it, and gets its reply
+module _ (entry : Entry) (B : History) (step : machine B entry.command (Accepts entry.answer) (entry ∷ B)) where
+  performed : (target : List ℕ) (told : ResponseValue) (after : RegisterHistory) (result : Result Reply Refusal)
+      → told ≢ refusal_response target Memory → told ≢ refusal_response target Disk
+      → told ≡ reply_response target result → AppliesAsMachine B entry.command result after → (after ≡ whole (entry ∷ B)) × (told ≡ kept_reply entry)
+  performed target told after (Ok reply) no_memory no_disk is p =
+      let fixed = accepted_fixed B entry.command entry.answer p.step.0 (entry ∷ B) after.accepted step p.step.1 in (
+        whole-is (entry ∷ B) after after.in_doubt refl (not-in_doubt after.in_doubt reply p.breaks) fixed.1,
+        is ∙ ap json_response (p.step.2 ∙ ap reply_text (sym fixed.0)),
+      )
+  performed target told after (Err refusal) no_memory no_disk is p =
+      let memory : refusal ≢ Memory = λ e. no_memory (is ∙ ap (refusal_response target) e) in
+      let disk : refusal ≢ Disk = λ e. no_disk (is ∙ ap (refusal_response target) e) in
+      absurd (never_both B entry.command entry.answer refusal (entry ∷ B) after.accepted step (p.step.1 memory disk))
+
+-- a command that the register has changes nothing, and gets its kept reply
+module _ (entry : Entry) (B : History) (found : entry_of B entry.command.key ≡ Some entry) where
+  same-answer : (a : ReplyData) → Accepts a ≡ Accepts entry.answer → a ≡ entry.answer
+  same-answer a e = cc
+
+  again : (outcome : Outcome) (after : History) → machine B entry.command outcome after → (outcome ≡ Accepts entry.answer) × (after ≡ B)
+  again outcome after m = repeated B entry.command entry found (same-itself (command_text entry.command.act)) outcome after m
+
+  performed-again : (target : List ℕ) (told : ResponseValue) (after : RegisterHistory) (result : Result Reply Refusal)
+      → told ≢ refusal_response target Memory → told ≢ refusal_response target Disk
+      → told ≡ reply_response target result → AppliesAsMachine B entry.command result after → (after ≡ whole B) × (told ≡ kept_reply entry)
+  performed-again target told after (Ok reply) no_memory no_disk is p =
+      let kept = again (Accepts p.step.0) after.accepted p.step.1 in (
+        whole-is B after after.in_doubt refl (not-in_doubt after.in_doubt reply p.breaks) (sym kept.1),
+        is ∙ ap json_response (p.step.2 ∙ ap reply_text (same-answer p.step.0 kept.0)),
+      )
+  performed-again target told after (Err refusal) no_memory no_disk is p =
+      let memory : refusal ≢ Memory = λ e. no_memory (is ∙ ap (refusal_response target) e) in
+      let disk : refusal ≢ Disk = λ e. no_disk (is ∙ ap (refusal_response target) e) in
+      let kept = again (Refuses refusal) after.accepted (p.step.1 memory disk) in
+      absurd (let apart : Refuses refusal ≡ Accepts entry.answer = kept.0 in cc)
+
+-- ---- many
+
+of-front : (entries : List Entry) (B : History) → IsOfMachine (pushed_onto entries B) → IsOfMachine B
+of-front [] B of = of
+of-front (entry ∷ entries) B of = (of-front entries (entry ∷ B) of).1
+
+same-head : (x : Exchange) (xs : List Exchange) (m : Message) (ms : List Message) → messages_of (x ∷ xs) ≡ m ∷ ms → (x.message ≡ m) × (messages_of xs ≡ ms)
+same-head x xs m ms e = (let head : x.message ≡ m = cc in head, let tail : messages_of xs ≡ ms = cc in tail)
+
+-- how a run's first exchange is answered, by the message of its command
+module _ (entry : Entry) (B : History) (x : Exchange) (next : RegisterHistory) (is : IsSendable entry.command) (same : x.message ≡ message_of entry.command)
+    (faults : HadNoFault x) (answer : IsAnswer (whole B) (request_of x.message) x.reply next) where
+  no-memory : x.reply ≢ refusal_response (path_text entry.command.act) Memory
+  no-memory e = faults.0 (e ∙ ap (λ (m : Message). refusal_response m.head.target Memory) (sym same))
+
+  no-disk : x.reply ≢ refusal_response (path_text entry.command.act) Disk
+  no-disk e = faults.1 (e ∙ ap (λ (m : Message). refusal_response m.head.target Disk) (sym same))
+
+  asked : IsAnswer (whole B) (request_of (message_of entry.command)) x.reply next
+  asked = subst (λ (m : Message). IsAnswer (whole B) (request_of m) x.reply next) same answer
+
+  one : machine B entry.command (Accepts entry.answer) (entry ∷ B) → (next ≡ whole (entry ∷ B)) × (x.reply ≡ kept_reply entry)
+  one step = answered entry.command B x.reply next is no-memory asked (λ result told p.
+      performed entry B step (path_text entry.command.act) x.reply next result no-memory no-disk told p)
+
+  one-again : entry_of B entry.command.key ≡ Some entry → (next ≡ whole B) × (x.reply ≡ kept_reply entry)
+  one-again found = answered entry.command B x.reply next is no-memory asked (λ result told p.
+      performed-again entry B found (path_text entry.command.act) x.reply next result no-memory no-disk told p)
+
+pub run_leads : (entries : List Entry) (B : History) (xs : List Exchange) (after : RegisterHistory) → IsOfMachine (pushed_onto entries B) → AreSendable entries
+    → messages_of xs ≡ map message_of (commands_of entries) → AllByRecursion HadNoFault xs → Run IsAnswer (whole B) xs after
+    → (after ≡ whole (pushed_onto entries B)) × (map (λ (x : Exchange). x.reply) xs ≡ map kept_reply entries)
+run_leads [] B [] after of each same faults run = (sym run, refl)
+run_leads [] B (x ∷ xs) after of each same faults run = absurd cc
+run_leads (entry ∷ entries) B [] after of each same faults run = absurd cc
+run_leads (entry ∷ entries) B (x ∷ xs) after of each same faults run =
+    let parts = same-head x xs (message_of entry.command) (map message_of (commands_of entries)) same in
+    let step = (of-front entries (entry ∷ B) of).0 in
+    let first = one entry B x run.0 each.0 parts.0 faults.0 run.1 step in
+    let rest = run_leads entries (entry ∷ B) xs after of each.1 parts.1 faults.1 (subst (λ (s : RegisterHistory). Run IsAnswer s xs after) first.0 run.2) in
+    (rest.0, λ j. first.1 j ∷ rest.1 j)
+
+-- ---- many that the register has, and then those that it has not
+
+-- an entry under a new key hides no other
+later-key : (f e : Entry) (D : History) → entry_of D f.command.key ≡ None → entry_of D e.command.key ≡ Some e → entry_of (f ∷ D) e.command.key ≡ Some e
+later-key f e D new found = by (same_text f.command.key e.command.key) refl
+  where
+    by : (b : Bool) → same_text f.command.key e.command.key ≡ b → entry_of (f ∷ D) e.command.key ≡ Some e
+    by true s =
+        let same : f.command.key ≡ e.command.key = same-is f.command.key e.command.key s in
+        let none : entry_of D e.command.key ≡ None = subst (λ key. entry_of D key ≡ None) same new in
+        absurd (let apart : ◌≡◌ {A = Option Entry} None (Some e) = sym none ∙ found in cc)
+    by false s = rw s found
+
+first-key : (e : Entry) (D : History) → entry_of (e ∷ D) e.command.key ≡ Some e
+first-key e D = rw (same-itself e.command.key) refl
+
+register-front : (entries : List Entry) (B : History) → IsRegister (pushed_onto entries B) → IsRegister B
+register-front [] B is = is
+register-front (entry ∷ entries) B is = (register-front entries (entry ∷ B) is).1
+
+kept-on : (entries : List Entry) (D : History) (e : Entry) → IsRegister (pushed_onto entries D) → entry_of D e.command.key ≡ Some e
+    → entry_of (pushed_onto entries D) e.command.key ≡ Some e
+kept-on [] D e is found = found
+kept-on (f ∷ entries) D e is found =
+    kept-on entries (f ∷ D) e is (later-key f e D (register-front entries (f ∷ D) is).0.new_key found)
+
+-- each entry is found by its key
+abbrev AreFound : History → List Entry → Type 0
+AreFound B entries = AllByRecursion (λ (e : Entry). entry_of B e.command.key ≡ Some e) entries
+
+all-found : (entries : List Entry) (D : History) → IsRegister (pushed_onto entries D) → AreFound (pushed_onto entries D) entries
+all-found [] D is = tt
+all-found (e ∷ entries) D is = (kept-on entries (e ∷ D) e is (first-key e D), all-found entries (e ∷ D) is)
+
+run-again : (entries later : List Entry) (B : History) (xs : List Exchange) (after : RegisterHistory) → AreFound B entries → IsOfMachine (pushed_onto later B)
+    → AreSendable (entries ++ later) → messages_of xs ≡ map message_of (commands_of (entries ++ later)) → AllByRecursion HadNoFault xs
+    → Run IsAnswer (whole B) xs after
+    → (after ≡ whole (pushed_onto later B)) × (map (λ (x : Exchange). x.reply) xs ≡ map kept_reply (entries ++ later))
+run-again [] later B xs after found of each same faults run = run_leads later B xs after of each same faults run
+run-again (entry ∷ entries) later B [] after found of each same faults run = absurd cc
+run-again (entry ∷ entries) later B (x ∷ xs) after found of each same faults run =
+    let parts = same-head x xs (message_of entry.command) (map message_of (commands_of (entries ++ later))) same in
+    let first = one-again entry B x run.0 each.0 parts.0 faults.0 run.1 found.0 in
+    let rest = run-again entries later B xs after found.1 of each.1 parts.1 faults.1 (subst (λ (s : RegisterHistory). Run IsAnswer s xs after) first.0 run.2) in
+    (rest.0, λ j. first.1 j ∷ rest.1 j)
+
+pub run_adds : (first later : List Entry) (xs : List Exchange) (after : RegisterHistory) → IsOfMachine (pushed_onto later (pushed_onto first []))
+    → AreSendable (first ++ later) → messages_of xs ≡ map message_of (commands_of (first ++ later)) → AllByRecursion HadNoFault xs
+    → Run IsAnswer (whole (pushed_onto first [])) xs after
+    → (after ≡ whole (pushed_onto later (pushed_onto first []))) × (map (λ (x : Exchange). x.reply) xs ≡ map kept_reply (first ++ later))
+run_adds first later xs after of each same faults run =
+    let is = of_machine (pushed_onto first []) (of-front later (pushed_onto first []) of) in
+    run-again first later (pushed_onto first []) xs after (all-found first [] is) of each same faults run

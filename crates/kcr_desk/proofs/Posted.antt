@@ -1,0 +1,126 @@
+-- A request with a path and a body is a whole message.
+use Rattle.std.proofs.Common.{◌≡◌, ℕ, ◌+◌, ◌<◌, ◌≤◌, ◌==◌, ◌&&◌, Bool, true, false, List, [], ◌∷◌, ◌++◌, length, map, reverse, codes, Ok, IsTrue, refl, sym, ap, ◌∙◌, subst, arith, rules, All, append_assoc, append-nil, length-append}
+use Rattle.std.proofs.lemmas.List.{length-reverse}
+use Rattle.std.specs.Prelude.{nat_lt, ◌^◌}
+use Rattle.std.specs.Char.{is_ascii_digit}
+use Rattle.std.specs.Fmt.{decimal}
+use Rattle.std.specs.List.{list_all}
+use Rattle.std.specs.Str.{IsUtf8}
+use Rattle.std.specs.Str.Parse.{AllDigits, digits_value}
+use Rattle.std.proofs.lemmas.Bool.Decides.{nat_tests}
+use Rattle.std.proofs.lemmas.Fmt.{decimal_is_IsNumeral, length-decimal-le}
+use Rattle.std.proofs.lemmas.List.Elements.{All-nil, All-cons, All-append, All-weaker, All-from_recursion}
+use Rattle.std.proofs.lemmas.List.Sums.{AllPass-from_list_all, list_all-from_AllPass}
+use Rattle.std.proofs.lemmas.Str.Parse.{digit_at}
+use Rattle.std.proofs.lemmas.Bool.{and_parts, lt-ltb, le-ltb}
+use Rattle.httparse.specs.Grammar.{RequestHead, IsRequestHead, ReadsRequest, print_request, AllPass, IsToken, IsField, is_uri_byte, is_value_byte, is_token_byte, trim_ows, skip_ows, is_ows}
+use Rattle.httparse.specs.Spans.{name_and_value}
+use Rattle.httparse.proofs.TrimLemmas.{trim_ows_space, AllPass-reverse}
+use Rattle.kcr_desk.specs.Framing.{planned, is_number}
+use Rattle.kcr_desk.specs.Stream.{HasHead, IsMessage, framing_of}
+use Rattle.kcr_desk.specs.Export.{posted_head, posted_message}
+use Rattle.kcr_export.specs.Requests.{crlf, head_text}
+
+regroup : (p v c h l n : List ℕ) → ((p ++ v) ++ c) ++ ((h ++ (((l ++ n) ++ c) ++ [])) ++ c) ≡ ((p ++ (v ++ (c ++ (h ++ l)))) ++ n) ++ (c ++ c)
+regroup p v c h l n = simp (append_assoc, append-nil)
+
+-- the head, as bytes
+head-is : (path : List ℕ) (size : ℕ) → print_request (posted_head path size) ≡ head_text path size
+unfolding print_request
+head-is path size =
+    regroup (codes "POST " ++ path) (codes " HTTP/1.1") crlf (codes "Host: l" ++ crlf) (codes "Content-Length: ") (decimal size)
+
+-- ---- the digits of a length
+
+some-digits : (n : ℕ) → n < 2 ^ 64 → (0 < length (decimal n)) × AllDigits 10 (decimal n)
+some-digits n fits = (decimal_is_IsNumeral n fits).0
+
+digit-tests : (text : List ℕ) → AllDigits 10 text → list_all is_ascii_digit text ≡ true
+digit-tests [] h = refl
+digit-tests (c ∷ cs) h =
+    let here = digit_at (c ∷ cs) 0 h (omega arith) in
+    let test : is_ascii_digit c ≡ true = grind (arith, nat_tests) in
+    rw test (digit-tests cs h.1)
+
+length-number : (n : ℕ) → n < 2 ^ 64 → is_number (decimal n) ≡ true
+length-number n fits =
+    let digits = some-digits n fits in
+    rw (lt-ltb 0 (length (decimal n)) digits.0) (digit-tests (decimal n) digits.1)
+
+-- digits have no white space round them
+digits-skip : (text : List ℕ) → 0 < length text → list_all is_ascii_digit text ≡ true → skip_ows text ≡ text
+digits-skip [] some h = refl
+digits-skip (c ∷ cs) some h =
+    let here : is_ascii_digit c ≡ true = (and_parts _ _ h).0 in
+    let blank : is_ows c ≡ false = grind (arith, nat_tests) in
+    rw blank refl
+
+digits-trim : (text : List ℕ) → 0 < length text → list_all is_ascii_digit text ≡ true → trim_ows (32 ∷ text) ≡ text
+digits-trim text some h =
+    let back : list_all is_ascii_digit (reverse text) ≡ true = list_all-from_AllPass is_ascii_digit (reverse text) (AllPass-reverse is_ascii_digit text (AllPass-from_list_all is_ascii_digit text h)) in
+    trim_ows_space text (digits-skip text some h) (digits-skip (reverse text) (omega (arith, length-reverse text)) back)
+
+-- ---- what the fields ask for
+
+not-queue : (b : Bool) → (b && false) ≡ false
+not-queue true = refl
+not-queue false = refl
+
+planned-post : (path : List ℕ) (size : ℕ) → size ≤ 131072 → framing_of (posted_head path size) ≡ Ok (record { length = size; closes = false; expects_continue = false })
+unfolding planned
+planned-post path size small =
+    let digits = some-digits size (omega (arith, small)) in
+    let trimmed : trim_ows (32 ∷ decimal size) ≡ decimal size = digits-trim (decimal size) digits.0 (digit-tests (decimal size) digits.1) in
+    let value : digits_value 10 (decimal size) ≡ size = (decimal_is_IsNumeral size (omega (arith, small))).1 in
+    let few : nat_lt 131072 size ≡ false = le-ltb 131072 size small in
+    rw (trimmed, length-number size (omega (arith, small)), value, few, not-queue (nat_lt 0 size)) refl
+
+-- ---- the message
+
+digit-values : (text : List ℕ) → AllDigits 10 text → AllPass is_value_byte text
+digit-values [] h = All-nil (λ b. IsTrue (is_value_byte b))
+digit-values (c ∷ cs) h =
+    let here = digit_at (c ∷ cs) 0 h (omega arith) in
+    let test : is_value_byte c ≡ true = grind (arith, nat_tests) in
+    All-cons (λ b. IsTrue (is_value_byte b)) c cs test (digit-values cs h.1)
+
+-- each part is of its class
+head-parts : (path : List ℕ) (size : ℕ) → 0 < length path → AllPass is_uri_byte path → IsUtf8 path → size ≤ 131072 → IsRequestHead (posted_head path size)
+unfolding is_token_byte
+head-parts path size some uri text small = record {
+  method = (omega arith, AllPass-from_list_all is_token_byte (codes "POST") refl);
+  target = (some, uri);
+  target_text = text;
+  minor = omega arith;
+  fields = All-from_recursion IsField (posted_head path size).fields (
+    record {
+      name = (omega arith, AllPass-from_list_all is_token_byte (codes "Host") refl);
+      raw = AllPass-from_list_all is_value_byte (codes " l") refl;
+    },
+    (
+      record {
+        name = (omega arith, AllPass-from_list_all is_token_byte (codes "Content-Length") refl);
+        raw = All-cons (λ b. IsTrue (is_value_byte b)) 32 (decimal size) refl (digit-values (decimal size) (some-digits size (omega (arith, small))).1);
+      },
+      tt,
+    ),
+  );
+}
+
+head-length : (path : List ℕ) (size : ℕ) → length path ≤ 8000 → size ≤ 131072 → length (head_text path size) ≤ 8192
+head-length path size short small =
+    let digits = length-decimal-le 6 size (omega arith) (omega (arith, small)) (omega (arith, small)) in
+    simp length-append (omega (arith, digits, short))
+
+pub message : (path body rest : List ℕ) → 0 < length path → AllPass is_uri_byte path → IsUtf8 path → length path ≤ 8000 → length body ≤ 131072
+    → IsMessage (head_text path (length body) ++ (body ++ rest)) (posted_message path body) rest
+message path body rest some uri text short small =
+    record {
+      head = record {
+        reads = (head-parts path (length body) some uri text small, ap (λ head. head ++ (body ++ rest)) (sym (head-is path (length body))));
+        short = rw (head-is path (length body)) (head-length path (length body) short small);
+        few = omega arith;
+      };
+      plan = planned-post path (length body) small;
+      body = refl;
+    }

@@ -1,0 +1,11 @@
+use Rattle.std.proofs.Common.{rules}
+use Rattle.kcr_history.specs.Prints.{custody}
+use Rattle.kcr_desk.specs.declared.response.MediaType.TheVariants.{Text}
+use Rattle.kcr_desk.proofs.ReportLemmas.{text_answered}
+use Rattle.kcr_desk.proofs.answer.take_custody.Goals as goal
+
+pub returns : goal.returns
+returns g c =
+    let e = c.custody-outcome.ensures in
+    text_answered g.S.Store c.args.target.now _ Text c.into_inner.result.items custody
+    e (λ founded whole clean. search (rules, e.printed founded whole clean)) c.report_response.ensures

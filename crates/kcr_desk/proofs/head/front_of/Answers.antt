@@ -1,6 +1,0 @@
-use Rattle.std.proofs.Common.{sym, arith}
-use Rattle.std.proofs.lemmas.List.{take_all}
-use Rattle.kcr_desk.proofs.head.front_of.Goals as goal
-
-pub returns-then-buf-lt-MAX_HEAD : goal.returns-then-buf-lt-MAX_HEAD
-returns-then-buf-lt-MAX_HEAD c = sym (take_all 8192 c.args.buf.now (omega arith))

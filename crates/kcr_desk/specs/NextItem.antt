@@ -1,0 +1,42 @@
+-- What one turn of the desk found and answered.
+use Rattle.std.specs.Prelude.{◌≡◌, ℕ, ◌+◌, List, ◌++◌, Option, Some, Result, MatchResult, slice_range}
+use Rattle.httparse.specs.Spans.{span_bytes}
+use Rattle.httparse.specs.declared.spans.RequestSpans.{RequestSpans}
+use Rattle.kcr_desk.specs.declared.fault.DeskFault.{DeskFault}
+use Rattle.kcr_desk.specs.declared.head.Framing.{Framing}
+use Rattle.kcr_desk.specs.declared.stream.NextItem.{NextItem}
+use Rattle.kcr_desk.specs.declared.stream.NextItem.TheVariants.{Message, Ended}
+use Rattle.kcr_desk.specs.Stream.{Ending}
+use Rattle.kcr_desk.specs.NextHead.{IsReady, EndsAs}
+use Rattle.kcr_desk.specs.Texts.{continue_text}
+use Rattle.kcr_desk.specs.Run.{Request, ending_text, IsNextOutput}
+use Rattle.kcr_desk.specs.Output.{IsQueued}
+use Rattle.kcr_print.specs.Written.{WritesPrefix}
+
+-- left is what is known of the stream, buf the bytes that were taken in, and waited what waited to be written before
+abbrev pub IsNextItem : Option (List ℕ) → List ℕ → Option (List ℕ) → Option (List ℕ) → List ℕ → List ℕ → NextItem → Type 0
+IsNextItem left buf old_contents new_contents waited queue (Message spans plan) =
+    IsReady buf spans plan × IsQueued old_contents new_contents (waited ++ continue_text plan) queue
+IsNextItem left buf old_contents new_contents waited queue Ended =
+    (e : Ending) × EndsAs left e × IsQueued old_contents new_contents (waited ++ ending_text e) queue
+
+-- a fault came in the middle of a turn
+pub record BreaksItem (left old_contents new_contents : Option (List ℕ)) (waited : List ℕ) : Type 0 where
+  pub next : List ℕ
+  pub is_next : (bytes : List ℕ) → left ≡ Some bytes → IsNextOutput bytes next
+  pub written : WritesPrefix old_contents new_contents (waited ++ next)
+
+-- the turn, or how far it was answered if a fault came
+abbrev pub EndsItem : Result NextItem DeskFault → Option (List ℕ) → List ℕ → Option (List ℕ) → Option (List ℕ)
+    → List ℕ → List ℕ → Type 0
+EndsItem result left buf old_contents new_contents waited queue =
+    MatchResult result (IsNextItem left buf old_contents new_contents waited queue)
+    (λ _. BreaksItem left old_contents new_contents waited)
+
+-- what the register is asked by the message that buf begins with
+abbrev pub request_of_buffer : List ℕ → RequestSpans → Framing → Request
+request_of_buffer buf spans plan = record {
+  method = span_bytes buf spans.method;
+  target = span_bytes buf spans.path;
+  body = slice_range buf spans.len (spans.len + plan.length);
+}

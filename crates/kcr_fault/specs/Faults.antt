@@ -1,0 +1,234 @@
+-- Why a task was not done to its end, and what is told of it.
+use Rattle.std.specs.Fmt.{decimal}
+use Rattle.std.specs.Prelude.{◌≡◌, ◌≢◌, ◌+◌, ◌<◌, ◌⊎◌, ℕ, List, ◌++◌, codes, Option, Some, None, IsSome}
+use Rattle.kcr_base.specs.Counted.{failures_of, nonempty_reads_of}
+use Rattle.kcr_base.specs.Refusal.{number_of, word_of, thing_text}
+use Rattle.kcr_base.specs.declared.counted.Counted.{Counted}
+use Rattle.kcr_base.specs.declared.refusal.Refusal.{Refusal}
+use Rattle.kcr_base.specs.declared.refusal.Refusal.TheVariants as refusal
+use Rattle.kcr_desk.specs.declared.fault.DeskFault.{DeskFault}
+use Rattle.kcr_desk.specs.declared.fault.DeskFault.TheVariants as stream
+use Rattle.kcr_print.specs.declared.fault.PrintFault.{PrintFault}
+use Rattle.kcr_print.specs.declared.fault.PrintFault.TheVariants as print
+use Rattle.kcr_store.specs.Register.{RegisterState}
+use Rattle.kcr_store.specs.Rows.{MayHaveNoRow}
+use Rattle.kcr_store.specs.declared.«open».OpenFault.TheVariants as opening
+use Rattle.kcr_log.specs.declared.judgement.Log.TheVariants as logs
+use Rattle.kcr_tables.specs.Refusals.{IsFault}
+use Rattle.kcr_verify.specs.declared.new_register.CreateFault.TheVariants as fresh
+use Rattle.kcr_print.specs.Written.{WritesPrefix}
+use Rattle.kcr_fault.specs.Lines.{ended, found_line, into_head, missing_line, name_of, net_head, numbered, open_head}
+use Rattle.kcr_fault.specs.Lines.{damage_lines}
+use Rattle.kcr_fault.specs.Notes.{IsMissing, IsNoted, IsUnfilled}
+use Rattle.kcr_fault.specs.declared.fault.Fault.{Fault}
+use Rattle.kcr_fault.specs.declared.fault.Fault.TheVariants.{Open, File, Log, Nothing, Into, IntoFile, Stream, Refused}
+use Rattle.kcr_fault.specs.declared.fault.Fault.TheVariants.{Unwritten, Net, Lost, Words}
+use Rattle.kcr_fault.specs.declared.fault.Call.TheVariants as call
+use Rattle.kcr_words.specs.declared.words.Task.{Task}
+use Rattle.kcr_words.specs.declared.words.Task.TheVariants.{Run, Serve, Print, Attendance, Custody, Export, Journal, Audit}
+use Rattle.kcr_words.specs.declared.words.Task.TheVariants.{Verify, Rebuild, Pack}
+
+-- what a refusal names, and the end of its line
+abbrev pub named : Refusal → List ℕ
+named (refusal.Unknown thing) = codes " " ++ (thing_text thing ++ codes "\n")
+named other = codes "\n"
+
+-- the line of a refusal: its number, its word, and what it names
+abbrev pub refusal_line : Refusal → List ℕ
+refusal_line r = codes "refused: " ++ (numbered (number_of r) (word_of r) ++ named r)
+
+-- the line of a fault for which no memory is needed: of some the first of two, and of a refusal, and of a register with
+-- no command, that there was none
+abbrev pub reason_of : Fault → List ℕ
+reason_of (Open opening.Memory) = ended (codes "open: memory")
+reason_of (Open opening.Disk) = ended (codes "open: disk")
+reason_of (Open opening.Foreign) = ended (codes "open: foreign")
+reason_of (Open opening.Version) = ended (codes "open: version")
+reason_of (File step) = ended (codes "open: disk")
+reason_of (Log log) = ended (codes "open: disk")
+reason_of (Nothing missing) = ended (codes "fault: memory")
+reason_of (Into fresh.Memory) = ended (codes "into: memory")
+reason_of (Into fresh.Disk) = ended (codes "into: disk")
+reason_of (Into fresh.Filled) = ended (codes "into: filled")
+reason_of (IntoFile step) = ended (codes "into: disk")
+reason_of (Stream stream.Read) = ended (codes "fault: read")
+reason_of (Stream stream.Write) = ended (codes "fault: write")
+reason_of (Stream stream.Memory) = ended (codes "fault: memory")
+reason_of (Refused r) = ended (codes "fault: memory")
+reason_of Unwritten = ended (codes "fault: write")
+reason_of (Net call) = ended (codes "fault: net")
+reason_of Lost = ended (codes "fault: file")
+reason_of Words = ended (codes "fault: memory")
+
+-- the port that a task names, 0 if it has none
+abbrev pub port_of : Option Task → ℕ
+port_of (Some (Serve port connections idle)) = port
+port_of other = 0
+
+-- the line that tells it, or the two lines of a file, a log and a port, with what the words name: the task, the file of
+-- the register and that of a new one
+abbrev pub line_of : Option Task → Option (List ℕ) → Option (List ℕ) → Fault → List ℕ
+line_of task file into (Refused r) = refusal_line r
+line_of task file into (Log log) = damage_lines log
+line_of task file into (Nothing missing) = missing_line file missing
+line_of task file into (File step) = found_line (open_head step) (name_of file)
+line_of task file into (IntoFile step) = found_line (into_head step) (name_of into)
+line_of task file into (Net call) = found_line (net_head call) (decimal (port_of task))
+line_of task file into Lost = found_line (codes "fault: file\nlost: ") (name_of file)
+line_of task file into other = reason_of other
+
+-- the lines of a fault, or the one for which no memory is needed
+abbrev pub IsLineOf : Option Task → Option (List ℕ) → Option (List ℕ) → Fault → List ℕ → Type 0
+IsLineOf task file into fault line = (line ≡ line_of task file into fault) ⊎ (line ≡ reason_of fault)
+
+-- the lines of a fault stand on standard error, as far as they could be written, behind what a report has told before
+abbrev pub TellsFault
+    : Option Task → Option (List ℕ) → Option (List ℕ) → Fault → Option (List ℕ) → Option (List ℕ) → Type 0
+TellsFault task file into fault old new =
+    (between : Option (List ℕ)) × IsNoted task file old between
+    × ((line : List ℕ) × IsLineOf task file into fault line × WritesPrefix between new line)
+
+-- why a report was not written whole
+abbrev pub fault_of_print : PrintFault → Fault
+fault_of_print (print.Refused r) = Refused r
+fault_of_print print.Write = Unwritten
+
+-- nothing was read and nothing was written
+abbrev pub IsUntouched : {R W : Type 0} → Counted R → Counted R → Counted W → Counted W → Type 0
+IsUntouched old_input new_input old_output new_output = (new_input ≡ old_input) × (new_output ≡ old_output)
+
+-- the refusals of a task, if nothing broke the register before: out of memory and an I/O error; of a report of
+-- a ceremony, that this ceremony is unknown; of a port, that a connection broke the register. A stream has its refusals
+-- as answers
+abbrev pub MayMeet : Task → Refusal → Type 0
+MayMeet Run met = ⊥
+MayMeet (Serve port connections idle) met = (met ≡ refusal.Memory) ⊎ (met ≡ refusal.Broken)
+MayMeet (Print ceremony) met = MayHaveNoRow ceremony met
+MayMeet (Attendance ceremony) met = MayHaveNoRow ceremony met
+MayMeet Custody met = IsFault met
+MayMeet (Export after until) met = IsFault met
+MayMeet (Journal ceremony) met = IsFault met
+MayMeet Audit met = IsFault met
+MayMeet Verify met = IsFault met
+MayMeet Rebuild met = IsFault met
+MayMeet Pack met = IsFault met
+
+-- a refusal that a call may give, or, over a register that was broken before, that it is broken
+abbrev pub MeetsOver : {S : Type 0} → RegisterState S → (Refusal → Type 0) → Refusal → Type 0
+MeetsOver register May met = May met ⊎ ((met ≡ refusal.Broken) × IsSome register.in_doubt)
+
+-- why a stream was not answered to its end: a read failed, or 1,000,000 reads gave a byte; a write failed; or memory
+-- ran out
+abbrev pub BreaksStream : {R W : Type 0} → DeskFault → Counted R → Counted R → Counted W → Counted W → Type 0
+BreaksStream stream.Read old_input new_input old_output new_output =
+    (failures_of old_input < failures_of new_input) ⊎ (nonempty_reads_of new_input ≡ nonempty_reads_of old_input + 1000000)
+BreaksStream stream.Write old_input new_input old_output new_output = failures_of old_output < failures_of new_output
+BreaksStream stream.Memory old_input new_input old_output new_output = Unit {0}
+
+-- the task is to listen on a port
+abbrev pub IsServe : Task → Type 0
+IsServe task = (port : ℕ) × (connections : ℕ) × (idle : ℕ) × (task ≡ Serve port connections idle)
+
+-- what caused the fault of a task over a register that was opened: each fault comes only from a task that can have it.
+-- That memory ran out, that the device failed, that the port is taken and that the file is gone has no further cause
+-- here
+abbrev pub StopsTask : {R W : Type 0} → Task → Counted R → Counted R → Counted W → Counted W → Fault → Type 0
+StopsTask task old_input new_input old_output new_output (Stream fault) =
+    (task ≡ Run) × BreaksStream fault old_input new_input old_output new_output
+StopsTask task old_input new_input old_output new_output (Refused met) = MayMeet task met
+StopsTask task old_input new_input old_output new_output Unwritten = failures_of old_output < failures_of new_output
+StopsTask task old_input new_input old_output new_output (Net call) = IsServe task
+StopsTask task old_input new_input old_output new_output Lost = IsServe task
+StopsTask task old_input new_input old_output new_output other = ⊥
+
+-- the task is known, and its fault has this cause
+abbrev pub StopsKnown : {R W : Type 0} → Option Task → Counted R → Counted R → Counted W → Counted W → Fault → Type 0
+StopsKnown task old_input new_input old_output new_output why =
+    (known : Task) × (task ≡ Some known) × StopsTask known old_input new_input old_output new_output why
+
+-- the task makes a new file of a register
+abbrev pub IsMaking : Option Task → Type 0
+IsMaking task = (task ≡ Some Rebuild) ⊎ (task ≡ Some Pack)
+
+-- the task wants a register with commands
+abbrev pub WantsCommands : Option Task → Type 0
+WantsCommands task = (task ≡ Some Verify) ⊎ IsMaking task
+
+-- what caused the fault of a task over the file, if one is named. A register that is not opened, a damaged log, one
+-- without commands where some are wanted, a new register that cannot be made, and words for which there is no memory:
+-- then nothing was read or written. Without a file an opening fails only for memory, and no file or log fails
+abbrev pub HasCause
+    : {R W : Type 0} → Option Task → Option (List ℕ) → Fault → Counted R → Counted R → Counted W → Counted W → Type 0
+HasCause task file (Open fault) old_input new_input old_output new_output =
+    (file ≡ None → fault ≡ opening.Memory) × IsUntouched old_input new_input old_output new_output
+HasCause task file (File step) old_input new_input old_output new_output =
+    IsSome file × IsUntouched old_input new_input old_output new_output
+HasCause task file (Log log) old_input new_input old_output new_output =
+    (log ≢ logs.Sound) × IsSome file × IsUntouched old_input new_input old_output new_output
+HasCause task file (Nothing missing) old_input new_input old_output new_output =
+    WantsCommands task × IsMissing file missing × IsUntouched old_input new_input old_output new_output
+HasCause task file (Into fault) old_input new_input old_output new_output =
+    IsMaking task × IsUntouched old_input new_input old_output new_output
+HasCause task file (IntoFile step) old_input new_input old_output new_output =
+    IsMaking task × IsUntouched old_input new_input old_output new_output
+HasCause task file Words old_input new_input old_output new_output =
+    IsUntouched old_input new_input old_output new_output
+HasCause task file other old_input new_input old_output new_output =
+    StopsKnown task old_input new_input old_output new_output other
+
+-- why a stream of requests was not answered to its end
+abbrev pub StopsStream : {R W : Type 0} → Counted R → Counted R → Counted W → Counted W → Fault → Type 0
+StopsStream old_input new_input old_output new_output (Stream fault) =
+    BreaksStream fault old_input new_input old_output new_output
+StopsStream old_input new_input old_output new_output other = ⊥
+
+-- why a report, an audit or a line was not written whole: a refusal that may be met, or a failed write, which the
+-- writer's count tells
+abbrev pub StopsReport : {W : Type 0} → (Refusal → Type 0) → Counted W → Counted W → Fault → Type 0
+StopsReport May old_output new_output (Refused met) = May met
+StopsReport May old_output new_output Unwritten = failures_of old_output < failures_of new_output
+StopsReport May old_output new_output other = ⊥
+
+-- why a register in a file was not opened, nor a copy of it: it is none, or its file or its log is not sound
+abbrev pub StopsOpening : Fault → Type 0
+StopsOpening (Open fault) = Unit {0}
+StopsOpening (File step) = Unit {0}
+StopsOpening (Log log) = log ≢ logs.Sound
+StopsOpening other = ⊥
+
+-- why its rows were not read: it was not opened, it is not there, or a row is invalid
+abbrev pub StopsReading : Fault → Type 0
+StopsReading (Nothing missing) = IsUnfilled missing
+StopsReading (Refused met) = IsFault met
+StopsReading other = StopsOpening other
+
+-- why a replay stopped: as a report does, or there was nothing to replay or no new register could be made, and then
+-- nothing was written
+abbrev pub StopsReplay : {W : Type 0} → Counted W → Counted W → Fault → Type 0
+StopsReplay old_output new_output (Nothing missing) = IsUnfilled missing × (new_output ≡ old_output)
+StopsReplay old_output new_output other = StopsReport IsFault old_output new_output other
+
+-- why no new register was made
+abbrev pub StopsMaking : Fault → Type 0
+StopsMaking (Into fault) = Unit {0}
+StopsMaking (IntoFile step) = Unit {0}
+StopsMaking other = ⊥
+
+-- the same for a task that makes one
+abbrev pub StopsRebuild : {W : Type 0} → Counted W → Counted W → Fault → Type 0
+StopsRebuild old_output new_output (Into fault) = new_output ≡ old_output
+StopsRebuild old_output new_output (IntoFile step) = new_output ≡ old_output
+StopsRebuild old_output new_output other = StopsReplay old_output new_output other
+
+-- why a port is left before all connections were served: none could be accepted, none can be read for lack of memory,
+-- the file is gone, or the register is broken now
+abbrev pub StopsListening : {S : Type 0} → RegisterState S → Fault → Type 0
+StopsListening register fault =
+    (fault ≡ Net call.Accepting) ⊎ ((fault ≡ Lost)
+    ⊎ ((fault ≡ Refused refusal.Memory) ⊎ ((fault ≡ Refused refusal.Broken) × IsSome register.in_doubt)))
+
+-- the same for the whole task of listening, which binds the port and writes a line first
+abbrev pub StopsServing : {S W : Type 0} → RegisterState S → Counted W → Counted W → Fault → Type 0
+StopsServing register old_output new_output fault =
+    (fault ≡ Net call.Binding)
+    ⊎ (StopsListening register fault ⊎ StopsReport (λ met. met ≡ refusal.Memory) old_output new_output fault)

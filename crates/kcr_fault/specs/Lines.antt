@@ -1,0 +1,100 @@
+-- The lines that the program writes beside reports.
+use Rattle.std.specs.Prelude.{ℕ, List, [], ◌∷◌, ◌++◌, codes, Option, unwrap_or}
+use Rattle.std.specs.Fmt.{decimal}
+use Rattle.kcr_base.specs.Moment.{moment_text}
+use Rattle.kcr_history.specs.declared.views.Finding.{Finding}
+use Rattle.kcr_history.specs.declared.views.Finding.TheVariants as Findings
+use Rattle.kcr_log.specs.declared.judgement.Log.{Log}
+use Rattle.kcr_log.specs.declared.judgement.Log.TheVariants as Logs
+use Rattle.kcr_verify.specs.Quoted.{row_line}
+use Rattle.kcr_verify.specs.Verification.{name_of as table_name}
+use Rattle.kcr_verify.specs.declared.verification.Difference.{Difference}
+use Rattle.kcr_verify.specs.declared.verification.Difference.TheVariants as Differences
+use Rattle.kcr_fault.specs.declared.fault.Call.{Call}
+use Rattle.kcr_fault.specs.declared.fault.Call.TheVariants.{Binding, Accepting}
+use Rattle.kcr_fault.specs.declared.fault.Missing.{Missing}
+use Rattle.kcr_fault.specs.declared.fault.Missing.TheVariants.{Unnamed, Absent, Empty}
+use Rattle.kcr_fault.specs.declared.fault.Step.{Step}
+use Rattle.kcr_fault.specs.declared.fault.Step.TheVariants.{Opening, Locking, Reading}
+
+abbrev pub ended : List ℕ → List ℕ
+ended text = text ++ 10 ∷ []
+
+-- a number, and a text behind a space
+abbrev pub numbered : ℕ → List ℕ → List ℕ
+numbered number text = decimal number ++ (codes " " ++ text)
+
+-- the program listens on this port
+abbrev pub listening_line : ℕ → List ℕ
+listening_line port = codes "listening 127.0.0.1:" ++ (decimal port ++ codes "\n")
+
+-- an audit found nothing
+abbrev pub clean_line : List ℕ
+clean_line = ended (codes "audit: nothing found")
+
+-- the line of a kind of finding and what it is about
+abbrev pub found_line : List ℕ → List ℕ → List ℕ
+found_line kind subject = kind ++ (subject ++ codes "\n")
+
+-- what an audit found
+abbrev pub finding_line : Finding → List ℕ
+finding_line (Findings.Seating ceremony step) =
+    found_line (codes "finding: seating ") (numbered ceremony (decimal step))
+finding_line (Findings.Custody item) = found_line (codes "finding: custody ") item
+finding_line (Findings.Bag serial) = found_line (codes "finding: bag ") serial
+finding_line (Findings.Key key) = found_line (codes "finding: key ") key
+finding_line (Findings.Lone ceremony moment) =
+    found_line (codes "finding: lone ") (numbered ceremony (moment_text moment))
+finding_line (Findings.Crowd ceremony moment) =
+    found_line (codes "finding: crowd ") (numbered ceremony (moment_text moment))
+
+-- the register is the one of its own commands, N of them
+abbrev pub whole_line : List ℕ → ℕ → List ℕ
+whole_line head count = head ++ (decimal count ++ codes " commands\n")
+
+-- what differs, as a verification found it; of a table also its first row that does
+abbrev pub difference_line : Difference → List ℕ
+difference_line (Differences.Number place) = found_line (codes "finding: number ") (decimal place)
+difference_line (Differences.Command number) = found_line (codes "finding: command ") (decimal number)
+difference_line (Differences.Refused number) = found_line (codes "finding: refused ") (decimal number)
+difference_line (Differences.Reply number) = found_line (codes "finding: reply ") (decimal number)
+difference_line (Differences.Rows table row) = found_line (codes "finding: table ") (table_name table) ++ row_line row
+
+-- what is wrong with a log, and how many transactions end in the damage or behind it
+abbrev pub log_line : Log → List ℕ
+log_line Logs.Sound = []
+log_line (Logs.WrongHead count) = codes "log: wrong head, commits " ++ (decimal count ++ codes "\n")
+log_line (Logs.WrongFrame first count) =
+    (codes "log: wrong from frame " ++ (decimal first ++ codes ", commits ")) ++ (decimal count ++ codes "\n")
+log_line (Logs.NoFile count) = codes "log: no file, commits " ++ (decimal count ++ codes "\n")
+
+-- a file is not opened, for its log is damaged
+abbrev pub damage_lines : Log → List ℕ
+damage_lines log = ended (codes "open: disk") ++ log_line log
+
+-- the name of a file, or nothing if none is named
+abbrev pub name_of : Option (List ℕ) → List ℕ
+name_of name = unwrap_or name []
+
+-- there is no register with commands
+abbrev pub missing_line : Option (List ℕ) → Missing → List ℕ
+missing_line file Unnamed = codes "note: no file is named\n"
+missing_line file Absent = codes "note: " ++ (name_of file ++ codes " is not there\n")
+missing_line file Empty = codes "note: " ++ (name_of file ++ codes " has no command\n")
+
+-- how the two lines begin of a register's file that failed; its name and an end of line follow
+abbrev pub open_head : Step → List ℕ
+open_head Opening = codes "open: disk\nopening: "
+open_head Locking = codes "open: disk\nlocking: "
+open_head Reading = codes "open: disk\nreading: "
+
+-- the same for a new register's file
+abbrev pub into_head : Step → List ℕ
+into_head Opening = codes "into: disk\nopening: "
+into_head Locking = codes "into: disk\nlocking: "
+into_head Reading = codes "into: disk\nreading: "
+
+-- the same for a port
+abbrev pub net_head : Call → List ℕ
+net_head Binding = codes "fault: net\nbinding: "
+net_head Accepting = codes "fault: net\naccepting: "

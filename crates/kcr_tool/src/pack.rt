@@ -1,0 +1,128 @@
+//! A register's file and its log, packed into one file.
+ghost use Rattle.std.specs.Prelude.{◌≡◌, ◌⊎◌, IfOk, IfErr, OnErr};
+ghost use Rattle.kcr_base.specs.Counted.{inner_of};
+ghost use Rattle.kcr_fault.specs.Faults.{StopsMaking, StopsOpening, StopsReading, StopsRebuild};
+ghost use Rattle.kcr_tool.specs.Verifications.{WritesVerified, TellsWholeFront, packed_head};
+
+use crate::opening::{count_of, fault_of_reading, files_at, take};
+use crate::verify::write_verification;
+use kcr_base::Counted;
+use kcr_copy::{Copied, Unmade, connect, copy_of, fill, play_in};
+use kcr_fault::{Fault, Missing, Step};
+use kcr_store::OpenFault;
+use kcr_verify::{CreateFault, Verification};
+use sqlite::{Files, Start, Unknown};
+use sqlite_disk::Memory;
+use std::alloc::{AllocError, Global};
+use std::fs;
+use std::io::{self, Write};
+
+/// One file with everything that a register's file and its log hold, in memory.
+#[derive(Drop)]
+pub struct Packed {
+    files: Files<Memory>,
+    /// How many commands it has.
+    count: u32,
+}
+
+/// The bytes of a file without a log.
+fn alone(alloc: Global, bytes: &[u8]) -> Result<Copied, AllocError> {
+    let mut file = Vec::new(alloc);
+    file.extend_from_slice(bytes)?;
+    Ok(Copied {
+        file,
+        log: Vec::new(alloc),
+        is_there: true,
+    })
+}
+
+/// How many commands the register has that these bytes are. The faults are those of an opening.
+fn commands_in(alloc: Global, bytes: &[u8]) -> Result<u32, Fault>
+    ensures cause { IfErr result StopsOpening }
+{
+    let Ok(copy) = alone(alloc, bytes) else {
+        return Err(Fault::Open(OpenFault::Memory));
+    };
+    let mut connection = match connect(alloc, copy) {
+        Ok(connection) => connection,
+        Err(unread) => return Err(fault_of_reading(unread)),
+    };
+    let count = count_of(alloc, &mut connection)?;
+    drop(take(alloc, connection)?);
+    Ok(count)
+}
+
+/// Reads the file at a path and its log, as they were at one moment, and plays the log into the file: in memory, so
+/// that both stay as they are. What comes of it is opened as a register, whichever version it is of.
+#[tactic(auto, using(crate::proofs::Causes::opening_reads))]
+pub fn read_packed(rt: &HostRuntime, path: &str) -> Result<Packed, Fault>
+    ensures cause { IfErr result StopsReading }
+{
+    let copy = match copy_of(rt, path) {
+        Ok(copy) => copy,
+        Err(unread) => return Err(fault_of_reading(unread)),
+    };
+    if !copy.is_there {
+        return Err(Fault::Nothing(Missing::Absent));
+    }
+    let files = match play_in(rt.alloc(), copy) {
+        Ok(files) => files,
+        Err(unread) => return Err(fault_of_reading(unread)),
+    };
+    let count = commands_in(rt.alloc(), files.db.bytes())?;
+    if count == 0 {
+        return Err(Fault::Nothing(Missing::Empty));
+    }
+    Ok(Packed { files, count })
+}
+
+/// Takes away the log beside a new file, which its opening has made, unless the log has a byte.
+fn remove_log(rt: &HostRuntime, path: &str) -> io::Result<()> {
+    let real = fs::canonicalize(rt, path)?;
+    let log = format!(in rt.alloc(); "{}-wal", real.as_str())?;
+    if fs::symlink_metadata(rt, log.as_str())?.len() == 0 {
+        fs::remove_file(rt, log.as_str())?;
+    }
+    Ok(())
+}
+
+/// Writes the bytes of a new file at the path, where there is none or it holds nothing, and waits until they are safe.
+/// `start` stands for what the file held.
+fn make<S: Start>(rt: &HostRuntime, path: &str, start: S, bytes: &[u8]) -> Result<(), Fault>
+    ensures cause { IfErr result StopsMaking }
+{
+    let mut files = match files_at(rt, path, start) {
+        Ok(files) => files,
+        Err(Some(step)) => return Err(Fault::IntoFile(step)),
+        Err(None) => return Err(Fault::Into(CreateFault::Memory)),
+    };
+    let outcome = fill(&mut files, bytes);
+    // Both files are locked until they are dropped, so nobody writes to the log meanwhile.
+    let _ = remove_log(rt, path);
+    match outcome {
+        Ok(()) => Ok(()),
+        Err(Unmade::Filled) => Err(Fault::Into(CreateFault::Filled)),
+        Err(Unmade::Failed) => Err(Fault::IntoFile(Step::Reading)),
+    }
+}
+
+/// Writes a packed register into the file at the path, where there is none or it holds nothing, and a line that says
+/// how many commands it has. Where the file cannot be made, nothing is written.
+#[tactic(auto, using(crate::proofs::Causes::making_stops, crate::proofs::Causes::replay_stops))]
+pub fn pack<W: Write>(
+    rt: &HostRuntime,
+    packed: &Packed,
+    path: &str,
+    output: &mut Counted<W>,
+) -> Result<u8, Fault>
+    ensures status { IfOk result (λ status. status ≡ 0) }
+    ensures told { IfOk result (λ _. WritesVerified packed_head
+        (W.contents (inner_of output.old)) (W.contents (inner_of output.new))) }
+    ensures part { OnErr result ((output.new ≡ output.old)
+        ⊎ TellsWholeFront packed_head (W.contents (inner_of output.old)) (W.contents (inner_of output.new))) }
+    ensures cause { IfErr result (StopsRebuild output.old output.new) }
+{
+    make(rt, path, Unknown, packed.files.db.bytes())?;
+    let whole = Verification::Verified(packed.count as usize);
+    write_verification(rt.alloc(), "packed: ", &whole, output)
+}

@@ -1,5 +1,0 @@
-use Rattle.kcr_store.specs.Opening.{unknown}
-use Rattle.kcr_trials.proofs.store.take.Given as goal
-
-abbrev pub ghost-adopt : goal.ghost-adopt
-ghost-adopt g a = unknown

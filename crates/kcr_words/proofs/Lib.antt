@@ -1,0 +1,5 @@
+pub mod Parses
+pub mod Numbers
+pub mod Options
+pub mod Taken
+mod Examples

@@ -1,0 +1,317 @@
+-- Words that are taken give each required option of their subcommand.
+use Rattle.std.proofs.Common.{◌≡◌, ◌&&◌, ◌==◌, ℕ, zero, suc, Bool, true, false, not, cond, List, [], ◌∷◌, Option, Some, None, refl, sym, ap, ◌∙◌, subst, length}
+use Rattle.std.proofs.Common.{drop, arith, inl, inr}
+use Rattle.std.specs.Prelude.{is_some, fold, find, MatchOption, option_and_then, slice_get, encode_utf8}
+use Rattle.std.specs.List.{AllByRecursion, list_any}
+use Rattle.std.specs.Option.{option_map_or}
+use Rattle.std.specs.Str.{bytes_eq, chars}
+use Rattle.std.proofs.lemmas.Bool.{both_ways, cases_Bool, ne_eqb}
+use Rattle.std.proofs.lemmas.Slice.Eq.{bytes_eq-Decides}
+use Rattle.clap.specs.Lexer.{long_of}
+use Rattle.clap.specs.Kinds.{Kinds, check_kinds, or_else, range_kinds}
+use Rattle.clap.specs.Facts.{explicit_source}
+use Rattle.clap.specs.Takes.{is_given}
+use Rattle.clap.specs.Faults.{bundle_step_fault, check_fault, defaults_fault, flags_fault, flag_word_fault, level_fault, repeat_fault, values_fault, long_fault}
+use Rattle.clap.specs.Faults.{option_fault, react_fault, settle_fault, short_fault, step_fault, turn_fault, use_fault, walk_fault, word_fault}
+use Rattle.clap.specs.Simple.{Shape, filled, new_rule}
+use Rattle.clap.specs.Walk.{Held, Names, Outcome, Row, Rule, Step, Text, Waiting, Walk, action_of, after_flag, after_step, arg_by_id, arg_by_long, arg_by_short}
+use Rattle.clap.specs.Walk.{attached_value, first_of, bundle, bundle_met, bundle_step, done, plain, finished, has_row, long_met, long_or_other, nothing_held}
+use Rattle.clap.specs.Walk.{option, option_met, reacted, row_text, rows_after, settled, settled_rows, short_met, used, walk, walk_from, walked, with_default}
+use Rattle.clap.specs.Walk.{reading_by, used_as, values_or_missing, with_values, without, word_met}
+use Rattle.clap.specs.declared.error.kind.ErrorKind.TheVariants as kind
+use Rattle.clap.specs.declared.builder.action.ArgAction.{ArgAction}
+use Rattle.clap.specs.declared.builder.action.ArgAction.TheVariants.{Set, Help}
+use Rattle.clap.specs.declared.parser.matches.ValueSource.TheVariants.{CommandLine}
+use Rattle.clap.specs.declared.builder.value_parser.Reading.TheVariants.{AsWritten}
+use Rattle.clap.specs.declared.builder.value_parser.ValueParser.{ValueParser}
+use Rattle.clap.specs.declared.builder.value_parser.ValueParser.TheVariants.{Unsigned}
+use Rattle.clap.specs.declared.parser.matches.ValueSource.{ValueSource}
+use Rattle.clap.specs.declared.builder.value_parser.Reading.{Reading}
+use Rattle.kcr_words.specs.Commands.{number_rule, text_rule}
+use Rattle.kcr_words.specs.Tasks.{number_between, number_at}
+
+pub both_empty : (a b : Kinds) → or_else a b ≡ [] → (a ≡ []) × (b ≡ [])
+both_empty [] b e = (refl, e)
+both_empty (k ∷ ks) b e = cc
+
+-- ---- what each use of an option keeps, the whole walk over the words keeps
+
+module _ (s : Shape) (P : List Row → Type 0) where
+  -- a use of the option that does not fail keeps it
+  abbrev pub Keeps : Rule → Type 0
+  Keeps a = (values : List Text) (rows : List Row) → use_fault s.args_override_self a values rows ≡ [] → P rows → P (used a values rows)
+
+  found_keeps : (f : Rule → Bool) (c : List Rule) → AllByRecursion Keeps c → (a : Rule) → find f c ≡ Some a → Keeps a
+  found_keeps f [] all a e = cc
+  found_keeps f (x ∷ xs) all a e = elim (cases_Bool (f x)) [
+    | inl t ↦ (let is : Some x ≡ Some a = rw t at e in let same : x ≡ a = cc in subst Keeps same all.0)
+    | inr t ↦ found_keeps f xs all.1 a (rw t at e)
+  ]
+
+  module _ (keeps : AllByRecursion Keeps s.rules) where
+    -- a found option is one of the rules
+    abbrev IsRule : Option Rule → Type 0
+    IsRule o = (a : Rule) → o ≡ Some a → Keeps a
+
+    settles_at : (pending : Option (Text × List Text)) (rows : List Row)
+        → option_map_or (λ p. option_map_or (λ a. use_fault s.args_override_self a p.1 rows) (arg_by_id s.rules p.0) []) pending [] ≡ []
+        → P rows → P (settled_rows s.rules pending rows)
+    settles_at None rows none p = p
+    settles_at (Some q) rows none p =
+        let found = λ (a : Rule) (e : arg_by_id s.rules q.0 ≡ Some a). found_keeps (λ x. bytes_eq x.id q.0) s.rules keeps a e q.1 rows in
+        grind (arith, found, p)
+
+    settles : (h : Held) → settle_fault s.rules s.args_override_self h ≡ [] → P h.rows → P (settled s.rules h).rows
+    settles h none p = settles_at h.pending h.rows none p
+
+    reacts : (a : Rule) → Keeps a → (values : List Text) (h : Held) → react_fault s.rules s.args_override_self a values h ≡ [] → P h.rows
+        → P (reacted s.rules a values h).rows
+    reacts a rule values h none p =
+        let each = both_empty (settle_fault s.rules s.args_override_self h) (use_fault s.args_override_self a values (settled s.rules h).rows) none in
+        rule values (settled s.rules h).rows each.1 (settles h each.0 p)
+
+    option_keeps : (a : Rule) → Keeps a → (v : Option Text) (h : Held) → option_fault s.rules s.args_override_self a v h ≡ [] → P h.rows
+        → P (option_met s.rules a v h).0.rows
+    option_keeps a rule o h none p =
+        let some = λ (v : Text). reacts a rule (v ∷ []) h in
+        let settle = settles h in
+        grind (arith, some, settle, p)
+
+    long_keeps : (o : Option Rule) → IsRule o → (v : Option Text) (h : Held) → long_fault s.rules s.args_override_self o v h ≡ [] → P h.rows
+        → P (long_met s.rules o v h).0.rows
+    long_keeps None rule v h none p = p
+    long_keeps (Some a) rule v h none p =
+        let option = option_keeps a (rule a refl) v h in
+        let flag = reacts a (rule a refl) [] h in
+        grind (arith, option, flag, p)
+
+    short_keeps : (o : Option Rule) → IsRule o → (rest : Text) (h : Held) (go : Held → Held × Outcome) (fault : Held → Kinds)
+        → ((now : Held) → fault now ≡ [] → P now.rows → P (go now).0.rows)
+        → short_fault s.rules s.args_override_self o rest h fault ≡ [] → P h.rows → P (short_met s.rules o rest h go).0.rows
+    short_keeps None rule rest h go fault more none p = p
+    short_keeps (Some a) rule rest h go fault more none p =
+        let option = option_keeps a (rule a refl) (attached_value rest) h in
+        let flag = reacts a (rule a refl) [] h in
+        let each = both_empty (react_fault s.rules s.args_override_self a [] h) (fault (reacted s.rules a [] h)) in
+        grind (arith, option, flag, each, more (reacted s.rules a [] h), p)
+
+    bundle_keeps : (k : ℕ) (flags : Text) (skip : ℕ) (so_far : Outcome) (h : Held) → flags_fault s.rules s.args_override_self k flags skip h ≡ []
+        → P h.rows → P (bundle_met s.rules k flags skip so_far h).0.rows
+    unfolding bundle_met flags_fault
+    bundle_keeps zero flags skip so_far h none p = p
+    bundle_keeps (suc k) flags skip so_far h none p = by_flag (bundle_keeps k) (slice_get (chars flags) 0) skip none
+      where
+        by_flag : ((flags : Text) (skip : ℕ) (so_far : Outcome) (h : Held) → flags_fault s.rules s.args_override_self k flags skip h ≡ [] → P h.rows
+            → P (bundle_met s.rules k flags skip so_far h).0.rows)
+            → (o : Option ℕ) (skip : ℕ) → bundle_step_fault s.rules s.args_override_self o flags skip h (flags_fault s.rules s.args_override_self k) ≡ []
+            → P (bundle_step s.rules o flags skip so_far h (bundle_met s.rules k)).0.rows
+        by_flag later None skip free = p
+        by_flag later (Some x) zero free =
+            let rest = drop (length (encode_utf8 x)) flags in
+            short_keeps (arg_by_short s.rules x) (λ a e. found_keeps _ s.rules keeps a e) rest h (bundle_met s.rules k rest 0 done)
+            (flags_fault s.rules s.args_override_self k rest 0)
+            (later rest 0 done) free p
+        by_flag later (Some x) (suc less) free = later (drop (length (encode_utf8 x)) flags) less so_far h free p
+
+    after_keeps : (waiting : Waiting) (word : Text) (h : Held) (o : Outcome) → P h.rows → P (after_flag s.rules waiting word h o).0.rows
+    after_keeps waiting word h o p = grind (arith, p)
+
+    flag_keeps : (waiting : Waiting) (word : Text) (o : Option (Text × Option Text)) (h : Held) → flag_word_fault s.rules s.args_override_self o word h ≡ []
+        → P h.rows → P (long_or_other s.rules waiting word o h).0.rows
+    flag_keeps waiting word None h none p =
+        let bundled = λ (flags : Text). bundle_keeps (length flags) flags h.skip plain (record h { skip = 0 }) in
+        let after = λ (flags : Text). after_keeps waiting word (bundle s.rules flags h).0 (bundle s.rules flags h).1 in
+        grind (arith, bundled, after, none, p)
+    flag_keeps waiting word (Some q) h none p =
+        let met = long_met s.rules (arg_by_long s.rules q.0) q.1 h in
+        after_keeps waiting word met.0 met.1 (long_keeps (arg_by_long s.rules q.0) (λ a e. found_keeps _ s.rules keeps a e) q.1 h none p)
+
+    word_keeps : (names : Names) (is_trailing : Bool) (waiting : Waiting) (position : ℕ) (word : Text) (h : Held)
+        → word_fault s names is_trailing waiting word h ≡ [] → P h.rows → P (word_met s.rules names is_trailing waiting position word h).0.rows
+    word_keeps names true waiting position word h none p = p
+    word_keeps names false waiting position word h none p = let flag = flag_keeps waiting word (long_of word) h in grind (arith, flag, p)
+
+    step_keeps : (w : Walk) (word : Text) (h : Held) (step : Step) → step_fault s w.position h step ≡ [] → P h.rows
+        → P (after_step s.rules word w h step).held.rows
+    step_keeps w word h step none p = let settle = settles h in grind (arith, settle, p)
+
+    turn_keeps : (names : Names) (w : Walk) (word : Text) → turn_fault s names w word ≡ [] → P w.held.rows → P (walked s.rules names w word).held.rows
+    unfolding walked
+    turn_keeps names w word none p =
+        let met = word_met s.rules names w.is_trailing w.waiting w.position word w.held in
+        let each = both_empty (word_fault s names w.is_trailing w.waiting word w.held) (step_fault s w.position met.0 met.1) in
+        let step = step_keeps w word met.0 met.1 in
+        let before = word_keeps names w.is_trailing w.waiting w.position word w.held in
+        grind (arith, each, step, before, p)
+
+    walk_keeps : (names : Names) (w : Walk) (words : List Text) → walk_fault s names w words ≡ [] → P w.held.rows
+        → P (fold (walked s.rules names) w words).held.rows
+    unfolding walk_fault
+    walk_keeps names w [] none p = p
+    walk_keeps names w (word ∷ words) none p =
+        let each = both_empty (turn_fault s names w word) (walk_fault s names (walked s.rules names w word) words) none in
+        walk_keeps names (walked s.rules names w word) words each.1 (turn_keeps names w word each.0 p)
+
+-- ---- an option with a value
+
+-- if the option has a row, this holds of it
+abbrev HasRow : (Row → Bool) → Text → List Row → Type 0
+HasRow holds name rows = MatchOption (find (λ r. bytes_eq r.id name) rows) (Unit {0}) (λ r. holds r ≡ true)
+
+-- its text is a number from 1 to the most
+abbrev pub is_number : ℕ → Row → Bool
+is_number most r = is_some (option_and_then (number_between 1 most) (row_text r))
+
+-- it has a text
+abbrev pub is_text : Row → Bool
+is_text r = is_some (slice_get r.values 0)
+
+same_bytes : (t : Text) → bytes_eq t t ≡ true
+same_bytes t = (bytes_eq-Decides t t).1 refl
+
+-- a row of one option is none of another
+apart : (x a b : Text) → bytes_eq a b ≡ false → bytes_eq x a ≡ true → bytes_eq x b ≡ false
+apart x a b differ is = subst (λ (t : Text). bytes_eq t b ≡ false) (sym ((bytes_eq-Decides x a).0 is)) differ
+
+-- rows of another option come and go, and the row of this one stays
+without_other : (other name : Text) → bytes_eq other name ≡ false → (rows : List Row)
+    → find (λ r. bytes_eq r.id name) (without other rows) ≡ find (λ r. bytes_eq r.id name) rows
+without_other other name differ [] = refl
+without_other other name differ (r ∷ rs) =
+    let rest = without_other other name differ rs in
+    let no = apart r.id other name differ in
+    grind (arith, rest, no)
+
+with_other : (other name : Text) (how : Reading) (source : ValueSource) (values : List Text) → bytes_eq other name ≡ false → (rows : List Row)
+    → find (λ r. bytes_eq r.id name) (with_values other how source values rows) ≡ find (λ r. bytes_eq r.id name) rows
+with_other other name how source values differ [] =
+    ap (λ (b : Bool). cond b (Some (record { id = other; values = values; count = None; source = Some source; reading = how })) None) differ
+with_other other name how source values differ (r ∷ rs) =
+    let rest = with_other other name how source values differ rs in
+    let no = apart r.id other name differ in
+    grind (arith, rest, no)
+
+-- the first row of an option that had none
+first_row : (name : Text) (how : Reading) (source : ValueSource) (values : List Text) (rows : List Row) → has_row name rows ≡ false
+    → find (λ r. bytes_eq r.id name) (with_values name how source values (without name rows))
+    ≡ Some (record { id = name; values = values; count = None; source = Some source; reading = how })
+first_row name how source values [] none =
+    ap (λ (b : Bool). cond b (Some (record { id = name; values = values; count = None; source = Some source; reading = how })) None) (same_bytes name)
+first_row name how source values (r ∷ rs) none =
+    let rest = first_row name how source values rs in
+    grind (arith, rest, none)
+
+-- one value alone is in the range
+only_one : (empty one : Bool) → cond empty (kind.InvalidValue ∷ []) (cond one [] (kind.WrongNumberOfValues ∷ [])) ≡ [] → one ≡ true
+only_one empty one e = grind arith
+
+-- an option that sets another value keeps it
+pub other_keeps : (s : Shape) (holds : Row → Bool) (name : Text) (a : Rule) → action_of a ≡ Set → bytes_eq a.id name ≡ false → Keeps s (HasRow holds name) a
+other_keeps s holds name a set differ values rows none p =
+    let how = reading_by a in
+    let given = values_or_missing a values in
+    let same = with_other a.id name how CommandLine given differ (without a.id rows) ∙ without_other a.id name differ rows in
+    let kept : HasRow holds name (used_as Set a.id how given rows) =
+    subst (λ (o : Option Row). MatchOption o (Unit {0}) (λ r. holds r ≡ true)) (sym same) p in
+    subst (λ (x : ArgAction). HasRow holds name (used_as x a.id how given rows)) (sym set) kept
+
+-- and so does the one that asks for help
+pub help_keeps : (s : Shape) (P : List Row → Type 0) (a : Rule) → action_of a ≡ Help → Keeps s P a
+help_keeps s P a asks values rows none p =
+    subst (λ (x : ArgAction). P (used_as x a.id (reading_by a) (values_or_missing a values) rows)) (sym asks) p
+
+-- a required option whose values this parser reads
+abbrev required_rule : Text → Option ValueParser → Rule
+required_rule name parser = record (new_rule name) { long = Some name; value_names = 1; parser = parser; required = true }
+
+-- the row of its one value
+abbrev given_row : Text → Text → Row
+given_row name v = record { id = name; values = v ∷ []; count = None; source = Some CommandLine; reading = AsWritten }
+
+-- the option itself gives it
+given_keeps : (s : Shape) (holds : Row → Bool) (name : Text) (parser : Option ValueParser) → s.args_override_self ≡ false
+    → reading_by (filled (required_rule name parser)) ≡ AsWritten
+    → ((v : Text) → values_fault (filled (required_rule name parser)) (v ∷ []) ≡ [] → holds (given_row name v) ≡ true)
+    → Keeps s (HasRow holds name) (filled (required_rule name parser))
+given_keeps s holds name parser once plainly passes values rows none p = by_values values none
+  where
+    rule : Rule
+    rule = filled (required_rule name parser)
+
+    by_values : (values : List Text) → use_fault s.args_override_self rule values rows ≡ [] → HasRow holds name (used rule values rows)
+    by_values [] free = cc
+    by_values (v ∷ w ∷ vs) free =
+        let many = length (v ∷ w ∷ vs) in
+        let one : (1 == many) ≡ true = only_one (many == 0) (1 == many) (both_empty (range_kinds 1 1 many) _ free).0 in
+        let other : (1 == many) ≡ false = ne_eqb 1 many (λ e. omega (arith, e)) in
+        absurd (both_ways _ other one)
+    by_values (v ∷ []) free =
+        let each = both_empty (repeat_fault s.args_override_self name rows) (values_fault rule (v ∷ [])) free in
+        let fresh : has_row name rows ≡ false = grind (arith, once, each.0) in
+        let row = first_row name AsWritten CommandLine (v ∷ []) rows fresh in
+        let has : HasRow holds name (used_as Set name AsWritten (v ∷ []) rows) =
+        subst (λ (o : Option Row). MatchOption o (Unit {0}) (λ r. holds r ≡ true)) (sym row) (passes v each.1) in
+        subst (λ (how : Reading). HasRow holds name (used_as Set name how (v ∷ []) rows)) (sym plainly) has
+
+pub number_keeps : (s : Shape) (name : Text) (most : ℕ) → s.args_override_self ≡ false → Keeps s (HasRow (is_number most) name) (filled (number_rule name most))
+number_keeps s name most once = given_keeps s (is_number most) name (Some (Unsigned 1 most)) once refl (λ v free. grind (arith, free))
+
+pub text_keeps : (s : Shape) (name : Text) → s.args_override_self ≡ false → Keeps s (HasRow is_text name) (filled (text_rule name))
+text_keeps s name once = given_keeps s is_text name None once refl (λ v free. refl)
+
+-- ---- so a subcommand that is taken has it
+
+no_defaults : (c : List Rule) (rows : List Row) → AllByRecursion (λ a. a.defaults ≡ []) c → fold with_default rows c ≡ rows
+no_defaults [] rows none = refl
+no_defaults (a ∷ c) rows none =
+    let same : with_default rows a ≡ rows = grind (arith, none.0) in
+    ap (λ (now : List Row). fold with_default now c) same ∙ no_defaults c rows none.1
+
+-- nothing that is required is missing
+none_missing : (help sub missing : Bool) → check_kinds help sub missing ≡ [] → missing ≡ false
+none_missing help sub missing e = grind arith
+
+required_row : (s : Shape) (holds : Row → Bool) (name : Text) → AllByRecursion (Keeps s (HasRow holds name)) s.rules
+    → AllByRecursion (λ a. a.defaults ≡ []) s.rules
+    → s.subcommand_negates_reqs ≡ false
+    → ((rows : List Row) → list_any (λ a. a.required && not (is_given a.id rows)) s.rules ≡ false → is_given name rows ≡ true)
+    → (words : List Text) → level_fault s [] nothing_held words false [] ≡ []
+    → (r : Row) × (find (λ r. bytes_eq r.id name) (rows_after s.rules [] words) ≡ Some r) × (holds r ≡ true)
+required_row s holds name keeps plain-rules negates required words none =
+    let end = (walk s.rules [] nothing_held words).held in
+    let rows = finished s.rules end in
+    let check = check_fault s rows false in
+    let defaults = or_else (defaults_fault (settled s.rules end).rows s.rules) check in
+    let each = both_empty (walk_fault s [] (walk_from nothing_held) words) (or_else (settle_fault s.rules s.args_override_self end) defaults) none in
+    let settling = both_empty (settle_fault s.rules s.args_override_self end) defaults each.1 in
+    let last = both_empty (defaults_fault (settled s.rules end).rows s.rules) check settling.1 in
+    let walked-over : HasRow holds name end.rows = walk_keeps s (HasRow holds name) keeps [] (walk_from nothing_held) words each.0 tt in
+    let at-end : HasRow holds name (settled s.rules end).rows = settles s (HasRow holds name) keeps end settling.0 walked-over in
+    let has : HasRow holds name rows = subst (HasRow holds name) (sym (no_defaults s.rules (settled s.rules end).rows plain-rules)) at-end in
+    let missing = list_any (λ a. a.required && not (is_given a.id rows)) s.rules in
+    let all-there : (not (s.subcommand_negates_reqs && false) && missing) ≡ false = none_missing _ _ _ last.1 in
+    let off : (not (s.subcommand_negates_reqs && false) && missing) ≡ missing = ap (λ (b : Bool). not (b && false) && missing) negates in
+    let there : is_given name rows ≡ true = required rows (sym off ∙ all-there) in
+    by_row (find (λ r. bytes_eq r.id name) rows) has there
+  where
+    by_row : (o : Option Row) → MatchOption o (Unit {0}) (λ r. holds r ≡ true) → option_map_or (λ r. explicit_source r.source) o false ≡ true
+        → (r : Row) × (o ≡ Some r) × (holds r ≡ true)
+    by_row None has given = cc
+    by_row (Some r) has given = (r, refl, has)
+
+pub required_number : (s : Shape) (name : Text) (most : ℕ) → AllByRecursion (Keeps s (HasRow (is_number most) name)) s.rules
+    → AllByRecursion (λ a. a.defaults ≡ []) s.rules
+    → s.subcommand_negates_reqs ≡ false
+    → ((rows : List Row) → list_any (λ a. a.required && not (is_given a.id rows)) s.rules ≡ false → is_given name rows ≡ true)
+    → (words : List Text) → level_fault s [] nothing_held words false [] ≡ [] → is_some (number_at 1 most name (rows_after s.rules [] words)) ≡ true
+required_number s name most keeps plain-rules negates required words none =
+    let row = required_row s (is_number most) name keeps plain-rules negates required words none in
+    ap (λ (o : Option Row). is_some (option_and_then (number_between 1 most) (option_and_then row_text o))) row.1 ∙ row.2
+
+pub required_text : (s : Shape) (name : Text) → AllByRecursion (Keeps s (HasRow is_text name)) s.rules → AllByRecursion (λ a. a.defaults ≡ []) s.rules
+    → s.subcommand_negates_reqs ≡ false
+    → ((rows : List Row) → list_any (λ a. a.required && not (is_given a.id rows)) s.rules ≡ false → is_given name rows ≡ true)
+    → (words : List Text) → level_fault s [] nothing_held words false [] ≡ [] → is_some (first_of name (rows_after s.rules [] words)) ≡ true
+required_text s name keeps plain-rules negates required words none =
+    let row = required_row s is_text name keeps plain-rules negates required words none in
+    ap (λ (o : Option Row). is_some (option_and_then (λ r. slice_get r.values 0) o)) row.1 ∙ row.2

@@ -1,0 +1,304 @@
+-- Words that are taken hold a task.
+use Rattle.std.proofs.Common.{◌≡◌, ◌&&◌, ℕ, zero, suc, Bool, true, false, not, codes, List, [], ◌∷◌, Option, Some, None, refl, sym, ap, ◌∙◌, subst, option_map}
+use Rattle.std.proofs.Common.{arith, inl, inr}
+use Rattle.std.specs.Prelude.{is_some, fold, find, MatchOption, option_and_then}
+use Rattle.std.specs.List.{AllByRecursion}
+use Rattle.std.specs.Str.{bytes_eq}
+use Rattle.std.proofs.Math.Bool.{or-false}
+use Rattle.std.proofs.lemmas.Bool.{cases_Bool}
+use Rattle.std.proofs.lemmas.Slice.Eq.{bytes_eq-Decides}
+use Rattle.clap.specs.Words.{Row, Shape, Text, subcommand_rows_of}
+use Rattle.clap.specs.declared.parser.matches.ArgMatches.{ArgMatches}
+use Rattle.clap.specs.Walk.{Held, Names, Rule, Step, Waiting, Walk, next, trailing, subcommand, value, walked, walk, walk_from, word_met, after_step}
+use Rattle.clap.specs.Walk.{nothing_held, answers_to, stop_after, finished, settled, rows_after}
+use Rattle.clap.specs.Kinds.{or_else, check_kinds}
+use Rattle.clap.specs.Takes.{is_given}
+use Rattle.clap.specs.Facts.{explicit_source}
+use Rattle.std.specs.List.{list_any}
+use Rattle.std.specs.Option.{option_map_or}
+use Rattle.clap.specs.Faults.{check_fault, defaults_fault, settle_fault, entered_fault, built_fault, level_fault, walk_fault, turn_fault, word_fault}
+use Rattle.clap.specs.Faults.{step_fault}
+use Rattle.clap.specs.Simple.{App, built, built_leaf, names_of, label_of, entered, rows_at, argument_words, new_shape, filled, help_rule}
+use Rattle.kcr_words.specs.Commands.{tool_app, file_rule, choice_rule, number_rule, of_ceremony, into_file}
+use Rattle.kcr_words.specs.Tasks.{task_at, met_in, faults_of, number_at, ceremony_at, into_at}
+use Rattle.kcr_words.specs.declared.words.Task.{Task}
+use Rattle.kcr_words.specs.declared.words.Task.TheVariants.{Serve, Print, Attendance, Rebuild, Pack}
+use Rattle.kcr_words.proofs.Options.{both_empty, is_number, is_text, required_number, required_text, number_keeps, text_keeps, other_keeps, help_keeps}
+
+-- if a walk has stopped, it is not at `help`
+abbrev PastHelp : Option (Text × List Text) → Type 0
+PastHelp stopped = MatchOption stopped (Unit {0}) (λ p. bytes_eq p.0 (codes "help") ≡ false)
+
+abbrev StepsPastHelp : Step → Type 0
+StepsPastHelp (subcommand name) = bytes_eq name (codes "help") ≡ false
+StepsPastHelp (next waiting) = Unit {0}
+StepsPastHelp (trailing position) = Unit {0}
+StepsPastHelp value = Unit {0}
+
+-- a word at which nothing fails
+met_past : (s : Shape) (names : Names) → s.disable_help_subcommand ≡ false → (is_trailing : Bool) (waiting : Waiting) (position : ℕ) (word : Text) (h : Held)
+    → word_fault s names is_trailing waiting word h ≡ [] → StepsPastHelp (word_met s.rules names is_trailing waiting position word h).1
+met_past s names helps is_trailing waiting position word h none = grind (arith, helps, none)
+
+step_past : (c : List Rule) (word : Text) (w : Walk) (h : Held) (step : Step) → PastHelp w.stopped → StepsPastHelp step
+    → PastHelp (after_step c word w h step).stopped
+step_past c word w h step before is = grind (arith, before, is)
+
+turn_past : (s : Shape) (names : Names) → s.disable_help_subcommand ≡ false → (w : Walk) (word : Text) → turn_fault s names w word ≡ []
+    → PastHelp w.stopped → PastHelp (walked s.rules names w word).stopped
+unfolding walked
+turn_past s names helps w word none before =
+    let met = word_met s.rules names w.is_trailing w.waiting w.position word w.held in
+    let each = both_empty (word_fault s names w.is_trailing w.waiting word w.held) (step_fault s w.position met.0 met.1) in
+    let past = met_past s names helps w.is_trailing w.waiting w.position word w.held in
+    let step = step_past s.rules word w met.0 met.1 before in
+    grind (arith, each, past, step, before)
+
+walk_past : (s : Shape) (names : Names) → s.disable_help_subcommand ≡ false → (w : Walk) (words : List Text) → walk_fault s names w words ≡ []
+    → PastHelp w.stopped → PastHelp (fold (walked s.rules names) w words).stopped
+unfolding walk_fault
+walk_past s names helps w [] none before = before
+walk_past s names helps w (word ∷ words) none before =
+    let each = both_empty (turn_fault s names w word) (walk_fault s names (walked s.rules names w word) words) none in
+    walk_past s names helps (walked s.rules names w word) words each.1 (turn_past s names helps w word each.0 before)
+
+-- of a parse that needs a subcommand and that nothing refuses: it entered one, and not `help`
+entered_there : (has needs helps some all : Bool) → needs ≡ true → helps ≡ false → check_kinds (not has && (helps && some)) (not has && needs) all ≡ []
+    → has ≡ true
+entered_there has needs helps some all need help none = grind arith
+
+-- a parse that is not refused
+record IsEntered (a : App) (words : List Text) : Type 0 where
+  there : is_some (entered a (stop_after a.top.rules (names_of a) words)) ≡ true
+  past : PastHelp (stop_after a.top.rules (names_of a) words)
+  calm : entered_fault a (stop_after a.top.rules (names_of a) words) ≡ []
+
+parse_past : (a : App) (words : List Text) → a.top.subcommand_required ≡ true → a.top.arg_required_else_help ≡ false → a.top.disable_help_subcommand ≡ false
+    → built_fault a nothing_held words ≡ [] → IsEntered a words
+parse_past a words needs bare helps none =
+    let stop = stop_after a.top.rules (names_of a) words in
+    let end = (walk a.top.rules (names_of a) nothing_held words).held in
+    let rows = finished a.top.rules end in
+    let has = is_some (entered a stop) in
+    let check = check_fault a.top rows has in
+    let defaults = or_else (defaults_fault (settled a.top.rules end).rows a.top.rules) check in
+    let settling = or_else (settle_fault a.top.rules a.top.args_override_self end) defaults in
+    let walks = both_empty (walk_fault a.top (names_of a) (walk_from nothing_held) words) (or_else (entered_fault a stop) settling) none in
+    let below = both_empty (entered_fault a stop) settling walks.1 in
+    let settled' = both_empty (settle_fault a.top.rules a.top.args_override_self end) defaults below.1 in
+    let last = both_empty (defaults_fault (settled a.top.rules end).rows a.top.rules) check settled'.1 in
+    record {
+      there = entered_there has a.top.subcommand_required a.top.arg_required_else_help (not (list_any (λ r. explicit_source r.source) rows))
+          (not (a.top.subcommand_negates_reqs && has) && list_any (λ r. r.required && not (is_given r.id rows)) a.top.rules) needs bare last.1;
+      past = walk_past a.top (names_of a) helps (walk_from nothing_held) words walks.0 tt;
+      calm = below.0;
+    }
+
+-- what is found of a list has what each that is found would have
+found_has : {X : Type 0} (f : X → Bool) (Q : X → Type 0) (xs : List X) → AllByRecursion (λ x. f x ≡ true → Q x) xs → is_some (find f xs) ≡ true
+    → (x : X) × (find f xs ≡ Some x) × Q x
+found_has f Q [] all is = cc
+found_has f Q (x ∷ xs) all is = elim (cases_Bool (f x)) [
+  | inl e ↦ (x, rw e refl, all.0 e)
+  | inr e ↦ (let later = found_has f Q xs all.1 (rw e at is) in (later.0, rw e later.1, later.2))
+]
+
+some_mapped : {X Y : Type 0} (g : X → Y) (o : Option X) → is_some (option_map g o) ≡ true → is_some o ≡ true
+some_mapped g o is = grind arith
+
+not_help : (name : Text) → bytes_eq (codes "help") name ≡ true → bytes_eq name (codes "help") ≡ false → ⊥
+not_help name is past =
+    let e : codes "help" ≡ name = (bytes_eq-Decides (codes "help") name).0 is in
+    let P : Text → Type 0 = λ t. bytes_eq t (codes "help") ≡ false in
+    let no : true ≡ false = subst P (sym e) past in cc
+
+-- a subcommand whose words are not refused holds a task
+abbrev HoldsTask : Shape → Type 0
+HoldsTask s = (words : List Text) → level_fault s [] nothing_held words false [] ≡ [] → is_some (task_at (rows_at s words)) ≡ true
+
+-- a subcommand was entered that has a task
+entered_task : (a : App) (stop : Option (Text × List Text)) → PastHelp stop → is_some (entered a stop) ≡ true → entered_fault a stop ≡ []
+    → ((name : Text) → bytes_eq name (codes "help") ≡ false → AllByRecursion (λ s. answers_to name (label_of s) ≡ true → HoldsTask s) a.subs)
+    → (p : Text × List Row) × (entered a stop ≡ Some p) × (is_some (task_at p) ≡ true)
+entered_task a None past is calm each = cc
+entered_task a (Some p) past is calm each =
+    let f : Shape → Bool = λ s. answers_to p.0 (label_of s) in
+    let met = found_has f HoldsTask a.subs (each p.0 past) (some_mapped (λ s. rows_at s p.1) (find f a.subs) is) in
+    let free : level_fault met.0 [] nothing_held p.1 false [] ≡ [] =
+    sym (ap (λ (o : Option Shape). option_map_or (λ s. level_fault s [] nothing_held p.1 false []) o []) met.1) ∙ calm in
+    (rows_at met.0 p.1, ap (option_map (λ s. rows_at s p.1)) met.1, met.2 p.1 free)
+
+-- ---- the program's subcommands
+
+abbrev shape_at : ℕ → List Shape → Shape
+shape_at n [] = new_shape []
+shape_at zero (s ∷ ss) = s
+shape_at (suc n) (s ∷ ss) = shape_at n ss
+
+abbrev sub : ℕ → Shape
+sub n = shape_at n (built tool_app).subs
+
+all_subs : (built tool_app).subs ≡ sub 0 ∷ sub 1 ∷ sub 2 ∷ sub 3 ∷ sub 4 ∷ sub 5 ∷ sub 6 ∷ sub 7 ∷ sub 8 ∷ sub 9 ∷ sub 10 ∷ sub 11 ∷ []
+unfolding tool_app
+all_subs = refl
+
+run_holds : HoldsTask (sub 0)
+unfolding tool_app
+run_holds words none = refl
+
+custody_holds : HoldsTask (sub 4)
+unfolding tool_app
+custody_holds words none = refl
+
+export_holds : HoldsTask (sub 5)
+unfolding tool_app
+export_holds words none = refl
+
+journal_holds : HoldsTask (sub 6)
+unfolding tool_app
+journal_holds words none = refl
+
+audit_holds : HoldsTask (sub 7)
+unfolding tool_app
+audit_holds words none = refl
+
+verify_holds : HoldsTask (sub 8)
+unfolding tool_app
+verify_holds words none = refl
+
+some_task : {X : Type 0} (f : X → Task) (o : Option X) → is_some o ≡ true → is_some (option_map f o) ≡ true
+some_task f o is = grind arith
+
+both_there : (idle : ℕ) (a b : Option ℕ) → is_some a ≡ true → is_some b ≡ true
+    → is_some (option_and_then (λ port. option_map (λ connections. Serve port connections idle) b) a) ≡ true
+both_there idle a b one two = grind arith
+
+-- a subcommand about a ceremony, whose rules are the file, the ceremony, help
+abbrev about : Text → Shape
+about name = built_leaf (of_ceremony name).top
+
+ceremony_there : (name : Text) (words : List Text) → level_fault (about name) [] nothing_held words false [] ≡ []
+    → is_some (ceremony_at (rows_after (about name).rules [] words)) ≡ true
+ceremony_there name words none =
+    required_number (about name) (codes "ceremony") 9999 (
+      other_keeps (about name) (is_number 9999) (codes "ceremony") (filled file_rule) refl refl,
+      (
+        number_keeps (about name) (codes "ceremony") 9999 refl,
+        (help_keeps (about name) _ (filled help_rule) refl, tt),
+      ),
+    )
+    (refl, (refl, (refl, tt))) refl (λ rows free. grind arith) words none
+
+serve_port : (words : List Text) → level_fault (sub 1) [] nothing_held words false [] ≡ []
+    → is_some (number_at 1 65535 (codes "port") (rows_after (sub 1).rules [] words)) ≡ true
+unfolding tool_app
+serve_port words none =
+    required_number (sub 1) (codes "port") 65535 (
+      other_keeps (sub 1) (is_number 65535) (codes "port") (filled file_rule) refl refl,
+      (
+        number_keeps (sub 1) (codes "port") 65535 refl,
+        (
+          other_keeps (sub 1) (is_number 65535) (codes "port") (filled (number_rule (codes "connections") 1000000)) refl refl,
+          (
+            other_keeps (sub 1) (is_number 65535) (codes "port") (filled (choice_rule (codes "idle") 1 300)) refl refl,
+            (help_keeps (sub 1) _ (filled help_rule) refl, tt),
+          ),
+        ),
+      ),
+    )
+    (refl, (refl, (refl, (refl, (refl, tt))))) refl
+    (λ rows free. grind arith) words none
+
+serve_connections : (words : List Text) → level_fault (sub 1) [] nothing_held words false [] ≡ []
+    → is_some (number_at 1 1000000 (codes "connections") (rows_after (sub 1).rules [] words)) ≡ true
+unfolding tool_app
+serve_connections words none =
+    required_number (sub 1) (codes "connections") 1000000 (
+      other_keeps (sub 1) (is_number 1000000) (codes "connections") (filled file_rule) refl refl,
+      (
+        other_keeps (sub 1) (is_number 1000000) (codes "connections") (filled (number_rule (codes "port") 65535)) refl refl,
+        (
+          number_keeps (sub 1) (codes "connections") 1000000 refl,
+          (
+            other_keeps (sub 1) (is_number 1000000) (codes "connections") (filled (choice_rule (codes "idle") 1 300)) refl refl,
+            (help_keeps (sub 1) _ (filled help_rule) refl, tt),
+          ),
+        ),
+      ),
+    )
+    (refl, (refl, (refl, (refl, (refl, tt))))) refl
+    (λ rows free. grind arith) words none
+
+serve_holds : HoldsTask (sub 1)
+unfolding tool_app
+serve_holds words none = both_there _ _ _ (serve_port words none) (serve_connections words none)
+
+print_holds : HoldsTask (sub 2)
+unfolding tool_app
+print_holds words none = some_task Print _ (ceremony_there (codes "print") words none)
+
+attendance_holds : HoldsTask (sub 3)
+unfolding tool_app
+attendance_holds words none = some_task Attendance _ (ceremony_there (codes "attendance") words none)
+
+-- a subcommand that makes a new file, whose rules are the file, the new file, help
+abbrev making : Text → Shape
+making name = built_leaf (into_file name).top
+
+into_there : (name : Text) (words : List Text) → level_fault (making name) [] nothing_held words false [] ≡ []
+    → is_some (into_at (rows_after (making name).rules [] words)) ≡ true
+into_there name words none =
+    required_text (making name) (codes "into") (
+      other_keeps (making name) is_text (codes "into") (filled file_rule) refl refl,
+      (
+        text_keeps (making name) (codes "into") refl,
+        (help_keeps (making name) _ (filled help_rule) refl, tt),
+      ),
+    )
+    (refl, (refl, (refl, tt))) refl
+    (λ rows free. grind arith) words none
+
+rebuild_holds : HoldsTask (sub 9)
+unfolding tool_app
+rebuild_holds words none = some_task (λ into. Rebuild) _ (into_there (codes "rebuild") words none)
+
+pack_holds : HoldsTask (sub 10)
+unfolding tool_app
+pack_holds words none = some_task (λ into. Pack) _ (into_there (codes "pack") words none)
+
+help_label : label_of (sub 11) ≡ (codes "help", [])
+unfolding tool_app
+help_label = refl
+
+help_holds : (name : Text) → bytes_eq name (codes "help") ≡ false → answers_to name (label_of (sub 11)) ≡ true → HoldsTask (sub 11)
+help_holds name past is = absurd (not_help name (sym (or-false (bytes_eq (codes "help") name)) ∙ sym (ap (answers_to name) help_label) ∙ is) past)
+
+subs_hold : (name : Text) → bytes_eq name (codes "help") ≡ false → AllByRecursion (λ s. answers_to name (label_of s) ≡ true → HoldsTask s) (built tool_app).subs
+subs_hold name past =
+    let help = help_holds name past in
+    rw all_subs (search (run_holds, serve_holds, print_holds, attendance_holds, custody_holds, export_holds, journal_holds, audit_holds, verify_holds, rebuild_holds, pack_holds, help) depth 30)
+
+top_is : let top = (built tool_app).top in (top.subcommand_required ≡ true) × (top.arg_required_else_help ≡ false) × (top.disable_help_subcommand ≡ false)
+unfolding tool_app
+top_is = (refl, refl, refl)
+
+-- words that are not refused hold a task
+pub task_there : (words : List Text) → faults_of words ≡ [] → (p : Text × List Row) × (met_in words ≡ Some p) × (is_some (task_at p) ≡ true)
+unfolding faults_of met_in
+task_there words none =
+    let entry = parse_past (built tool_app) (argument_words tool_app words) top_is.0 top_is.1 top_is.2 none in
+    entered_task (built tool_app) _ entry.past entry.there entry.calm subs_hold
+
+-- so a parse that succeeds has entered a subcommand
+pub never_none : (words : List Text) (m : ArgMatches) → faults_of words ≡ [] → subcommand_rows_of m ≡ met_in words
+    → None ≡ option_map (λ p. p.1) (subcommand_rows_of m) → ⊥
+never_none words m none found is =
+    let there = task_there words none in
+    let rows : None ≡ Some there.0.1 = is ∙ ap (λ (o : Option (Text × List Row)). option_map (λ p. p.1) o) (found ∙ there.1) in cc
+
+-- whose task it reads
+pub never_other : (words : List Text) (p : Text × List Row) → faults_of words ≡ [] → met_in words ≡ Some p → None ≡ task_at p → ⊥
+never_other words p none met is =
+    let there = task_there words none in
+    let same : there.0 ≡ p = (let both : Some there.0 ≡ Some p = sym there.1 ∙ met in cc) in
+    let task : is_some {T = Task} None ≡ true = ap (is_some {T = Task}) (is ∙ ap task_at (sym same)) ∙ there.2 in cc

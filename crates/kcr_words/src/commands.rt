@@ -1,0 +1,287 @@
+//! The command line of the program, as `clap` takes it, with what its help says.
+ghost use Rattle.std.specs.Prelude.{◌≡◌, codes, false, IfOk};
+ghost use Rattle.clap.specs.Words.{App, app_of, rule_of, with_rule, with_subcommand};
+ghost use Rattle.clap.specs.declared.builder.command.Command.TheViews.{out-Command};
+ghost use Rattle.kcr_words.specs.Commands.{choice_rule, file_rule, number_rule, text_rule, root_app, of_file, of_ceremony};
+ghost use Rattle.kcr_words.specs.Commands.{serve_app, export_app, journal_app, into_file, tool_app};
+
+use clap::builder::ValueParser;
+use clap::{Arg, Command};
+use std::alloc::{AllocError, Global};
+
+/// The program's version, and the kit that it is proved with.
+const VERSION: &str = "1.0.0 (rattle-kit-13f logic dac8208d650f15bf)";
+
+/// The option of the register's file.
+fn file_option<'a>(alloc: Global) -> Arg<'a>
+    ensures rule { rule_of result ≡ file_rule }
+    ensures local { result.global ≡ false }
+{
+    Arg::new(alloc, "file").long("file").value_name("FILE").help(
+        "The register's file; without it the register is in memory, and empty at first",
+    )
+}
+
+/// A required option whose value is a number from 1 to `most`.
+fn number_option<'a>(alloc: Global, name: &'a str, most: u64, help: &'a str) -> Arg<'a>
+    ensures rule { rule_of result ≡ number_rule name.entry.now most }
+    ensures local { result.global ≡ false }
+{
+    Arg::new(alloc, name)
+        .long(name)
+        .value_name("N")
+        .required(true)
+        .value_parser(ValueParser::unsigned(1, most))
+        .help(help)
+}
+
+/// The option of the silence that a connection may keep.
+fn idle_option<'a>(alloc: Global) -> Arg<'a>
+    ensures rule { rule_of result ≡ choice_rule (codes "idle") 1 300 }
+    ensures local { result.global ≡ false }
+{
+    Arg::new(alloc, "idle")
+        .long("idle")
+        .value_name("SECONDS")
+        .value_parser(ValueParser::unsigned(1, 300))
+        .help(
+            "How long a connection may be silent between two messages, 1 to 300 seconds; without it 5",
+        )
+}
+
+/// An option whose value is the number of a command, 0 to 4,000,000,000.
+fn command_option<'a>(alloc: Global, name: &'a str, help: &'a str) -> Arg<'a>
+    ensures rule { rule_of result ≡ choice_rule name.entry.now 0 4000000000 }
+    ensures local { result.global ≡ false }
+{
+    Arg::new(alloc, name)
+        .long(name)
+        .value_name("N")
+        .value_parser(ValueParser::unsigned(0, 4_000_000_000))
+        .help(help)
+}
+
+/// The option of a ceremony that need not be named.
+fn ceremony_option<'a>(alloc: Global) -> Arg<'a>
+    ensures rule { rule_of result ≡ choice_rule (codes "ceremony") 1 9999 }
+    ensures local { result.global ≡ false }
+{
+    Arg::new(alloc, "ceremony")
+        .long("ceremony")
+        .value_name("N")
+        .value_parser(ValueParser::unsigned(1, 9_999))
+        .help("Only the commands that name this ceremony, 1 to 9999; without it all")
+}
+
+/// The required option of the file of a new register.
+fn into_option<'a>(alloc: Global) -> Arg<'a>
+    ensures rule { rule_of result ≡ text_rule (codes "into") }
+    ensures local { result.global ≡ false }
+{
+    Arg::new(alloc, "into")
+        .long("into")
+        .value_name("FILE")
+        .required(true)
+        .help("The file of the new register, which is not there yet, or holds nothing")
+}
+
+/// What the help says of a subcommand.
+#[derive(Clone, Copy)]
+struct Help {
+    name: &'static str,
+    about: &'static str,
+    example: &'static str,
+}
+
+const RUN: Help = Help {
+    name: "run",
+    about: "Answers the HTTP requests on standard input on standard output",
+    example: "Example: kcr run --file register.db < requests.http",
+};
+
+const SERVE: Help = Help {
+    name: "serve",
+    about: "Answers HTTP requests on a port of 127.0.0.1, one connection after the other",
+    example: "Example: kcr serve --file register.db --port 8053 --connections 100",
+};
+
+const PRINT: Help = Help {
+    name: "print",
+    about: "Prints the annotated script of a ceremony",
+    example: "Example: kcr print --file register.db --ceremony 61",
+};
+
+const ATTENDANCE: Help = Help {
+    name: "attendance",
+    about: "Prints the attendance of a ceremony as comma separated values",
+    example: "Example: kcr attendance --file register.db --ceremony 61",
+};
+
+const CUSTODY: Help = Help {
+    name: "custody",
+    about: "Prints the safes, the bags with their items, and the loose items",
+    example: "Example: kcr custody --file register.db",
+};
+
+const EXPORT: Help = Help {
+    name: "export",
+    about: "Prints the accepted commands as the stream of requests that makes the register again",
+    example: "Example: kcr export --file register.db > register.http",
+};
+
+const JOURNAL: Help = Help {
+    name: "journal",
+    about: "Prints a line for each accepted command: its number, its moment or day, and what happened",
+    example: "Example: kcr journal --file register.db --ceremony 61",
+};
+
+const AUDIT: Help = Help {
+    name: "audit",
+    about: "Tells what is wrong in the rows of the register, if anything is",
+    example: "Example: kcr audit --file register.db",
+};
+
+const VERIFY: Help = Help {
+    name: "verify",
+    about: "Tells whether the register is the one of its own commands",
+    example: "Example: kcr verify --file register.db",
+};
+
+const REBUILD: Help = Help {
+    name: "rebuild",
+    about: "Makes a new register of the commands of this one, and tells whether it is the same",
+    example: "Example: kcr rebuild --file register.db --into new.db",
+};
+
+const PACK: Help = Help {
+    name: "pack",
+    about: "Makes one file of a register's file and its log, also while it serves",
+    example: "Example: kcr pack --file register.db --into packed.db",
+};
+
+/// A subcommand over a register, with the option of its file.
+fn over_file<'a>(alloc: Global, help: Help) -> Result<Command<'a>, AllocError>
+    ensures app { IfOk result (λ c. app_of c ≡ of_file help.name.now) }
+    ensures local { IfOk result (λ c. (out-Command c).has_globals ≡ false) }
+{
+    Command::new(alloc, help.name)
+        .about(help.about)
+        .after_help(help.example)
+        .arg(file_option(alloc))
+}
+
+/// A command with one more option, whose value is a number from 1 to `most`.
+fn with_number<'a>(
+    alloc: Global,
+    command: Command<'a>,
+    name: &'a str,
+    most: u64,
+    help: &'a str,
+) -> Result<Command<'a>, AllocError>
+    requires { (out-Command command).has_globals ≡ false }
+    ensures app { IfOk result (λ c. app_of c ≡ with_rule (app_of command.entry) (number_rule name.entry.now most)) }
+    ensures local { IfOk result (λ c. (out-Command c).has_globals ≡ false) }
+{
+    command.arg(number_option(alloc, name, most, help))
+}
+
+/// A subcommand about one ceremony of a register.
+fn over_ceremony<'a>(alloc: Global, help: Help) -> Result<Command<'a>, AllocError>
+    ensures app { IfOk result (λ c. app_of c ≡ of_ceremony help.name.now) }
+    ensures local { IfOk result (λ c. (out-Command c).has_globals ≡ false) }
+{
+    let command = over_file(alloc, help)?;
+    with_number(
+        alloc,
+        command,
+        "ceremony",
+        9_999,
+        "The ceremony's number, 1 to 9999",
+    )
+}
+
+fn serve<'a>(alloc: Global) -> Result<Command<'a>, AllocError>
+    ensures app { IfOk result (λ c. app_of c ≡ serve_app) }
+    ensures local { IfOk result (λ c. (out-Command c).has_globals ≡ false) }
+{
+    let command = over_file(alloc, SERVE)?;
+    let command = with_number(alloc, command, "port", 65_535, "The port, 1 to 65535")?;
+    let command = with_number(
+        alloc,
+        command,
+        "connections",
+        1_000_000,
+        "How many connections are served before the program ends, 1 to 1000000",
+    )?;
+    command.arg(idle_option(alloc))
+}
+
+fn export<'a>(alloc: Global) -> Result<Command<'a>, AllocError>
+    ensures app { IfOk result (λ c. app_of c ≡ export_app) }
+    ensures local { IfOk result (λ c. (out-Command c).has_globals ≡ false) }
+{
+    let command = over_file(alloc, EXPORT)?;
+    let after = command_option(
+        alloc,
+        "after",
+        "Leaves out the first N commands, 0 to 4000000000; without it none",
+    );
+    let until = command_option(
+        alloc,
+        "until",
+        "Ends behind command N, 0 to 4000000000; without it behind the last",
+    );
+    command.arg(after)?.arg(until)
+}
+
+fn journal<'a>(alloc: Global) -> Result<Command<'a>, AllocError>
+    ensures app { IfOk result (λ c. app_of c ≡ journal_app) }
+    ensures local { IfOk result (λ c. (out-Command c).has_globals ≡ false) }
+{
+    let command = over_file(alloc, JOURNAL)?;
+    command.arg(ceremony_option(alloc))
+}
+
+/// A subcommand that makes a new file of a register.
+fn into_file<'a>(alloc: Global, help: Help) -> Result<Command<'a>, AllocError>
+    ensures app { IfOk result (λ c. app_of c ≡ into_file help.name.now) }
+    ensures local { IfOk result (λ c. (out-Command c).has_globals ≡ false) }
+{
+    let command = over_file(alloc, help)?;
+    command.arg(into_option(alloc))
+}
+
+/// A command with one more subcommand.
+fn with<'a>(command: Command<'a>, sub: Command<'a>) -> Result<Command<'a>, AllocError>
+    requires { (out-Command sub).has_globals ≡ false }
+    ensures { IfOk result (λ c. app_of c ≡ with_subcommand (app_of command.entry) (app_of sub.entry).top) }
+{
+    command.subcommand(sub)
+}
+
+fn root<'a>(alloc: Global) -> Command<'a>
+    ensures { app_of result ≡ root_app }
+{
+    Command::new(alloc, "kcr")
+        .version(VERSION)
+        .about("The register of the DNSSEC root zone key ceremonies")
+        .after_help("Example: kcr serve --file register.db --port 8053 --connections 100")
+        .subcommand_required(true)
+}
+
+/// The command line of the program. The error is out of memory.
+pub fn tool<'a>(alloc: Global) -> Result<Command<'a>, AllocError>
+    ensures { IfOk result (λ c. app_of c ≡ tool_app) }
+{
+    let tool = with(root(alloc), over_file(alloc, RUN)?)?;
+    let tool = with(tool, serve(alloc)?)?;
+    let tool = with(tool, over_ceremony(alloc, PRINT)?)?;
+    let tool = with(tool, over_ceremony(alloc, ATTENDANCE)?)?;
+    let tool = with(tool, over_file(alloc, CUSTODY)?)?;
+    let tool = with(tool, export(alloc)?)?;
+    let tool = with(tool, journal(alloc)?)?;
+    let tool = with(tool, over_file(alloc, AUDIT)?)?;
+    let tool = with(tool, over_file(alloc, VERIFY)?)?;
+    let tool = with(tool, into_file(alloc, REBUILD)?)?;
+    with(tool, into_file(alloc, PACK)?)
+}

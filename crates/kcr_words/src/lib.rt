@@ -1,0 +1,7 @@
+//! The words of the command line: what `clap` takes, and the task and the files that they name.
+#![tactic(auto)]
+
+mod commands;
+mod words;
+
+pub use words::{Order, Task, WordsFault, read_words};
