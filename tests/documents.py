@@ -11,7 +11,8 @@ docs/openapi.yaml have the numbers, words, statuses and members of the code, and
 man page, and docs/OPERATING.md and docs/AUDIT.md together, have each line that the program prints for a fault or a
 finding, and no other; that the scripts of docs/OPERATING.md for backup and restore keep every command, and that its
 proxy refuses what it says; and that the SQL texts are as many as docs/COST.md says. With names only the tests with
-these names run. Examples with sqlite3 are left out if it is missing, and the proxy without nginx and openssl.
+these names run. Examples with sqlite3 are left out if it is missing, the proxy without nginx and openssl, and
+docs/openapi.yaml without PyYAML.
 
 An example is a fenced block of a page. `http request` has requests, and the block `http answer` behind it their
 answers. Each line of a head is sent with CR LF, a body is as long as its head says, and the empty lines between two
@@ -37,6 +38,11 @@ import re
 import shutil
 import subprocess
 import tempfile
+
+try:
+    import yaml
+except ImportError:
+    yaml = None
 
 import kcr
 import machine
@@ -278,8 +284,9 @@ def worded(_):
 def lined(_):
     """docs/kcr.1 has each line that the program prints for a fault or a finding, and no other; so have
     docs/OPERATING.md and docs/AUDIT.md together."""
-    code = "".join(text_of(f"crates/kcr_tool/src/{name}.rt") for name in ("fault", "audit", "verify"))
-    lines = {line.replace("\\n", "").strip() for line in re.findall(r'"((?:open|into|fault|finding): [^"]*)"', code)}
+    code = "".join(text_of(f"crates/{name}.rt") for name in ("kcr_fault/src/fault", "kcr_tool/src/audit",
+                                                             "kcr_tool/src/verify"))
+    lines = {line.split("\\n")[0].strip() for line in re.findall(r'"((?:open|into|fault|finding): [^"]*)"', code)}
     expect("whether lines were found", True, len(lines) > 20)
     kinds = "(?:open|into|fault|finding)"
     pages = text_of("docs/OPERATING.md") + text_of("docs/AUDIT.md")
@@ -287,53 +294,16 @@ def lined(_):
                          ("the pages", re.findall(rf"`({kinds}: [^`]+)`", pages))):
         heads = {" ".join(line.split(" ")[:2]) for line in shown}
         agree(f"the lines of {where}", sorted(lines), sorted(heads))
+    for note in ("no file is named", "register.db is not there", "register.db has no command"):
+        expect(f"the note {note!r}", (True, True), (f".It note: {note}\n" in text_of("docs/kcr.1"), f"`note: {note}`" in pages))
 
 
-# YAML, as far as docs/openapi.yaml uses it
-
-KEYED = re.compile(r"('[^']*'|[^:]+):(?: (.*))?")
-PIECE = re.compile(r"""'[^']*'|"(?:[^"\\]|\\.)*"|[^,\[\]]+""")
-
-
-def scalar(text):
-    """The value of a text of one line: quoted, a list, a mapping of one pair, a number, a truth value, or itself."""
-    if text.startswith("'"):
-        return text[1:-1]
-    if text.startswith("["):
-        return [scalar(piece.strip()) for piece in PIECE.findall(text[1:-1])]
-    if text.startswith("{"):
-        return dict([tuple(map(scalar, KEYED.fullmatch(text[1:-1]).groups()))])
-    if text.startswith('"') or re.fullmatch(r"-?[0-9]+|true|false", text):
-        return json.loads(text)
-    return text
-
-
-def tree(lines):
-    """The value of the lines in front that stand as far in as the first of them; they are taken away."""
-    depth, found, items = lines[0][0], {}, []
-    while lines and lines[0][0] == depth:
-        text = lines.pop(0)[1]
-        if text.startswith("- "):
-            lines.insert(0, (depth + 2, text[2:]))
-            items.append(tree(lines))
-            continue
-        key, value = KEYED.fullmatch(text).groups()
-        if value is None:
-            found[scalar(key)] = tree(lines)
-        elif value == ">-":
-            folded = list(itertools.takewhile(lambda line: line[0] > depth, lines))
-            del lines[:len(folded)]
-            found[scalar(key)] = " ".join(part for _, part in folded)
-        else:
-            found[scalar(key)] = scalar(value)
-    return items or found
-
+# The parts of docs/openapi.yaml
 
 @functools.cache
 def document():
     """docs/openapi.yaml as a value."""
-    lines = [line for line in text_of("docs/openapi.yaml").splitlines() if line.strip() and line[0] != "#"]
-    return tree([(len(line) - len(line.lstrip()), line.strip()) for line in lines])
+    return yaml.safe_load(text_of("docs/openapi.yaml"))
 
 
 def schemas():
@@ -503,7 +473,7 @@ def same_parts(program, _):
 def is_part(schema, text):
     """Whether a text is a part of a path with this schema; its numbers have no leading zeros."""
     if resolved(schema)["type"] == "integer":
-        return re.fullmatch("[1-9][0-9]*", text) is not None and fits(schema, int(text))
+        return re.fullmatch("0|[1-9][0-9]*", text) is not None and fits(schema, int(text))
     return fits(schema, text)
 
 
@@ -599,9 +569,16 @@ def tests(program):
     """Each test: its name, what it shows, and the call that takes an empty folder."""
     for page in ("docs/API.md", "docs/AUDIT.md", "README.md"):
         yield from examples(program, page)
-    for test in (tabled, named, worded, lined, described, listed, same_paths, same_bodies, texts_fit):
+    for test in (tabled, named, worded, lined):
         yield test.__name__, test.__doc__, test
-    for test in (*machine.tests(), same_methods, same_parts, same_members):
+    for test in machine.tests():
+        yield test.__name__, test.__doc__, functools.partial(test, program)
+    if not yaml:
+        print("no PyYAML here, so docs/openapi.yaml is not tested")
+        return
+    for test in (described, listed, same_paths, same_bodies, texts_fit):
+        yield test.__name__, test.__doc__, test
+    for test in (same_methods, same_parts, same_members):
         yield test.__name__, test.__doc__, functools.partial(test, program)
 
 

@@ -18,7 +18,7 @@ import pathlib
 
 import cases
 import kcr
-from kcr import HERE, NOTHING_FOUND, expect
+from kcr import HERE, expect
 
 CAUSED = (b'"refusal":"memory"', b'"refusal":"disk"', b'"refusal":"broken"')
 
@@ -31,7 +31,7 @@ def healthy(program, case, room):
     if output != wanted:
         raise kcr.Wrong(cases.difference(case.read_bytes(), wanted, output))
     expect("the end", (b"", 0), (faults, status))
-    expect("the audit", NOTHING_FOUND, kcr.call(program, "audit", "--file", file))
+    kcr.audited(program, file)
 
 
 def main():

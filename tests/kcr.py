@@ -75,8 +75,9 @@ class Server:
     """`kcr serve` on a free port, over a file or over memory, from when it listens, in this environment or in its own.
     It is killed where it is left."""
 
-    def __init__(self, program, connections, file=None, seconds=SECONDS, environment=None):
+    def __init__(self, program, connections, file=None, seconds=SECONDS, environment=None, idle=None):
         words = ["serve", "--connections", str(connections)] + (["--file", str(file)] if file else [])
+        words += ["--idle", str(idle)] if idle else []
         for _ in range(5):  # somebody may take the port before the program does
             self.port = free_port()
             self.run = subprocess.Popen([program, *words, "--port", str(self.port)], stdin=subprocess.DEVNULL,
@@ -87,7 +88,7 @@ class Server:
             if self.line:
                 return
             told = self.end()
-            if told != (b"", b"fault: net\n", 1):
+            if told != (b"", b"fault: net\nbinding: %d\n" % self.port, 1):
                 raise Wrong(f"the program does not listen: {told!r:.600}")
         raise Wrong("no free port in five tries")
 
@@ -113,6 +114,16 @@ class Server:
 
 
 # Connections
+
+def sender(port, commands):
+    """A thread that has begun to send commands, each over a connection of its own."""
+    def send_each():
+        for message in commands:
+            exchange(port, [message])
+    thread = threading.Thread(target=send_each)
+    thread.start()
+    return thread
+
 
 def connect(port):
     """A connection to the port that nothing delays."""
@@ -352,6 +363,22 @@ def rows_of(file):
     """The rows of each table of a register's file, as sqlite3 reads it."""
     with opened(file) as database:
         return rows_in(database)
+
+
+def commands_in(file):
+    """How many accepted commands a file has; none where it is not there, or is no database yet."""
+    try:
+        with opened(file) as database:
+            return database.execute("SELECT count(*) FROM keys").fetchone()[0]
+    except (FileNotFoundError, sqlite3.Error):
+        return 0
+
+
+def audited(program, file, what="the audit"):
+    """Sees that an audit of a file finds nothing, and says so where the file is not there or has no command."""
+    missing = "" if commands_in(file) else "has no command" if file.exists() else "is not there"
+    note = f"note: {file} {missing}\n".encode() if missing else b""
+    expect(what, (NOTHING_FOUND[0], note, 0), call(program, "audit", "--file", file))
 
 
 def stored(file, tables):

@@ -1,4 +1,5 @@
-"""What docs/OPERATING.md prints for a machine, tried as printed: the scripts for backup and restore, and the proxy.
+"""What docs/OPERATING.md prints for a machine, tried as printed: the scripts for copies, backup and restore, and the
+proxy.
 
 It tests nothing by itself: `documents.py` runs `tests()`. Only folders and ports differ from the printed texts. The
 scripts run over a real `kcr serve`; in place of systemd, `chown` and `runuser` there are stand-ins. The proxy is nginx.
@@ -20,10 +21,16 @@ PAGE = HERE.parent / "docs" / "OPERATING.md"
 REGISTER = "register.db"
 
 
-def printed(heading, kind, start=""):
-    """The first block of this kind, with this start, under a heading of the page."""
+def printed(heading, kind):
+    """The first block of this kind under a heading of the page."""
     text = PAGE.read_text(encoding="utf-8").partition(f"\n## {heading}\n")[2]
-    return re.search(rf"(?ms)^```{kind}\n({start}.*?)^```$", text)[1]
+    return re.search(rf"(?ms)^```{kind}\n(.*?)^```$", text)[1]
+
+
+def printed_script(name):
+    """The script of this name: the first one after the page names it with what it takes."""
+    text = PAGE.read_text(encoding="utf-8").partition(f"`{name} F")[2]
+    return re.search(r"(?ms)^```sh\n(#!/bin/sh\n.*?)^```$", text)[1]
 
 
 # Backup and restore
@@ -53,11 +60,9 @@ class Machine:
                     "VAR": str(room / "var")}
         for name, text in (("systemctl", SYSTEMCTL), ("runuser", RUNUSER), ("chown", "#!/bin/sh\n")):
             self.script(name, text)
-        for heading in ("Backup", "Restore"):
-            text = printed(heading, "sh", "#!/bin/sh\n")
-            for folder, own in (("/var/lib/kcr", "var"), ("/backup", "backup")):
-                text = text.replace(folder, str(room / own))
-            self.script(f"kcr-{heading.lower()}", text)
+        for name in ("kcr-follow", "kcr-save", "kcr-backup", "kcr-restore"):
+            text = printed_script(name).replace(":8053/", f":{self.port}/")
+            self.script(name, text.replace("/var/lib/kcr", str(room / "var")))
 
     def script(self, name, text):
         """Makes a command of this machine."""
@@ -80,33 +85,38 @@ class Machine:
             expect("what sqlite3 reads", [(commands,)], database.execute("SELECT count(*) FROM keys").fetchall())
         expect("what sqlite3 leaves", [REGISTER], os.listdir(self.room / "var"))
 
+    def change_a_row(self):
+        """Stops the service and gives a person in its file another name."""
+        self.run("systemctl", "stop", "kcr")
+        with contextlib.closing(sqlite3.connect(self.room / "var" / REGISTER)) as database:
+            database.execute("UPDATE people SET name = 'Eve' WHERE name = 'Ann Abel'")
+            database.commit()
+
     def kept(self):
-        """The folders of the backups that went well, in their order."""
-        return sorted(folder for folder in (self.room / "backup").iterdir() if not folder.suffix)
+        """The files of the backups that went well, in their order."""
+        return sorted((self.room / "backup").glob("*.db"))
 
 
 def backed_up(program, room):
-    """The printed backup has every accepted command each time, even if sqlite3 has read the file and removed its log.
-    If a client received a greater number, or a copy fails, it leaves no folder that looks good, and the register runs.
+    """The printed backup has every accepted command each time, while the register serves, and after sqlite3 has read
+    the file and removed its log. If a row was changed, or the file cannot be written, it leaves no file that looks good.
     The printed restore goes back to what a backup has."""
-    machine = Machine(program, room)
+    machine, backups = Machine(program, room), room / "backup"
     machine.run("systemctl", "start", "kcr")
     try:
         for number in (1, 2, 3):
             expect("a command", kcr.accepted(number), machine.post(number))
             if number == 2:
                 machine.read_by_sqlite3(number)
-            expect(f"backup {number}", (0, f"{number} commands"), machine.run("kcr-backup", number))
-            names = [REGISTER] if number == 2 else [REGISTER, f"{REGISTER}-wal"]
-            expect(f"backup {number} has", names, sorted(os.listdir(machine.kept()[-1])))
+            expect(f"backup {number}", (0, f"{number} commands"), machine.run("kcr-backup", backups))
+            expect(f"what backup {number} leaves", machine.kept(), sorted(backups.iterdir()))
+            machine.run("systemctl", "start", "kcr")
             time.sleep(1)  # a backup is named by its second
-        expect("a backup that lacks a command", (1, "3 commands"), machine.run("kcr-backup", 4))
-        machine.script("cp", "#!/bin/sh\nexit 1\n")
-        time.sleep(1)
-        expect("a backup whose copy fails", (1, ""), machine.run("kcr-backup", 3))
-        (room / "bin" / "cp").unlink()
+        expect("a command after the backups", kcr.accepted(4), machine.post(4))
+        expect("a backup into a folder that is not there", (1, ""), machine.run("kcr-backup", room / "none"))
+        machine.change_a_row()
+        expect("the status of a backup of a changed row", 1, machine.run("kcr-backup", backups)[0])
         expect("the backups that went well", 3, len(machine.kept()))
-        expect("a command after a backup that failed", kcr.accepted(4), machine.post(4))
         restored(machine)
     finally:
         machine.run("systemctl", "stop", "kcr")
@@ -114,16 +124,54 @@ def backed_up(program, room):
 
 def restored(machine):
     """Sees that each backup can be restored, and that the commands sent again get the answers that they had."""
-    for count, folder in enumerate(machine.kept(), 1):
-        expect(f"restore {count}", (0, f"{count} commands"), machine.run("kcr-restore", folder))
+    for count, file in enumerate(machine.kept(), 1):
+        expect(f"restore {count}", (0, f"{count} commands"), machine.run("kcr-restore", file))
         for number in (1, 2, 3, 4):
             expect(f"command {number} again", kcr.accepted(number), machine.post(number))
         time.sleep(1)
 
 
+def saved(program, room):
+    """The printed backup by export has every accepted command each time, while the register serves; the later one begins
+    with the earlier, and a new register that takes it has the same rows."""
+    machine, found = Machine(program, room), []
+    machine.run("systemctl", "start", "kcr")
+    try:
+        for number in range(1, 6):
+            expect("a command", kcr.accepted(number), machine.post(number))
+            if number in (3, 5):
+                expect(f"the export of {number}", (0, f"{number} commands"), machine.run("kcr-save", room / "backup"))
+                time.sleep(1)  # an export is named by its second
+    finally:
+        machine.run("systemctl", "stop", "kcr")
+    found = [path.read_bytes() for path in sorted((room / "backup").iterdir())]
+    expect("the exports", 2, len(found))
+    expect("the beginning of the later", found[0], found[1][:len(found[0])])
+    kcr.call(program, "run", "--file", room / "again.db", stream=found[1])
+    expect("the rows", kcr.rows_of(room / "var" / REGISTER), kcr.rows_of(room / "again.db"))
+
+
+def followed(program, room):
+    """The printed copy has every accepted command each time that it is brought up to date, and the register's rows. A
+    copy whose last number is lost takes all commands again, and stays as it is."""
+    machine, copy = Machine(program, room), room / "copy.db"
+    machine.run("systemctl", "start", "kcr")
+    try:
+        expect("a copy of an empty register", (0, "0 commands"), machine.run("kcr-follow", copy))
+        for number in range(1, 6):
+            expect("a command", kcr.accepted(number), machine.post(number))
+            if number in (3, 5):
+                expect(f"the copy of {number}", (0, f"{number} commands"), machine.run("kcr-follow", copy))
+        (room / "copy.db.after").unlink()
+        expect("all commands again", (0, "5 commands"), machine.run("kcr-follow", copy))
+    finally:
+        machine.run("systemctl", "stop", "kcr")
+    expect("the rows of the copy", kcr.rows_of(room / "var" / REGISTER), kcr.rows_of(copy))
+
+
 # The proxy
 
-NGINX = """daemon off; pid {room}/pid; error_log {room}/error.log; events {{}}
+NGINX = """user root; daemon off; pid {room}/pid; error_log {room}/error.log; events {{}}
 http {{ {temporary} include {room}/kcr.conf; }}"""
 NAMES = {"server": "kcr.example", "desk": "ceremony-desk", "reader": "reader"}
 JSON = "Content-Type: application/json"
@@ -158,14 +206,14 @@ def certify(room):
             *f"-extfile names -out {file}.pem".split())
 
 
-def over_tls(room, port, who, method, fields, body):
+def over_tls(room, port, who, method, fields, body, path="/people"):
     """The status that a client with a certificate gets."""
     context = ssl.create_default_context(cafile=room / "clients-ca.pem")
     context.load_cert_chain(room / f"{who}.pem", room / f"{who}.key")
     fields = [*fields, "Connection: close", f"Content-Length: {len(body)}"]
     if not any(field.startswith("Host: ") for field in fields):
         fields.append("Host: kcr.example")
-    head = "\r\n".join([f"{method} /people HTTP/1.1", *fields, "", ""])
+    head = "\r\n".join([f"{method} {path} HTTP/1.1", *fields, "", ""])
     with context.wrap_socket(kcr.connect(port), server_hostname="kcr.example") as peer:
         peer.sendall(head.encode() + body)
         return int(peer.recv(65_536).split(b" ")[1])
@@ -186,7 +234,8 @@ def proxy(room, port, own):
     """The printed proxy on a port, before a register on another, while it runs."""
     text = printed("A proxy in front", "nginx")
     for there, here in (("listen 443", f"listen 127.0.0.1:{port}"), ("127.0.0.1:8053", f"127.0.0.1:{own}"),
-                        ("/etc/nginx/kcr", str(room)), ("/var/log/nginx", str(room))):
+                        ("/etc/nginx/kcr", str(room)), ("/var/log/nginx", str(room)),
+                        ("/usr/share/kcr", str(HERE.parent))):
         text = text.replace(there, here)
     (room / "kcr.conf").write_text(text)
     kinds = ("client_body", "proxy", "fastcgi", "uwsgi", "scgi")
@@ -205,7 +254,7 @@ def proxy(room, port, own):
 
 def proxied(program, room):
     """The printed proxy passes the commands of those who may write and the questions of all clients, refuses what a
-    foreign web page can send, and logs the sender and the body of each command that it passes."""
+    foreign web page can send, and logs the sender and the body of each command that it passes. It serves the page."""
     certify(room)
     with kcr.Server(program, 1_000) as server:
         port = kcr.free_port()
@@ -217,6 +266,9 @@ def proxied(program, room):
                 wanted_log.append((f"CN={NAMES[who]},O=Example", status, body.decode() if status == 200 else ""))
             expect("the log", wanted_log, logged(room, len(PROXIED)))
             expect("a large body", 413, over_tls(room, port, "desk", "POST", (JSON,), b"x" * 131_073))
+            for path, status in (("/", 302), ("/page/", 200), ("/page/main.js", 200), ("/page/serve.py", 404),
+                                 ("/page/../tests/kcr.py", 404), ("/page/none.js", 404)):
+                expect(f"the desk's page, {path}", status, over_tls(room, port, "reader", "GET", (), b"", path))
 
 
 def nginx():
@@ -226,7 +278,11 @@ def nginx():
 
 def tests():
     """The tests that can run here; each takes the program and an empty folder."""
-    if nginx() and shutil.which("openssl"):
-        return backed_up, proxied
-    print("no nginx or no openssl here, so proxied is left out")
-    return (backed_up,)
+    found = [backed_up, saved]
+    for test, is_here, needs in ((followed, shutil.which("curl"), "curl"),
+                                 (proxied, nginx() and shutil.which("openssl"), "nginx or no openssl")):
+        if is_here:
+            found.append(test)
+        else:
+            print(f"no {needs} here, so {test.__name__} is left out")
+    return found

@@ -29,7 +29,7 @@ import pathlib
 import random
 
 import kcr
-from kcr import NOTHING_FOUND, Wrong, call, expect
+from kcr import Wrong, call, expect
 
 # the step from one N to the next during the opening, and after it
 STRIDES = {"over_memory": (61, 1), "over_a_file": (601, 29), "examples_over_memory": (601, 7),
@@ -47,8 +47,8 @@ BEFORE = ((b"", *MEMORY), (b"", *UNOPENED))  # what the program may write before
 REFUSED = (b"refused: 33 memory\n", 1)
 STREAM = kcr.short_ceremony() + [kcr.request(b"GET", path) for path in (
     b"/people", b"/custodians/2025-02-13", b"/bags/BB51184287", b"/ceremonies/61/room/2025-02-13T20:12:00Z",
-    b"/ceremonies/61/script", b"/ceremonies/61/attendance.csv")]
-REPORTS = [("custody",), ("print", "--ceremony", "61"), ("attendance", "--ceremony", "61"), ("audit",)]
+    b"/ceremonies/61/script", b"/ceremonies/61/attendance.csv", b"/custody")]
+REPORTS = [("custody",), ("print", "--ceremony", "61"), ("attendance", "--ceremony", "61"), ("journal",), ("audit",)]
 
 
 # The runs
@@ -161,7 +161,7 @@ class Wanted:
             pairs = [pair for pair in zip(self.requests[:count], self.answers(refused))
                      if pair[1].startswith(b"HTTP/1.1 200 OK")]
             sent, again = (b"".join(texts) for texts in zip(*pairs)) if pairs else (b"", b"")
-            expect(f"the audit {what}", NOTHING_FOUND, call(self.program, "audit", "--file", file))
+            kcr.audited(self.program, file, f"the audit {what}")
             expect(f"accepted commands again {what}", (again, b"", 0),
                    call(self.program, "run", "--file", file, stream=sent))
 
@@ -264,7 +264,7 @@ def openings(program, library, room, strides):
             if version:
                 kcr.copy(source, file)
 
-        for number, told in Runs(program, library, "audit", "--file", file, before=put_back).swept(1, strides[1]):
+        for number, told in Runs(program, library, "run", "--file", file, before=put_back).swept(1, strides[1]):
             what = f"version {version} after the refusal of request {number} for memory"
             if told == (b"", *UNOPENED):
                 expect(what, before, dump(file))

@@ -28,16 +28,19 @@ sys.path.insert(0, str(ROOT / "tools"))
 import completion
 import package
 
-SUBCOMMANDS = "run serve print attendance custody audit verify rebuild".split()
+SUBCOMMANDS = "run serve print attendance custody export journal audit verify rebuild pack".split()
 OPTIONS = {
     "run": ["--file", "--help"],
-    "serve": ["--file", "--port", "--connections", "--help"],
+    "serve": ["--file", "--port", "--connections", "--idle", "--help"],
     "print": ["--file", "--ceremony", "--help"],
     "attendance": ["--file", "--ceremony", "--help"],
     "custody": ["--file", "--help"],
     "audit": ["--file", "--help"],
     "verify": ["--file", "--help"],
     "rebuild": ["--file", "--into", "--help"],
+    "pack": ["--file", "--into", "--help"],
+    "export": ["--file", "--after", "--until", "--help"],
+    "journal": ["--file", "--ceremony", "--help"],
 }
 
 
@@ -81,7 +84,8 @@ def runs(program, _room):
     stream = (ROOT / "examples/first.http").read_bytes()
     expect("the answers", call(program, "run", stream=stream), call(installed, "run", stream=stream))
     for name in ("usr/share/man/man1/kcr.1.gz", "usr/lib/systemd/system/kcr.service", "usr/lib/sysusers.d/kcr.conf",
-                 "usr/share/doc/kcr/README.md", "usr/share/doc/kcr/copyright", "usr/share/doc/kcr/examples/first.http"):
+                 "usr/share/doc/kcr/README.md", "usr/share/doc/kcr/copyright", "usr/share/doc/kcr/examples/first.http",
+                 "usr/share/kcr/page/index.html", "usr/share/kcr/page/main.js", "usr/share/kcr/page/serve.py"):
         if not (root / name).is_file():
             raise Wrong(f"the package has no {name}")
 

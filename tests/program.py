@@ -4,18 +4,17 @@
     tests/program.py PROGRAM [NAME ..]
 
 Shown are: for each of the twelve kept streams under tests/files that its requests get the kept answers over a file,
-that the reports and the audit of the file are the kept texts, that sqlite3 (Python's module, C's sqlite) finds it sound
-and with the kept rows and the register's schema, and that each accepted command sent again gets its answer again and
-changes nothing; that it makes no difference whether the file is opened anew before each request; that registers of the
-versions 1 and 2, which sqlite3 makes of files that the program wrote or from nothing, are brought to version 3; that a
-register is taken as it is where its recorded people are not the first who fill the seats; what becomes of files that
-are no register, and of one that somebody else has open; and what the audit and the reports say of a register in which
-sqlite3 changed a cell. With names only the tests with these names run.
+that the reports and the audit of the file are the kept texts, that sqlite3 finds it sound and with the kept rows and
+schema, and that each accepted command sent again gets its answer again and changes nothing; that it makes no
+difference whether the file is opened anew before each request; that registers of the versions 1 and 2, which sqlite3
+makes, are migrated; that a register is taken as it is where its recorded people are not the first who fill the seats;
+what becomes of files that are no register, and of one that somebody else has open; and what the audit and the reports
+say of a register in which sqlite3 changed a cell. With names only the tests with these names run.
 
-The twelve streams were taken from thirty so that together they have each kind of command accepted, each refusal and
-each table, spot, state and form of line that the thirty have. A folder has the stream (`requests`), what it is answered
-(`answers`), what the subcommands print afterwards (`print-N`, `attendance-N`, `custody`, `audit`) and the rows of the
-tables (`tables`). They come from a program that is not this one, written from the rules alone.
+The twelve streams were taken from thirty. Together they have each kind of command accepted, each refusal, table, spot,
+state and form of line of the thirty. A folder has the stream (`requests`), what it is answered (`answers`), what the
+subcommands print afterwards (`print-N`, `attendance-N`, `custody`, `audit`) and the rows of the tables (`tables`).
+They come from a program that is not this one, written from the rules alone.
 
 The last line is `N passed, M failed`, and the status is 0 where none failed.
 """
@@ -25,19 +24,33 @@ sys.dont_write_bytecode = True  # no files beside these
 
 import contextlib
 import functools
+import itertools
 import os
 import pathlib
+import re
 import sqlite3
+import threading
 
 import kcr
 from kcr import EMPTY_CUSTODY, HERE, NOTHING_FOUND, TABLES, Wrong, call, change, contents, copy, expect, opened
 
-DISK = (b"", b"open: disk\n", 1)
+DISK = "the disk"  # two lines, with a step and the file's name
 FOREIGN = (b"", b"open: foreign\n", 1)
 VERSION = (b"", b"open: version\n", 1)
+NAMELESS = b"note: no file is named\n"
 EMPTY = {name: [] for name in TABLES} | {
     "safes": [("EAST", 1, 0), ("EAST", 2, 0), ("WEST", 1, 0), ("WEST", 2, 0)], "versions": [(3,)]}
 MOMENTS = 1_739_476_800  # 2025-02-13T20:00:00Z
+
+
+def disk(step, file, word="open"):
+    """What is told of a file that fails at a step."""
+    return (b"", f"{word}: disk\n{step}: {file}\n".encode(), 1)
+
+
+def noted(file, text="is not there"):
+    """What stands on standard error of a register that is not there, or has no command."""
+    return f"note: {file} {text}\n".encode()
 
 
 def stream(name):
@@ -62,9 +75,11 @@ def reported(program, file, folder):
 
 
 def verified(program, file, commands):
-    """Sees that a file is told to be the register of its commands, of which there are so many."""
-    expect(f"verify {file.name}", (f"verified: {commands} commands\n".encode(), b"", 0),
-           call(program, "verify", "--file", file))
+    """Sees that a file is told to be the register of its commands, of which there are so many. One without commands is
+    told to have none."""
+    whole = (f"verified: {commands} commands\n".encode(), b"", 0)
+    empty = (b"", f"note: {file} has no command\n".encode(), 1)
+    expect(f"verify {file.name}", whole if commands else empty, call(program, "verify", "--file", file))
 
 
 def rebuilt(program, file, name, room):
@@ -77,9 +92,15 @@ def rebuilt(program, file, name, room):
     for into in (fresh, file):
         expect(f"into {into.name}", (b"", b"into: filled\n", 1), call(program, "rebuild", "--file", file, "--into", into))
         kcr.stored(into, tables)
-    expect("no register", (b"", b"open: disk\n", 1), call(program, "rebuild", "--file", room, "--into", room / "none"))
-    expect("no new file", False, (room / "none").exists())
-    expect("no new place", (b"", b"into: disk\n", 1), call(program, "rebuild", "--file", file, "--into", room))
+    for text in (b"x", bytes(4_096)):
+        (room / "held").write_bytes(text)
+        told = call(program, "rebuild", "--file", file, "--into", room / "held")
+        expect("into a file with bytes", ((b"", b"into: filled\n", 1), (text, None)), (told, contents(room / "held")))
+    expect("no register", disk("opening", room), call(program, "rebuild", "--file", room, "--into", room / "none"))
+    expect("a register that is not there", (b"", noted(room / "gone"), 1),
+           call(program, "rebuild", "--file", room / "gone", "--into", room / "none"))
+    expect("no new place", disk("opening", room, "into"), call(program, "rebuild", "--file", file, "--into", room))
+    expect("new files", [], [name for name in ("none", "gone") if (room / name).exists()])
 
 
 def repeated(program, file, folder):
@@ -138,8 +159,9 @@ def brought(program, file, folder):
     expect("rebuild", (f"rebuilt: {len(kcr.kept_tables(folder)['keys'])} commands\n".encode(), b"", 0),
            call(program, "rebuild", "--file", file, "--into", fresh))
     kcr.stored(fresh, kcr.kept_tables(folder))
+    reported(program, file, folder)
     expect("not brought by that", before, dump(file))
-    expect("custody", (kcr.kept(folder, "custody"), b"", 0), call(program, "custody", "--file", file))
+    repeated(program, file, folder)
     kcr.stored(file, kcr.kept_tables(folder))
     reported(program, file, folder)
     repeated(program, file, folder)
@@ -250,28 +272,84 @@ def dump(file):
         return list(database.iterdump())
 
 
-def refused(program, file, told):
-    """Sees that a file is refused with this line by three subcommands, and left byte for byte as it was."""
-    before, held = file.read_bytes(), None if told == DISK else dump(file)
+def refused(program, file, told, step="reading"):
+    """Sees that three subcommands refuse a file with this line, and leave it and its log byte for byte as they were."""
+    held, before = None if told == DISK else dump(file), contents(file)
+    if told == DISK:
+        told = disk(step, file)
     expect(f"custody of {file.name}", told, call(program, "custody", "--file", file))
     expect(f"verify of {file.name}", told, call(program, "verify", "--file", file))
     expect(f"run over {file.name}", told, call(program, "run", "--file", file, stream=kcr.request(b"GET", b"/people")))
-    expect(f"the bytes of {file.name}", before, file.read_bytes())
+    expect(f"the bytes of {file.name} and its log", before, contents(file))
     if held is not None:
         expect(f"what {file.name} holds", held, dump(file))
 
 
 def no_file_yet(program, room):
-    """An empty file and one that is not there become registers, and so does one at a path with blanks; but not by a
-    verification, for which they are registers of no commands."""
+    """An empty file and one that is not there become registers by `run`, and so does one at a path with blanks. For all
+    that only read they are empty registers, which they say, and nothing is made."""
     (room / "empty").touch()
     for name in ("empty", "missing", "a name with blanks, \u00e9 and \u540d.db"):
-        verified(program, room / name, 0)
-        expect(f"nothing in {name}", [], [line for line in dump(room / name) if line.startswith("CREATE")])
-        for told in (EMPTY_CUSTODY, EMPTY_CUSTODY):
-            expect(name, (told, b"", 0), call(program, "custody", "--file", room / name))
-        expect(f"audit of {name}", NOTHING_FOUND, call(program, "audit", "--file", room / name))
+        note, before = noted(room / name, "has no command" if name == "empty" else "is not there"), set(os.listdir(room))
+        for _ in range(2):
+            expect(name, (EMPTY_CUSTODY, note, 0), call(program, "custody", "--file", room / name))
+            expect(f"audit of {name}", (NOTHING_FOUND[0], note, 0), call(program, "audit", "--file", room / name))
+            expect(f"print of {name}", (b"", note + b"refused: 12 unknown ceremony 61\n", 1),
+                   call(program, "print", "--ceremony", "61", "--file", room / name))
+            expect(f"verify of {name}", (b"", note, 1), call(program, "verify", "--file", room / name))
+            expect(f"rebuild of {name}", (b"", note, 1),
+                   call(program, "rebuild", "--file", room / name, "--into", room / "fresh"))
+        expect("what is made", before, set(os.listdir(room)))
+        expect(f"run of {name}", (b"", b"", 0), call(program, "run", "--file", room / name))
         kcr.stored(room / name, EMPTY)
+        note = noted(room / name, "has no command")
+        expect(f"{name}, made", (EMPTY_CUSTODY, note, 0), call(program, "custody", "--file", room / name))
+        expect(f"verify of {name}, made", (b"", note, 1), call(program, "verify", "--file", room / name))
+
+
+def only_read(program, room):
+    """What only reads leaves every byte of a file and its log, also in a folder in which nothing may be written, and of
+    a register of an older version."""
+    file = filled(program, room, "009")
+    older = copy(file, room / "older")
+    made_older(older, 1)
+    for one in (file, older):
+        own = room / f"{one.name}-alone"
+        own.mkdir()
+        held = copy(one, own / "register")
+        before = contents(held)
+        for path in (*own.iterdir(), own):
+            path.chmod(0o555 if path.is_dir() else 0o444)
+        reported(program, held, stream("009"))
+        expect("custody", (kcr.kept(stream("009"), "custody"), b"", 0), call(program, "custody", "--file", held))
+        expect("rebuild", b"", call(program, "rebuild", "--file", held, "--into", room / f"fresh-{one.name}")[1])
+        expect("the bytes of both files", before, contents(held))
+        expect("what lies beside them", {"register"} | ({"register-wal"} if before[1] is not None else set()),
+               set(os.listdir(own)))
+        own.chmod(0o755)
+
+
+def beside_a_writer(program, room):
+    """Reports that are taken while commands come in are those of a register after one of its commands, and a
+    verification finds nothing."""
+    file, count = room / "register", 400
+    people = [kcr.person(b"k%d" % number, kcr.initials(number), b"Ann Abel") for number in range(count)]
+    call(program, "run", "--file", file, stream=people[0])
+    with kcr.Server(program, 1, file) as server:
+        writer = threading.Thread(target=kcr.exchange, args=(server.port, people))
+        writer.start()
+        seen = []
+        while writer.is_alive() or not seen:
+            output, faults, status = call(program, "verify", "--file", file)
+            found = re.fullmatch(rb"verified: ([0-9]+) commands\n", output)
+            expect("verify", (True, b"", 0), (found is not None, faults, status))
+            seen.append(int(found[1]))
+            expect("audit", NOTHING_FOUND, call(program, "audit", "--file", file))
+        writer.join()
+        expect("never fewer", sorted(seen), seen)
+        verified(program, file, count)
+        server.end()
+    print(f"    {len(seen)} verifications, of {seen[0]} to {seen[-1]} commands")
 
 
 def relative_and_linked(program, room):
@@ -300,10 +378,17 @@ def no_database(program, room):
     for name in ("text", "short", "zeros", "half", "cut", "header", "page"):
         refused(program, room / name, DISK)
     (room / "folder").mkdir()
-    for path in (room / "folder", room / "no folder" / "register", "", ":memory:"):
-        expect(f"custody of {path!s:.80}", DISK, call(program, "custody", "--file", path, cwd=room))
+    for path in (room / "folder", "", ":memory:"):
+        for words in (["custody"], ["run"]):
+            expect(f"{words[0]} of {path!s:.80}", disk("opening", path), call(program, *words, "--file", path, cwd=room))
+    nowhere = room / "no folder" / "register"
+    expect("custody of no folder", (EMPTY_CUSTODY, noted(nowhere), 0), call(program, "custody", "--file", nowhere))
+    expect("run of no folder", disk("opening", nowhere), call(program, "run", "--file", nowhere))
+    os.link(whole, room / "second")
+    for words in (["custody"], ["run"]):
+        expect(f"{words[0]} of two names", disk("opening", whole), call(program, *words, "--file", whole))
+    expect("what is made", ["folder"], [name for name in ("folder", "no folder", ":memory:") if (room / name).exists()])
     expect("the folder", [], os.listdir(room / "folder"))
-    expect("what is not made", (False, False), ((room / "no folder").exists(), (room / ":memory:").exists()))
 
 
 # One number alone, in a table that is read whatever else there is
@@ -398,13 +483,14 @@ def each_its_own(program, room):
 # Two who have one file open
 
 def held_by_serve(program, room):
-    """A file that `serve` has open is refused to another process, also to sqlite3, and nothing of it is changed."""
+    """A file that `serve` has open is refused to another process that writes, also to sqlite3, and told to those that
+    only read; and nothing of it is changed."""
     file = filled(program, room, "006")
     with kcr.Server(program, 1, file) as server:
         before = contents(file)
-        for words in (["custody"], ["audit"], ["run"], ["print", "--ceremony", "61"],
-                      ["serve", "--connections", "1", "--port", str(kcr.free_port())]):
-            expect(" ".join(words), DISK, call(program, *words, "--file", file))
+        for words in (["run"], ["serve", "--connections", "1", "--port", str(kcr.free_port())]):
+            expect(" ".join(words), disk("locking", file), call(program, *words, "--file", file))
+        reported(program, file, stream("006"))
         with contextlib.closing(sqlite3.connect(file, timeout=0)) as database:
             try:
                 raise Wrong(f"sqlite3 reads {database.execute('SELECT * FROM people').fetchall()}")
@@ -419,11 +505,14 @@ def held_by_serve(program, room):
 
 
 def held_by_sqlite(program, room):
-    """A file in which sqlite3 has a transaction is refused, and taken once that is done."""
+    """A file in which sqlite3 has a transaction is refused, and taken once that is done; of what is not committed yet
+    no report tells."""
     file = filled(program, room, "006")
     with contextlib.closing(sqlite3.connect(file, isolation_level=None)) as database:
         database.execute("BEGIN IMMEDIATE")
-        expect("custody", DISK, call(program, "custody", "--file", file))
+        database.execute("DELETE FROM people")
+        expect("run", disk("locking", file), call(program, "run", "--file", file))
+        reported(program, file, stream("006"))
         database.execute("ROLLBACK")
     reported(program, file, stream("006"))
 
@@ -433,7 +522,7 @@ def hot_journal(program, room):
     file = filled(program, room, "006")
     change(file, "PRAGMA user_version = 0")
     file.with_name(file.name + "-journal").write_bytes(bytes.fromhex("d9d505f920a163d7") + bytes(504))
-    refused(program, file, DISK)
+    refused(program, file, DISK, "opening")
 
 
 # Lines and statuses
@@ -444,18 +533,20 @@ def unknown_ceremony(program, room):
     told = (b"", b"refused: 12 unknown ceremony 4711\n", 1)
     for word in ("print", "attendance"):
         expect(f"{word} over a file", told, call(program, word, "--ceremony", "4711", "--file", file))
-        expect(f"{word} over memory", told, call(program, word, "--ceremony", "4711"))
+        expect(f"{word} over memory", (b"", NAMELESS + told[1], 1), call(program, word, "--ceremony", "4711"))
     reported(program, file, stream("009"))
 
 
-def over_memory(program, _room):
+def over_memory(program, room):
     """Without a file each subcommand is over an empty register, which the next one does not find."""
     post = kcr.person(b"k1", b"AA", b"Ann Abel")
     for _ in range(2):
         expect("run", (kcr.accepted(1), b"", 0), call(program, "run", stream=post))
-        expect("custody", (EMPTY_CUSTODY, b"", 0), call(program, "custody"))
-        expect("audit", NOTHING_FOUND, call(program, "audit"))
-        expect("verify", (b"verified: 0 commands\n", b"", 0), call(program, "verify"))
+        expect("custody", (EMPTY_CUSTODY, NAMELESS, 0), call(program, "custody"))
+        expect("audit", (NOTHING_FOUND[0], NAMELESS, 0), call(program, "audit"))
+        expect("verify", (b"", NAMELESS, 1), call(program, "verify"))
+        expect("rebuild", (b"", NAMELESS, 1), call(program, "rebuild", "--into", room / "fresh"))
+        expect("what is made", [], os.listdir(room))
 
 
 def numbers_out_of_range(program, room):
@@ -503,8 +594,7 @@ def findings(program, room):
             ("UPDATE bags SET spot = 'spent'", "custody HSM4"),
             ("UPDATE bags SET spot = 'box 9 EAST'", "bag BB51184288"),
             ("UPDATE boxes SET box = 7 WHERE box = 2", "bag BB51184288"),
-            (f"UPDATE sheet SET at = at - 1 WHERE who = 'AB' AND at = {MOMENTS + 1}",
-             "lone 63 2025-02-13T20:00:00Z"),
+            (f"UPDATE sheet SET at = at - 1 WHERE who = 'AB' AND at = {MOMENTS + 1}", "lone 63 2025-02-13T20:00:00Z"),
     ]):
         changed = copy(file, room / f"changed-{number}")
         change(changed, statement)
@@ -561,6 +651,22 @@ CHANGES = [
 ]
 
 
+def quoted_rows(file, table):
+    """The rows of a table in the order of its key, which its first columns are, as sqlite3 prints them in its mode
+    `quote`."""
+    with opened(file) as database:
+        names = [f'"{name}"' for _, name, *_ in database.execute(f"PRAGMA table_info({table})")]
+        shown = " || ',' || ".join(f"quote({name})" for name in names)
+        return [text for text, in database.execute(f"SELECT {shown} FROM {table} ORDER BY {', '.join(names)}")]
+
+
+def row_line(table, expected, found):
+    """The line of the first row in which a table of two files differs."""
+    rows = itertools.zip_longest(quoted_rows(expected, table), quoted_rows(found, table), fillvalue="none")
+    one, other = next((one, other) for one, other in rows if one != other)
+    return f"\nrow: expected {one}; found {other}"
+
+
 def differed(program, file, finding):
     """Sees that a verification tells this difference, and that it changes nothing."""
     for time in ["first", "again"]:
@@ -569,7 +675,8 @@ def differed(program, file, finding):
 
 
 def differences(program, room):
-    """A cell that sqlite3 changes in any table, a row that it adds or takes out, is found and its table named."""
+    """A cell that sqlite3 changes in any table, a row that it adds or takes out, is found: the table is named, and the
+    first row that differs is told as it should be and as it is."""
     file = filled(program, room, "072")
     for table, cells, row in CHANGES:
         statements = [f"UPDATE {table} SET {cells}", f"DELETE FROM {table} WHERE rowid = (SELECT max(rowid) FROM {table})"]
@@ -578,7 +685,7 @@ def differences(program, room):
         for number, statement in enumerate(statements):
             changed = copy(file, room / f"{table}-{number}")
             change(changed, statement)
-            differed(program, changed, f"table {table}")
+            differed(program, changed, f"table {table}{row_line(table, file, changed)}")
 
 
 def kept_commands(finding, last):
@@ -612,14 +719,16 @@ def changed_commands(program, room):
     ]):
         changed = copy(file, room / f"changed-{number}")
         change(changed, statement)
-        differed(program, changed, finding)
-        expect("rebuild", (f"finding: {finding}\n".encode(), b"", 1),
-               call(program, "rebuild", "--file", changed, "--into", room / f"fresh-{number}"))
-        verified(program, room / f"fresh-{number}", kept_commands(finding, last))
+        fresh = room / f"fresh-{number}"
+        output, *end = call(program, "rebuild", "--file", changed, "--into", fresh)
+        line = row_line(finding.split()[1], fresh, changed) if finding.startswith("table") else ""
+        expect("rebuild", (f"finding: {finding}{line}\n".encode(), b"", 1), (output, *end))
+        differed(program, changed, finding + line)
+        verified(program, fresh, kept_commands(finding, last))
 
 
 def rows_of_no_register(program, room):
-    """A row that no register stores is refused by the audit as the disk's fault (34)."""
+    """A row that no register stores is refused by the audit, a verification and a rebuild as the disk's fault (34)."""
     file = filled(program, room, "003")
     for number, statement in enumerate([
             f"UPDATE people SET name = '{'x' * 121}' WHERE who = 'FIN'",
@@ -637,7 +746,8 @@ def rows_of_no_register(program, room):
     ]):
         changed = copy(file, room / f"changed-{number}")
         change(changed, statement)
-        expect(statement, (b"", b"refused: 34 disk\n", 1), call(program, "audit", "--file", changed))
+        for words in (["audit"], ["verify"], ["rebuild", "--into", room / "fresh"]):
+            expect(f"{words[0]}: {statement}", (b"", b"refused: 34 disk\n", 1), call(program, *words, "--file", changed))
 
 
 def broken_in_a_stream(program, room):
@@ -669,7 +779,7 @@ def report_stops(program, room):
 
 
 TESTS = [opened_anew, older_from_its_file, older_from_nothing, half_older, other_seatings, no_file_yet,
-         relative_and_linked, no_database, other_databases, another_schema, no_one_number,
+         only_read, beside_a_writer, relative_and_linked, no_database, other_databases, another_schema, no_one_number,
          each_its_own, held_by_serve, held_by_sqlite, hot_journal,
          unknown_ceremony, over_memory, numbers_out_of_range, output_is_full, findings, doubled_key, crowd, differences,
          changed_commands, rows_of_no_register, broken_in_a_stream, report_stops]

@@ -24,9 +24,11 @@ import random
 import socket
 import struct
 import threading
+import time
 
 import kcr
-from kcr import GO_ON, HERE, Server, accepted, answer, call, connect, exchange, expect, in_pieces, person, request
+from kcr import (GO_ON, HERE, Server, Wrong, accepted, answer, call, connect, exchange, expect, in_pieces, person,
+                 request)
 
 LINE = "listening 127.0.0.1:{}\n"
 ENDED = (b"", b"", 0)
@@ -37,6 +39,8 @@ DAY = request(b"GET", b"/custodians/2025-02-13")
 NOBODY = answer(b"200 OK", b'{"day":"2025-02-13","places":[]}')
 PEOPLE = request(b"GET", b"/people")
 ANN = person(b"k1", b"AA", b"Ann Abel")
+MEMORY = answer(b"503 Service Unavailable", b'{"number":33,"refusal":"memory"}')
+SPACE_STEP = 8  # kilobytes of address space from one run to the next
 ANN_ALONE = answer(b"200 OK", b'{"people":[{"name":"Ann Abel","roles":[],"who":"AA"}]}')
 CLIENTS = 1_000
 MOST_KILOBYTES = 32 * 1_024
@@ -190,12 +194,97 @@ def taken_port(program, room):
     with socket.socket() as taken:
         taken.bind(("127.0.0.1", 0))
         taken.listen()
-        words = ["serve", "--connections", "1", "--port", str(taken.getsockname()[1])]
-        expect("over memory", (b"", b"fault: net\n", 1), call(program, *words))
-        expect("over a file", (b"", b"fault: net\n", 1), call(program, *words, "--file", room / "register"))
-        expect("no register", (b"", b"open: disk\n", 1), call(program, *words, "--file", room / "text"))
-    expect("the register that was opened", (kcr.EMPTY_CUSTODY, b"", 0),
+        port = taken.getsockname()[1]
+        words = ["serve", "--connections", "1", "--port", str(port)]
+        told = (b"", b"fault: net\nbinding: %d\n" % port, 1)
+        expect("over memory", told, call(program, *words))
+        expect("over a file", told, call(program, *words, "--file", room / "register"))
+        expect("no register", (b"", f"open: disk\nreading: {room / 'text'}\n".encode(), 1),
+               call(program, *words, "--file", room / "text"))
+    expect("the register that was opened", (kcr.EMPTY_CUSTODY, f"note: {room / 'register'} has no command\n".encode(), 0),
            call(program, "custody", "--file", room / "register"))
+
+
+def waited(peer):
+    """For how many seconds nothing came from a connection, until it was closed."""
+    began = time.monotonic()
+    expect("what still comes", b"", peer.recv(1))
+    return time.monotonic() - began
+
+
+def silent_clients(program, _room):
+    """A connection that is silent is closed after the seconds of `--idle` where it has sent nothing yet or has its
+    answer, and not within a message, also where it was told to go on with one."""
+    waits = request(b"POST", b"/people", ANN.partition(b"\r\n\r\n")[2]).replace(b"\r\n\r\n", b"\r\nExpect: 100-continue\r\n\r\n")
+    head, _, body = waits.partition(b"\r\n\r\n")
+    with Server(program, 3, idle=1) as server:
+        with connect(server.port) as peer:
+            expect("nothing sent: closed in time", True, 0.5 < waited(peer) < 5)
+        with connect(server.port) as peer:
+            peer.sendall(DAY[:10])
+            time.sleep(3)
+            peer.sendall(DAY[10:])
+            expect("a question in two parts", NOBODY, received(peer, len(NOBODY)))
+            expect("after an answer: closed in time", True, 0.5 < waited(peer) < 5)
+        with connect(server.port) as peer:
+            peer.sendall(head + b"\r\n\r\n")
+            expect("to go on", GO_ON, received(peer, len(GO_ON)))
+            time.sleep(3)
+            peer.sendall(body)
+            expect("a body after a while", accepted(1), received(peer, len(accepted(1))))
+        expect("the end", ENDED, server.end())
+
+
+def slow_takers(program, _room):
+    """A client that takes its answers a little at a time is waited for 30 seconds in all."""
+    people = [person(b"k%d" % number, kcr.initials(number), b"Ann Abel" * 12) for number in range(300)]
+    with Server(program, 3, seconds=4 * kcr.SECONDS) as server:
+        exchange(server.port, people)
+        with connect(server.port) as slow:
+            slow.settimeout(None)
+            threading.Thread(target=kcr.send, args=(slow, [PEOPLE * 500]), daemon=True).start()
+            time.sleep(0.5)
+            began, ended = time.monotonic(), threading.Event()
+
+            def drip():
+                with contextlib.suppress(OSError):
+                    while not ended.wait(1):
+                        slow.recv(10_000)
+
+            dripping = threading.Thread(target=drip)
+            dripping.start()
+            expect("the next client", NOBODY, exchange(server.port, [DAY]))
+            ended.set()
+            dripping.join()
+            seconds = time.monotonic() - began
+            expect(f"after 30 seconds, and some for the answers: {seconds:.0f}", True, 20 < seconds < 120)
+        expect("the end", ENDED, server.end())
+
+
+def scarce_memory(program, room):
+    """With whatever address space, `serve` answers a connection or ends with a line: it does not go on and close each
+    connection without an answer. From the least space on with which it listens, a little more each time."""
+    limited, space, answered, ended = room / "limited", 1_000, 0, 0
+    while answered < 3:
+        space += SPACE_STEP
+        expect("a space that is enough", True, space < 100_000)
+        limited.write_text(f'#!/bin/sh\nulimit -v {space} && exec "{program}" "$@"\n')
+        limited.chmod(0o755)
+        try:
+            server = Server(str(limited), 2)
+        except Wrong:  # it does not listen
+            continue
+        with server:
+            got = b""
+            with contextlib.suppress(ConnectionError):
+                got = exchange(server.port, [DAY])
+            if got:
+                expect(f"an answer with {space} kB", True, got in (NOBODY, MEMORY))
+                answered += 1
+            else:
+                expect(f"the end with {space} kB", (b"", b"refused: 33 memory\n", 1), server.end())
+                ended += 1
+    print(f"    {ended} sizes end it with a line; {space} kB of address space suffice")
 
 
 def line_is_not_written(program, _room):
@@ -217,6 +306,37 @@ def breaking_register(program, room):
         expect("the first connection", NOBODY, exchange(server.port, [DAY]))
         expect("the second", NOBODY + disk + broken, exchange(server.port, [DAY + PEOPLE + DAY]))
         expect("the end", (b"", b"refused: 35 broken\n", 1), server.end())
+
+
+def removed(file):
+    file.unlink()
+
+
+def cut(file):
+    os.truncate(file, file.stat().st_size - 1)
+
+
+def replaced(file):
+    other = file.with_name("other")
+    other.write_bytes(file.read_bytes())
+    other.rename(file)
+
+
+def log_removed(file):
+    kcr.log_of(file).unlink()
+
+
+def lost_files(program, room):
+    """A file or its log is removed, cut or replaced while it is served: no command is answered any more, and the program
+    says so and ends. Before, each connection is served."""
+    bob = kcr.person(b"k2", b"BB", b"Bob Berg")
+    for change in (removed, cut, replaced, log_removed):
+        file = room / change.__name__
+        with Server(program, 9, file) as server:
+            expect("the first connection", accepted(1), exchange(server.port, [ANN]))
+            change(file)
+            expect(f"the answer to a command, {change.__name__}", b"", exchange(server.port, [bob]))
+            expect(f"the end, {change.__name__}", (b"", b"fault: file\nlost: %s\n" % str(file).encode(), 1), server.end())
 
 
 # Bad clients
@@ -329,7 +449,8 @@ def bad_clients(program, room, clients=CLIENTS):
 
 
 TESTS = [in_turn, one_connection, many_connections, closing_answers, cut_connections, out_of_range, most_connections,
-         taken_port, line_is_not_written, breaking_register, bad_clients]
+         taken_port, silent_clients, slow_takers, scarce_memory, line_is_not_written, breaking_register, lost_files,
+         bad_clients]
 
 
 def main():

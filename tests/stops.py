@@ -25,6 +25,7 @@ sys.dont_write_bytecode = True  # no files beside these
 
 import itertools
 import pathlib
+import re
 import shutil
 import sqlite3
 
@@ -34,9 +35,15 @@ from program import NEWER, made_older
 
 DISK = kcr.answer(b"500 Internal Server Error", b'{"number":34,"refusal":"disk"}')
 BROKEN = kcr.answer(b"500 Internal Server Error", b'{"number":35,"refusal":"broken"}')
-UNOPENED = (b"", b"open: disk\n", 1)
+UNOPENED = re.compile(rb"open: disk\n(opening|reading): [^\n]*\n")
 UNWRITTEN = (b"fault: write\n", 1)
 EXAMPLES = ["entered-and-listed", "step-out-of-order", "serial-used-once"]
+
+
+def is_unopened(told):
+    """Whether a run ended with the lines of a file that could not be opened, and with nothing else."""
+    output, faults, status = told
+    return output == b"" and status == 1 and UNOPENED.fullmatch(faults) is not None
 
 
 def held(file):
@@ -77,7 +84,7 @@ class Trial:
 
     def steps(self, told):
         """How many steps were done, the opening being the first, by what the program says."""
-        if told == UNOPENED:
+        if is_unopened(told):
             return 0
         count = len(self.commands)
         for done in range(count + 1):
@@ -173,7 +180,7 @@ def a_connection_breaks_it(program, library, room):
     for calls in itertools.count():
         what = {"REGISTER": str(put(file, room / "tried")), "CALLS": str(calls), "LOG": "1"}
         told = kcr.faulty(program, library, what, "run", "--file", room / "tried", stream=commands[0])[0]
-        if told != UNOPENED:
+        if not is_unopened(told):
             break
     expect("the first command", (DISK, b"", 0), told)
     put(file, room / "tried")

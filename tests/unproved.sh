@@ -15,8 +15,8 @@ cp tests/unproved/alone/main.txt "$work/crates/seats_alone/src/main.rt"
 for file in tests/unproved/*.txt; do
   cp "$file" "$work/crates/kcr_unproved/src/$(basename "$file" .txt).rt"
 done
-# the lines by which the program tells faults
-cp crates/kcr_tool/src/{fault,lines}.rt "$work/crates/kcr_unproved/src/"
+# how the program serves one connection
+cp crates/kcr_tool/src/one.rt "$work/crates/kcr_unproved/src/"
 # the requests of a case, as bytes of the crate
 python3 - "$work/crates/kcr_unproved/src/stream.rt" tests/cases/bag-into-a-box << 'PYTHON'
 import pathlib
@@ -27,7 +27,7 @@ text = f"//! The requests of a case.\n\npub(crate) const STREAM: &[u8] = &[{requ
 pathlib.Path(sys.argv[1]).write_text(text)
 PYTHON
 cp HANDLES "$work/HANDLES"
-libraries="kcr_base kcr_seats kcr_people kcr_custody kcr_script kcr_room kcr_history kcr_audit kcr_machine kcr_tables kcr_store kcr_print kcr_desk kcr_verify kcr_log itoa sqlite"
+libraries="kcr_base kcr_seats kcr_people kcr_custody kcr_script kcr_room kcr_history kcr_audit kcr_machine kcr_tables kcr_store kcr_print kcr_wire kcr_desk kcr_verify kcr_log kcr_words kcr_fault itoa sqlite"
 { cat crates.txt; printf '\nkcr_unproved: %s\nseats_alone: kcr_seats\n' "$libraries"; } > "$work/crates.txt"
 cd "$work/crates/kcr_unproved"
 rt try --test --seconds 300 > "$work/told" 2>&1 || true

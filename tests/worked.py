@@ -5,7 +5,7 @@
 
 Shown are the three reports after three ceremonies, from the program and as answers; who was in a room by a sheet whose
 rows were entered out of order, also if the file has version 1 or 2 and its rows were written by sqlite3; the least
-shortage of a step; a script of 400 steps, whole; and a signature that is retried after its file was opened again. The
+shortage of a step; a script of 400 steps, whole; the feeds of 1,010 commands; and a signature that is retried after its file was opened again. The
 ceremonies are cases of tests/cases. With names only the tests with these names run.
 
 The last line is `N passed, M failed`, and the status is 0 if none failed.
@@ -51,12 +51,12 @@ BB51184287 spent
 BB51184288 table EAST
   HSM4
 """
-# a case, the words that ask for a report of its ceremony, the question that does so too and its kind, and the report
+# a case, the words that ask for a report, the question that does so too and its kind, and the report
 REPORTS = [
     ("step-out-of-order", ("print", "--ceremony", "61"), b"/ceremonies/61/script", b"text/plain", SCRIPT),
     ("presence-at-the-moment", ("attendance", "--ceremony", "61"), b"/ceremonies/61/attendance.csv", b"text/csv",
      ATTENDANCE),
-    ("serial-used-once", ("custody",), None, None, CUSTODY),
+    ("serial-used-once", ("custody",), b"/custody", b"text/plain", CUSTODY),
 ]
 
 
@@ -78,14 +78,13 @@ def shown(body, kind):
 
 def reports(program, room):
     """The annotated script of a ceremony with an exception, the attendance of one whose sheet rows came out of order,
-    and custody after a bag was cut: from the program, and the first two as answers too."""
+    and custody after a bag was cut: from the program and as answers."""
     for name, words, path, kind, text in REPORTS:
         file = filled(program, room, name)
         for _ in range(2):
             expect(words[0], (text, b"", 0), call(program, *words, "--file", file))
-        if path:
-            expect(path.decode(), (shown(text, kind), b"", 0),
-                   call(program, "run", "--file", file, stream=kcr.request(b"GET", path)))
+        expect(path.decode(), (shown(text, kind), b"", 0),
+               call(program, "run", "--file", file, stream=kcr.request(b"GET", path)))
         expect("the audit", NOTHING_FOUND, call(program, "audit", "--file", file))
 
 
@@ -103,6 +102,37 @@ def script_of_400_steps(program, room):
     expect("the answers", (accepted(1) + accepted(2) + shown(text, b"text/plain"), b"", 0),
            call(program, "run", "--file", file, stream=planned + opening + question))
     expect("print", (text, b"", 0), call(program, "print", "--ceremony", "61", "--file", file))
+
+
+# The feed
+
+def respelled(command):
+    """A command whose body is written in another way: with a blank, and a member that is ignored."""
+    head, body = command.split(b"\r\n\r\n")
+    return kcr.request(b"POST", head.split(b" ")[1], b'{"more":7, ' + body[1:])
+
+
+def fed(program, file, after):
+    """What the program answers for the commands after the first so many."""
+    return call(program, "run", "--file", file, stream=kcr.request(b"GET", b"/commands/%d" % after))
+
+
+def feeds(program, room):
+    """A feed has the requests of at most 1,000 accepted commands, however these were written. The feeds of a register,
+    one after the other, make the same rows in a new file. An invalid command refuses the feeds that have it."""
+    commands = [*kcr.short_ceremony(), *(kcr.person(b"p%d" % number, kcr.initials(number), b"Ann Abel")
+                                         for number in range(1_000))]
+    file, copied = room / "register", room / "copy"
+    call(program, "run", "--file", file, stream=b"".join(map(respelled, commands)))
+    for after in (0, 1, 1_000, 1_009, 1_010):
+        expect(f"the feed after {after}", (shown(b"".join(commands[after:after + 1_000]), b"text/plain"), b"", 0),
+               fed(program, file, after))
+    call(program, "run", "--file", copied, stream=b"".join(commands))
+    kcr.stored(copied, kcr.rows_of(file))
+    change(file, "UPDATE keys SET command = 'nothing' WHERE accepted = 1005")
+    expect("the feed of the invalid command",
+           answer(b"500 Internal Server Error", b'{"number":34,"refusal":"disk"}'), fed(program, file, 1_000)[0])
+    expect("a feed without it", (shown(b"".join(commands[4:1_004]), b"text/plain"), b"", 0), fed(program, file, 4))
 
 
 # Sheet rows out of order, in a file of an older version
@@ -186,9 +216,10 @@ def sheet_out_of_order(program, room):
     for version in (1, 2, 3):
         file = room / f"version-{version}"
         written(file, version, rows)
+        before_it = kcr.contents(file)
         expect(f"attendance of version {version}", (ATTENDANCE, b"", 0),
                call(program, "attendance", "--ceremony", "61", "--file", file))
-        kcr.stored(file, rows)
+        expect("the file after the report", before_it, kcr.contents(file))
         expect("who is in the room, and the signature again", (before + ended + signed, b"", 0),
                call(program, "run", "--file", file, stream=stream))
         expect("the audit", NOTHING_FOUND, call(program, "audit", "--file", file))
@@ -226,7 +257,7 @@ def signed_and_opened_again(program, room):
            call(program, "run", "--file", file, stream=other))
 
 
-TESTS = [reports, script_of_400_steps, sheet_out_of_order, least_shortage, signed_and_opened_again]
+TESTS = [reports, script_of_400_steps, feeds, sheet_out_of_order, least_shortage, signed_and_opened_again]
 
 
 def main():

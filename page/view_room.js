@@ -1,0 +1,116 @@
+// The room: who is in, who comes in and goes out, and who fits which role.
+
+import { actNow } from "./act.js";
+import { clockOf } from "./clock.js";
+import { button, card, count, fill, make, show } from "./dom.js";
+import { form, toggles } from "./forms.js";
+import { PLACES, ROLES, ROLE_NAMES, initialsOf, isTrained, standing } from "./staff.js";
+import { inRoom, person, state } from "./state.js";
+
+const MOST_SHOWN = 60;
+
+/** A person in the room. */
+function insideRow(stay) {
+  return make("li", { class: "line" }, make("strong", {}, stay.who), make("span", { class: "grow" }, stay.name),
+    make("span", {}, standing(person(stay.who), state.placesDay, state.places)),
+    make("time", {}, `since ${clockOf(stay.since, state.script.day)}`));
+}
+
+/** The people who match a text: their initials begin with its last word, or their name has it. */
+function matching(people, text) {
+  const word = text.trim().toLowerCase();
+  return people.filter(({ who, name }) => word === "" || who.toLowerCase().startsWith(word)
+    || name.toLowerCase().includes(word));
+}
+
+/** The label of a toggle: initials, name and standing. */
+function labelOf(who) {
+  const one = person(who);
+  return `${who} ${one.name} (${standing(one, state.placesDay, state.places)})`;
+}
+
+/** A form for one way, in or out: a field of initials, and a toggle for each person who may be meant. */
+function wayForm(way, text, candidates) {
+  const made = form({
+    id: `way-${way}`, text,
+    fields: [{ name: "who", label: "Initials, with blanks between them", capitals: true, example: "AL CD", wide: true,
+      read: initialsOf }],
+    send: ({ who }) => actNow("sheet", { way, who }, `${who.join(", ")}: ${way === "in" ? "come in" : "go out"}`),
+  });
+  const filter = make("input", { type: "search", id: `find-${way}`, autocomplete: "off" });
+  const list = make("div", { class: "toggles", role: "group", "aria-label": `People who may ${way === "in" ? "come in"
+    : "go out"}` });
+  const more = make("p", { class: "hint" });
+  const draw = () => {
+    const all = candidates();
+    const found = matching(all, filter.value);
+    fill(list, toggles(`toggle-${way}`, made.inputs.who, found.slice(0, MOST_SHOWN).map((one) => one.who), labelOf));
+    more.textContent = found.length > MOST_SHOWN ? `${found.length - MOST_SHOWN} more: type to find them.` : "";
+    show(filterBox, all.length > 12);
+  };
+  const filterBox = make("div", { class: "field" }, make("label", { for: `find-${way}` }, "Find by name or initials"),
+    filter);
+  filter.addEventListener("input", draw);
+  made.inputs.who.addEventListener("input", draw);
+  const all = button(`all-${way}`, "Everybody who is in", () => {
+    made.inputs.who.value = candidates().map((one) => one.who).join(" ");
+    draw();
+  }, "quiet");
+  show(all, way === "out");
+  made.node.insertBefore(make("div", { class: "wide" }, filterBox, list, more, all), made.node.lastChild);
+  return { node: made.node, draw };
+}
+
+/** The initials of people, those in the room first and marked. */
+function told(people, inside) {
+  const here = people.filter((who) => inside.has(who));
+  const away = people.filter((who) => !inside.has(who));
+  return [
+    make("span", { class: "here" }, here.length > 0 ? `in the room: ${here.join(", ")}` : "nobody in the room"),
+    away.length > 0 ? make("span", { class: "hint" }, ` not in the room: ${away.slice(0, 12).join(", ")}`
+      + `${away.length > 12 ? `, and ${away.length - 12} more` : ""}`) : null,
+  ];
+}
+
+/** Who fits which role, and who holds which place. */
+function fitting() {
+  const inside = new Set(inRoom().map((stay) => stay.who));
+  const rows = ROLES.map((role) => [role, ROLE_NAMES[role],
+    state.people.filter((one) => isTrained(one, role, state.placesDay)).map((one) => one.who)]);
+  const held = PLACES.filter((place) => state.places[place]
+    && !(place.startsWith("CO-") && place.split("-")[1] !== state.script?.facility));
+  held.forEach((place) => rows.push([place, ROLE_NAMES[place.split("-")[0]], [state.places[place]]]));
+  return make("dl", { class: "roles" }, rows.map(([short, name, people]) => [
+    make("dt", {}, make("strong", {}, short), ` ${name}`), make("dd", {}, told(people, inside))]));
+}
+
+/** Makes the view. */
+export function roomView() {
+  const inside = make("ul", { class: "lines", id: "inside" });
+  const number = make("p", { class: "facts", id: "inside-count" });
+  const roles = make("div", { id: "roles" });
+  const rolesTitle = make("p", { class: "hint" });
+  const comeIn = wayForm("in", "They come in", () => {
+    const here = new Set(inRoom().map((stay) => stay.who));
+    return state.people.filter((one) => !here.has(one.who));
+  });
+  const goOut = wayForm("out", "They go out", () => inRoom().map((stay) => person(stay.who)));
+  const forms = make("div", { class: "two" },
+    card("come", "Come in", comeIn.node), card("leave", "Go out", goOut.node));
+  const closed = make("p", { class: "facts" }, "The ceremony is not open, so nobody comes in or goes out.");
+  const node = make("div", {}, make("h1", {}, "Room"), number, card("now", "In the room now", inside), forms, closed,
+    card("fit", "Who fits which role", rolesTitle, roles));
+  const update = () => {
+    const here = inRoom();
+    show(forms, state.script?.state === "open");
+    show(closed, state.script !== null && state.script.state !== "open");
+    number.textContent = here.length === 0 ? "Nobody is in the room."
+      : `${count(here.length, "person", "people")} in the room. Nobody may be alone in it.`;
+    fill(inside, here.map(insideRow));
+    comeIn.draw();
+    goOut.draw();
+    rolesTitle.textContent = `On ${state.placesDay ?? "the day of the moment"}.`;
+    fill(roles, fitting());
+  };
+  return { node, update };
+}
