@@ -4,7 +4,7 @@
     tools/package.py PROGRAM [FOLDER]
 
 PROGRAM is the built program, such as crates/kcr_tool/out/kcr_tool. FOLDER (default: the current one) gets
-`kcr_VERSION_amd64.deb`. The version is the one line `const VERSION` of crates/kcr_tool/src/commands.rt, and the program
+`kcr_VERSION_amd64.deb`. The version is the one line `const VERSION` of crates/kcr_words/src/commands.rt, and the program
 has to print it. All times in the package are that of the last commit (or SOURCE_DATE_EPOCH, if it is set), all owners
 are root: the same commit and program give the same bytes. Beside python3 it takes dpkg-deb, git, and strip and objdump
 of binutils.
@@ -39,7 +39,7 @@ def ran(*words):
 
 def version():
     """The version, from its one line in the sources."""
-    text = (TOP / "crates/kcr_tool/src/commands.rt").read_text()
+    text = (TOP / "crates/kcr_words/src/commands.rt").read_text()
     return re.search(r'const VERSION: &str = "([0-9.]+) ', text)[1]
 
 
@@ -110,6 +110,12 @@ def put_texts(root, number, seconds):
             put(root, home + file, (TOP / file).read_bytes())
 
 
+def put_page(root):
+    """The desk's page and its server."""
+    for file in ran("git", "-C", str(TOP), "ls-files", "page").splitlines():
+        put(root, f"usr/share/kcr/{file}", (TOP / file).read_bytes(), 0o755 if file.endswith(".py") else 0o644)
+
+
 def control(root, number):
     """What the package says of itself."""
     size = sum(f.stat().st_size for f in root.rglob("*") if f.is_file() and "DEBIAN" not in f.parts) // 1024
@@ -118,6 +124,7 @@ def control(root, number):
         "Maintainer: kcr maintainers <maintainers@users.noreply.pamtugya.example>\n"
         f"Installed-Size: {size}\n"
         f"Depends: libc6 (>= {libc_of(root / 'usr/bin/kcr')}), systemd | systemd-sysusers\n"
+        "Recommends: python3\n"
         f"Section: database\nPriority: optional\nDescription: {DESCRIPTION}\n"
     )
 
@@ -145,6 +152,7 @@ def build(program, folder):
         root = pathlib.Path(made) / "kcr"
         put_program(root, program)
         put_texts(root, number, seconds)
+        put_page(root)
         checked = sums(root)
         put(root, "DEBIAN/control", control(root, number).encode())
         put(root, "DEBIAN/md5sums", checked.encode())

@@ -64,7 +64,7 @@ SENTENCES = {
         "empty": "The new register has no command.",
         "cause": "The refusals are those for memory and for the device.",
         "founded": "The new register stays founded.",
-        "torn": "The new register is not broken if there is a result.",
+        "in_doubt": "The new register is not broken if there is a result.",
         "clean": "A disk that is clean at the end was clean at the beginning.",
         "kept": "The new register is whole.",
     },
@@ -93,10 +93,10 @@ PARTS = [
      kcr_room/Room kcr_room/Moments kcr_room/Stays kcr_history/Room kcr_history/Custody"""),
     ("The rows of the history",
      "For each table the rows of a history, in the order in which they were made.",
-     """kcr_history/src/rows kcr_history/Tables"""),
+     """kcr_history/src/row_types kcr_history/Tables"""),
     ("Conditions by command",
      "Why a command of each kind is refused: the first condition of its list that holds.",
-     """kcr_base/Refuse kcr_people/People kcr_people/Laws kcr_custody/Custody kcr_room/Adding
+     """kcr_base/Refuse kcr_people/People kcr_people/Laws kcr_custody/Custody kcr_room/Requests
      kcr_history/Conditions"""),
     ("Seats", "Who fits a seat, the first seating, and a least shortage.", "kcr_history/Seating"),
     ("The machine",
@@ -105,41 +105,46 @@ PARTS = [
     ("The run",
      "The machine's steps over the messages of a stream, and all that is written. The messages and the texts that it "
      "names stand in the parts below.",
-     """kcr_desk/src/fault kcr_desk/src/stream kcr_rows/Refusals kcr_store/Steps kcr_store/Rows kcr_print/Written
-     kcr_desk/Run kcr_desk/Answers"""),
+     """kcr_desk/src/fault kcr_desk/src/stream kcr_rows/Refusals kcr_store/Commands kcr_store/Rows kcr_print/Written
+     kcr_desk/Run kcr_desk/Answers kcr_machine/RowDecision kcr_rules/Refusals"""),
     ("The cut of the stream",
      "Which bytes are which messages, and how a stream ends.",
-     """kcr_desk/src/head kcr_desk/Members kcr_desk/Plans kcr_desk/Stream"""),
+     """kcr_desk/src/head kcr_desk/Members kcr_desk/Framing kcr_desk/Stream"""),
     ("Questions and reports",
      "What a question is shown, and the text of each report, by the history.",
-     """kcr_history/src/questions kcr_history/Views kcr_history/Questions kcr_history/Prints"""),
+     """kcr_history/src/report_rows kcr_history/src/questions kcr_history/Views kcr_history/Questions kcr_store/Shown
+     kcr_history/Prints"""),
     ("Requests as texts",
      "Which path and which body are which command, question or report.",
-     """kcr_wire/src/method kcr_wire/src/allow kcr_wire/src/route kcr_wire/src/target kcr_wire/src/inquiry
-     kcr_forms/Forms kcr_wire/OrMemory kcr_wire/Routes kcr_wire/Targets kcr_wire/Members kcr_wire/Commands
-     kcr_wire/Inquiries"""),
+     """kcr_wire/src/method kcr_wire/src/allow kcr_wire/src/after kcr_wire/src/route kcr_wire/src/endpoint
+     kcr_wire/src/question kcr_forms/Forms kcr_wire/OrMemory kcr_wire/Routes kcr_wire/Endpoints kcr_wire/Members kcr_wire/Commands
+     kcr_wire/Questions"""),
     ("Answers as texts",
-     "The bytes of each answer, and the text of a command that is kept.",
-     """kcr_base/Refusal kcr_history/Json kcr_history/Refusals kcr_history/Texts kcr_wire/Shows kcr_desk/src/reply
-     kcr_desk/Texts"""),
+     "The bytes of each answer, the text of a command that is kept, and its request in a feed.",
+     """kcr_base/Refusal kcr_history/Json kcr_history/Refusals kcr_history/Texts kcr_wire/ShownJson kcr_print/Requests
+     kcr_export/Requests kcr_export/Bodies kcr_desk/src/response kcr_desk/Texts"""),
+    ("The journal",
+     "The line of each accepted command, for people.",
+     """kcr_journal/Sentences kcr_journal/Lines kcr_journal/Journal"""),
     ("The tables of the file",
      "The cells of each row, the schema, and what trees hold the tables of a history. For a crash it is enough that "
      "what it leaves and what an opening takes are one fact, `IsTables`; what the fact says counts for those who read "
      "the file with another program.",
-     """kcr_rows/src/rows kcr_rows/Values kcr_rows/States kcr_rows/Rows kcr_rows/Columns kcr_rows/Keyed
-     kcr_tables/Schema kcr_tables/Held kcr_tables/First kcr_tables/Joint kcr_tables/Made"""),
+     """kcr_rows/src/row_impls kcr_rows/Values kcr_rows/States kcr_rows/Rows kcr_rows/Columns kcr_rows/Keyed
+     kcr_tables/Schema kcr_tables/StoredTables kcr_tables/NewTables kcr_tables/MachineTables kcr_tables/Creation"""),
     ("The file and crash",
      "What a file holds of a history, what an opening makes of it, and what a crash may leave.",
-     """kcr_older/Older kcr_older/Standing kcr_store/src/open
+     """kcr_older/OldFiles kcr_older/Kind kcr_store/src/open
      kcr_store/Stored kcr_store/Register kcr_store/src/register kcr_store/Opening"""),
     ("The verification",
      "What it means that a register is the one of its own commands.",
-     """kcr_history/src/views kcr_audit/Whole kcr_store/Whole kcr_forms/Acts kcr_verify/src/compare
-     kcr_verify/src/verification kcr_verify/Verified"""),
+     """kcr_history/src/views kcr_audit/Views kcr_store/FullView kcr_forms/Acts kcr_verify/src/compare
+     kcr_verify/src/verification kcr_verify/Verification"""),
     ("The program",
      "Which arguments are which task, and what each task writes.",
-     """kcr_verify/src/fresh kcr_log/src/judgement kcr_tool/src/words kcr_tool/src/fault kcr_tool/Commands
-     kcr_tool/Tasks kcr_tool/Lines kcr_tool/Faults kcr_tool/Audits kcr_tool/Verifications kcr_tool/Runs"""),
+     """kcr_verify/src/new_register kcr_log/src/judgement kcr_words/src/words kcr_fault/src/fault kcr_words/Commands
+     kcr_words/Tasks kcr_fault/Lines kcr_fault/Notes kcr_fault/Faults kcr_tool/Audits kcr_tool/Verifications
+     kcr_tool/Runs"""),
 ]
 
 # The last part of what is answered and kept. The parts behind it say how that is written as bytes, and what the program

@@ -25,7 +25,7 @@ use Rattle.sqlite_catalog.specs.Listing.{{IsSound}}
 use Rattle.kcr_rows.specs.Columns.{{AreEmpty}}
 use Rattle.kcr_rows.proofs.CreateLemmas.{{creates}}
 use Rattle.kcr_tables.specs.Schema.{{all_tables, {', '.join(t.name for t in TABLES)}}}
-use Rattle.kcr_tables.specs.Made.{{text_at, first}}
+use Rattle.kcr_tables.specs.Creation.{{text_at, schema_prefix}}
 """
     for t in TABLES:
         a = t.at
@@ -35,25 +35,25 @@ use Rattle.kcr_tables.specs.Made.{{text_at, first}}
 abbrev {public}bare_{t.name} : Table
 bare_{t.name} = record {t.name} {{ tree = 0 }}
 
-{public}is_{a} : (command_of (understood (first {a}) (text_at {a})) ≡ CreateTable) × (statement_of (text_at {a}) (understood (first {a}) (text_at {a})) ≡ text_at {a}) × IsPlain (understood (first {a}) (text_at {a})) × (table_defined_by (text_at {a}) ≡ Ok bare_{t.name})
+{public}is_{a} : (command_of (understood (schema_prefix {a}) (text_at {a})) ≡ CreateTable) × (statement_of (text_at {a}) (understood (schema_prefix {a}) (text_at {a})) ≡ text_at {a}) × IsPlain (understood (schema_prefix {a}) (text_at {a})) × (table_defined_by (text_at {a}) ≡ Ok bare_{t.name})
 unfolding understood everything
 is_{a} = (refl, refl, (refl, refl), refl)
 
-{public}defines_{a} : (found : Table) → table_defined_by (text_at {a}) ≡ Ok found → created (first {a}) found ≡ first {a + 1}
-defines_{a} found h = let both : Ok found ≡ Ok bare_{t.name} = sym h ∙ is_{a}.3 in let same : found ≡ bare_{t.name} = cc in ap (created (first {a})) same
+{public}defines_{a} : (found : Table) → table_defined_by (text_at {a}) ≡ Ok found → created (schema_prefix {a}) found ≡ schema_prefix {a + 1}
+defines_{a} found h = let both : Ok found ≡ Ok bare_{t.name} = sym h ∙ is_{a}.3 in let same : found ≡ bare_{t.name} = cc in ap (created (schema_prefix {a})) same
 """
     out += f"""
 abbrev pub Next : ℕ → State → State → Type 0
-Next at old new = (new.now.schema ≡ first (at + 1)) × AreEmpty (take (at + 1) all_tables) new.now.trees × IsSound (first (at + 1)) new.now.trees
+Next at old new = (new.now.schema ≡ schema_prefix (at + 1)) × AreEmpty (take (at + 1) all_tables) new.now.trees × IsSound (schema_prefix (at + 1)) new.now.trees
 
-pub create_next : (at : ℕ) → at < {n} → (old new : State) (count : ℕ) → old.now.schema ≡ first at → AreEmpty (take at all_tables) old.now.trees → Executes (text_at at) [] old new (Ok count) → Next at old new
+pub create_next : (at : ℕ) → at < {n} → (old new : State) (count : ℕ) → old.now.schema ≡ schema_prefix at → AreEmpty (take at all_tables) old.now.trees → Executes (text_at at) [] old new (Ok count) → Next at old new
 """.replace("Executes (text_at at) []", "Executes (text_at at) []")
     for t in TABLES:
         a = t.at
         pattern = "zero"
         for _ in range(a):
             pattern = f"(suc {pattern})"
-        out += f"create_next {pattern} low = creates (first {a}) (text_at {a}) {t.name} (first {a + 1}) is_{a}.0 is_{a}.1 is_{a}.2 defines_{a} refl refl\n"
+        out += f"create_next {pattern} low = creates (schema_prefix {a}) (text_at {a}) {t.name} (schema_prefix {a + 1}) is_{a}.0 is_{a}.1 is_{a}.2 defines_{a} refl refl\n"
     pattern = "at"
     for _ in range(n):
         pattern = f"(suc {pattern})"
@@ -67,12 +67,12 @@ use Rattle.sqlite.specs.Effect.{{Database}}
 use Rattle.sqlite_catalog.specs.Listing.{{IsSound}}
 use Rattle.kcr_rows.specs.Columns.{{AreEmpty}}
 use Rattle.kcr_rows.proofs.CreateLemmas.{{bare}}
-use Rattle.kcr_tables.specs.Held.{{Holds, {', '.join(t.place for t in TABLES)}}}
-use Rattle.kcr_tables.specs.First.{{empty_tables}}
+use Rattle.kcr_tables.specs.StoredTables.{{Holds, {', '.join(t.place for t in TABLES)}}}
+use Rattle.kcr_tables.specs.NewTables.{{empty_tables}}
 use Rattle.kcr_tables.specs.Schema.{{all_tables}}
-use Rattle.kcr_tables.specs.Made.{{first}}
+use Rattle.kcr_tables.specs.Creation.{{schema_prefix}}
 
-pub holds_nothing : (db : Database) → db.schema ≡ first {n} → AreEmpty all_tables db.trees → IsSound (first {n}) db.trees → Holds db empty_tables
+pub holds_nothing : (db : Database) → db.schema ≡ schema_prefix {n} → AreEmpty all_tables db.trees → IsSound (schema_prefix {n}) db.trees → Holds db empty_tables
 holds_nothing db is empty sound =
     let {parts([t.name for t in TABLES[:9]], "others")} = empty in
     let {parts([t.name for t in TABLES[9:]], "_")} = others in
@@ -137,10 +137,10 @@ use Rattle.kcr_history.specs.declared.views.Change.{Change}
     out += "use Rattle.kcr_rows.proofs.OrderLemmas.{put-stands, put_in_rising}\nuse Rattle.kcr_rows.proofs.SameLemmas.{text_ties, number_ties, facility_ties, role_ties, place_ties, one_column, two_columns, three_columns, four_columns, turned}\nuse Rattle.kcr_rows.proofs.StateLemmas.{safe_ties}\n"
     out += f"use Rattle.kcr_rows.specs.Rows.{{{', '.join(t.row_of for t in puts)}}}\n"
     out += "".join(f"use {t.declared}\n" for t in puts)
-    out += """use Rattle.kcr_tables.specs.Held.{Tables, Kept, Holds}
-use Rattle.kcr_tables.specs.First.{first_tables}
+    out += """use Rattle.kcr_tables.specs.StoredTables.{StoredTables, TreesHold, Holds}
+use Rattle.kcr_tables.specs.NewTables.{new_tables}
 use Rattle.kcr_tables.specs.Changed.{rows_after, changed, changed_all}
-use Rattle.kcr_tables.specs.Joint.{Stands, KeepsTables, HoldsTables}
+use Rattle.kcr_tables.specs.MachineTables.{SameRows, TreesHoldTables, HoldsTables}
 use Rattle.kcr_tables.proofs.HoldLemmas.{held_of, tables_of}
 
 -- ---- two rows of one key, by the machine's tests
@@ -150,7 +150,7 @@ use Rattle.kcr_tables.proofs.HoldLemmas.{held_of, tables_of}
     out += "\n-- ---- changes\n\n-- the rows of values rise by so many keys\nabbrev pub Rise : {X : Type 0} → ℕ → (X → Row) → List X → Type 0\nRise keys row_of xs = IsAscending (λ a b. by_key keys a b ≡ Less) (map row_of xs)\n\n-- those of each table do\npub record Rises (t : machine.Tables) : Type 0 where\n"
     for t in puts:
         out += f"  pub {t.name} : Rise {t.keys} {t.row_of} t.{t.name}\n"
-    out += "\npub kept_rises : (db : Trees) (t : Tables) → Kept db t → Rises t.rows\nkept_rises db t k = record {\n"
+    out += "\npub kept_rises : (db : Trees) (t : StoredTables) → TreesHold db t → Rises t.rows\nkept_rises db t k = record {\n"
     for t in puts:
         out += f"  {t.name} = k.{t.name}.rising;\n"
     out += "}\n\nafter_rises : (c : Change) (t : machine.Tables) → Rises t → Rises (rows_after c t)\nafter_rises c t r = record {\n"
@@ -163,7 +163,7 @@ use Rattle.kcr_tables.proofs.HoldLemmas.{held_of, tables_of}
     out += """}
 
 -- the changes one after the other
-pub all_stand : (list : List Change) (m : machine.Tables) (t : Tables) → Rises t.rows → Stands m t → Stands (changes.changed_by list m) (changed_all list t)
+pub all_stand : (list : List Change) (m : machine.Tables) (t : StoredTables) → Rises t.rows → SameRows m t → SameRows (changes.changed_by list m) (changed_all list t)
 all_stand [] m t r s = s
 all_stand (c ∷ more) m t r s =
     all_stand more (changes.changed c m) (changed c t) (after_rises c t.rows r) (record { rows = after_same c m t.rows r s.rows; versions = s.versions })
@@ -177,15 +177,15 @@ changes_hold list m old new h held =
 same_itself : (t : machine.Tables) → machine.SameTables t t
 same_itself t = search (rules, IsPermutation-refl)
 
-pub first_holds : (db : Database) → Holds db first_tables → HoldsTables (machine.tables []) db
-first_holds db held = tables_of (machine.tables []) db first_tables (record { rows = same_itself (machine.tables []); versions = refl }) held
+pub first_holds : (db : Database) → Holds db new_tables → HoldsTables (machine.tables []) db
+first_holds db held = tables_of (machine.tables []) db new_tables (record { rows = same_itself (machine.tables []); versions = refl }) held
 
 -- ---- the same rows in another order
 
 of_both : {X : Type 0} {xs ys zs : List X} → IsPermutation xs ys → IsPermutation xs zs → IsPermutation ys zs
 of_both p q = IsPermutation-trans _ _ _ (IsPermutation-sym _ _ p) q
 
-pub same_stands : (m n : machine.Tables) (t : Tables) → machine.SameTables m n → Stands m t → Stands n t
+pub same_stands : (m n : machine.Tables) (t : StoredTables) → machine.SameTables m n → SameRows m t → SameRows n t
 same_stands m n t same s = record {
   rows = record {
 """
@@ -195,7 +195,7 @@ same_stands m n t same s = record {
   versions = s.versions;
 }
 
-pub same_keeps : (m n : machine.Tables) (db : Trees) → machine.SameTables m n → KeepsTables m db → KeepsTables n db
+pub same_keeps : (m n : machine.Tables) (db : Trees) → machine.SameTables m n → TreesHoldTables m db → TreesHoldTables n db
 same_keeps m n db same h = record { t = h.t; kept = h.kept; stands = same_stands m n h.t same h.stands }
 
 pub same_holds : (m n : machine.Tables) (db : Database) → machine.SameTables m n → HoldsTables m db → HoldsTables n db

@@ -42,7 +42,7 @@ def shows(test="[]"):
 
 
 def still(t):
-    """The other tables stay where the rows of this one are changed."""
+    """The other tables stay if the rows of this one are changed."""
     fields = {"sound": "sound"}
     for u in TABLES:
         fields[u.name] = "keeps" if u is t else f"keeps_still register_schema {t.tree} {u.place} old new _ others refl refl k.{u.name}"
@@ -51,9 +51,9 @@ def still(t):
             fields[u.stored_fact] = "stored" if u is t else f"k.{u.stored_fact}"
     stored = t.is_stored or "(λ _. ⊤)"
     return f"""
--- the other tables stay where the rows of this one are changed
-pub still : (old new : Trees) (rows : List {t.type}) (t : Tables) → IsSound register_schema new → Keeps {t.place} new (map {t.row_of} rows) → AllByRecursion {stored} rows
-    → ((tree : ℕ) → tree ≢ {t.tree} → IsNoIndex register_schema tree → new tree ≡ old tree) → Kept old t → Kept new ({t.with_rows('t', 'rows')})
+-- the other tables stay if the rows of this one are changed
+pub still : (old new : Trees) (rows : List {t.type}) (t : StoredTables) → IsSound register_schema new → TreeHolds {t.place} new (map {t.row_of} rows) → AllByRecursion {stored} rows
+    → ((tree : ℕ) → tree ≢ {t.tree} → IsNoIndex register_schema tree → new tree ≡ old tree) → TreesHold old t → TreesHold new ({t.with_rows('t', 'rows')})
 still old new rows t sound keeps stored others k = {lines(fields)}"""
 
 
@@ -131,10 +131,10 @@ def finds(t, r):
     return f"""
 -- ---- {r.doc[0].lower() + r.doc[1:]}
 
-abbrev pub {p} : Finding ({arg_ty}) {t.type}
+abbrev pub {p} : LookupSpec ({arg_ty}) {t.type}
 {p} = {way}
 
-shows_{p} : ({r.arg} : {arg_ty}) → ShowsRows {p}.find_sql {t.place} ({value} ∷ []) (has_value {place} ({value}))
+shows_{p} : ({r.arg} : {arg_ty}) → SelectsRows {p}.find_sql {t.place} ({value} ∷ []) (has_value {place} ({value}))
 unfolding understood everything
 shows_{p} {r.arg} =
     {shows(f"is_given {t.places()[place]}")}
@@ -142,7 +142,7 @@ shows_{p} {r.arg} =
 under_{p} : ({r.arg} : {arg_ty}) (x : {t.type}) → has_value {place} ({value}) ({t.row_of} x) ≡ {applied_to(t, r)}
 under_{p} {r.arg} x = {proof}
 
-pub {p}_laws : IsFinding {p} {t.place} {value_of} {t.row_of}
+pub {p}_laws : IsLookup {p} {t.place} {value_of} {t.row_of}
 {p}_laws = record {{ finds = shows_{p}; under = under_{p} }}
 """
 
@@ -166,16 +166,16 @@ def table(t):
         "place": t.place,
         "is_stored": t.is_stored or "λ _. ⊤",
         "with_rows": f"λ rows t. {t.with_rows('t', 'rows')}",
-        "all_sql": codes(t.all_text()),
+        "all_sql": codes(t.select_all_sql()),
     }
     return f"""
-abbrev pub table : Table {t.type}
+abbrev pub table : TableSpec {t.type}
 table = {lines(fields)}"""
 
 
 def table_laws(t):
     """What holds of it."""
-    same = "subst (λ l. IsPermutation first_tables.versions l) (sym s.versions) (IsPermutation-refl first_tables.versions)"
+    same = "subst (λ l. IsPermutation new_tables.versions l) (sym s.versions) (IsPermutation-refl new_tables.versions)"
     fields = {
         "lists": "lists",
         "one": "one",
@@ -221,8 +221,8 @@ use Rattle.kcr_base.specs.Place.{place_text}
     if t.name == "appointments":
         out += "use Rattle.kcr_history.specs.declared.views.AppointmentsOf.TheVariants as Wanted\n"
     if t.name == "items":
-        out += "use Rattle.kcr_history.specs.declared.views.ItemsOf.TheVariants as Wanted\n"
-    out += "use Rattle.kcr_rows.specs.Keyed.{Keeps}\n"
+        out += "use Rattle.kcr_history.specs.declared.views.ItemFilter.TheVariants as Wanted\n"
+    out += "use Rattle.kcr_rows.specs.Keyed.{TreeHolds}\n"
     out += "use Rattle.kcr_rows.proofs.FilterLemmas.{has_value, value_is}\nuse Rattle.kcr_rows.proofs.WriteLemmas.{cast_null, cast_int}\nuse Rattle.kcr_rows.proofs.TableLemmas.{keeps_still, each_is}\n"
     ones = sorted({c.kind.one for c in cols if c.kind.one} & ONES)
     out += f"use Rattle.kcr_rows.proofs.SameLemmas.{{{', '.join(ones + ['text_ties', 'number_ties'])}}}\n"
@@ -235,8 +235,8 @@ use Rattle.kcr_base.specs.Place.{place_text}
     facts = sorted({x for x in (t.is_read, t.is_stored) if x})
     if facts:
         out += f"use Rattle.kcr_rows.specs.States.{{{', '.join(facts)}}}\n"
-    out += f"use Rattle.kcr_tables.specs.Schema.{{register_schema, {t.name}}}\nuse Rattle.kcr_tables.specs.Held.{{Tables, Kept, {', '.join(u.place for u in TABLES)}}}\n"
-    out += "use Rattle.kcr_tables.specs.First.{first_tables}\nuse Rattle.kcr_tables.specs.Parts.{text_in, number_in}\nuse Rattle.kcr_tables.specs.Statements.{shown_columns, key_order, is_given, ShowsRows, new_terms, key_test, update_terms, InsertsRow, UpdatesRow}\nuse Rattle.kcr_tables.specs.Table.{Table, IsTable, Finding, IsFinding}\n"
+    out += f"use Rattle.kcr_tables.specs.Schema.{{register_schema, {t.name}}}\nuse Rattle.kcr_tables.specs.StoredTables.{{StoredTables, TreesHold, {', '.join(u.place for u in TABLES)}}}\n"
+    out += "use Rattle.kcr_tables.specs.NewTables.{new_tables}\nuse Rattle.kcr_tables.specs.Parts.{text_in, number_in}\nuse Rattle.kcr_tables.specs.Statements.{shown_columns, key_order, is_given, SelectsRows, new_terms, key_test, update_terms, InsertsRow, UpdatesRow}\nuse Rattle.kcr_tables.specs.Table.{TableSpec, IsTable, LookupSpec, IsLookup}\n"
     out += f"\nabbrev pub project : List Term\nproject = shown_columns {t.place}\n"
     out += f"\nabbrev order : List (Term × Key)\norder = key_order {t.place}\n"
     out += f"\nabbrev pub names : List (List ℕ)\nnames = {listed(codes(c.name) for c in cols)}\n"
@@ -244,7 +244,7 @@ use Rattle.kcr_base.specs.Place.{place_text}
     out += f"\n-- no two values stand for one row\npub one : (x y : {t.type}) → {read_of('x')} → {stored_of('y')} → {t.row_of} x ≡ {t.row_of} y → x ≡ y\n"
     one = f"one x y read held h = λ i. {record(**fields)}\n"
     out += one if len(one) <= DEFINITIONS else f"one x y read held h = λ i. {lines(fields)}"
-    out += f"\nlists : ShowsRows table.all_sql {t.place} [] (λ _. true)\nunfolding understood everything\nlists = {shows()}\n"
+    out += f"\nlists : SelectsRows table.all_sql {t.place} [] (λ _. true)\nunfolding understood everything\nlists = {shows()}\n"
     for r in t.readings:
         if not r.greatest:
             out += finds(t, r)

@@ -115,7 +115,7 @@ class Table:
         self.place = f"{name}_place"
         self.laws = "".join(p.capitalize() for p in name.split("_")) + "Laws"
         self.needs_alloc = any("alloc" in (c.kind.prelude or "") for c in columns)
-        self.put = "put_words" if self.needs_alloc else "put"
+        self.put = "put_allocating" if self.needs_alloc else "put"
 
     def names(self):
         return ", ".join(c.sql for c in self.columns)
@@ -123,7 +123,7 @@ class Table:
     def order(self):
         return ", ".join(c.sql for c in self.columns[: self.keys])
 
-    def all_text(self):
+    def select_all_sql(self):
         return f"SELECT {self.names()} FROM {self.name} ORDER BY {self.order()}"
 
     def text_of(self, reading):
@@ -142,7 +142,7 @@ class Table:
         """These columns, the first of the table, with the parameters that they get or are asked for."""
         return between.join(f"{c.sql} = ?{i + 1}" for i, c in enumerate(columns))
 
-    def create_text(self):
+    def create_table_sql(self):
         if self.alias:
             kinds = [self.columns[0].kind.sql + " UNIQUE", *("INTEGER PRIMARY KEY" if c.name == self.alias else c.kind.sql for c in self.columns[1:])]
             return f"CREATE TABLE {self.name} ({', '.join(f'{c.sql} {kind}' for c, kind in zip(self.columns, kinds))}) STRICT"
@@ -214,26 +214,26 @@ TABLES = [
           "an item under its code", "PutItem", "same_item", others=[[2, 0]],
           readings=[Reading("item_of", "The row of the item with this code, alone, or none", "code", "code", "&ItemCode", ITEM, "same_text {x}.code {v}"),
                     Reading("items_within", "The rows of the items in the bag with this serial", "serial", "serial", "&Serial", SERIAL, "lies_in {v} {x}", ask="is_item_of (Wanted.Bag {v})")]),
-    Table("ceremonies", "ceremony", "CeremonyRow", "kcr_history", "rows.", [Column("number", NUMBER), Column("facility", FACILITY), Column("day", DAY), Column("state", CEREMONY_STATE), Column("opened", MOMENT_OR_NULL), Column("closed", MOMENT_OR_NULL)], 1,
+    Table("ceremonies", "ceremony", "CeremonyRow", "kcr_history", "row_types.", [Column("number", NUMBER), Column("facility", FACILITY), Column("day", DAY), Column("state", CEREMONY_STATE), Column("opened", MOMENT_OR_NULL), Column("closed", MOMENT_OR_NULL)], 1,
           "a ceremony under its number", "PutCeremony", "same_ceremony",
           readings=[Reading("ceremony_of", "The row of the ceremony with this number, alone, or none", "number", "number", "u32", NUMBER, "{x}.number == {v}", ask="is_of_number {v}")]),
-    Table("marks", "mark", "MarkRow", "kcr_history", "rows.", [Column("ceremony", NUMBER), Column("at", MOMENT)], 1,
+    Table("marks", "mark", "MarkRow", "kcr_history", "row_types.", [Column("ceremony", NUMBER), Column("at", MOMENT)], 1,
           "the mark of a ceremony that was opened, under its number", "PutMark", "same_mark",
           readings=[Reading("mark_of", "The row of the ceremony, alone, or none", "ceremony", "ceremony", "u32", NUMBER, "{x}.ceremony == {v}", ask="is_mark_of {v}")]),
-    Table("steps", "step", "StepRow", "kcr_history", "rows.", [Column("ceremony", NUMBER), Column("step", NUMBER), Column("activity", LINE), Column("seats", SEATS), Column("state", STEP_STATE), Column("at", MOMENT_OR_NULL)], 2,
+    Table("steps", "step", "StepRow", "kcr_history", "row_types.", [Column("ceremony", NUMBER), Column("step", NUMBER), Column("activity", LINE), Column("seats", SEATS), Column("state", STEP_STATE), Column("at", MOMENT_OR_NULL)], 2,
           "a step of a ceremony under both numbers", "PutStep", "same_step", new_where="self.state == StepState::Undone",
           is_read="HasOnlyTheseSeats", is_stored="HasSeatsText", stored_fact="seats"),
-    Table("seatings", "seating", "SeatingRow", "kcr_history", "rows.", [Column("ceremony", NUMBER), Column("step", NUMBER), Column("seat", NUMBER), Column("who", INITIALS)], 3,
+    Table("seatings", "seating", "SeatingRow", "kcr_history", "row_types.", [Column("ceremony", NUMBER), Column("step", NUMBER), Column("seat", NUMBER), Column("who", INITIALS)], 3,
           "who filled a seat of a step, under the ceremony, the step and the seat", "PutSeating", "same_seating", always_new=True,
           readings=[Reading("last_seating_of", "One row of the ceremony's last step that has a seating, alone, or none", "ceremony", "ceremony", "u32", NUMBER, "{x}.ceremony == {v}", ask="is_seating_of {v}", greatest="step")]),
     Table("sheet", "sheet", "SheetRow", "kcr_room", "", [Column("who", INITIALS), Column("at", MOMENT), Column("ceremony", NUMBER), Column("way", WAY)], 2,
           "a row of a ceremony's entry and exit sheet, under the person and the moment", "PutSheet", "same_sheet_row", always_new=True),
-    Table("exceptions", "exception", "ExceptionRow", "kcr_history", "rows.", [Column("ceremony", NUMBER), Column("exception", NUMBER), Column("text", LINE), Column("at", MOMENT), Column("passed", NUMBER_OR_NULL)], 2,
+    Table("exceptions", "exception", "ExceptionRow", "kcr_history", "row_types.", [Column("ceremony", NUMBER), Column("exception", NUMBER), Column("text", LINE), Column("at", MOMENT), Column("passed", NUMBER_OR_NULL)], 2,
           "a script exception of a ceremony under both numbers", "PutException", "same_exception", always_new=True,
           readings=[of_ceremony("exceptions", "is_exception_of")]),
-    Table("versions", "version", "Version", "kcr_rows", "rows.", [Column("number", NUMBER)], 1,
+    Table("versions", "version", "Version", "kcr_rows", "row_impls.", [Column("number", NUMBER)], 1,
           "one row with the number of the schema", always_new=True),
-    Table("keys", "key", "KeyRow", "kcr_history", "rows.", [Column("key", KEY), Column("accepted", NUMBER), Column("command", TEXT), Column("reply", TEXT)], 1,
+    Table("keys", "key", "KeyRow", "kcr_history", "row_types.", [Column("key", KEY), Column("accepted", NUMBER), Column("command", TEXT), Column("reply", TEXT)], 1,
           "a row for each accepted command, under its key; its number is the row id, and that of no other row",
           "PutKey", "same_key_row", alias="accepted", always_new=True,
           readings=[Reading("key_row_of", "The row of this key, alone, or none", '"key"', "key", "&Key", KEY, "same_text {x}.key {v}", ask="is_of_key {v}"),

@@ -31,35 +31,35 @@ def put_source(t):
     cells = ", ".join(c.kind.write.format(f=c.field, x=f"self.{c.field}") for c in t.columns)
     update, insert = rust_text(t.update_text()), rust_text(t.insert_text())
     if not t.may_change:
-        return out + f"        put_new(tx, self, {insert}, &[{cells}])\n    }}\n"
+        return out + f"        insert_row(tx, self, {insert}, &[{cells}])\n    }}\n"
     if not t.new_where:
-        return out + f"        put_over(tx, self, {update}, {insert}, &[{cells}])\n    }}\n"
+        return out + f"        update_or_insert_row(tx, self, {update}, {insert}, &[{cells}])\n    }}\n"
     out += f"        let insert = {insert};\n        let cells = [{cells}];\n"
-    out += f"        if {t.new_where} {{\n            put_new(tx, self, insert, &cells)\n        }} else {{\n"
-    return out + f"            put_over(tx, self, {update}, insert, &cells)\n        }}\n    }}\n"
+    out += f"        if {t.new_where} {{\n            insert_row(tx, self, insert, &cells)\n        }} else {{\n"
+    return out + f"            update_or_insert_row(tx, self, {update}, insert, &cells)\n        }}\n    }}\n"
 
 
 def put_calls(t):
     """The calls that put a row by these texts."""
-    return ["put_new"] * bool(t.new_where or not t.may_change) + ["put_over"] * t.may_change
+    return ["insert_row"] * bool(t.new_where or not t.may_change) + ["update_or_insert_row"] * t.may_change
 
 
 def source(t):
     found = [r for r in t.readings if not r.greatest]
-    body = member("table", "laws.table") + text_method("all_text", t.all_text()) + member("table_laws", "laws.table_laws")
-    out = impl("Listed", t, body)
+    body = member("table", "laws.table") + text_method("select_all_sql", t.select_all_sql()) + member("table_laws", "laws.table_laws")
+    out = impl("TableRow", t, body)
     for r in found:
         p = r.prefix
-        body = member("finding", f"laws.{p}") + text_method("find_text", t.text_of(r)) + member("finding_laws", f"laws.{p}_laws")
-        out += f"/// {r.doc}.\n" + impl(f"Finds<{KEY_TYPES[r.ty]}>", t, body)
+        body = member("lookup_spec", f"laws.{p}") + text_method("lookup_sql", t.text_of(r)) + member("lookup_laws", f"laws.{p}_laws")
+        out += f"/// {r.doc}.\n" + impl(f"LookupBy<{KEY_TYPES[r.ty]}>", t, body)
     names = ["inserts"] + ["updates"] * t.may_change
     lemmas = f"    #[tactic(auto, using({', '.join(f'crate::specs::{t.laws}::{name}' for name in names)}))]\n"
-    out += impl("PutWords" if t.needs_alloc else "Put", t, lemmas + put_source(t))
+    out += impl("PutAllocating" if t.needs_alloc else "Put", t, lemmas + put_source(t))
     keys = {KEY_TYPES[r.ty] for r in found}
     base = sorted(keys & {"Initials", "Serial", "ItemCode", "Key"} | {"Refusal"})
     cells = {c.kind.cell() for c in t.columns} | {c.kind.prelude.split("= ")[1].split("(")[0] for c in t.columns if "(alloc" in (c.kind.prelude or "")}
     named = re.findall(r"\b(\w+)::", t.new_where or "")
-    table = ["Listed", "PutWords" if t.needs_alloc else "Put"] + ["Finds"] * bool(found) + put_calls(t)
+    table = ["TableRow", "PutAllocating" if t.needs_alloc else "Put"] + ["LookupBy"] * bool(found) + put_calls(t)
     imports = [
         f"use crate::table::{{{', '.join(sorted(table, key=lambda n: (n[0].islower(), n)))}}};",
         f"use kcr_base::{{{', '.join(base)}}};",
@@ -76,15 +76,15 @@ def source_texts():
     out = """//! The texts that make the tables.
 
 ghost use Rattle.std.specs.Prelude.{◌≡◌, ◌<◌};
-ghost use Rattle.kcr_tables.specs.Made.{text_at};
+ghost use Rattle.kcr_tables.specs.Creation.{text_at};
 
 """
-    out += f"/// How many tables there are.\npub const COUNT: usize = {len(TABLES)};\n\n"
-    out += f"/// The text that makes the table of this position, counted from 0.\npub fn create_text(at: usize) -> &'static str\n    requires {{ at < {len(TABLES)} }}\n    ensures {{ result.now ≡ text_at at }}\n{{\n    match at {{\n"
+    out += f"/// How many tables there are.\npub const TABLE_COUNT: usize = {len(TABLES)};\n\n"
+    out += f"/// The text that makes the table of this position, counted from 0.\npub fn create_table_sql(at: usize) -> &'static str\n    requires {{ at < {len(TABLES)} }}\n    ensures {{ result.now ≡ text_at at }}\n{{\n    match at {{\n"
     for t in TABLES[:-1]:
-        out += f"        {t.at} => {rust_text(t.create_text())},\n"
-    out += f"        _ => {rust_text(TABLES[-1].create_text())},\n    }}\n}}\n"
-    write("src/texts.rt", out)
+        out += f"        {t.at} => {rust_text(t.create_table_sql())},\n"
+    out += f"        _ => {rust_text(TABLES[-1].create_table_sql())},\n    }}\n}}\n"
+    write("src/create_sql.rt", out)
 
 
 VERSION = """/// The number of a schema, by which a later program knows which tables a file has.
@@ -100,8 +100,8 @@ def decoded(t):
     """How the row of a value is read back."""
     uses_alloc = any("alloc" in (c.kind.read or "") for c in t.columns)
     out = VERSION if t.name == "versions" else ""
-    out += f"impl Stored for {t.type} {{\n    ghost row_of = {{ {t.row_of} }};\n\n    ghost is_read = {{ {t.is_read or 'λ _. ⊤'} }};\n\n"
-    out += f"    fn decode({'alloc' if uses_alloc else '_alloc'}: Global, row: &Row) -> Result<{t.type}, Refusal> {{\n        if row.column_count() != {len(t.columns)} {{\n            return Err(Refusal::Disk);\n        }}\n"
+    out += f"impl FromRow for {t.type} {{\n    ghost row_of = {{ {t.row_of} }};\n\n    ghost is_read = {{ {t.is_read or 'λ _. ⊤'} }};\n\n"
+    out += f"    fn from_row({'alloc' if uses_alloc else '_alloc'}: Global, row: &Row) -> Result<{t.type}, Refusal> {{\n        if row.column_count() != {len(t.columns)} {{\n            return Err(Refusal::Disk);\n        }}\n"
     fields = []
     for i, c in enumerate(t.columns):
         if c.kind.read:
@@ -123,8 +123,8 @@ ghost use Rattle.std.specs.Prelude.{⊤};
     for t in TABLES:
         if t.crate != ROWS_CRATE:
             types.setdefault(t.crate, set()).add(t.type)
-    imports = [f"use crate::cells::{{{', '.join(sorted(readers))}}};", "use crate::stored::Stored;"]
+    imports = [f"use crate::cells::{{{', '.join(sorted(readers))}}};", "use crate::from_row::FromRow;"]
     imports += [f"use {crate}::{{{', '.join(sorted(types[crate]))}}};" for crate in sorted(types)]
     imports += ["use sqlite::Row;", "use std::alloc::Global;"]
     out += "\n".join(imports) + "\n\n" + "\n".join(decoded(t) for t in TABLES)
-    write("src/rows.rt", out, ROWS_CRATE)
+    write("src/row_impls.rt", out, ROWS_CRATE)

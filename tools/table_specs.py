@@ -58,42 +58,42 @@ def spec_schema():
 def spec_held():
     out = "-- The database holds the tables of a register.\n"
     out += "use Rattle.std.specs.Prelude.{◌≡◌, List, [], ◌∷◌, map}\nuse Rattle.std.specs.List.{AllByRecursion}\nuse Rattle.sqlite.specs.Effect.{Database}\nuse Rattle.sqlite_catalog.specs.Listing.{IsSound}\nuse Rattle.sqlite.specs.Tree.{Trees}\n"
-    out += "use Rattle.kcr_history.specs.Tables as machine\nuse Rattle.kcr_tables.specs.Schema.{register_schema}\nuse Rattle.kcr_rows.specs.Keyed.{Place, Keeps}\n"
+    out += "use Rattle.kcr_history.specs.Tables as machine\nuse Rattle.kcr_tables.specs.Schema.{register_schema}\nuse Rattle.kcr_rows.specs.Keyed.{TableLayout, TreeHolds}\n"
     out += "use Rattle.kcr_rows.specs.Rows.{" + ", ".join(t.row_of for t in TABLES) + "}\n"
     out += "use Rattle.kcr_rows.specs.States.{" + ", ".join(t.is_stored for t in TABLES if t.is_stored) + "}\n"
     out += "".join(f"use {t.declared}\n" for t in TABLES if t.name not in MACHINE)
     out += "\n-- where each table lies\n"
     for t in TABLES:
-        out += f"\nabbrev pub {t.place} : Place\n{t.place} = record {{ tree = {t.tree}; at = {listed(t.places())}; keys = {t.keys} }}\n"
-    out += "\n-- the rows of each table, in the order of their keys: those of the machine's tables, and what is beside them\npub record Tables : Type 0 where\n  pub rows : machine.Tables\n"
+        out += f"\nabbrev pub {t.place} : TableLayout\n{t.place} = record {{ tree = {t.tree}; at = {listed(t.places())}; keys = {t.keys} }}\n"
+    out += "\n-- the rows of each table, in the order of their keys: those of the machine's tables, and what is beside them\npub record StoredTables : Type 0 where\n  pub rows : machine.Tables\n"
     out += "".join(f"  pub {t.name} : List {t.type}\n" for t in TABLES if t.name not in MACHINE)
-    out += "\n-- what the trees of a file hold\npub record Kept (db : Trees) (t : Tables) : Type 0 where\n  -- the catalog lists this schema, by which the file is read again\n  pub sound : IsSound register_schema db\n"
-    out += "".join(f"  pub {t.name} : Keeps {t.place} db (map {t.row_of} {t.rows_of('t')})\n" for t in TABLES)
+    out += "\n-- what the trees of a file hold\npub record TreesHold (db : Trees) (t : StoredTables) : Type 0 where\n  -- the catalog lists this schema, by which the file is read again\n  pub sound : IsSound register_schema db\n"
+    out += "".join(f"  pub {t.name} : TreeHolds {t.place} db (map {t.row_of} {t.rows_of('t')})\n" for t in TABLES)
     out += "  -- what is known of the values that were put, beside their rows\n"
     out += "".join(f"  pub {t.stored_fact} : AllByRecursion {t.is_stored} {t.rows_of('t')}\n" for t in TABLES if t.is_stored)
-    out += "\n-- the database has the register's schema and these rows, and no others\npub record Holds (db : Database) (t : Tables) : Type 0 where\n  pub schema : db.schema ≡ register_schema\n  pub kept : Kept db.trees t\n"
-    write("specs/Held.antt", out)
+    out += "\n-- the database has the register's schema and these rows, and no others\npub record Holds (db : Database) (t : StoredTables) : Type 0 where\n  pub schema : db.schema ≡ register_schema\n  pub kept : TreesHold db.trees t\n"
+    write("specs/StoredTables.antt", out)
 
 
 def spec_made():
     out = "-- How an empty database becomes one of a register.\n"
     out += "use Rattle.std.specs.Prelude.{ℕ, List, [], ◌∷◌, take, codes, slice_index_or}\nuse Rattle.sqlite.specs.Schema.{Schema}\nuse Rattle.kcr_rows.specs.Columns.{schema_of}\nuse Rattle.kcr_tables.specs.Schema.{all_tables}\n"
     out += "\n-- the texts that make the tables, in their order\nabbrev pub texts : List (List ℕ)\ntexts =\n    "
-    out += "\n    ∷ ".join(codes(t.create_text()) for t in TABLES) + " ∷ []\n"
+    out += "\n    ∷ ".join(codes(t.create_table_sql()) for t in TABLES) + " ∷ []\n"
     out += "\nabbrev pub text_at : ℕ → List ℕ\ntext_at at = slice_index_or texts at []\n"
-    out += "\n-- the schema of the first tables; of none, that of an empty database\nabbrev pub first : ℕ → Schema\nfirst count = schema_of (take count all_tables)\n"
-    write("specs/Made.antt", out)
+    out += "\n-- the schema of the first tables; of none, that of an empty database\nabbrev pub schema_prefix : ℕ → Schema\nschema_prefix count = schema_of (take count all_tables)\n"
+    write("specs/Creation.antt", out)
 
 
 def spec_changed():
     puts = [t for t in TABLES if t.change]
     out = "-- What a change makes of the tables.\nuse Rattle.std.specs.Prelude.{List, fold}\nuse Rattle.kcr_rows.specs.Keyed.{put_in}\n"
-    out += "use Rattle.kcr_rows.specs.Rows.{" + ", ".join(t.row_of for t in puts) + "}\nuse Rattle.kcr_history.specs.Tables as machine\nuse Rattle.kcr_tables.specs.Held.{Tables}\n"
+    out += "use Rattle.kcr_rows.specs.Rows.{" + ", ".join(t.row_of for t in puts) + "}\nuse Rattle.kcr_history.specs.Tables as machine\nuse Rattle.kcr_tables.specs.StoredTables.{StoredTables}\n"
     out += "use Rattle.kcr_history.specs.declared.views.Change.{Change}\nuse Rattle.kcr_history.specs.declared.views.Change.TheVariants.{" + ", ".join(t.change for t in puts) + "}\n"
     out += "\n-- the rows after a change: its row is put into its table, under its key\nabbrev pub rows_after : Change → machine.Tables → machine.Tables\n"
     out += "".join(f"rows_after ({t.change} x) m = record m {{ {t.name} = put_in {t.keys} {t.row_of} x m.{t.name} }}\n" for t in puts)
-    out += "\n-- the tables after it: what is beside the rows stays\nabbrev pub changed : Change → Tables → Tables\nchanged change t = record t { rows = rows_after change t.rows }\n"
-    out += "\n-- after one change after the other\nabbrev pub changed_all : List Change → Tables → Tables\nchanged_all changes t = record t { rows = fold (λ rows c. rows_after c rows) t.rows changes }\n"
+    out += "\n-- the tables after it: what is beside the rows stays\nabbrev pub changed : Change → StoredTables → StoredTables\nchanged change t = record t { rows = rows_after change t.rows }\n"
+    out += "\n-- after one change after the other\nabbrev pub changed_all : List Change → StoredTables → StoredTables\nchanged_all changes t = record t { rows = fold (λ rows c. rows_after c rows) t.rows changes }\n"
     write("specs/Changed.antt", out)
 
 
@@ -105,27 +105,27 @@ use Rattle.sqlite.specs.Tree.{Trees}
 use Rattle.sqlite.specs.Effect.{Database}
 use Rattle.kcr_history.specs.Tables as machine
 use Rattle.kcr_tables.specs.Schema.{register_schema}
-use Rattle.kcr_tables.specs.Held.{Tables, Kept}
-use Rattle.kcr_tables.specs.First.{first_tables}
+use Rattle.kcr_tables.specs.StoredTables.{StoredTables, TreesHold}
+use Rattle.kcr_tables.specs.NewTables.{new_tables}
 
 -- the same rows, in any order; the version is that of a new register
-pub record Stands (m : machine.Tables) (t : Tables) : Type 0 where
+pub record SameRows (m : machine.Tables) (t : StoredTables) : Type 0 where
 """
     out += """  pub rows : machine.SameTables m t.rows
-  pub versions : t.versions ≡ first_tables.versions
+  pub versions : t.versions ≡ new_tables.versions
 
 -- the trees of a file hold these tables
-pub record KeepsTables (m : machine.Tables) (db : Trees) : Type 0 where
-  pub t : Tables
-  pub kept : Kept db t
-  pub stands : Stands m t
+pub record TreesHoldTables (m : machine.Tables) (db : Trees) : Type 0 where
+  pub t : StoredTables
+  pub kept : TreesHold db t
+  pub stands : SameRows m t
 
 -- the database has the register's schema and holds these tables
 pub record HoldsTables (m : machine.Tables) (db : Database) : Type 0 where
   pub schema : db.schema ≡ register_schema
-  pub tables : KeepsTables m db.trees
+  pub tables : TreesHoldTables m db.trees
 """
-    write("specs/Joint.antt", out)
+    write("specs/MachineTables.antt", out)
 
 
 def spec_first():
@@ -135,21 +135,21 @@ use Rattle.kcr_base.specs.declared.place.Facility.{Facility}
 use Rattle.kcr_custody.specs.declared.SafeNumber.{SafeNumber}
 use Rattle.kcr_custody.specs.declared.SafeRow.{SafeRow}
 use Rattle.kcr_history.specs.Tables as machine
-use Rattle.kcr_tables.specs.Held.{Tables}
+use Rattle.kcr_tables.specs.StoredTables.{StoredTables}
 
 -- the tables of this version with these rows
-abbrev pub as_held : machine.Tables → Tables
+abbrev pub as_held : machine.Tables → StoredTables
 as_held m = record { rows = m; versions = record { number = 3 } ∷ [] }
 
 -- those of a new register: the rows of the machine before any command, which are the four safes, shut
-abbrev pub first_tables : Tables
-first_tables = as_held (machine.tables [])
+abbrev pub new_tables : StoredTables
+new_tables = as_held (machine.tables [])
 
 -- no row in any table
-abbrev pub empty_tables : Tables
-empty_tables = record { rows = record first_tables.rows { safes = [] }; versions = [] }
+abbrev pub empty_tables : StoredTables
+empty_tables = record { rows = record new_tables.rows { safes = [] }; versions = [] }
 
 abbrev pub shut : Facility → SafeNumber → SafeRow
 shut facility safe = record { facility = facility; safe = safe; is_open = false }
 """
-    write("specs/First.antt", out)
+    write("specs/NewTables.antt", out)

@@ -13,7 +13,7 @@ order, as `tests/program.py` compares them with what sqlite3 reads in a register
 
 What differs from table to table stands in `table_list.py`: the columns, the key, and the readings. Everything that this
 program writes is committed; edit a table here and never in the files that are written. The files that are not written
-by it (lib.rt, table.rt, last.rt, lasting.rt, several.rt, places.rt, rooms.rt, script.rt, view.rt, changes.rt, creation.rt, all of kcr_rows but rows.rt
+by it (lib.rt, table.rt, last.rt, select_trainings.rt, select_by_keys.rt, select_appointments.rt, select_stays.rt, select_steps.rt, view.rt, changes.rt, creation.rt, all of kcr_rows but row_impls.rt
 and its specs/Rows.antt, and all definitions and proofs but those that `main` names) are edited by hand.
 """
 import sys
@@ -30,7 +30,7 @@ from table_specs import spec_changed, spec_first, spec_held, spec_joint, spec_ma
 def main():
     if sys.argv[1:] == ["schema"]:
         for t in TABLES:
-            print(t.create_text() + ";")
+            print(t.create_table_sql() + ";")
         return
     spec_schema()
     spec_rows()
