@@ -168,7 +168,7 @@ whole_rows {S = S} {R = R} g {reading = reading} {rows = rows} {old = old} {r = 
     let began = rows.register.now in
     let Says : History → Type 0 = λ A. RefusesBetweenRows lines (to_come reading (tables A)) r a b in
     let done : OfHistory g began ended Says = λ founded in_doubt now.
-        subst (λ (at : R). RefusesBetweenRows lines (to_come at (tables began.accepted)) r a b) begins.reading (whole founded in_doubt now) in
+    subst (λ (at : R). RefusesBetweenRows lines (to_come at (tables began.accepted)) r a b) begins.reading (whole founded in_doubt now) in
     let from = subst (λ (s : RegisterState S). OfHistory g s ended Says) begins.same done in
     subst (λ (s : RegisterState S). OfHistory g old s Says) (sym ends) from
 

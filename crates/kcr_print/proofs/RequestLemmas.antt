@@ -50,7 +50,7 @@ use Rattle.kcr_print.specs.Requests.{Exports, commands_between, requests_between
 low : (A : History) → IsRegister A → AllByRecursion (λ (row : KeyRow). row.accepted ≤ length A) (map key_row A)
 low [] h = tt
 low (entry ∷ A) h =
-    let is : entry.answer.accepted ≡ length (entry ∷ A) = numbers A entry h in
+    let is : entry.reply.accepted ≡ length (entry ∷ A) = numbers A entry h in
     (omega (arith, is), all_weaker _ _ (λ (row : KeyRow) le. omega (arith, le)) (map key_row A) (low A h.1))
 
 beyond : (A : History) (n : ℕ) → IsRegister A → length A < n → filter (λ (row : KeyRow). row.accepted == n) (map key_row A) ≡ []
@@ -76,19 +76,19 @@ earlier_number a k n t is low = grind (arith, nat_tests)
 
 numbered_is : (A : History) → IsRegister A → (k : ℕ) (d : KeyRow) → k < length A → numbered (k + 1) (tables A) ≡ Some (get_or (rows A) k d)
 numbered_is [] h k d near = absurd (omega arith)
-numbered_is (entry ∷ A) h k d near = by (entry.answer.accepted == k + 1) refl (numbers A entry h) (numbered_is A h.1 k d)
+numbered_is (entry ∷ A) h k d near = by (entry.reply.accepted == k + 1) refl (numbers A entry h) (numbered_is A h.1 k d)
   where
-    by : (b : Bool) → (entry.answer.accepted == k + 1) ≡ b → entry.answer.accepted ≡ suc (length A)
+    by : (b : Bool) → (entry.reply.accepted == k + 1) ≡ b → entry.reply.accepted ≡ suc (length A)
         → (k < length A → numbered (k + 1) (tables A) ≡ Some (get_or (rows A) k d))
         → numbered (k + 1) (tables (entry ∷ A)) ≡ Some (get_or (rows (entry ∷ A)) k d)
     by true t is later =
-        let at : k ≡ length A = same_number entry.answer.accepted k (length A) t is in
+        let at : k ≡ length A = same_number entry.reply.accepted k (length A) t is in
         let none : filter (λ (row : KeyRow). row.accepted == k + 1) (map key_row A) ≡ [] = beyond A (k + 1) h.1 (omega arith) in
         let seam : get_or (rows A ++ key_row entry ∷ []) k d ≡ key_row entry =
         ap (λ n. get_or (rows A ++ key_row entry ∷ []) n d) (at ∙ sym (rows_long A)) ∙ get_or-append_seam (rows A) (key_row entry) [] d in
         rw (t, none) (ap Some (sym seam ∙ ap (λ (l : List KeyRow). get_or l k d) (sym (rows_more entry A))))
     by false t is later =
-        let less : k < length A = earlier_number entry.answer.accepted k (length A) t is near in
+        let less : k < length A = earlier_number entry.reply.accepted k (length A) t is near in
         let long = rows_long A in
         let front : get_or (rows A ++ key_row entry ∷ []) k d ≡ get_or (rows A) k d =
         get_or_append_left (rows A) (key_row entry ∷ []) d k (omega arith) in
@@ -189,9 +189,11 @@ export_requests g {contents = contents} {before = before} {now = now} {x = x} {y
       subst (λ (text : List ℕ). IsPrinted (λ _. ⊥) text r (contents (inner_of x)) (contents (inner_of y))) (same founded in_doubt clean values)
       (prints.printed founded in_doubt clean);
   whole = λ founded in_doubt clean values refusal is.
-      let front = whole founded in_doubt clean refusal is in
-      (front.0, subst (λ (text : List ℕ). Appends (contents (inner_of x)) (contents (inner_of y)) text)
-      (held (λ register. front_tells before.accepted register values none after until front.0) founded in_doubt clean) front.1);
+      let front = whole founded in_doubt clean refusal is in (
+        front.0,
+        subst (λ (text : List ℕ). Appends (contents (inner_of x)) (contents (inner_of y)) text)
+            (held (λ register. front_tells before.accepted register values none after until front.0) founded in_doubt clean) front.1,
+      );
 }
   where
     none : KeyRow

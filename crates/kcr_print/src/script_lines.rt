@@ -10,9 +10,7 @@ use crate::line::{push_inner_line, push_line, push_moment};
 use crate::print_lines::PrintLines;
 use itoa::Buffer;
 use kcr_base::{Code, Initials, Refusal, Role};
-use kcr_history::{
-    CeremonyRow, CeremonyState, ExceptionRow, SeatedStep, StepRow, StepState,
-};
+use kcr_history::{CeremonyRow, CeremonyState, ExceptionRow, SeatedStep, StepRow, StepState};
 use kcr_script::{Seat, write_seats};
 use std::alloc::{AllocError, Global};
 

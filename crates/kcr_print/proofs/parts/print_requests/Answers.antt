@@ -14,7 +14,9 @@ returns g c =
           (λ _ _ _. ap (flat_map row_request) (c.new.ensures (tables c.args.register.now.accepted)));
       whole = λ founded in_doubt clean refusal is.
           let front = c.write_all_rows.ensures.whole founded in_doubt clean refusal is in
-          let rows = ap (λ rows. flat_map row_request (take front.0 rows)) (c.new.ensures (tables c.args.register.now.accepted)) in
-          (front.0, subst (λ text. Appends (g.W.Write.contents (inner_of c.args.writer.now)) (g.W.Write.contents (inner_of c.write_all_rows.new.writer)) text)
-          rows front.1);
+          let rows = ap (λ rows. flat_map row_request (take front.0 rows)) (c.new.ensures (tables c.args.register.now.accepted)) in (
+            front.0,
+            subst (λ text. Appends (g.W.Write.contents (inner_of c.args.writer.now)) (g.W.Write.contents (inner_of c.write_all_rows.new.writer)) text)
+                rows front.1,
+          );
     }
