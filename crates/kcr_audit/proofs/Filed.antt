@@ -61,9 +61,9 @@ own-rows c k i [] = refl
 own-rows c k i (who ∷ people) = rw (eq-eqb c c refl, eq-eqb k k refl)
     (ap (λ rows. record { ceremony = c; step = k; seat = suc i; who = who } ∷ rows) (own-rows c k (suc i) people))
 
--- the rows that an answer files
+-- the rows that an reply files
 abbrev filed_by : Act → ReplyData → List SeatingRow
-filed_by act answer = seating_rows (ceremony_of_step act) answer.step answer.seating
+filed_by act reply = seating_rows (ceremony_of_step act) reply.step reply.seating
 
 -- the people fill the seats of the step by the history, when it became so
 abbrev pub Fill : History → ℕ → ℕ → StepState × ℕ → List (List ℕ) → Type 0
@@ -77,9 +77,9 @@ record Does (A B : History) (c k : ℕ) (fate : StepState × ℕ) (rows : List S
   planned : is_ceremony B c ≡ true
   next : k ≡ suc (steps_done B c)
 
--- the answer's people are a seating by A for what the command signs or passes
+-- the reply's people are a seating by A for what the command signs or passes
 abbrev IsSeated : History → Act → ReplyData → Type 0
-IsSeated A act answer = is_seated A (seat_request A act) answer.seating ≡ true
+IsSeated A act reply = is_seated A (seat_request A act) reply.seating ≡ true
 
 -- what a command files of the step: no row if it does not do it, and the people's rows if it does and they are seated
 abbrev Files : History → History → ℕ → ℕ → List SeatingRow → Type 0 → Option (StepState × ℕ) → Type 0
@@ -115,10 +115,10 @@ module _ (A B : History) (c k : ℕ) where
   files_to act people f = refl
 
   files : (entry : Entry) → Took B entry
-      → Files A B c k (filed_by entry.command.act entry.answer) (IsSeated A entry.command.act entry.answer) (step_done c k entry.command.act entry.answer.step)
+      → Files A B c k (filed_by entry.command.act entry.reply) (IsSeated A entry.command.act entry.reply) (step_done c k entry.command.act entry.reply.step)
   files entry t =
       let act = entry.command.act in
-      subst (λ (a : ReplyData). Files A B c k (filed_by act a) (IsSeated A act a) (step_done c k act a.step)) (sym t.answer) (files_to act t.people t.no_fault)
+      subst (λ (a : ReplyData). Files A B c k (filed_by act a) (IsSeated A act a) (step_done c k act a.step)) (sym t.reply) (files_to act t.people t.no_fault)
 
 -- if none is told now or before, none was told before
 or-none : {X : Type 0} (a b : Option X) → option_or a b ≡ None → (a ≡ None) × (b ≡ None)
@@ -129,9 +129,9 @@ or-none (Some x) b e = absurd (let f : Some x ≡ None = e in cc)
 none-filed : (A B : History) → IsRegister B → (c k : ℕ) → step_result B c k ≡ None → filter (is_of c k) (seatings B) ≡ []
 none-filed A [] h c k e = refl
 none-filed A (entry ∷ B) h c k e =
-    let n = or-none (step_done c k entry.command.act entry.answer.step) (step_result B c k) e in
-    let mine = filed_by entry.command.act entry.answer in
-    let none : filter (is_of c k) (filed_by entry.command.act entry.answer) ≡ [] = rw n.0 at (files A B c k entry (took B entry h.0)) in
+    let n = or-none (step_done c k entry.command.act entry.reply.step) (step_result B c k) e in
+    let mine = filed_by entry.command.act entry.reply in
+    let none : filter (is_of c k) (filed_by entry.command.act entry.reply) ≡ [] = rw n.0 at (files A B c k entry (took B entry h.0)) in
     filter-stacked (is_of c k) mine (seatings B) ∙ ap (λ rows. pushed_onto rows (filter (is_of c k) (seatings B))) none ∙ none-filed A B h.1 c k n.1
 
 -- the rows of a step that became so are those of people who are a seating by A, in a planned ceremony
@@ -149,25 +149,25 @@ still-planned c entry B = still (planned_as c entry.command.act) (plan_of B c)
     still (Some x) p g = refl
 
 abbrev all_seated : History → History → Bool
-all_seated A entries = list_all (λ entry. is_seated A (seat_request A entry.command.act) entry.answer.seating) entries
+all_seated A entries = list_all (λ entry. is_seated A (seat_request A entry.command.act) entry.reply.seating) entries
 
 -- each step that is done is so filed, if each recorded seating is one by A
 pub filed : (A B : History) → IsRegister B → all_seated A B ≡ true → (c k : ℕ) (fate : StepState × ℕ) → step_result B c k ≡ Some fate → IsFiled A B c k fate
 filed A [] h s c k fate e = absurd (let f : None ≡ Some fate = e in cc)
 filed A (entry ∷ B) h s c k fate e =
-    by_done (step_done c k entry.command.act entry.answer.step) (files A B c k entry (took B entry h.0)) e (filed A B h.1 parts.1 c k fate)
+    by_done (step_done c k entry.command.act entry.reply.step) (files A B c k entry (took B entry h.0)) e (filed A B h.1 parts.1 c k fate)
   where
     mine : List SeatingRow
-    mine = filed_by entry.command.act entry.answer
+    mine = filed_by entry.command.act entry.reply
 
-    parts : IsSeated A entry.command.act entry.answer × (all_seated A B ≡ true)
-    parts = and_parts (is_seated A (seat_request A entry.command.act) entry.answer.seating) (all_seated A B) s
+    parts : IsSeated A entry.command.act entry.reply × (all_seated A B ≡ true)
+    parts = and_parts (is_seated A (seat_request A entry.command.act) entry.reply.seating) (all_seated A B) s
 
     stack : (front back : List SeatingRow) → filter (is_of c k) mine ≡ front → filter (is_of c k) (seatings B) ≡ back
         → filter (is_of c k) (seatings (entry ∷ B)) ≡ pushed_onto front back
     stack front back p q = filter-stacked (is_of c k) mine (seatings B) ∙ rw (p, q) refl
 
-    by_done : (o : Option (StepState × ℕ)) → Files A B c k mine (IsSeated A entry.command.act entry.answer) o → option_or o (step_result B c k) ≡ Some fate
+    by_done : (o : Option (StepState × ℕ)) → Files A B c k mine (IsSeated A entry.command.act entry.reply) o → option_or o (step_result B c k) ≡ Some fate
         → (step_result B c k ≡ Some fate → IsFiled A B c k fate) → IsFiled A (entry ∷ B) c k fate
     by_done None none g ih = let old = ih g in record {
       people = old.people;

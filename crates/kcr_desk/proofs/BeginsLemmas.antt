@@ -8,7 +8,7 @@ use Rattle.kcr_desk.specs.declared.head.Framing.{Framing}
 use Rattle.kcr_base.specs.declared.refusal.Refusal.TheVariants.{Cut}
 use Rattle.kcr_desk.specs.Framing.{is_head}
 use Rattle.kcr_desk.specs.Stream.{Ending, clean_end, refused, cut_off, AreMessages, framing_of}
-use Rattle.kcr_desk.specs.Texts.{answer_text, continue_text, fault_response}
+use Rattle.kcr_desk.specs.Texts.{answer, continue_text, fault_response}
 use Rattle.kcr_desk.specs.Run.{Exchange, exchange_text, messages_of, ending_text, output, Begins, IsNextOutput, nothing, continues, ends}
 use Rattle.kcr_desk.proofs.CutLemmas.{match_both, EndsBy, end_by, same_plan, message_unique, message_not_end, end_unique}
 
@@ -28,14 +28,14 @@ continue_ends h r plan clean_end why n = absurd n
 continue_ends h r plan (refused bad head_only) why n = cc (why, n.0)
 continue_ends h r plan (cut_off p head_only) why n =
     let same : plan ≡ p = cc (why, n.0) in
-    let rest = answer_text head_only true (fault_response Cut) in (rest, ap (λ t. continue_text t ++ rest) same)
+    let rest = answer head_only true (fault_response Cut) in (rest, ap (λ t. continue_text t ++ rest) same)
 
 next_starts : (b next : List ℕ) (zs : List Exchange) (e : Ending) → IsNextOutput b next → AreMessages b (messages_of zs) e → Starts next (output zs e)
 next_starts b next zs e nothing cut = (output zs e, refl)
 next_starts b next [] e (continues h r has why) cut = continue_ends h r _ e why (end_by b h r e has cut)
 next_starts b next (z ∷ zs) e (continues {plan = p} h r has why) cut =
     let same : p ≡ z.message.plan = cc (why, same_plan b h z.message.head r (z.message.body ++ cut.0) has cut.1.head, cut.1.plan) in
-    let rest = answer_text (is_head z.message.head.method) z.message.plan.closes z.reply ++ (flat_map exchange_text zs ++ ending_text e) in
+    let rest = answer (is_head z.message.head.method) z.message.plan.closes z.reply ++ (flat_map exchange_text zs ++ ending_text e) in
     (rest, ap (λ t. continue_text t ++ rest) same ∙ (simp append_assoc))
 next_starts b next [] e (ends f end') cut = ([], append-nil (ending_text f) ∙ ap ending_text (end_unique b f e end' cut))
 next_starts b next (z ∷ zs) e (ends f end') cut = absurd (message_not_end b z.message cut.0 f cut.1 end')

@@ -86,26 +86,26 @@ answered x B told after is no_memory (inr answers) next =
     next by_command.0 by_command.1 by_command.2
 
 -- an accepted command leads to the history with it, and gets its reply
-module _ (entry : Entry) (B : History) (step : machine B entry.command (Accepts entry.answer) (entry ∷ B)) where
+module _ (entry : Entry) (B : History) (step : machine B entry.command (Accepts entry.reply) (entry ∷ B)) where
   performed : (target : List ℕ) (told : ResponseValue) (after : RegisterHistory) (result : Result Reply Refusal)
       → told ≢ refusal_response target Memory → told ≢ refusal_response target Disk
       → told ≡ reply_response target result → AppliesAsMachine B entry.command result after → (after ≡ whole (entry ∷ B)) × (told ≡ kept_reply entry)
   performed target told after (Ok reply) no_memory no_disk is p =
-      let fixed = accepted_fixed B entry.command entry.answer p.step.0 (entry ∷ B) after.accepted step p.step.1 in (
+      let fixed = accepted_fixed B entry.command entry.reply p.step.0 (entry ∷ B) after.accepted step p.step.1 in (
         whole-is (entry ∷ B) after after.in_doubt refl (not-in_doubt after.in_doubt reply p.breaks) fixed.1,
         is ∙ ap json_response (p.step.2 ∙ ap reply_text (sym fixed.0)),
       )
   performed target told after (Err refusal) no_memory no_disk is p =
       let memory : refusal ≢ Memory = λ e. no_memory (is ∙ ap (refusal_response target) e) in
       let disk : refusal ≢ Disk = λ e. no_disk (is ∙ ap (refusal_response target) e) in
-      absurd (never_both B entry.command entry.answer refusal (entry ∷ B) after.accepted step (p.step.1 memory disk))
+      absurd (never_both B entry.command entry.reply refusal (entry ∷ B) after.accepted step (p.step.1 memory disk))
 
 -- a command that the register has changes nothing, and gets its kept reply
 module _ (entry : Entry) (B : History) (found : entry_of B entry.command.key ≡ Some entry) where
-  same-answer : (a : ReplyData) → Accepts a ≡ Accepts entry.answer → a ≡ entry.answer
+  same-answer : (a : ReplyData) → Accepts a ≡ Accepts entry.reply → a ≡ entry.reply
   same-answer a e = cc
 
-  again : (outcome : Outcome) (after : History) → machine B entry.command outcome after → (outcome ≡ Accepts entry.answer) × (after ≡ B)
+  again : (outcome : Outcome) (after : History) → machine B entry.command outcome after → (outcome ≡ Accepts entry.reply) × (after ≡ B)
   again outcome after m = repeated B entry.command entry found (same-itself (command_text entry.command.act)) outcome after m
 
   performed-again : (target : List ℕ) (told : ResponseValue) (after : RegisterHistory) (result : Result Reply Refusal)
@@ -120,7 +120,7 @@ module _ (entry : Entry) (B : History) (found : entry_of B entry.command.key ≡
       let memory : refusal ≢ Memory = λ e. no_memory (is ∙ ap (refusal_response target) e) in
       let disk : refusal ≢ Disk = λ e. no_disk (is ∙ ap (refusal_response target) e) in
       let kept = again (Refuses refusal) after.accepted (p.step.1 memory disk) in
-      absurd (let apart : Refuses refusal ≡ Accepts entry.answer = kept.0 in cc)
+      absurd (let apart : Refuses refusal ≡ Accepts entry.reply = kept.0 in cc)
 
 -- ---- many
 
@@ -143,7 +143,7 @@ module _ (entry : Entry) (B : History) (x : Exchange) (next : RegisterHistory) (
   asked : IsAnswer (whole B) (request_of (message_of entry.command)) x.reply next
   asked = subst (λ (m : Message). IsAnswer (whole B) (request_of m) x.reply next) same answer
 
-  one : machine B entry.command (Accepts entry.answer) (entry ∷ B) → (next ≡ whole (entry ∷ B)) × (x.reply ≡ kept_reply entry)
+  one : machine B entry.command (Accepts entry.reply) (entry ∷ B) → (next ≡ whole (entry ∷ B)) × (x.reply ≡ kept_reply entry)
   one step = answered entry.command B x.reply next is no-memory asked (λ result told p.
       performed entry B step (path_text entry.command.act) x.reply next result no-memory no-disk told p)
 

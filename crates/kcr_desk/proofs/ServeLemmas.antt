@@ -12,7 +12,7 @@ use Rattle.kcr_desk.specs.Input.{Stays}
 use Rattle.kcr_desk.specs.Framing.{is_head}
 use Rattle.kcr_desk.specs.Stream.{Message, Ending, clean_end, HasHead, IsMessage, AreMessages, IsFront}
 use Rattle.kcr_desk.specs.NextHead.{EndsAs, IsReady, message_of}
-use Rattle.kcr_desk.specs.Texts.{ResponseValue, answer_text, continue_text}
+use Rattle.kcr_desk.specs.Texts.{ResponseValue, answer, continue_text}
 use Rattle.kcr_desk.specs.Run.{Request, request_of, Exchange, Run, exchange_text, messages_of, ending_text, Begins, IsServed, IsServedInPart, nothing}
 use Rattle.kcr_desk.specs.NextItem.{BreaksItem, request_of_buffer}
 use Rattle.kcr_desk.specs.Output.{IsQueued}
@@ -154,8 +154,8 @@ module _ {S : Type 0} {step : S → Request → ResponseValue → S → Type 0} 
     abbrev exchanges_then : List Exchange
     exchanges_then = so_far.exchanges ++ exchange ∷ []
 
-    abbrev answer : List ℕ
-    answer = answer_text (is_head (request_of_buffer buf spans plan).method) plan.closes reply
+    abbrev this_answer : List ℕ
+    this_answer = answer (is_head (request_of_buffer buf spans plan).method) plan.closes reply
 
     run_then : Run step before exchanges_then after
     run_then = run_snoc step before so_far.exchanges now exchange after so_far.run
@@ -175,17 +175,17 @@ module _ {S : Type 0} {step : S → Request → ResponseValue → S → Type 0} 
         let k = known_split buf unread f.0 (stays f.0 f.1) in
         (k.0, k.1, subst (IsFront bytes messages) (sym k.2) f.2, message_is buf k.0 spans plan is)
 
-    all_texts : (texts ++ continue_text plan) ++ answer ≡ flat_map exchange_text exchanges_then
+    all_texts : (texts ++ continue_text plan) ++ this_answer ≡ flat_map exchange_text exchanges_then
     all_texts =
         let at = head_here buf spans is.front.head is.front.whole in rw at.method (simp (flat_map-append, append-nil, append_assoc))
 
     -- what waits, and the answer behind it
-    answered : IsQueued a c (flat_map exchange_text exchanges_then) (v ++ answer)
+    answered : IsQueued a c (flat_map exchange_text exchanges_then) (v ++ this_answer)
     answered =
-        subst (λ t. IsQueued a c t (v ++ answer)) all_texts
-        (with_more answer (sent_on (with_more (continue_text plan) so_far.written) continued))
+        subst (λ t. IsQueued a c t (v ++ this_answer)) all_texts
+        (with_more this_answer (sent_on (with_more (continue_text plan) so_far.written) continued))
 
-    pub serving_then : {u : List ℕ} → plan.closes ≡ false → IsQueued c d (v ++ answer) u
+    pub serving_then : {u : List ℕ} → plan.closes ≡ false → IsQueued c d (v ++ this_answer) u
         → Serving step input (prepend_known (drop (spans.len + plan.length) buf) unread) a d u before after (n + 1)
     serving_then open' gathered = record {
       exchanges = exchanges_then;
@@ -202,7 +202,7 @@ module _ {S : Type 0} {step : S → Request → ResponseValue → S → Type 0} 
       requests = count_then;
     }
 
-    pub closed_served : (e : Option (List ℕ)) {u : List ℕ} → plan.closes ≡ true → IsQueued c d (v ++ answer) u → Appends d e u
+    pub closed_served : (e : Option (List ℕ)) {u : List ℕ} → plan.closes ≡ true → IsQueued c d (v ++ this_answer) u → Appends d e u
         → IsServed step input a e before after (n + 1)
     closed_served e closed gathered written = record {
       exchanges = exchanges_then;
@@ -230,9 +230,9 @@ module _ {S : Type 0} {step : S → Request → ResponseValue → S → Type 0} 
       written = rw append-nil front;
     }
 
-    pub answer_broken : WritesPrefix c d (v ++ answer) → IsServedInPart step input a d before after
+    pub answer_broken : WritesPrefix c d (v ++ this_answer) → IsServedInPart step input a d before after
     answer_broken front = begun d (sent_front d answered front)
 
-    pub closed_broken : (e : Option (List ℕ)) {u : List ℕ} → IsQueued c d (v ++ answer) u → WritesPrefix d e u
+    pub closed_broken : (e : Option (List ℕ)) {u : List ℕ} → IsQueued c d (v ++ this_answer) u → WritesPrefix d e u
         → IsServedInPart step input a e before after
     closed_broken e gathered front = begun e (sent_front e (sent_on answered gathered) front)

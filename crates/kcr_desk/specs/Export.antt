@@ -65,7 +65,7 @@ HadNoFault x =
 
 -- what an accepted command was told
 abbrev pub kept_reply : Entry → ResponseValue
-kept_reply entry = json_response (reply_text entry.answer)
+kept_reply entry = json_response (reply_text entry.reply)
 
 -- the commands of entries
 abbrev pub commands_of : List Entry → List Command

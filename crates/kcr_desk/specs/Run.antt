@@ -7,7 +7,7 @@ use Rattle.kcr_desk.specs.declared.head.Framing.{Framing}
 use Rattle.kcr_base.specs.declared.refusal.Refusal.TheVariants.{Cut}
 use Rattle.kcr_desk.specs.Framing.{is_head}
 use Rattle.kcr_desk.specs.Stream.{Message, Ending, clean_end, refused, cut_off, HasHead, IsMessage, IsEnd, AreMessages, framing_of}
-use Rattle.kcr_desk.specs.Texts.{ResponseValue, answer_text, continue_text, fault_response}
+use Rattle.kcr_desk.specs.Texts.{ResponseValue, answer, continue_text, fault_response}
 use Rattle.kcr_print.specs.Written.{WritesPrefix}
 
 -- what the register is asked
@@ -36,13 +36,13 @@ Run {S} step before (x ∷ xs) after =
 -- the bytes of one answer
 abbrev pub exchange_text : Exchange → List ℕ
 exchange_text x =
-    continue_text x.message.plan ++ answer_text (is_head x.message.head.method) x.message.plan.closes x.reply
+    continue_text x.message.plan ++ answer (is_head x.message.head.method) x.message.plan.closes x.reply
 
 -- the bytes that a stream's end is answered by
 abbrev pub ending_text : Ending → List ℕ
 ending_text clean_end = []
-ending_text (refused r head_only) = answer_text head_only true (fault_response r)
-ending_text (cut_off plan head_only) = continue_text plan ++ answer_text head_only true (fault_response Cut)
+ending_text (refused r head_only) = answer head_only true (fault_response r)
+ending_text (cut_off plan head_only) = continue_text plan ++ answer head_only true (fault_response Cut)
 
 -- all that is written
 abbrev pub output : List Exchange → Ending → List ℕ

@@ -61,8 +61,8 @@ abbrev pub shown_text : Bool → List ℕ → List ℕ
 shown_text head_only body = if head_only then [] else body
 
 -- an answer, without its body if it is bare
-unfoldable pub answer_text : Bool → Bool → ResponseValue → List ℕ
-answer_text head_only closes t = head_text closes t.heading (length t.body) ++ shown_text head_only t.body
+unfoldable pub answer : Bool → Bool → ResponseValue → List ℕ
+answer head_only closes t = head_text closes t.heading (length t.body) ++ shown_text head_only t.body
 
 -- what goes before the answer to a message that waits for it
 abbrev pub continue_text : Framing → List ℕ

@@ -5,7 +5,7 @@ ghost use Rattle.arrayvec.specs.ArrayVec.{array_vec_len};
 ghost use Rattle.kcr_base.specs.Counted.{inner_of, failures_of};
 ghost use Rattle.kcr_base.specs.Refusal.{status_of};
 ghost use Rattle.kcr_desk.specs.Texts.{phrase_of, kind_text, line, field, allow_line, close_text, head_text};
-ghost use Rattle.kcr_desk.specs.Texts.{shown_text, answer_text, plain_text, continue_text, fault_response};
+ghost use Rattle.kcr_desk.specs.Texts.{shown_text, answer, plain_text, continue_text, fault_response};
 ghost use Rattle.kcr_desk.specs.Responses.{response_value};
 ghost use Rattle.kcr_desk.specs.Output.{Enqueues};
 ghost use Rattle.kcr_desk.specs.declared.response.MediaType.TheVariants.{Json};
@@ -194,7 +194,7 @@ fn enqueue_parts<W: Write>(
     closes: bool,
 ) -> Result<(), DeskFault>
     ensures gathered { Enqueues result (W.contents (inner_of writer.old)) (W.contents (inner_of writer.new))
-        (queue.old.items ++ answer_text head_only closes (record { heading = heading; body = body.now }))
+        (queue.old.items ++ answer head_only closes (record { heading = heading; body = body.now }))
         queue.new.items }
     ensures calm { OnOk result (failures_of writer.new ≡ failures_of writer.old) }
     ensures fault { OnErr result ((result ≡ Err DeskFault.Write) × (failures_of writer.old < failures_of writer.new)) }
@@ -213,7 +213,7 @@ pub(crate) fn enqueue_response<W: Write>(
     closes: bool,
 ) -> Result<(), DeskFault>
     ensures gathered { Enqueues result (W.contents (inner_of writer.old)) (W.contents (inner_of writer.new))
-        (queue.old.items ++ answer_text head_only closes (response_value reply.now)) queue.new.items }
+        (queue.old.items ++ answer head_only closes (response_value reply.now)) queue.new.items }
     ensures calm { OnOk result (failures_of writer.new ≡ failures_of writer.old) }
     ensures fault { OnErr result ((result ≡ Err DeskFault.Write) × (failures_of writer.old < failures_of writer.new)) }
 {
@@ -233,7 +233,7 @@ pub(crate) fn enqueue_refusal<W: Write>(
     head_only: bool,
 ) -> Result<(), DeskFault>
     ensures gathered { Enqueues result (W.contents (inner_of writer.old)) (W.contents (inner_of writer.new))
-        (queue.old.items ++ answer_text head_only true (fault_response refusal)) queue.new.items }
+        (queue.old.items ++ answer head_only true (fault_response refusal)) queue.new.items }
     ensures calm { OnOk result (failures_of writer.new ≡ failures_of writer.old) }
     ensures fault { OnErr result ((result ≡ Err DeskFault.Write) × (failures_of writer.old < failures_of writer.new)) }
 {

@@ -5,7 +5,7 @@ ghost use Rattle.kcr_base.specs.Counted.{inner_of, failures_of, nonempty_reads_o
 ghost use Rattle.kcr_desk.specs.Input.{TakesIn, unread, left};
 ghost use Rattle.kcr_desk.specs.NextHead.{IsReady, HasFraming};
 ghost use Rattle.kcr_desk.specs.Framing.{is_head};
-ghost use Rattle.kcr_desk.specs.Texts.{ResponseValue, answer_text};
+ghost use Rattle.kcr_desk.specs.Texts.{ResponseValue, answer};
 ghost use Rattle.kcr_desk.specs.Output.{Enqueues};
 ghost use Rattle.kcr_print.specs.Written.{WritesPrefix};
 ghost use Rattle.kcr_desk.specs.Run.{IsServed, IsServedInPart, Exchange, Begins, messages_of, exchange_text, output};
@@ -105,7 +105,7 @@ fn answer_front<W: Write, G: Responder>(
     ensures answered { (reply : ResponseValue)
         × G.step responder.old (request_of_buffer (unread intake.now) spans plan) reply responder.new
         × Enqueues result (W.contents (inner_of writer.old)) (W.contents (inner_of writer.new)) (queue.old.items
-        ++ answer_text (is_head (request_of_buffer (unread intake.now) spans plan).method) plan.closes reply)
+        ++ answer (is_head (request_of_buffer (unread intake.now) spans plan).method) plan.closes reply)
         queue.new.items }
     ensures calm { OnOk result (failures_of writer.new ≡ failures_of writer.old) }
     ensures fault { OnErr result ((result ≡ Err DeskFault.Write) × (failures_of writer.old < failures_of writer.new)) }

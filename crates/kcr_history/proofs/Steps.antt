@@ -13,14 +13,14 @@ use Rattle.kcr_history.specs.Conditions.{fault, not_open_refusal, late_refusal, 
 use Rattle.kcr_history.specs.Tables.{keys}
 use Rattle.kcr_history.specs.Views.{greatest_number}
 use Rattle.kcr_history.specs.Machine.{Accepts, SeatRequest, seat_request, reply_to, with_command, DecidesNew, DecidesRepeat, seats, IsAcceptedWith, machine}
-use Rattle.kcr_history.specs.Machine.{IsOfMachine, IsAnswerTo, CanFollow, IsRegister}
+use Rattle.kcr_history.specs.Machine.{IsOfMachine, IsReplyTo, CanFollow, IsRegister}
 
--- the key was new, no condition held, and the answer is the machine's, with the people who were seated if seats were needed
+-- the key was new, no condition held, and the reply is the machine's, with the people who were seated if seats were needed
 pub record Took (A : History) (entry : Entry) : Type 0 where
   pub new_key : entry_of A entry.command.key ≡ None
   pub no_fault : fault A entry.command.act ≡ None
   pub people : Option (List (List ℕ))
-  pub answer : entry.answer ≡ reply_to A entry.command.act people
+  pub reply : entry.reply ≡ reply_to A entry.command.act people
 
 -- if an act of custody finds its ceremony ready, it is open, the moment is not before its mark, and the register is not full
 pub none_ready : (A : History) (c at : ℕ) → not_ready_refusal (ceremony_status_at A c at) ≡ None → NoneHolds (not_open_refusal A c ∷ late_refusal A c at ∷ full_refusal A ∷ [])
@@ -29,16 +29,16 @@ none_ready A c at = none_holds (not_open_refusal A c ∷ late_refusal A c at ∷
 -- WHAT A REGISTER'S ENTRY TELLS
 
 abbrev Told : History → Entry → Type 0
-Told A entry = (people : Option (List (List ℕ))) × (entry.answer ≡ reply_to A entry.command.act people)
+Told A entry = (people : Option (List (List ℕ))) × (entry.reply ≡ reply_to A entry.command.act people)
 
-told_by : (A : History) (entry : Entry) (o : Option SeatRequest) → IsAnswerTo A entry.command.act entry.answer o → Told A entry
+told_by : (A : History) (entry : Entry) (o : Option SeatRequest) → IsReplyTo A entry.command.act entry.reply o → Told A entry
 told_by A entry None h = (None, h)
 told_by A entry (Some s) h = (Some h.0, h.2)
 
 pub took : (A : History) (entry : Entry) → CanFollow A entry → Took A entry
 took A entry h =
     let t = told_by A entry (seat_request A entry.command.act) h.answered in
-    record { new_key = h.new_key; no_fault = h.no_fault; people = t.0; answer = t.1 }
+    record { new_key = h.new_key; no_fault = h.no_fault; people = t.0; reply = t.1 }
 
 -- WHAT THE MACHINE ACCEPTS CAN FOLLOW
 
@@ -48,24 +48,24 @@ longer x xs e = omega (arith, ap length e)
 told : (a b : ReplyData) → Accepts a ≡ Accepts b → a ≡ b
 told a b e = cc
 
-module _ (A : History) (x : Command) (answer : ReplyData) where
+module _ (A : History) (x : Command) (reply : ReplyData) where
   abbrev A' : History
-  A' = with_command A x answer
+  A' = with_command A x reply
 
-  by_sitting : (o : Option SeatRequest) → MatchOption o (IsAcceptedWith A x (reply_to A x.act None) (Accepts answer) A') (λ s. seats A x s (Accepts answer) A')
-      → IsAnswerTo A x.act answer o
+  by_sitting : (o : Option SeatRequest) → MatchOption o (IsAcceptedWith A x (reply_to A x.act None) (Accepts reply) A') (λ s. seats A x s (Accepts reply) A')
+      → IsReplyTo A x.act reply o
   by_sitting None h = told _ _ h.0
   by_sitting (Some s) (inl w) = (w.0, w.1.seating, told _ _ w.2.0)
   by_sitting (Some s) (inr w) = absurd (longer _ A w.2.1)
 
   by_key : (k : Option Entry) (f : Option Refusal)
-      → MatchOption k (DecidesNew A x f (Accepts answer) A') (λ kept. DecidesRepeat A x kept (Accepts answer) A')
-      → (k ≡ None) × (f ≡ None) × IsAnswerTo A x.act answer (seat_request A x.act)
+      → MatchOption k (DecidesNew A x f (Accepts reply) A') (λ kept. DecidesRepeat A x kept (Accepts reply) A')
+      → (k ≡ None) × (f ≡ None) × IsReplyTo A x.act reply (seat_request A x.act)
   by_key (Some kept) f h = absurd (longer _ A h.1)
   by_key None (Some refusal) h = absurd (longer _ A h.1)
   by_key None None h = (refl, refl, by_sitting (seat_request A x.act) h)
 
-  pub follows : machine A x (Accepts answer) A' → CanFollow A (record { command = x; answer = answer })
+  pub follows : machine A x (Accepts reply) A' → CanFollow A (record { command = x; reply = reply })
   follows h =
       let k = by_key (entry_of A x.key) (fault A x.act) h in
       record { new_key = k.0; no_fault = k.1; answered = k.2 }
@@ -73,25 +73,25 @@ module _ (A : History) (x : Command) (answer : ReplyData) where
 -- a history that the machine leads to is a register's
 pub of_machine : (A : History) → IsOfMachine A → IsRegister A
 of_machine [] h = tt
-of_machine (entry ∷ A) h = (follows A entry.command entry.answer h.0, of_machine A h.1)
+of_machine (entry ∷ A) h = (follows A entry.command entry.reply h.0, of_machine A h.1)
 
 -- NUMBERS
 
--- each answer has its number
-pub number_of_answer : (A : History) (act : Act) (people : Option (List (List ℕ))) → (reply_to A act people).accepted ≡ length A + 1
-number_of_answer A act people = grind arith
+-- each reply has its number
+pub number_of_reply : (A : History) (act : Act) (people : Option (List (List ℕ))) → (reply_to A act people).accepted ≡ length A + 1
+number_of_reply A act people = grind arith
 
 -- the number of an entry is how many have been accepted with it
-pub numbers : (A : History) (entry : Entry) → IsRegister (entry ∷ A) → entry.answer.accepted ≡ length (entry ∷ A)
+pub numbers : (A : History) (entry : Entry) → IsRegister (entry ∷ A) → entry.reply.accepted ≡ length (entry ∷ A)
 numbers A entry h =
     let t = took A entry h.0 in
-    let e : entry.answer.accepted ≡ length A + 1 = rw t.answer (number_of_answer A entry.command.act t.people) in
+    let e : entry.reply.accepted ≡ length A + 1 = rw t.reply (number_of_reply A entry.command.act t.people) in
     omega arith
 
 -- the greatest number in the table of keys is how many have been accepted
 pub greatest-keys : (A : History) → IsRegister A → greatest_number (keys A) ≡ length A
 greatest-keys [] h = refl
 greatest-keys (entry ∷ A) h =
-    let number : entry.answer.accepted ≡ length (entry ∷ A) = numbers A entry h in
+    let number : entry.reply.accepted ≡ length (entry ∷ A) = numbers A entry h in
     let below : greatest_number (keys A) ≡ length A = greatest-keys A h.1 in
     omega arith

@@ -36,7 +36,7 @@ is_seated A (Some s) (Some people) = is_seating A s.ceremony s.at s.seats people
 
 -- every recorded seating is one by the whole of A
 abbrev pub are_seated : History → Bool
-are_seated A = list_all (λ entry. is_seated A (seat_request A entry.command.act) entry.answer.seating) A
+are_seated A = list_all (λ entry. is_seated A (seat_request A entry.command.act) entry.reply.seating) A
 
 -- every recorded seating is one by the whole of A, and at no moment is exactly one person, or more than 128, in a room
 pub record IsSound (A : History) : Type 0 where
@@ -55,7 +55,7 @@ IsSeatedFirst A (Some s) (Some people) = IsFirst A s.ceremony s.at s.seats peopl
 abbrev pub HasFirstSeatings : History → Type 0
 HasFirstSeatings [] = Unit {0}
 HasFirstSeatings (entry ∷ A) =
-    IsSeatedFirst A (seat_request A entry.command.act) entry.answer.seating × HasFirstSeatings A
+    IsSeatedFirst A (seat_request A entry.command.act) entry.reply.seating × HasFirstSeatings A
 
 -- BALANCED
 

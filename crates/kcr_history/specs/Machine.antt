@@ -43,11 +43,11 @@ seat_request A act = None
 
 -- ANSWERS
 
--- an answer that has no more than its number, one more than there were
+-- an reply that has no more than its number, one more than there were
 abbrev pub plain_reply : History → ReplyData
 plain_reply A = record { accepted = length A + 1; exception = None; seating = None; step = None }
 
--- the answer to a command that is accepted now: its number; of a signature the step, of an exception its number in the
+-- the reply to a command that is accepted now: its number; of a signature the step, of an exception its number in the
 -- ceremony and, if it passes a step, that step; the seating if there is one
 abbrev pub reply_to : History → Act → Option (List (List ℕ)) → ReplyData
 reply_to A (Sign ceremony step at) people = record (plain_reply A) { seating = people; step = Some step }
@@ -63,13 +63,13 @@ reply_to A act people = plain_reply A
 
 -- the history with the command accepted after it
 abbrev pub with_command : History → Command → ReplyData → History
-with_command A x answer = record { command = x; answer = answer } ∷ A
+with_command A x reply = record { command = x; reply = reply } ∷ A
 
 -- THE MACHINE
 
--- the command is accepted with this answer
+-- the command is accepted with this reply
 abbrev pub IsAcceptedWith : History → Command → ReplyData → Outcome → History → Type 0
-IsAcceptedWith A x answer outcome A' = (outcome ≡ Accepts answer) × (A' ≡ with_command A x answer)
+IsAcceptedWith A x reply outcome A' = (outcome ≡ Accepts reply) × (A' ≡ with_command A x reply)
 
 -- the command is refused, and nothing changes
 abbrev pub IsRefusedWith : History → Refusal → Outcome → History → Type 0
@@ -89,10 +89,10 @@ DecidesNew A x (Some refusal) outcome A' = IsRefusedWith A refusal outcome A'
 DecidesNew A x None outcome A' =
     MatchOption (seat_request A x.act) (IsAcceptedWith A x (reply_to A x.act None) outcome A') (λ s. seats A x s outcome A')
 
--- a key that was accepted before: with the same command its kept answer, with another a refusal; nothing changes
+-- a key that was accepted before: with the same command its kept reply, with another a refusal; nothing changes
 abbrev pub DecidesRepeat : History → Command → Entry → Outcome → History → Type 0
 DecidesRepeat A x kept outcome A' =
-    (outcome ≡ (if same_command kept.command.act x.act then Accepts kept.answer else Refuses Key)) × (A' ≡ A)
+    (outcome ≡ (if same_command kept.command.act x.act then Accepts kept.reply else Refuses Key)) × (A' ≡ A)
 
 -- one step of the machine: from history A the command has this outcome and leads to A'
 abbrev pub machine : History → Command → Outcome → History → Type 0
@@ -102,23 +102,23 @@ machine A x outcome A' =
 -- a history that the machine leads to from the empty one
 abbrev pub IsOfMachine : History → Type 0
 IsOfMachine [] = Unit {0}
-IsOfMachine (entry ∷ A) = machine A entry.command (Accepts entry.answer) (entry ∷ A) × IsOfMachine A
+IsOfMachine (entry ∷ A) = machine A entry.command (Accepts entry.reply) (entry ∷ A) × IsOfMachine A
 
 -- REGISTERS
 
--- the answer is that of the act if it is accepted; if it needs seats, with some people who fill them
-abbrev pub IsAnswerTo : History → Act → ReplyData → Option SeatRequest → Type 0
-IsAnswerTo A act answer None = answer ≡ reply_to A act None
-IsAnswerTo A act answer (Some s) =
+-- the reply is that of the act if it is accepted; if it needs seats, with some people who fill them
+abbrev pub IsReplyTo : History → Act → ReplyData → Option SeatRequest → Type 0
+IsReplyTo A act reply None = reply ≡ reply_to A act None
+IsReplyTo A act reply (Some s) =
     (people : List (List ℕ)) × IsTrue (is_seating A s.ceremony s.at s.seats people)
-    × (answer ≡ reply_to A act (Some people))
+    × (reply ≡ reply_to A act (Some people))
 
--- the entry can come next: its key is new, nothing refuses its command, and its answer is one of that command, whether
+-- the entry can come next: its key is new, nothing refuses its command, and its reply is one of that command, whether
 -- or not the seating in it is the first one
 pub record CanFollow (A : History) (entry : Entry) : Type 0 where
   pub new_key : entry_of A entry.command.key ≡ None
   pub no_fault : fault A entry.command.act ≡ None
-  pub answered : IsAnswerTo A entry.command.act entry.answer (seat_request A entry.command.act)
+  pub answered : IsReplyTo A entry.command.act entry.reply (seat_request A entry.command.act)
 
 -- a register's history: each entry can follow those before it
 abbrev pub IsRegister : History → Type 0
@@ -127,23 +127,23 @@ IsRegister (entry ∷ A) = CanFollow A entry × IsRegister A
 
 -- DECISIONS
 
--- the verdict accepts the command with this answer: its changes lead from the tables before to those after, up to the
--- order of rows; its reply is the answer's text
-pub record IsAcceptance (A : History) (x : Command) (verdict : Verdict) (answer : ReplyData) : Type 0 where
-  pub step : machine A x (Accepts answer) (with_command A x answer)
-  pub tables : SameTables (changed_by verdict.changes.items (tables A)) (tables (with_command A x answer))
-  pub reply : verdict.reply.text ≡ reply_text answer
+-- the verdict accepts the command with this reply: its changes lead from the tables before to those after, up to the
+-- order of rows; its reply is the text of it
+pub record IsAcceptance (A : History) (x : Command) (verdict : Verdict) (new_reply : ReplyData) : Type 0 where
+  pub step : machine A x (Accepts new_reply) (with_command A x new_reply)
+  pub tables : SameTables (changed_by verdict.changes.items (tables A)) (tables (with_command A x new_reply))
+  pub reply : verdict.reply.text ≡ reply_text new_reply
 
 -- the verdict gives the reply that was kept of an earlier command under the same key: it changes nothing
 pub record IsRepeat (A : History) (x : Command) (verdict : Verdict) (kept : Entry) : Type 0 where
   pub found : entry_of A x.key ≡ Some kept
-  pub step : machine A x (Accepts kept.answer) A
+  pub step : machine A x (Accepts kept.reply) A
   pub changes : verdict.changes.items ≡ []
-  pub reply : verdict.reply.text ≡ reply_text kept.answer
+  pub reply : verdict.reply.text ≡ reply_text kept.reply
 
 -- the result of a decision is a step of the machine; out of memory may be answered in its place
 abbrev pub IsDecision : History → Command → Result Verdict Refusal → Type 0
 IsDecision A x result =
     MatchResult result
-    (λ verdict. MatchOption verdict.answer ((kept : Entry) × IsRepeat A x verdict kept) (IsAcceptance A x verdict))
+    (λ verdict. MatchOption verdict.new_reply ((kept : Entry) × IsRepeat A x verdict kept) (IsAcceptance A x verdict))
     (λ refusal. refusal ≢ Memory → machine A x (Refuses refusal) A)

@@ -180,7 +180,7 @@ step_done ceremony k act said = None
 
 -- what became of the step, None while it is neither signed nor passed
 abbrev pub step_result : History → ℕ → ℕ → Option (StepState × ℕ)
-step_result A ceremony k = last_value_of_entries (λ entry. step_done ceremony k entry.command.act entry.answer.step) A
+step_result A ceremony k = last_value_of_entries (λ entry. step_done ceremony k entry.command.act entry.reply.step) A
 
 -- the numbers of some steps, counting on from step k, each with the ceremony's
 abbrev pub numbered : {X : Type 0} → ℕ → ℕ → List X → List (ℕ × ℕ)
@@ -239,7 +239,7 @@ seating_rows ceremony step people = []
 abbrev pub seatings : History → List SeatingRow
 seatings [] = []
 seatings (entry ∷ A) =
-    pushed_onto (seating_rows (ceremony_of_step entry.command.act) entry.answer.step entry.answer.seating) (seatings A)
+    pushed_onto (seating_rows (ceremony_of_step entry.command.act) entry.reply.step entry.reply.seating) (seatings A)
 
 -- EXCEPTIONS: ONE FOR EACH COMMAND THAT STATES ONE, NUMBERED AND WITH THE STEP THAT IT PASSED, AS ITS ANSWER SAYS
 
@@ -249,7 +249,7 @@ exception_row (RecordException c text pass at) (Some number) passed =
 exception_row act number passed = None
 
 abbrev pub exceptions : History → List ExceptionRow
-exceptions A = filter_map (λ entry. exception_row entry.command.act entry.answer.exception entry.answer.step) A
+exceptions A = filter_map (λ entry. exception_row entry.command.act entry.reply.exception entry.reply.step) A
 
 -- KEYS: ONE FOR EACH ACCEPTED COMMAND
 
@@ -257,9 +257,9 @@ abbrev pub key_row : Entry → KeyRow
 key_row entry =
     record {
       key = entry.command.key;
-      accepted = entry.answer.accepted;
+      accepted = entry.reply.accepted;
       command = command_text entry.command.act;
-      reply = reply_text entry.answer;
+      reply = reply_text entry.reply;
     }
 
 abbrev pub keys : History → List KeyRow

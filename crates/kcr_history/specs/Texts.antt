@@ -116,9 +116,9 @@ people_array people = array (map quoted people)
 -- the JSON text of the reply to an accepted command: its number; an exception's number, the seating and the step if
 -- there are such
 abbrev pub reply_text : ReplyData → List ℕ
-reply_text answer =
+reply_text reply =
     object
-    (member (codes "accepted") (decimal answer.accepted)
-    ∷ (member_if (codes "exception") (option_map decimal answer.exception)
-    ++ (member_if (codes "seating") (option_map people_array answer.seating)
-    ++ member_if (codes "step") (option_map decimal answer.step))))
+    (member (codes "accepted") (decimal reply.accepted)
+    ∷ (member_if (codes "exception") (option_map decimal reply.exception)
+    ++ (member_if (codes "seating") (option_map people_array reply.seating)
+    ++ member_if (codes "step") (option_map decimal reply.step))))

@@ -151,11 +151,11 @@ pub struct ReplyData {
     pub step: Option<u32>,
 }
 
-/// A command that was accepted, and its answer. The register's history is a list of these, the last one first.
+/// A command that was accepted, and its reply. The register's history is a list of these, the last one first.
 #[derive(Drop)]
 pub struct Entry {
     pub command: Command,
-    pub answer: ReplyData,
+    pub reply: ReplyData,
 }
 
 /// A reply as it is sent: a JSON text (RFC 8259), compact, its members in byte order.

@@ -33,7 +33,7 @@ pub use questions::{
     RoomShown, Shown, StepsShown,
 };
 pub use refusals::{fixed_text, refusal_text};
-pub use replies::answer_text;
+pub use replies::reply_text;
 pub use report_rows::{BagWithItems, SeatedStep, StayWithName};
 pub use row_laws::{
     holder_of_rows, numbers_count_commands, people_of_rows, settled_of_rows, training_of_rows,

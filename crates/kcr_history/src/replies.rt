@@ -15,15 +15,15 @@ use std::alloc::{AllocError, Global};
 /// The JSON text of the reply to an accepted command: its number, then, if there are such, an exception's number,
 /// who sits in each seat, and the step, members in byte order, as
 /// `{"accepted":31,"exception":1,"seating":["BB","AA"],"step":4}`. The error is out of memory.
-pub fn answer_text(alloc: Global, answer: &ReplyData) -> Result<Text, AllocError>
-    ensures { IfOk result (λ text. text ≡ Texts.reply_text answer.now) }
+pub fn reply_text(alloc: Global, reply: &ReplyData) -> Result<Text, AllocError>
+    ensures { IfOk result (λ text. text ≡ Texts.reply_text reply.now) }
 {
     let mut number = Buffer::new();
     let mut text = String::from_str(alloc, "{\"accepted\":")?;
-    text.push_str(number.format(answer.accepted))?;
-    let text = with_count(text, "exception", answer.exception)?;
-    let text = with_seating(alloc, text, &answer.seating)?;
-    let mut text = with_count(text, "step", answer.step)?;
+    text.push_str(number.format(reply.accepted))?;
+    let text = with_count(text, "exception", reply.exception)?;
+    let text = with_seating(alloc, text, &reply.seating)?;
+    let mut text = with_count(text, "step", reply.step)?;
     text.push_str("}")?;
     Ok(Text::from_string(text))
 }

@@ -16,7 +16,7 @@ ghost use Rattle.kcr_history.specs.Machine.{IsRegister};
 
 /// The number of an accepted command is how many have been accepted with it.
 pub fn numbers_count_commands()
-    ensures { (A : History) (entry : Entry) → IsRegister (entry ∷ A) → entry.answer.accepted ≡ length (entry ∷ A) }
+    ensures { (A : History) (entry : Entry) → IsRegister (entry ∷ A) → entry.reply.accepted ≡ length (entry ∷ A) }
 {}
 
 /// Of any history: a person is in the table of people, was ever trained, or was ever put in a place by the rows exactly

@@ -150,13 +150,13 @@ pub enum Change {
     PutKey(KeyRow),
 }
 
-/// A command that is not refused: the rows to put, in this order, and the reply. `answer` is the reply as data if
+/// A command that is not refused: the rows to put, in this order, and the reply. `new_reply` is the reply as data if
 /// the command is accepted now, and none if it was accepted before and only its kept reply is given again.
 #[derive(Drop)]
 pub struct Verdict {
     pub changes: Vec<Change>,
     pub reply: Reply,
-    pub answer: Option<ReplyData>,
+    pub new_reply: Option<ReplyData>,
 }
 
 /// What an audit of the tables finds.

@@ -10,7 +10,7 @@ use Rattle.kcr_forms.specs.Acts.{IsAct}
 use Rattle.kcr_forms.specs.Values.{AreValues}
 use Rattle.kcr_forms.proofs.Again.{act-again}
 use Rattle.kcr_history.specs.History.{History}
-use Rattle.kcr_history.specs.Machine.{IsRegister, IsAnswerTo, seat_request}
+use Rattle.kcr_history.specs.Machine.{IsRegister, IsReplyTo, seat_request}
 use Rattle.kcr_history.specs.Tables.{key_row}
 use Rattle.kcr_history.specs.Texts.{people_array, reply_text}
 use Rattle.kcr_history.specs.declared.commands.Act.{Act}
@@ -25,72 +25,72 @@ use Rattle.kcr_journal.specs.Journal.{is_of_ceremony, named_people, with_name, n
 use Rattle.kcr_journal.proofs.ReplyLemmas.{are-digits, signed-people, stated-number, passing-number, passing-step, passing-people, people-colon}
 use Rattle.kcr_journal.proofs.SeatedLemmas.{seated-initials}
 
--- the answer has what the act's sentence tells: people with initials, and numbers
+-- the reply has what the act's sentence tells: people with initials, and numbers
 abbrev pub IsToldOf : Act → ReplyData → Type 0
-IsToldOf (Sign c step at) answer =
+IsToldOf (Sign c step at) reply =
     (n : ℕ) × (people : List (List ℕ)) × AllByRecursion IsInitials people
-    × (answer ≡ record { accepted = n; exception = None; seating = Some people; step = Some step })
-IsToldOf (RecordException c text true at) answer =
+    × (reply ≡ record { accepted = n; exception = None; seating = Some people; step = Some step })
+IsToldOf (RecordException c text true at) reply =
     (n : ℕ) × (e : ℕ) × (k : ℕ) × (people : List (List ℕ)) × AllByRecursion IsInitials people
-    × (answer ≡ record { accepted = n; exception = Some e; seating = Some people; step = Some k })
-IsToldOf (RecordException c text false at) answer =
-    (n : ℕ) × (e : ℕ) × (answer ≡ record { accepted = n; exception = Some e; seating = None; step = None })
-IsToldOf act answer = Unit {0}
+    × (reply ≡ record { accepted = n; exception = Some e; seating = Some people; step = Some k })
+IsToldOf (RecordException c text false at) reply =
+    (n : ℕ) × (e : ℕ) × (reply ≡ record { accepted = n; exception = Some e; seating = None; step = None })
+IsToldOf act reply = Unit {0}
 
-told-of : (A : History) (act : Act) (answer : ReplyData) → AreValues A → IsAnswerTo A act answer (seat_request A act) → IsToldOf act answer
-told-of A (Sign c step at) answer values h = (_, h.0, seated-initials A values c at _ h.0 h.1, h.2)
-told-of A (RecordException c text true at) answer values h =
+told-of : (A : History) (act : Act) (reply : ReplyData) → AreValues A → IsReplyTo A act reply (seat_request A act) → IsToldOf act reply
+told-of A (Sign c step at) reply values h = (_, h.0, seated-initials A values c at _ h.0 h.1, h.2)
+told-of A (RecordException c text true at) reply values h =
     (_, _, _, h.0, seated-initials A values c at (Staff Ca ∷ Staff Iw ∷ []) h.0 h.1, h.2)
-told-of A (RecordException c text false at) answer values h = (_, _, h)
-told-of A act answer values h = tt
+told-of A (RecordException c text false at) reply values h = (_, _, h)
+told-of A act reply values h = tt
 
--- the line by the reply's text, and the line by the answer
+-- the line by the reply's text, and the line by the reply
 abbrev by_text : List Person → Act → ReplyData → List ℕ
-by_text rows act answer =
-    line answer.accepted act (map (with_name rows) (named_people act (seated_in (reply_text answer))))
-    (exception_in (reply_text answer)) (passed_in (reply_text answer))
+by_text rows act reply =
+    line reply.accepted act (map (with_name rows) (named_people act (seated_in (reply_text reply))))
+    (exception_in (reply_text reply)) (passed_in (reply_text reply))
 
-abbrev by_answer : List Person → Act → ReplyData → List ℕ
-by_answer rows act answer =
-    line answer.accepted act (map (with_name rows) (named_people act (unwrap_or answer.seating [])))
-    (number_text answer.exception) (number_text answer.step)
+abbrev by_reply : List Person → Act → ReplyData → List ℕ
+by_reply rows act reply =
+    line reply.accepted act (map (with_name rows) (named_people act (unwrap_or reply.seating [])))
+    (number_text reply.exception) (number_text reply.step)
 
-same-line : (rows : List Person) (act : Act) (answer : ReplyData) → IsToldOf act answer → by_text rows act answer ≡ by_answer rows act answer
-same-line rows (Sign c step at) answer (n, people, each, is) =
-    let P : ReplyData → Type 0 = λ a. by_text rows (Sign c step at) a ≡ by_answer rows (Sign c step at) a in
+same-line : (rows : List Person) (act : Act) (reply : ReplyData) → IsToldOf act reply → by_text rows act reply ≡ by_reply rows act reply
+same-line rows (Sign c step at) reply (n, people, each, is) =
+    let P : ReplyData → Type 0 = λ a. by_text rows (Sign c step at) a ≡ by_reply rows (Sign c step at) a in
     subst P (sym is)
     (ap (λ ps. line n (Sign c step at) (map (with_name rows) ps) [] []) (signed-people (decimal n) (decimal step) people (are-digits n) (are-digits step) each))
-same-line rows (RecordException c text true at) answer (n, e, k, people, each, is) =
+same-line rows (RecordException c text true at) reply (n, e, k, people, each, is) =
     let act : Act = RecordException c text true at in
-    let P : ReplyData → Type 0 = λ a. by_text rows act a ≡ by_answer rows act a in
+    let P : ReplyData → Type 0 = λ a. by_text rows act a ≡ by_reply rows act a in
     let seats = people_array people in
     let free = people-colon people each in
     let who = passing-people (decimal n) (decimal e) (decimal k) people (are-digits n) (are-digits e) (are-digits k) each in
     let exception = passing-number (decimal n) (decimal e) seats (decimal k) (are-digits n) (are-digits e) free (are-digits k) in
     let passes = passing-step (decimal n) (decimal e) seats (decimal k) (are-digits n) (are-digits e) free (are-digits k) in
     subst P (sym is) (λ i. line n act (map (with_name rows) (who i)) (exception i) (passes i))
-same-line rows (RecordException c text false at) answer (n, e, is) =
+same-line rows (RecordException c text false at) reply (n, e, is) =
     let act : Act = RecordException c text false at in
-    let P : ReplyData → Type 0 = λ a. by_text rows act a ≡ by_answer rows act a in
+    let P : ReplyData → Type 0 = λ a. by_text rows act a ≡ by_reply rows act a in
     subst P (sym is) (ap (λ number. line n act [] number []) (stated-number (decimal n) (decimal e) (are-digits n) (are-digits e)))
-same-line rows act answer told = refl
+same-line rows act reply told = refl
 
--- an entry whose command and answer are of values
+-- an entry whose command and reply are of values
 pub record IsGood (entry : Entry) : Type 0 where
   pub act : IsAct entry.command.act
-  pub told : IsToldOf entry.command.act entry.answer
+  pub told : IsToldOf entry.command.act entry.reply
 
 row-is : (asked : Option ℕ) (rows : List Person) (entry : Entry) → IsGood entry
     → row_line asked rows (key_row entry) ≡ (if is_of_ceremony asked entry.command.act then entry_line rows entry else [])
 row-is asked rows entry good =
     let act = entry.command.act in
     ap (λ (o : Option Act). option_map_or (λ act. if is_of_ceremony asked act then act_line rows (key_row entry) act else []) o []) (act-again act good.act)
-    ∙ ap (λ text. if is_of_ceremony asked act then text else []) (same-line rows act entry.answer good.told)
+    ∙ ap (λ text. if is_of_ceremony asked act then text else []) (same-line rows act entry.reply good.told)
 
 pub good-entries : (A : History) → IsRegister A → AreValues A → AllByRecursion IsGood A
 good-entries [] h values = tt
 good-entries (entry ∷ A) h values =
-    (record { act = values.0; told = told-of A entry.command.act entry.answer values.1 h.0.answered }, good-entries A h.1 values.1)
+    (record { act = values.0; told = told-of A entry.command.act entry.reply values.1 h.0.answered }, good-entries A h.1 values.1)
 
 -- a line that comes only if the command passes is that of a list that has the command only then
 choose : (b : Bool) (f : Entry → List ℕ) (entry : Entry) (others : List Entry)

@@ -80,9 +80,9 @@ number_text number = unwrap_or (option_map decimal number) []
 -- the line of an accepted command
 abbrev pub entry_line : List Person → Entry → List ℕ
 entry_line rows entry =
-    line entry.answer.accepted entry.command.act
-    (map (with_name rows) (named_people entry.command.act (unwrap_or entry.answer.seating [])))
-    (number_text entry.answer.exception) (number_text entry.answer.step)
+    line entry.reply.accepted entry.command.act
+    (map (with_name rows) (named_people entry.command.act (unwrap_or entry.reply.seating [])))
+    (number_text entry.reply.exception) (number_text entry.reply.step)
 
 -- the lines of the accepted commands in the order of their numbers, of all or of those that name a ceremony; a number
 -- has 32 bits

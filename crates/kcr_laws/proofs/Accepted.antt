@@ -13,8 +13,8 @@ use Rattle.kcr_history.specs.Machine.{IsOfMachine, CanFollow, IsRegister}
 use Rattle.kcr_history.proofs.Steps.{follows}
 use Rattle.kcr_laws.specs.Examples.{AreSteps, AreAnswered, new_command}
 
-pub same_answer : (a b : ReplyData) → Accepts a ≡ Accepts b → a ≡ b
-same_answer a b e = cc
+pub same_reply : (a b : ReplyData) → Accepts a ≡ Accepts b → a ≡ b
+same_reply a b e = cc
 
 pub same_refusal : (r q : Refusal) → Refuses r ≡ Refuses q → r ≡ q
 same_refusal r q e = cc
@@ -24,37 +24,37 @@ other_outcome a r e = absurd (let f : Accepts a ≡ Refuses r = e in cc)
 
 -- an entry by its parts
 abbrev pub one : List ℕ → Act → ReplyData → Entry
-one key act answer = record { command = record { key = key; act = act }; answer = answer }
+one key act reply = record { command = record { key = key; act = act }; reply = reply }
 
 -- what holds of the empty history, and with a further command if it held before, holds of every history
-pub each_history : (P : History → Type 0) → P [] → ((A : History) (key : List ℕ) (act : Act) (answer : ReplyData) → P A → P (one key act answer ∷ A))
+pub each_history : (P : History → Type 0) → P [] → ((A : History) (key : List ℕ) (act : Act) (reply : ReplyData) → P A → P (one key act reply ∷ A))
     → (A : History) → P A
 each_history P base step [] = base
-each_history P base step (entry ∷ A) = step A entry.command.key entry.command.act entry.answer (each_history P base step A)
+each_history P base step (entry ∷ A) = step A entry.command.key entry.command.act entry.reply (each_history P base step A)
 
 -- what an accepted command keeps holds of every register
 pub each_register : (P : History → Type 0) → P []
-    → ((A : History) (key : List ℕ) (act : Act) (answer : ReplyData) → IsRegister A → CanFollow A (one key act answer) → P A → P (one key act answer ∷ A))
+    → ((A : History) (key : List ℕ) (act : Act) (reply : ReplyData) → IsRegister A → CanFollow A (one key act reply) → P A → P (one key act reply ∷ A))
     → (A : History) → IsRegister A → P A
 each_register P base step [] h = base
-each_register P base step (entry ∷ A) h = step A entry.command.key entry.command.act entry.answer h.1 h.0 (each_register P base step A h.1)
+each_register P base step (entry ∷ A) h = step A entry.command.key entry.command.act entry.reply h.1 h.0 (each_register P base step A h.1)
 
 -- REPEATS
 
 pub repeated : (A : History) (x : Command) (kept : Entry) → entry_of A x.key ≡ Some kept → same_command kept.command.act x.act ≡ true
-    → (outcome : Outcome) (A' : History) → machine A x outcome A' → (outcome ≡ Accepts kept.answer) × (A' ≡ A)
+    → (outcome : Outcome) (A' : History) → machine A x outcome A' → (outcome ≡ Accepts kept.reply) × (A' ≡ A)
 repeated A x kept e s outcome A' h = let g = rw e at h in (rw s at g.0, g.1)
 
 -- STEPS FROM A REGISTER LEAD TO REGISTERS
 
 -- what holds of a history, and of what an accepted command leads to, holds after any step
 pub step_leads : (P : History → Type 0) (A : History) (x : Command) → P A
-    → ((answer : ReplyData) → machine A x (Accepts answer) (with_command A x answer) → P (with_command A x answer))
+    → ((reply : ReplyData) → machine A x (Accepts reply) (with_command A x reply) → P (with_command A x reply))
     → (outcome : Outcome) (A' : History) → machine A x outcome A' → P A'
 step_leads P A x r grows outcome A' h = by_entry (entry_of A x.key) (fault A x.act) h
   where
-    grown : (answer : ReplyData) → outcome ≡ Accepts answer → A' ≡ with_command A x answer → P A'
-    grown answer o e = rw e (grows answer (rw e at (rw o at h)))
+    grown : (reply : ReplyData) → outcome ≡ Accepts reply → A' ≡ with_command A x reply → P A'
+    grown reply o e = rw e (grows reply (rw e at (rw o at h)))
 
     seated : (s : Option SeatRequest) → MatchOption s (IsAcceptedWith A x (reply_to A x.act None) outcome A') (λ q. seats A x q outcome A') → P A'
     seated None g = grown (reply_to A x.act None) g.0 g.1
@@ -67,10 +67,10 @@ step_leads P A x r grows outcome A' h = by_entry (entry_of A x.key) (fault A x.a
     by_entry None None g = seated (seat_request A x.act) g
 
 pub step_keeps : (A : History) (x : Command) (outcome : Outcome) (A' : History) → IsRegister A → machine A x outcome A' → IsRegister A'
-step_keeps A x outcome A' r = step_leads IsRegister A x r (λ answer step. (follows A x answer step, r)) outcome A'
+step_keeps A x outcome A' r = step_leads IsRegister A x r (λ reply step. (follows A x reply step, r)) outcome A'
 
 pub step_leads_on : (A : History) (x : Command) (outcome : Outcome) (A' : History) → IsOfMachine A → machine A x outcome A' → IsOfMachine A'
-step_leads_on A x outcome A' m = step_leads IsOfMachine A x m (λ answer step. (step, m)) outcome A'
+step_leads_on A x outcome A' m = step_leads IsOfMachine A x m (λ reply step. (step, m)) outcome A'
 
 pub steps_keep : (A : History) (said : List (Act × List ℕ)) (A' : History) → IsRegister A → AreSteps A said A' → IsRegister A'
 steps_keep A [] A' r h = rw h r

@@ -31,7 +31,7 @@ module _ (A : History) (x : Command) where
 
   by_entry : (e : Option Entry) (f : Option Refusal)
       → (outcome : Outcome) × (A' : History) × MatchOption e (DecidesNew A x f outcome A') (λ kept. DecidesRepeat A x kept outcome A')
-  by_entry (Some kept) f = (if same_command kept.command.act x.act then Accepts kept.answer else Refuses Key, A, (refl, refl))
+  by_entry (Some kept) f = (if same_command kept.command.act x.act then Accepts kept.reply else Refuses Key, A, (refl, refl))
   by_entry None (Some refusal) = (Refuses refusal, A, (refl, refl))
   by_entry None None = by_sitting (seat_request A x.act)
 

@@ -64,7 +64,7 @@ pub fate-done : (A : History) → IsRegister A → (c k : ℕ) → is_some (step
 fate-done [] h c k = sym (no_step_done k)
 fate-done (entry ∷ A) h c k =
     let t = took A entry h.0 in
-    fate_after A entry.command.act entry.answer.step c k t.no_fault t.people (ap (λ a. a.step) t.answer) (fate-done A h.1 c k)
+    fate_after A entry.command.act entry.reply.step c k t.no_fault t.people (ap (λ a. a.step) t.reply) (fate-done A h.1 c k)
     ∙ ap (λ n. nat_le 1 k && nat_le k n) (sym (done-after A entry c))
 
 -- nothing has become of the next step

@@ -15,7 +15,7 @@ use Rattle.kcr_history.specs.Seating.{comes_first, IsFirst}
 use Rattle.kcr_history.specs.Conditions.{fault}
 use Rattle.kcr_history.specs.Machine.{Outcome, Accepts, Refuses, SeatRequest, seat_request, reply_to, with_command, IsAcceptedWith, seats, DecidesNew, DecidesRepeat, machine}
 use Rattle.kcr_laws.proofs.Trials.{same_people, people-are}
-use Rattle.kcr_laws.proofs.Accepted.{same_answer, same_refusal, other_outcome}
+use Rattle.kcr_laws.proofs.Accepted.{same_reply, same_refusal, other_outcome}
 use Rattle.kcr_laws.proofs.Halves.{one_half}
 
 -- of two lists at most one comes first
@@ -61,7 +61,7 @@ alike A x o p B C h k = by_entry (entry_of A x.key) (fault A x.act) h k
 -- a command that is accepted is accepted with one answer, and leads to one history
 pub accepted_fixed : (A : History) (x : Command) (a b : ReplyData) (B C : History) → machine A x (Accepts a) B → machine A x (Accepts b) C → (a ≡ b) × (B ≡ C)
 accepted_fixed A x a b B C h k = elim (alike A x (Accepts a) (Accepts b) B C h k) [
-  | inl w ↦ (same_answer a b w.0, w.1)
+  | inl w ↦ (same_reply a b w.0, w.1)
   | inr w ↦ absurd (other_outcome _ _ w.2)
 ]
 

@@ -30,7 +30,7 @@ use Rattle.kcr_history.specs.Room.{sheet, is_in}
 use Rattle.kcr_history.specs.Seating.{fits, eligible, is_seating, one_to_seven}
 use Rattle.kcr_history.specs.Tables.{seats_at}
 use Rattle.kcr_history.specs.Conditions.{fault}
-use Rattle.kcr_history.specs.Machine.{seat_request, IsAnswerTo, IsRegister}
+use Rattle.kcr_history.specs.Machine.{seat_request, IsReplyTo, IsRegister}
 use Rattle.kcr_history.specs.Laws.{is_seated, are_seated}
 use Rattle.kcr_laws.proofs.Accepted.{one, each_history}
 use Rattle.kcr_laws.proofs.Stays.{trained_stays, holder_stays}
@@ -220,7 +220,7 @@ eligible_still A entry c t f past =
     let s = settled_at A t (greatest (all_marks A)) refl (one_of_marks A c t (values_of_acts opened_number A) q.1 q.0) in
     let facility : facility_of (entry ∷ A) c ≡ facility_of A c =
     ap (λ o. unwrap_or (option_map (λ (plan : Planned). plan.facility) o) East) (same_plan A entry c f p.0) in
-    eligible_mono A (entry ∷ A) c t (λ who. same_in A entry.command.key entry.command.act entry.answer who c t f q.0) facility
+    eligible_mono A (entry ∷ A) c t (λ who. same_in A entry.command.key entry.command.act entry.reply who c t f q.0) facility
     (λ who role. trained_stays A entry who role s.0 (day_of t) f s.1 s.2) (λ place. holder_stays A entry place s.0 (day_of t) f s.1 s.2)
 
 same_seats : (A : History) (entry : Entry) (c k : ℕ) → fault A entry.command.act ≡ None → is_ceremony A c ≡ true
@@ -244,7 +244,7 @@ old_seated A entry act people f past h = refl
 -- THE NEW SEATING
 
 -- a signature and an exception leave everybody as eligible as before, so the people of their answer are a seating
-new_seated : (A : History) (key : List ℕ) (act : Act) (answer : ReplyData) → IsAnswerTo A act answer (seat_request A act)
+new_seated : (A : History) (key : List ℕ) (act : Act) (answer : ReplyData) → IsReplyTo A act answer (seat_request A act)
     → is_seated (one key act answer ∷ A) (seat_request (one key act answer ∷ A) act) answer.seating ≡ true
 new_seated A key (Sign c k at) answer w =
     let B = one key (Sign c k at) answer ∷ A in
@@ -262,7 +262,7 @@ abbrev all_past : History → History → Bool
 all_past A entries = list_all (λ entry. is_past_if A (marked_moment entry.command.act)) entries
 
 abbrev all_seated : History → History → Bool
-all_seated A entries = list_all (λ entry. is_seated A (seat_request A entry.command.act) entry.answer.seating) entries
+all_seated A entries = list_all (λ entry. is_seated A (seat_request A entry.command.act) entry.reply.seating) entries
 
 past_still : (A : History) (entry : Entry) (entries : History) → all_past A entries ≡ true → all_past (entry ∷ A) entries ≡ true
 past_still A entry [] h = refl
@@ -272,7 +272,7 @@ seated_still : (A : History) (entry : Entry) (entries : History) → fault A ent
     → all_seated (entry ∷ A) entries ≡ true
 seated_still A entry [] f p h = refl
 seated_still A entry (old ∷ entries) f p h =
-    grind (arith, old_seated A entry old.command.act old.answer.seating f, seated_still A entry entries f)
+    grind (arith, old_seated A entry old.command.act old.reply.seating f, seated_still A entry entries f)
 
 pub all_pasts : (A : History) → IsRegister A → all_past A A ≡ true
 all_pasts [] h = refl
@@ -282,5 +282,5 @@ all_pasts (entry ∷ A) h =
 pub seated : (A : History) → IsRegister A → are_seated A ≡ true
 seated [] h = refl
 seated (entry ∷ A) h =
-    and_from (is_seated (entry ∷ A) (seat_request (entry ∷ A) entry.command.act) entry.answer.seating) _
-    (new_seated A entry.command.key entry.command.act entry.answer h.0.answered) (seated_still A entry A h.0.no_fault (all_pasts A h.1) (seated A h.1))
+    and_from (is_seated (entry ∷ A) (seat_request (entry ∷ A) entry.command.act) entry.reply.seating) _
+    (new_seated A entry.command.key entry.command.act entry.reply h.0.answered) (seated_still A entry A h.0.no_fault (all_pasts A h.1) (seated A h.1))

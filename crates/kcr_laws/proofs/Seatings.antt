@@ -5,10 +5,10 @@ use Rattle.kcr_history.specs.declared.commands.Act.TheVariants.{Sign, RecordExce
 use Rattle.kcr_history.specs.declared.commands.ReplyData.{ReplyData}
 use Rattle.kcr_history.specs.declared.commands.Command.{Command}
 use Rattle.kcr_history.specs.History.{History}
-use Rattle.kcr_history.specs.Machine.{Accepts, seat_request, reply_to, with_command, IsAcceptedWith, seats, machine, IsOfMachine, IsAnswerTo, CanFollow, IsRegister}
+use Rattle.kcr_history.specs.Machine.{Accepts, seat_request, reply_to, with_command, IsAcceptedWith, seats, machine, IsOfMachine, IsReplyTo, CanFollow, IsRegister}
 use Rattle.kcr_history.specs.Laws.{IsSeatedFirst, HasFirstSeatings}
 use Rattle.kcr_history.proofs.Steps.{follows}
-use Rattle.kcr_laws.proofs.Accepted.{same_answer, other_outcome, one}
+use Rattle.kcr_laws.proofs.Accepted.{same_reply, other_outcome, one}
 
 -- with a new key, and with nothing that refuses it, the command with these parts is accepted with this answer
 abbrev IsSeated : History → List ℕ → Act → ReplyData → Type 0
@@ -18,14 +18,14 @@ IsSeated A key act answer =
     (λ s. seats A x s (Accepts answer) (with_command A x answer))
 
 seated_first : (A : History) (key : List ℕ) (act : Act) (answer : ReplyData) → IsSeated A key act answer → IsSeatedFirst A (seat_request A act) answer.seating
-seated_first A key (Sign c k at) answer (inl w) = rw (same_answer _ _ w.2.0) w.1
+seated_first A key (Sign c k at) answer (inl w) = rw (same_reply _ _ w.2.0) w.1
 seated_first A key (Sign c k at) answer (inr w) = absurd (other_outcome _ _ w.2.0)
-seated_first A key (RecordException c text true at) answer (inl w) = rw (same_answer _ _ w.2.0) w.1
+seated_first A key (RecordException c text true at) answer (inl w) = rw (same_reply _ _ w.2.0) w.1
 seated_first A key (RecordException c text true at) answer (inr w) = absurd (other_outcome _ _ w.2.0)
 seated_first A key (RecordException c text false at) answer h = tt
 seated_first A key act answer h = tt
 
-first_seated : (A : History) (key : List ℕ) (act : Act) (answer : ReplyData) → IsAnswerTo A act answer (seat_request A act)
+first_seated : (A : History) (key : List ℕ) (act : Act) (answer : ReplyData) → IsReplyTo A act answer (seat_request A act)
     → IsSeatedFirst A (seat_request A act) answer.seating → IsSeated A key act answer
 first_seated A key (Sign c k at) answer h first =
     inl (h.0, rw h.2 at first, (ap Accepts h.2, ap (with_command A (record { key = key; act = Sign c k at })) h.2))
@@ -47,8 +47,8 @@ first_step A key act answer can first = rw (can.new_key, can.no_fault) (first_se
 
 pub machine_first : (A : History) → IsOfMachine A → HasFirstSeatings A
 machine_first [] m = tt
-machine_first (entry ∷ A) m = (step_first A entry.command.key entry.command.act entry.answer m.0, machine_first A m.1)
+machine_first (entry ∷ A) m = (step_first A entry.command.key entry.command.act entry.reply m.0, machine_first A m.1)
 
 pub first_machine : (A : History) → IsRegister A → HasFirstSeatings A → IsOfMachine A
 first_machine [] h first = tt
-first_machine (entry ∷ A) h first = (first_step A entry.command.key entry.command.act entry.answer h.0 first.0, first_machine A h.1 first.1)
+first_machine (entry ∷ A) h first = (first_step A entry.command.key entry.command.act entry.reply h.0 first.0, first_machine A h.1 first.1)

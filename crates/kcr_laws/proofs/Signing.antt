@@ -16,7 +16,7 @@ use Rattle.kcr_history.specs.Tables.{seats_at}
 use Rattle.kcr_history.specs.Conditions.{fault, is_full}
 use Rattle.kcr_history.specs.Machine.{Outcome, Accepts, Refuses, SeatRequest, reply_to, with_command, seats, DecidesNew, machine}
 use Rattle.kcr_laws.specs.Conditions.{signature, IsAccepted, CanFill, IsShortOf}
-use Rattle.kcr_laws.proofs.Accepted.{same_answer, other_outcome, same_refusal}
+use Rattle.kcr_laws.proofs.Accepted.{same_reply, other_outcome, same_refusal}
 use Rattle.kcr_laws.proofs.Firsts.{first_or_none}
 use Rattle.kcr_laws.proofs.Shortages.{seating_or_least}
 use Rattle.kcr_laws.proofs.Halves.{one_half}
@@ -100,7 +100,7 @@ first_recorded A key c k at answer A' new h = by_seats (accepted_parts A key c k
   where
     by_seats : seats A (signature key c k at) (sitting_of A c k at) (Accepts answer) A'
         → (people : List (List ℕ)) × IsFirst A c at (seats_at (steps_of A c) k) people × (answer.seating ≡ Some people)
-    by_seats (inl w) = (w.0, w.1, ap (λ (a : ReplyData). a.seating) (same_answer _ _ w.2.0))
+    by_seats (inl w) = (w.0, w.1, ap (λ (a : ReplyData). a.seating) (same_reply _ _ w.2.0))
     by_seats (inr w) = absurd (other_outcome _ _ w.2.0)
 
 -- WANT OF PEOPLE

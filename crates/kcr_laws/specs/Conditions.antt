@@ -24,9 +24,9 @@ use Rattle.kcr_history.specs.Machine.{Accepts, Refuses, with_command, machine}
 abbrev pub signature : List ℕ → ℕ → ℕ → ℕ → Command
 signature key ceremony step at = record { key = key; act = Sign ceremony step at }
 
--- the machine accepts the command, with some answer, as the history's next one
+-- the machine accepts the command, with some reply, as the history's next one
 abbrev pub IsAccepted : History → Command → Type 0
-IsAccepted A x = (answer : ReplyData) × machine A x (Accepts answer) (with_command A x answer)
+IsAccepted A x = (reply : ReplyData) × machine A x (Accepts reply) (with_command A x reply)
 
 -- some people, all distinct and in the room at the moment, are each eligible for the seat of the step in their position
 abbrev pub CanFill : History → ℕ → ℕ → ℕ → Type 0

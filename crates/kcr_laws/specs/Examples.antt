@@ -85,7 +85,7 @@ with_acts A (act ∷ acts) = with_acts (with_act A act None) acts
 
 -- the JSON text of what is answered
 abbrev pub outcome_text : Outcome → List ℕ
-outcome_text (Accepts answer) = reply_text answer
+outcome_text (Accepts reply) = reply_text reply
 outcome_text (Refuses refusal) = refusal_text refusal
 
 -- the acts come one after the other, each under a new key, and the machine answers each with its text; A' is the

@@ -43,7 +43,7 @@ pub fn keys_are_unique()
 pub fn repeats_change_nothing()
     ensures { (A : History) (x : Command) (kept : Entry) → entry_of A x.key ≡ Some kept →
         IsTrue (same_command kept.command.act x.act) →
-        (outcome : Outcome) (A' : History) → machine A x outcome A' → (outcome ≡ Accepts kept.answer) × (A' ≡ A) }
+        (outcome : Outcome) (A' : History) → machine A x outcome A' → (outcome ≡ Accepts kept.reply) × (A' ≡ A) }
 {}
 
 /// Whatever is answered, a register stays one.
@@ -61,7 +61,7 @@ pub fn machine_leads_to_first_seatings()
 {}
 
 /// What the machine answers is fixed, apart from which of several least shortages it names: a command is accepted with
-/// one answer, the first seating in it, and leads to one history; it is not refused as well, for if there is a
+/// one reply, the first seating in it, and leads to one history; it is not refused as well, for if there is a
 /// seating nothing is short; and it is refused with one refusal.
 pub fn answers_are_fixed()
     ensures accepted { (A : History) (x : Command) (a b : ReplyData) (B C : History) →
@@ -112,7 +112,7 @@ pub fn registers_are_balanced()
 /// A step is signed exactly when it is next and distinct people then in the room can fill its seats: under a new key,
 /// and before the register is full, a signature is accepted if and only if the ceremony is open, the step is the next
 /// one of its script, the moment is not before the ceremony's mark, and some people, all distinct and in the room at
-/// the moment, are each eligible for one of the step's seats. Such a ceremony is planned, and the answer names the
+/// the moment, are each eligible for one of the step's seats. Such a ceremony is planned, and the reply names the
 /// first such people.
 pub fn signed_iff_seats_can_be_filled()
     ensures signed { (A : History) (key : List ℕ) (ceremony step at : ℕ) → entry_of A key ≡ None
@@ -121,11 +121,11 @@ pub fn signed_iff_seats_can_be_filled()
         ↔ (IsTrue (next A ceremony step at) × CanFill A ceremony step at) }
     ensures known { (A : History) (ceremony step at : ℕ) → IsTrue (next A ceremony step at)
         → IsTrue (is_ceremony A ceremony) }
-    ensures first { (A : History) (key : List ℕ) (ceremony step at : ℕ) (answer : ReplyData) (after : History)
+    ensures first { (A : History) (key : List ℕ) (ceremony step at : ℕ) (reply : ReplyData) (after : History)
         → entry_of A key ≡ None →
-        machine A (signature key ceremony step at) (Accepts answer) after →
+        machine A (signature key ceremony step at) (Accepts reply) after →
         (people : List (List ℕ)) × Seatings.IsFirst A ceremony at (seats_at (steps_of A ceremony) step) people
-        × (answer.seating ≡ Some people) }
+        × (reply.seating ≡ Some people) }
 {}
 
 /// A step is short of people exactly when it is next and nobody can fill its seats: under a new key, and before the

@@ -28,12 +28,12 @@ module _ (A : History) (x : Command) where
   kept-tables : (changes : List Change) → changes ≡ [] → SameTables (changed_by changes (tables A)) (tables A)
   kept-tables changes none = same-tables _ _ (ap (λ all. changed_by all (tables A)) none)
 
-  accepted-alike : (v w : Verdict) (o p : Option ReplyData) → v.answer ≡ o → w.answer ≡ p → Accepted v o → Accepted w p → AcceptAlike A v w
+  accepted-alike : (v w : Verdict) (o p : Option ReplyData) → v.new_reply ≡ o → w.new_reply ≡ p → Accepted v o → Accepted w p → AcceptAlike A v w
   accepted-alike v w None None e f g h =
-      let same : g.0.answer ≡ h.0.answer = (accepted_fixed A x _ _ A A g.1.step h.1.step).0 in
+      let same : g.0.reply ≡ h.0.reply = (accepted_fixed A x _ _ A A g.1.step h.1.step).0 in
       record {
         reply = g.1.reply ∙ ap reply_text same ∙ sym h.1.reply;
-        answer = e ∙ sym f;
+        new_reply = e ∙ sym f;
         tables = (A, kept-tables v.changes.items g.1.changes, kept-tables w.changes.items h.1.changes);
       }
   accepted-alike v w None (Some b) e f g h = absurd (grown A _ (sym (accepted_fixed A x _ _ A _ g.1.step h.step).1))
@@ -42,7 +42,7 @@ module _ (A : History) (x : Command) where
       let same : a ≡ b = (accepted_fixed A x a b _ _ g.step h.step).0 in
       record {
         reply = g.reply ∙ ap reply_text same ∙ sym h.reply;
-        answer = e ∙ ap (λ z. Some z) same ∙ sym f;
+        new_reply = e ∙ ap (λ z. Some z) same ∙ sym f;
         tables = (
           with_command A x b,
           subst (λ (z : ReplyData). SameTables (changed_by v.changes.items (tables A)) (tables (with_command A x z))) same g.tables,
@@ -52,11 +52,11 @@ module _ (A : History) (x : Command) where
 
   -- some step of the machine accepts
   step-of : (v : Verdict) (o : Option ReplyData) → Accepted v o → (a : ReplyData) × (B : History) × machine A x (Accepts a) B
-  step-of v None g = (g.0.answer, A, g.1.step)
+  step-of v None g = (g.0.reply, A, g.1.step)
   step-of v (Some a) g = (a, with_command A x a, g.step)
 
 pub decisions-alike : (A : History) (x : Command) (r s : Result Verdict Refusal) → IsDecision A x r → IsDecision A x s → DecideAlike A r s
-decisions-alike A x (Ok v) (Ok w) g h = accepted-alike A x v w v.answer w.answer refl refl g h
-decisions-alike A x (Ok v) (Err q) g h = λ ne. let s = step-of A x v v.answer g in never_both A x s.0 q s.1 A s.2 (h ne)
-decisions-alike A x (Err q) (Ok w) g h = λ ne. let s = step-of A x w w.answer h in never_both A x s.0 q s.1 A s.2 (g ne)
+decisions-alike A x (Ok v) (Ok w) g h = accepted-alike A x v w v.new_reply w.new_reply refl refl g h
+decisions-alike A x (Ok v) (Err q) g h = λ ne. let s = step-of A x v v.new_reply g in never_both A x s.0 q s.1 A s.2 (h ne)
+decisions-alike A x (Err q) (Ok w) g h = λ ne. let s = step-of A x w w.new_reply h in never_both A x s.0 q s.1 A s.2 (g ne)
 decisions-alike A x (Err r) (Err q) g h = λ ne me. refused_fixed A x r q A A (g ne) (h me)

@@ -202,8 +202,8 @@ plan-fault A number facility day script view v = rw (known-shown A number view.c
 done-planned : (A : History) → IsRegister A → (c k : ℕ) → is_some (step_result A c k) ≡ true → is_ceremony A c ≡ true
 done-planned [] h c k e = absurd (false≢true e)
 done-planned (entry ∷ A) h c k e =
-    said-then (step_done c k entry.command.act entry.answer.step) (step_result A c k) (planned_as c entry.command.act) (plan_of A c)
-    (by_act entry.command.act entry.answer.step (took A entry h.0).no_fault) (done-planned A h.1 c k) e
+    said-then (step_done c k entry.command.act entry.reply.step) (step_result A c k) (planned_as c entry.command.act) (plan_of A c)
+    (by_act entry.command.act entry.reply.step (took A entry h.0).no_fault) (done-planned A h.1 c k) e
   where
     own : (d step : ℕ) → no_ceremony A d ≡ None → (eqb d c && eqb step k) ≡ true → is_ceremony A c ≡ true
     own d step f e =

@@ -29,7 +29,7 @@ use Rattle.kcr_history.proofs.Words.{row_of_key-keys}
 use Rattle.std.proofs.lemmas.Option.{same_Some, none-some}
 use Rattle.kcr_rules.specs.Early.{early_refusal_by, IsEarlyRefusal}
 use Rattle.kcr_rules.specs.ByRows.{refusal_by, has_too_many_steps, seat_request_by, IsSeatedFor, IsUnseatedFor, all_changes_by}
-use Rattle.kcr_machine.specs.RowDecision.{IsAnswerOf, IsReplyOf, IsOfKind, IsOwnRefusal, MayBeRefused}
+use Rattle.kcr_machine.specs.RowDecision.{IsReplyDataOf, IsReplyOf, IsOfKind, IsOwnRefusal, MayBeRefused}
 use Rattle.kcr_machine.specs.RowDecision.{is_full_by, reply_by, AcceptsNew, RepeatsRow, IsRowDecision, IsRowRepeat}
 use Rattle.kcr_rules.specs.Signing.{IsSeatedBy, IsUnseatedBy}
 use Rattle.kcr_base.proofs.RefuseLemmas.{none_holds}
@@ -230,12 +230,12 @@ repeated A x verdict kept k g =
 -- a decision by the row of the key is a step of the machine
 pub repetition : (A : History) (x : Command) (row : KeyRow) (result : Result Verdict Refusal) → row_of_key x.key (keys A) ≡ Some row
     → IsRowRepeat row x result → IsDecision A x result
-repetition A x row (Ok verdict) there g = by_answer verdict.answer g.answer
+repetition A x row (Ok verdict) there g = by_reply verdict.new_reply g.new_reply
   where
-    by_answer : (o : Option ReplyData) → o ≡ None → MatchOption o ((kept : Entry) × IsRepeat A x verdict kept) (IsAcceptance A x verdict)
-    by_answer None none =
+    by_reply : (o : Option ReplyData) → o ≡ None → MatchOption o ((kept : Entry) × IsRepeat A x verdict kept) (IsAcceptance A x verdict)
+    by_reply None none =
         let w = an_entry A x.key row there in (w.0, repeated A x verdict w.0 w.1 (subst (λ (r : KeyRow). RepeatsRow r x verdict) (sym w.2) g))
-    by_answer (Some answer) none = absurd (none-some answer (sym none))
+    by_reply (Some answer) none = absurd (none-some answer (sym none))
 repetition A x row (Err refusal) there g = λ ne.
     let w = an_entry A x.key row there in
     let other = subst (λ (r : KeyRow). (same_text r.command (command_text x.act) ≡ false) × (refusal ≡ Key)) (sym w.2) (g ne) in
@@ -247,12 +247,12 @@ repetition A x row (Err refusal) there g = λ ne.
 pub decision : (A : History) (x : Command) (view : View) (last : ℕ) (result : Result Verdict Refusal) → IsRegister A
     → row_of_key x.key (keys A) ≡ None → IsViewOf (asks_of x) (tables A) view → last ≡ greatest_number (keys A)
     → IsRowDecision view last x result → IsDecision A x result
-decision A x view last (Ok verdict) h new v e g = by_answer verdict.answer g
+decision A x view last (Ok verdict) h new v e g = by_reply verdict.new_reply g
   where
-    by_answer : (o : Option ReplyData) → MatchOption o ⊥ (AcceptsNew view last x verdict)
+    by_reply : (o : Option ReplyData) → MatchOption o ⊥ (AcceptsNew view last x verdict)
         → MatchOption o ((kept : Entry) × IsRepeat A x verdict kept) (IsAcceptance A x verdict)
-    by_answer None none = absurd none
-    by_answer (Some answer) a = accepted A x view last verdict answer h v (e ∙ greatest-keys A h) (no_entry A x.key new) a
+    by_reply None none = absurd none
+    by_reply (Some answer) a = accepted A x view last verdict answer h v (e ∙ greatest-keys A h) (no_entry A x.key new) a
 decision A x view last (Err refusal) h new v e g = λ ne.
     let shown = (g ne).first (not_overdone-shown A h x.act view (front-of _ _ view v)) in
     rw (no_entry A x.key new)
@@ -283,7 +283,7 @@ some o x is = subst IsSome (sym is) refl
 
 -- an answer by rows is one of the act's kind
 of-kind : (view : View) (last : ℕ) (act : Act) (answer : ReplyData) → answer ≡ reply_by view last act answer.seating
-    → IsSeatedFor view (seat_request_by view act) answer.seating → IsAnswerOf act answer
+    → IsSeatedFor view (seat_request_by view act) answer.seating → IsReplyDataOf act answer
 of-kind view last (Sign c k at) answer next seated =
     (ap (λ (a : ReplyData). a.exception) next, seated-some view _ answer.seating seated, ap (λ (a : ReplyData). a.step) next)
 of-kind view last (RecordException c text true at) answer next seated = (
@@ -304,7 +304,7 @@ reply-of-kind x view last verdict (Some answer) g = (answer, of-kind view last x
 -- a decision by rows is of the act's kind
 pub decision-kind : (x : Command) (view : View) (last : ℕ) (result : Result Verdict Refusal) → IsRowDecision view last x result
     → IfErr result (IsOwnRefusal x) → IsOfKind x result
-decision-kind x view last (Ok verdict) g kind = reply-of-kind x view last verdict verdict.answer g
+decision-kind x view last (Ok verdict) g kind = reply-of-kind x view last verdict verdict.new_reply g
 decision-kind x view last (Err refusal) g kind = kind
 
 is_memory : (r : Refusal) → (r ≡ Memory) ⊎ (r ≢ Memory)

@@ -21,7 +21,7 @@ use Rattle.kcr_history.specs.declared.views.View.{View}
 use Rattle.kcr_history.specs.History.{History, pushed_onto}
 use Rattle.kcr_history.specs.Ceremonies.{Planned, planned_as, plan_of, steps_of, step_at, does_step, steps_done, next_step}
 use Rattle.kcr_history.specs.Conditions.{fault}
-use Rattle.kcr_history.specs.Machine.{IsRegister, IsAnswerTo, CanFollow, seat_request}
+use Rattle.kcr_history.specs.Machine.{IsRegister, IsReplyTo, CanFollow, seat_request}
 use Rattle.kcr_history.specs.Seating.{is_seating}
 use Rattle.kcr_history.specs.Tables.{steps, seatings, seat_rows, seating_rows, seats_at, ceremony_of_step}
 use Rattle.kcr_history.specs.Views.{IncludesStep, is_seating_of, is_step_at, last_seated}
@@ -114,7 +114,7 @@ next-of : (A : History) (d c k : ℕ) → k ≡ suc (steps_done A d) → (d == c
 next-of A d c k e q = e ∙ ap (λ z. suc (steps_done A z)) (eqb-true d c q)
 
 by_act : (A : History) (act : Act) (answer : ReplyData) (c : ℕ) → fault A act ≡ None
-    → IsAnswerTo A act answer (seat_request A act) → last_seated (seatings A) c ≡ steps_done A c
+    → IsReplyTo A act answer (seat_request A act) → last_seated (seatings A) c ≡ steps_done A c
     → last_seated (pushed_onto (seating_rows (ceremony_of_step act) answer.step answer.seating) (seatings A)) c ≡ one_more (does_step c act) (steps_done A c)
 by_act A (Sign d k at) answer c f (people, seated, e) ih =
     rw e (seated-after c d k (steps_done A c) (d == c) people (seatings A) refl

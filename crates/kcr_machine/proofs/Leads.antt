@@ -35,7 +35,7 @@ abbrev pub command_of : List ℕ → Act → Command
 command_of key act = record { key = key; act = act }
 
 abbrev pub entry_as : List ℕ → Act → ReplyData → Entry
-entry_as key act answer = record { command = command_of key act; answer = answer }
+entry_as key act answer = record { command = command_of key act; reply = answer }
 
 -- the tables with the changes, and with the row of the command's key
 abbrev pub changed_with : List Change → Command → ReplyData → Tables → Tables

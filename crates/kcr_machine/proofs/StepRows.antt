@@ -94,7 +94,7 @@ new_planned A number facility day script c f q =
     (unmet (is_ceremony A number) Taken (none_holds (conditions A (Plan number facility day script)) f).0))
 
 below_after : (A : History) (act : Act) (answer : ReplyData) (key : List ℕ) (c : ℕ) → fault A act ≡ None → steps_done A c ≤ length (steps_of A c)
-    → one_more (does_step c act) (steps_done A c) ≤ length (steps_of (record { command = record { key = key; act = act }; answer = answer } ∷ A) c)
+    → one_more (does_step c act) (steps_done A c) ≤ length (steps_of (record { command = record { key = key; act = act }; reply = answer } ∷ A) c)
 below_after A (Plan number facility day script) answer key c f ih = grind (arith, new_planned A number facility day script c f)
 below_after A act answer key c f ih = one_below (does_step c act) (steps_done A c) (steps_of A c) (next-there A act c f) ih
 
@@ -103,7 +103,7 @@ pub done-below : (A : History) → IsRegister A → (c : ℕ) → steps_done A c
 done-below [] h c = omega arith
 done-below (entry ∷ A) h c =
     let t = took A entry h.0 in
-    rw (done-after A entry c) (below_after A entry.command.act entry.answer entry.command.key c t.no_fault (done-below A h.1 c))
+    rw (done-after A entry c) (below_after A entry.command.act entry.reply entry.command.key c t.no_fault (done-below A h.1 c))
 
 -- a script has at most 400 steps
 few_script : (script : List ℕ) → length (result_unwrap_or (script_of script) []) ≤ 400
@@ -139,7 +139,7 @@ keys-stacked (entry ∷ A) h c = by_act entry.command.act (took A entry h.0).no_
   where
     by_act : (act : Act) → fault A act ≡ None → filter (λ key. key.0 == c) (step_keys A) ≡ pushed_onto (numbered c 0 (steps_of A c)) []
         → filter (λ key. key.0 == c) (step_keys_after act (step_keys A))
-        ≡ pushed_onto (numbered c 0 (steps_of (record { command = record { key = entry.command.key; act = act }; answer = entry.answer } ∷ A) c)) []
+        ≡ pushed_onto (numbered c 0 (steps_of (record { command = record { key = entry.command.key; act = act }; reply = entry.reply } ∷ A) c)) []
     by_act (Plan number facility day script) f ih =
         let ss = result_unwrap_or (script_of script) [] in
         let moved = filter-stacked (λ key. key.0 == c) (numbered number 0 ss) (step_keys A) in
@@ -187,11 +187,11 @@ stated-exceptions : (A : History) → IsRegister A → (c : ℕ) → exception_c
 stated-exceptions [] h c = refl
 stated-exceptions (entry ∷ A) h c =
     let t = took A entry h.0 in
-    by_act entry.command.act entry.answer t.people t.answer (stated-exceptions A h.1 c)
+    by_act entry.command.act entry.reply t.people t.reply (stated-exceptions A h.1 c)
     ∙ sym (count-cons (λ entry. is_exception c entry.command.act) entry A)
   where
     by_act : (act : Act) (answer : ReplyData) (people : Option (List (List ℕ))) → answer ≡ reply_to A act people → exception_count_by (exceptions A) c ≡ exceptions_of A c
-        → exception_count_by (exceptions (record { command = record { key = entry.command.key; act = act }; answer = answer } ∷ A)) c
+        → exception_count_by (exceptions (record { command = record { key = entry.command.key; act = act }; reply = answer } ∷ A)) c
         ≡ one_more (is_exception c act) (exceptions_of A c)
     by_act (RecordException d text true at) answer people e ih = rw e (grind arith)
     by_act (RecordException d text false at) answer people e ih = rw e (grind arith)
@@ -271,9 +271,9 @@ fresh-seats [] h c k j l = refl
 fresh-seats (entry ∷ A) h c k j l =
     let t = took A entry h.0 in
     let l2 : one_more (does_step c entry.command.act) (steps_done A c) < k = rw (done-after A entry c) at l in
-    any-stacked (is_seat_of c k j) (seating_rows (ceremony_of_step entry.command.act) entry.answer.step entry.answer.seating) (seatings A)
+    any-stacked (is_seat_of c k j) (seating_rows (ceremony_of_step entry.command.act) entry.reply.step entry.reply.seating) (seatings A)
     ∙ or_from _ _
-    (ap (λ answer. list_any (is_seat_of c k j) (seating_rows (ceremony_of_step entry.command.act) answer.step answer.seating)) t.answer
+    (ap (λ answer. list_any (is_seat_of c k j) (seating_rows (ceremony_of_step entry.command.act) answer.step answer.seating)) t.reply
     ∙ by_act entry.command.act t.people t.no_fault l2)
     (fresh-seats A h.1 c k j (grind arith))
   where
@@ -303,11 +303,11 @@ fresh-exception [] h c j l = refl
 fresh-exception (entry ∷ A) h c j l =
     let t = took A entry h.0 in
     let l2 : one_more (is_exception c entry.command.act) (exceptions_of A c) < j = rw (count-cons (λ entry. is_exception c entry.command.act) entry A) at l in
-    by_act entry.command.act entry.answer t.people t.answer l2 (fresh-exception A h.1 c j)
+    by_act entry.command.act entry.reply t.people t.reply l2 (fresh-exception A h.1 c j)
   where
     by_act : (act : Act) (answer : ReplyData) (people : Option (List (List ℕ))) → answer ≡ reply_to A act people
         → one_more (is_exception c act) (exceptions_of A c) < j → (exceptions_of A c < j → list_any (is_numbered c j) (exceptions A) ≡ false)
-        → list_any (is_numbered c j) (exceptions (record { command = record { key = entry.command.key; act = act }; answer = answer } ∷ A)) ≡ false
+        → list_any (is_numbered c j) (exceptions (record { command = record { key = entry.command.key; act = act }; reply = answer } ∷ A)) ≡ false
     by_act (RecordException d text true at) answer people e l ih = rw e (grind arith)
     by_act (RecordException d text false at) answer people e l ih = rw e (grind arith)
     by_act act answer people e l ih = ih l

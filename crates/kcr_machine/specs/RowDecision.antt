@@ -23,10 +23,10 @@ is_full_by last = nat_le 4000000000 last
 
 -- the row of a command that is accepted now
 abbrev pub new_key_row : Command → ReplyData → KeyRow
-new_key_row x answer =
-    record { key = x.key; accepted = answer.accepted; command = command_text x.act; reply = reply_text answer }
+new_key_row x reply =
+    record { key = x.key; accepted = reply.accepted; command = command_text x.act; reply = reply_text reply }
 
--- the answer after the command of this number, with the people who are seated
+-- the reply after the command of this number, with the people who are seated
 abbrev pub reply_by : View → ℕ → Act → Option (List (List ℕ)) → ReplyData
 reply_by view last act people =
     record {
@@ -38,18 +38,18 @@ reply_by view last act people =
     }
 
 -- the key is new: the act's changes and the row of the command, and the next number's reply
-pub record AcceptsNew (view : View) (last : ℕ) (x : Command) (verdict : Verdict) (answer : ReplyData) : Type 0 where
+pub record AcceptsNew (view : View) (last : ℕ) (x : Command) (verdict : Verdict) (new_reply : ReplyData) : Type 0 where
   pub fine : refusal_by view (is_full_by last) x.act ≡ None
-  pub seated : IsSeatedFor view (seat_request_by view x.act) answer.seating
-  pub next : answer ≡ reply_by view last x.act answer.seating
-  pub changes : verdict.changes.items ≡ all_changes_by view x.act answer.seating ++ PutKey (new_key_row x answer) ∷ []
-  pub reply : verdict.reply.text ≡ reply_text answer
+  pub seated : IsSeatedFor view (seat_request_by view x.act) new_reply.seating
+  pub next : new_reply ≡ reply_by view last x.act new_reply.seating
+  pub changes : verdict.changes.items ≡ all_changes_by view x.act new_reply.seating ++ PutKey (new_key_row x new_reply) ∷ []
+  pub reply : verdict.reply.text ≡ reply_text new_reply
 
 -- a decision of a command whose key is new, after the command of this number
 abbrev pub IsRowDecision : View → ℕ → Command → Result Verdict Refusal → Type 0
 IsRowDecision view last x result =
     MatchResult result
-    (λ verdict. MatchOption verdict.answer ⊥ (AcceptsNew view last x verdict))
+    (λ verdict. MatchOption verdict.new_reply ⊥ (AcceptsNew view last x verdict))
     (λ refusal. refusal ≢ Memory → IsRefusalOf view (is_full_by last) x.act refusal)
 
 -- the key has a row of the same command: its reply, and no change
@@ -57,7 +57,7 @@ pub record RepeatsRow (row : KeyRow) (x : Command) (verdict : Verdict) : Type 0 
   pub same : same_text row.command (command_text x.act) ≡ true
   pub changes : verdict.changes.items ≡ []
   pub reply : verdict.reply.text ≡ row.reply
-  pub answer : verdict.answer ≡ None
+  pub new_reply : verdict.new_reply ≡ None
 
 -- a decision of a command whose key has this row
 abbrev pub IsRowRepeat : KeyRow → Command → Result Verdict Refusal → Type 0
@@ -68,20 +68,20 @@ IsRowRepeat row x result =
 
 -- WHATEVER THE ROWS ARE
 
--- the answer is one of an act of this kind: that of a signature has its step and who is seated, that of an exception
+-- the reply is one of an act of this kind: that of a signature has its step and who is seated, that of an exception
 -- the exception's number, and of one that passes a step also the step and who is seated; any other has its number alone
-abbrev pub IsAnswerOf : Act → ReplyData → Type 0
-IsAnswerOf (Sign ceremony step at) answer =
-    (answer.exception ≡ None) × IsSome answer.seating × (answer.step ≡ Some step)
-IsAnswerOf (RecordException ceremony text true at) answer =
-    IsSome answer.exception × IsSome answer.seating × IsSome answer.step
-IsAnswerOf (RecordException ceremony text false at) answer =
-    IsSome answer.exception × (answer.seating ≡ None) × (answer.step ≡ None)
-IsAnswerOf act answer = (answer.exception ≡ None) × (answer.seating ≡ None) × (answer.step ≡ None)
+abbrev pub IsReplyDataOf : Act → ReplyData → Type 0
+IsReplyDataOf (Sign ceremony step at) reply =
+    (reply.exception ≡ None) × IsSome reply.seating × (reply.step ≡ Some step)
+IsReplyDataOf (RecordException ceremony text true at) reply =
+    IsSome reply.exception × IsSome reply.seating × IsSome reply.step
+IsReplyDataOf (RecordException ceremony text false at) reply =
+    IsSome reply.exception × (reply.seating ≡ None) × (reply.step ≡ None)
+IsReplyDataOf act reply = (reply.exception ≡ None) × (reply.seating ≡ None) × (reply.step ≡ None)
 
--- the reply is the text of such an answer
+-- the reply is the text of such an reply
 abbrev pub IsReplyOf : Act → List ℕ → Type 0
-IsReplyOf act text = (answer : ReplyData) × IsAnswerOf act answer × (text ≡ reply_text answer)
+IsReplyOf act text = (reply : ReplyData) × IsReplyDataOf act reply × (text ≡ reply_text reply)
 
 -- the refusal is one that acts of the command's kind may get
 abbrev pub IsOwnRefusal : Command → Refusal → Type 0

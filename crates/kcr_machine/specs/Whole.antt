@@ -22,10 +22,10 @@ pub record IsAsked (A : History) (x : Command) (view : FullView) : Type 0 where
   pub rows : IsViewOf (asks_of x) (tables A) view.view
   pub keys : ShowsKey x.key (tables A).keys view.keys.items
 
--- two verdicts have one reply and one answer, and lead to the tables of one history
+-- two verdicts have one reply as text and as data, and lead to the tables of one history
 pub record AcceptAlike (A : History) (v w : Verdict) : Type 0 where
   pub reply : v.reply.text ≡ w.reply.text
-  pub answer : v.answer ≡ w.answer
+  pub new_reply : v.new_reply ≡ w.new_reply
   pub tables : (B : History) × SameTables (changed_by v.changes.items (tables A)) (tables B)
       × SameTables (changed_by w.changes.items (tables A)) (tables B)
 

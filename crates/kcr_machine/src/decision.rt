@@ -12,7 +12,7 @@ ghost use Rattle.kcr_machine.specs.RowDecision.{IsOfKind, IsOwnRefusal};
 
 use kcr_base::Refusal;
 use kcr_history::{
-    Change, Command, KeyRow, Reply, ReplyData, Verdict, View, answer_text, command_text,
+    Change, Command, KeyRow, Reply, ReplyData, Verdict, View, command_text, reply_text,
 };
 use kcr_rules::{Effect, early_refusal, evaluate};
 use std::alloc::Global;
@@ -33,7 +33,7 @@ fn repeat_by_row(alloc: Global, row: &KeyRow, command: &Command) -> Result<Verdi
         reply: Reply {
             text: row.reply.clone()?,
         },
-        answer: None,
+        new_reply: None,
     })
 }
 
@@ -70,24 +70,24 @@ fn decide_by_rows(
         seating,
         step,
     } = acted;
-    let answer = ReplyData {
+    let new_reply = ReplyData {
         // A full register accepts no act, so there is a next number.
         accepted: accepted + 1,
         exception,
         seating,
         step,
     };
-    let reply = answer_text(alloc, &answer)?;
+    let reply = reply_text(alloc, &new_reply)?;
     changes.push(Change::PutKey(KeyRow {
         key: command.key,
-        accepted: answer.accepted,
+        accepted: new_reply.accepted,
         command: command_text(alloc, &command.act)?,
         reply: reply.clone()?,
     }))?;
     Ok(Verdict {
         changes,
         reply: Reply { text: reply },
-        answer: Some(answer),
+        new_reply: Some(new_reply),
     })
 }
 

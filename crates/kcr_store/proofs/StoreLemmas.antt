@@ -40,7 +40,7 @@ use Rattle.kcr_history.specs.Questions.{IsByInitials}
 use Rattle.kcr_machine.specs.RowDecision.{IsOfKind, IsRowRepeat, MayBeRefused}
 use Rattle.kcr_machine.proofs.Decided.{fault-refused, repeat-kind}
 use Rattle.kcr_store.specs.TransactionResult.{ends_with}
-use Rattle.kcr_store.specs.Commands.{AppliesCommand, MayBeReplied, with_answer, number_after}
+use Rattle.kcr_store.specs.Commands.{AppliesCommand, MayBeReplied, with_reply, number_after}
 use Rattle.kcr_store.specs.Stored.{Stores, OfStored}
 use Rattle.kcr_store.specs.FullView.{AreRows, IsListed, Lists}
 
@@ -56,31 +56,31 @@ abbrev Decides : History → Command → Verdict → Option ReplyData → Type 0
 Decides A x v answer = MatchOption answer ((kept : Entry) × IsRepeat A x v kept) (IsAcceptance A x v)
 
 module _ (A : History) (x : Command) (v : Verdict) where
-  pub steps : (answer : Option ReplyData) → Decides A x v answer → AppliesCommand A x (Ok v.reply) (with_answer A x answer)
+  pub steps : (answer : Option ReplyData) → Decides A x v answer → AppliesCommand A x (Ok v.reply) (with_reply A x answer)
   steps (Some a) d = (a, d.step, d.reply)
-  steps None d = (d.0.answer, d.1.step, d.1.reply)
+  steps None d = (d.0.reply, d.1.step, d.1.reply)
 
-  next_register : (answer : Option ReplyData) → Decides A x v answer → IsRegister A → IsRegister (with_answer A x answer)
+  next_register : (answer : Option ReplyData) → Decides A x v answer → IsRegister A → IsRegister (with_reply A x answer)
   next_register (Some a) d r = (follows A x a d.step, r)
   next_register None d r = r
 
   -- the tables with the changes are those of the history after the command, up to the order of their rows
   next_holds : (answer : Option ReplyData) (new : Database) → Decides A x v answer → HoldsTables (changed_by v.changes.items (tables A)) new
-      → HoldsTables (tables (with_answer A x answer)) new
-  next_holds (Some a) new d h = same_holds (changed_by v.changes.items (tables A)) (tables (with_answer A x (Some a))) new d.tables h
+      → HoldsTables (tables (with_reply A x answer)) new
+  next_holds (Some a) new d h = same_holds (changed_by v.changes.items (tables A)) (tables (with_reply A x (Some a))) new d.tables h
   next_holds None new d h = subst (λ (l : List Change). HoldsTables (changed_by l (tables A)) new) d.1.changes h
 
   pub next_stores : (answer : Option ReplyData) (old new : Database) → Stores A old → Decides A x v answer
-      → HoldsTables (changed_by v.changes.items (tables A)) new → Stores (with_answer A x answer) new
+      → HoldsTables (changed_by v.changes.items (tables A)) new → Stores (with_reply A x answer) new
   next_stores answer old new s d h =
       let after = next_holds answer new d h in
       record { schema = after.schema; tables = record { register = next_register answer d s.tables.register; kept = after.tables } }
 
 -- the number of the last command after a decision is that of the history after it
-pub counts_after : (A : History) (x : Command) (answer : Option ReplyData) (count : ℕ) → count ≡ length A → IsRegister (with_answer A x answer)
-    → number_after count answer ≡ length (with_answer A x answer)
+pub counts_after : (A : History) (x : Command) (answer : Option ReplyData) (count : ℕ) → count ≡ length A → IsRegister (with_reply A x answer)
+    → number_after count answer ≡ length (with_reply A x answer)
 counts_after A x None count is h = is
-counts_after A x (Some answer) count is h = numbers A (record { command = x; answer = answer }) h
+counts_after A x (Some answer) count is h = numbers A (record { command = x; reply = answer }) h
 
 -- over the tables of each history it is the machine's decision, and the tables stay
 abbrev pub IsDecided : State → State → ℕ → Command → Result Verdict Refusal → Type 0

@@ -13,7 +13,7 @@ use Rattle.sqlite.specs.Held.{Held, state}
 use Rattle.kcr_history.specs.declared.commands.Command.{Command}
 use Rattle.kcr_rows.proofs.InsideLemmas.{was_clean, survives_on}
 use Rattle.kcr_rows.specs.Frame.{StaysInTransaction}
-use Rattle.kcr_store.specs.Commands.{AppliesCommand, with_answer, number_after}
+use Rattle.kcr_store.specs.Commands.{AppliesCommand, with_reply, number_after}
 use Rattle.kcr_history.specs.declared.views.Verdict.{Verdict}
 use Rattle.kcr_store.proofs.StoreLemmas.{counts_after}
 use Rattle.kcr_store.specs.Stored.{IsTables, Stores}
@@ -123,18 +123,18 @@ module _ (accepted : History) (begun mid : State) (b : Began accepted begun) (ke
 module _ {S : Type 0} (g : Ghosts S) (old begun : Held S) (is : begun ≡ record old { in_transaction = true }) where
   -- a command that was prepared: the tables are those after it, and the number is its own or, of a repeat, the same
   pub made_by : (mid : State) → Survives (state g begun) mid (λ _. ⊥) → {A after : History} (x : Command) (count : ℕ) (v : Verdict)
-      → after ≡ with_answer A x v.answer
+      → after ≡ with_reply A x v.new_reply
       → (HasCleanDisk mid → IsTrue (state g begun).in_transaction → (B : History) → count ≡ length B
       → (IsTrue (state g begun).is_open → Stores B (state g begun).now)
-      → AppliesCommand B x (Ok v.reply) (with_answer B x v.answer) × Stores (with_answer B x v.answer) mid.now × IsTrue mid.in_transaction)
-      → IsDurableWith count A (state g old) → HasCleanDisk mid → AppliesCommand A x (Ok v.reply) after × Stores after mid.now × (number_after count v.answer ≡ length after)
+      → AppliesCommand B x (Ok v.reply) (with_reply B x v.new_reply) × Stores (with_reply B x v.new_reply) mid.now × IsTrue mid.in_transaction)
+      → IsDurableWith count A (state g old) → HasCleanDisk mid → AppliesCommand A x (Ok v.reply) after × Stores after mid.now × (number_after count v.new_reply ≡ length after)
   made_by mid kept {A} {after} x count v after_is said was clean =
       let b = begins g A old begun is was.whole in
       let before = was_clean (state g begun) mid _ kept clean in
       let number : count ≡ length A = was.counts (begun_clean g old begun is before) in
       let done = said clean b.inside A number (λ live. (b.shows before live).now) in
-      subst (λ B. AppliesCommand A x (Ok v.reply) B × Stores B mid.now × (number_after count v.answer ≡ length B)) (sym after_is)
-      (done.0, done.1, counts_after A x v.answer count number done.1.tables.register)
+      subst (λ B. AppliesCommand A x (Ok v.reply) B × Stores B mid.now × (number_after count v.new_reply ≡ length B)) (sym after_is)
+      (done.0, done.1, counts_after A x v.new_reply count number done.1.tables.register)
 
   -- a transaction that reads and is rolled back, or dropped
   module _ (mid end : State) (kept : Survives (state g begun) mid (λ _. ⊥)) (then : Survives mid end (λ _. ⊥)) where

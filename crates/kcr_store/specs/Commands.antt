@@ -24,22 +24,22 @@ use Rattle.kcr_history.specs.declared.questions.Shown.{Shown}
 use Rattle.kcr_history.specs.declared.questions.Shown.TheVariants as shown
 use Rattle.kcr_store.specs.FullView.{IsListed}
 
--- The register went from A to A' by the command, and gave this result: the machine's answer as its text, or the
+-- The register went from A to A' by the command, and gave this result: the machine's reply as its text, or the
 -- machine's refusal. Out of memory and an I/O error say nothing of the command, and leave the list.
 abbrev pub AppliesCommand : History → Command → Result Reply Refusal → History → Type 0
 AppliesCommand A command (Ok reply) A' = (a : ReplyData) × machine A command (Accepts a) A' × (reply.text ≡ reply_text a)
 AppliesCommand A command (Err refusal) A' =
     (A' ≡ A) × (refusal ≢ Memory → refusal ≢ Disk → machine A command (Refuses refusal) A')
 
--- the history with the command in front, if it gets a new answer; a repeat gets none
-abbrev pub with_answer : History → Command → Option ReplyData → History
-with_answer A command None = A
-with_answer A command (Some answer) = with_command A command answer
+-- the history with the command in front, if it gets a new reply; a repeat gets none
+abbrev pub with_reply : History → Command → Option ReplyData → History
+with_reply A command None = A
+with_reply A command (Some reply) = with_command A command reply
 
--- the number of the last command after it: that of the new answer; a repeat gets none
+-- the number of the last command after it: that of the new reply; a repeat gets none
 abbrev pub number_after : ℕ → Option ReplyData → ℕ
 number_after count None = count
-number_after count (Some answer) = answer.accepted
+number_after count (Some reply) = reply.accepted
 
 -- the history, or the one to which the machine goes from it if it accepts the command
 abbrev pub IsSameOrNext : History → Command → History → Type 0
@@ -64,7 +64,7 @@ abbrev pub IsQuestionResult : History → Question → Result Shown Refusal → 
 IsQuestionResult A question result = MatchResult result (IsShownTo A question) (IsQuestionRefusal A question)
 
 -- the reply by the row of the command's key: what the row keeps for this very command, or, where there is no row, the
--- text of an answer of the command's kind
+-- text of a reply of the command's kind
 abbrev pub IsRepliedBy : Option KeyRow → Command → Reply → Type 0
 IsRepliedBy None command reply = IsReplyOf command.act reply.text
 IsRepliedBy (Some row) command reply =

@@ -38,7 +38,7 @@ in_doubt_after old (InDoubt p) = p.entries
 
 -- the number of the last command that stands, after the old one
 abbrev pub last_number_after : ℕ → TransactionResult → ℕ
-last_number_after old (Accepted v p) = number_after old v.answer
+last_number_after old (Accepted v p) = number_after old v.new_reply
 last_number_after old (Refused e) = old
 last_number_after old (InDoubt p) = old
 

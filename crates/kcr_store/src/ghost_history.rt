@@ -6,7 +6,7 @@ ghost use Rattle.kcr_history.specs.History.{History};
 use kcr_history::{Command, ReplyData};
 use std::marker::Model;
 
-/// The commands that were accepted, each with its answer, the last one first. It takes no bytes, and only proofs read
+/// The commands that were accepted, each with its reply, the last one first. It takes no bytes, and only proofs read
 /// it.
 #[derive(Drop)]
 pub struct GhostHistory {
@@ -20,7 +20,7 @@ impl Model for GhostHistory {
 }
 
 impl GhostHistory {
-    ghost use Rattle.kcr_store.specs.Commands.{with_answer};
+    ghost use Rattle.kcr_store.specs.Commands.{with_reply};
 
     /// Stands for whatever history the proof of the caller names.
     pub fn any() -> GhostHistory
@@ -37,25 +37,25 @@ impl GhostHistory {
         GhostHistory {}
     }
 
-    /// The history with this command in front, which was accepted with this answer.
-    pub fn pushed(_before: &GhostHistory, _command: &Command, _answer: &ReplyData) -> GhostHistory
-        ensures { (result.entries ≡ record { command = _command.now; answer = _answer.now } ∷ _before.now.entries)
+    /// The history with this command in front, which was accepted with this reply.
+    pub fn pushed(_before: &GhostHistory, _command: &Command, _reply: &ReplyData) -> GhostHistory
+        ensures { (result.entries ≡ record { command = _command.now; reply = _reply.now } ∷ _before.now.entries)
             × (result.is_genuine ≡ _before.now.is_genuine) }
     {
         GhostHistory {}
     }
 
-    /// The history after a command: with it in front if its answer is new, and the same if it is a repeat.
+    /// The history after a command: with it in front if its reply is new, and the same if it is a repeat.
     pub fn after_verdict(
         before: &GhostHistory,
         command: &Command,
-        answer: &Option<ReplyData>,
+        reply: &Option<ReplyData>,
     ) -> GhostHistory
-        ensures entries { result.entries ≡ with_answer before.now.entries command.now answer.now }
+        ensures entries { result.entries ≡ with_reply before.now.entries command.now reply.now }
         ensures founded { result.is_genuine ≡ before.now.is_genuine }
     {
-        match answer {
-            Some(answer) => GhostHistory::pushed(before, command, answer),
+        match reply {
+            Some(reply) => GhostHistory::pushed(before, command, reply),
             None => GhostHistory::copied(before),
         }
     }

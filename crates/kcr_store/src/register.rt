@@ -238,7 +238,7 @@ impl<S: Alter> Register<S> {
             command,
         ) {
             TransactionResult::Accepted(verdict, past) => {
-                self.last_number = number_after(self.last_number, verdict.answer);
+                self.last_number = number_after(self.last_number, verdict.new_reply);
                 self.past = past;
                 Ok(verdict.reply)
             }

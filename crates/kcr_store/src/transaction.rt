@@ -13,7 +13,7 @@ ghost use Rattle.kcr_store.specs.Frame.{OnlyReads};
 ghost use Rattle.kcr_store.specs.Stored.{Stores, OfStored};
 ghost use Rattle.kcr_history.specs.Questions.{ArePeopleShown, AreCustodiansShown, IsBagShown, IsRoomShown};
 ghost use Rattle.kcr_store.specs.Commands as steps;
-ghost use Rattle.kcr_store.specs.Commands.{AppliesCommand, with_answer, IsSameOrNext, IsQuestionResult, IsQuestionRefusal, MayBeReplied, MayRefuseQuestion};
+ghost use Rattle.kcr_store.specs.Commands.{AppliesCommand, with_reply, IsSameOrNext, IsQuestionResult, IsQuestionRefusal, MayBeReplied, MayRefuseQuestion};
 ghost use Rattle.kcr_store.specs.Commands.{GoesByRow};
 ghost use Rattle.kcr_store.specs.TransactionResult.{ends_with};
 ghost use Rattle.kcr_store.specs.Register.{IsDurable, IsDurableWith, AfterCrash};
@@ -114,8 +114,8 @@ fn decide_and_write<S: Alter>(
         → (A : History) → turn.now.last_number ≡ length A
         → (IsTrue (state S.Store tx.old.conn.now).is_open → Stores A (state S.Store tx.old.conn.now).now)
         → IfOk result (λ verdict.
-        AppliesCommand A turn.now.command.now (Ok verdict.reply) (with_answer A turn.now.command.now verdict.answer)
-        × Stores (with_answer A turn.now.command.now verdict.answer) (state S.Store tx.new.conn.now).now
+        AppliesCommand A turn.now.command.now (Ok verdict.reply) (with_reply A turn.now.command.now verdict.new_reply)
+        × Stores (with_reply A turn.now.command.now verdict.new_reply) (state S.Store tx.new.conn.now).now
         × IsTrue (state S.Store tx.new.conn.now).in_transaction) }
     ensures kind { MayBeReplied turn.now.command.now (ends_with result) }
 
@@ -140,12 +140,12 @@ pub(crate) enum TransactionResult {
     InDoubt(GhostHistory),
 }
 
-/// The number of the last command after one that is not refused: that of its answer, or the same after a repeat.
-pub(crate) fn number_after(count: u32, answer: Option<ReplyData>) -> u32
-    ensures { result ≡ steps.number_after count answer }
+/// The number of the last command after one that is not refused: that of its reply, or the same after a repeat.
+pub(crate) fn number_after(count: u32, new_reply: Option<ReplyData>) -> u32
+    ensures { result ≡ steps.number_after count new_reply }
 {
-    match answer {
-        Some(answer) => answer.accepted,
+    match new_reply {
+        Some(reply) => reply.accepted,
         None => count,
     }
 }
@@ -186,7 +186,7 @@ pub(crate) fn run_command<S: Alter>(
         Ok(verdict) => verdict,
         Err(refusal) => return TransactionResult::Refused(refusal),
     };
-    let after = GhostHistory::after_verdict(past, command, &verdict.answer);
+    let after = GhostHistory::after_verdict(past, command, &verdict.new_reply);
     match tx.commit() {
         Ok(()) => TransactionResult::Accepted(verdict, after),
         Err(Error::SqliteFailure(ErrorCode::OutOfMemory)) => {

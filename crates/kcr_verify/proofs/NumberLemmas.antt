@@ -30,7 +30,7 @@ one_more entry A = reverse-append (key_row entry ∷ []) (map key_row A)
 
 -- what the law of numbers says
 abbrev pub NumbersCount : Type 0
-NumbersCount = (A : History) (entry : Entry) → IsRegister (entry ∷ A) → entry.answer.accepted ≡ length (entry ∷ A)
+NumbersCount = (A : History) (entry : Entry) → IsRegister (entry ∷ A) → entry.reply.accepted ≡ length (entry ∷ A)
 
 pub all_end : {X : Type 0} (P : X → Type 0) (xs : List X) (x : X) → AllByRecursion P xs → P x → AllByRecursion P (xs ++ x ∷ [])
 all_end P [] x all h = (h, tt)
@@ -41,16 +41,16 @@ module _ (count : NumbersCount) where
       → AllByRecursion (λ x. AllByRecursion (λ y. by_number x y ≡ Less) (row ∷ [])) (rows_by_number A)
   below [] h row less = tt
   below (entry ∷ A) h row less =
-      let is : entry.answer.accepted ≡ length (entry ∷ A) = count A entry h in
-      let low : entry.answer.accepted < row.accepted = omega (arith, is, less) in
+      let is : entry.reply.accepted ≡ length (entry ∷ A) = count A entry h in
+      let low : entry.reply.accepted < row.accepted = omega (arith, is, less) in
       rw (one_more entry A)
       (all_end _ (rows_by_number A) (key_row entry) (below A h.1 row (omega (arith, less)))
-      (sym (nat_cmp_is entry.answer.accepted row.accepted Less low), tt))
+      (sym (nat_cmp_is entry.reply.accepted row.accepted Less low), tt))
 
   rising : (A : History) → IsRegister A → IsAscending (λ a b. by_number a b ≡ Less) (rows_by_number A)
   rising [] h = tt
   rising (entry ∷ A) h =
-      let is : entry.answer.accepted ≡ length (entry ∷ A) = count A entry h in
+      let is : entry.reply.accepted ≡ length (entry ∷ A) = count A entry h in
       rw (one_more entry A)
       (ascending-append (λ a b. by_number a b ≡ Less) (rows_by_number A) (key_row entry ∷ []) (rising A h.1) (tt, tt)
       (below A h.1 (key_row entry) (omega (arith, is))))
@@ -121,8 +121,8 @@ next_row count A h values rows index accepted row given low at =
     let next = next_entry given.0 row (drop (index + 1) rows) (cut ∙ given.2) in
     let whole : A ≡ next.0 ++ (next.1 ∷ accepted) = given.1 ∙ ap (λ (l : History). l ++ accepted) next.2 ∙ append_one next.0 accepted next.1 in
     let grown : IsRegister (next.1 ∷ accepted) = grown_from next.0 (next.1 ∷ accepted) (subst IsRegister whole h) in
-    let numbered : next.1.answer.accepted ≡ length (next.1 ∷ accepted) = count accepted next.1 grown in
-    let row_number : row.accepted ≡ next.1.answer.accepted = ap (λ (r : KeyRow). r.accepted) next.3 in
+    let numbered : next.1.reply.accepted ≡ length (next.1 ∷ accepted) = count accepted next.1 grown in
+    let row_number : row.accepted ≡ next.1.reply.accepted = ap (λ (r : KeyRow). r.accepted) next.3 in
     record {
       entry = next.1;
       grown = grown;

@@ -17,7 +17,7 @@ use Rattle.kcr_history.specs.declared.commands.Command.{Command}
 use Rattle.kcr_history.specs.declared.commands.Entry.{Entry}
 use Rattle.kcr_history.specs.declared.row_types.KeyRow.{KeyRow}
 use Rattle.kcr_history.proofs.Steps.{of_machine}
-use Rattle.kcr_laws.proofs.Accepted.{same_answer, other_outcome}
+use Rattle.kcr_laws.proofs.Accepted.{same_reply, other_outcome}
 use Rattle.kcr_verify.specs.Verification.{Declines, HaveOwnKeys, IsNotNext, StopsFor, StopsIn, Takes, rows_by_number}
 use Rattle.kcr_verify.specs.declared.verification.Difference.{Difference}
 use Rattle.kcr_verify.specs.declared.verification.Difference.TheVariants as Differences
@@ -30,13 +30,13 @@ pub entered_or_kept : (A : History) (x : Command) (a : ReplyData) (B : History) 
     → (B ≡ with_command A x a) ⊎ ((kept : Entry) × (entry_of A x.key ≡ Some kept) × (B ≡ A))
 entered_or_kept A x a B h = by_entry (entry_of A x.key) refl (fault A x.act) h
   where
-    with_answer : (b : ReplyData) → Accepts a ≡ Accepts b → B ≡ with_command A x b → B ≡ with_command A x a
-    with_answer b e is = is ∙ ap (λ (c : ReplyData). with_command A x c) (sym (same_answer a b e))
+    with_reply : (b : ReplyData) → Accepts a ≡ Accepts b → B ≡ with_command A x b → B ≡ with_command A x a
+    with_reply b e is = is ∙ ap (λ (c : ReplyData). with_command A x c) (sym (same_reply a b e))
 
     seated : (s : Option SeatRequest) → MatchOption s (IsAcceptedWith A x (reply_to A x.act None) (Accepts a) B) (λ q. seats A x q (Accepts a) B)
         → B ≡ with_command A x a
-    seated None g = with_answer _ g.0 g.1
-    seated (Some s) (inl w) = with_answer _ w.2.0 w.2.1
+    seated None g = with_reply _ g.0 g.1
+    seated (Some s) (inl w) = with_reply _ w.2.0 w.2.1
     seated (Some s) (inr w) = absurd (other_outcome a _ w.2.0)
 
     by_entry : (k : Option Entry) → entry_of A x.key ≡ k → (f : Option Refusal)
@@ -52,7 +52,7 @@ entered_or_kept A x a B h = by_entry (entry_of A x.key) refl (fault A x.act) h
 pub record IsKeptRow (A : History) (key : List ℕ) (kept : Entry) : Type 0 where
   pub key_is : kept.command.key ≡ key
   pub among : IsIn (key_row kept) (rows_by_number A)
-  pub low : kept.answer.accepted ≤ length A
+  pub low : kept.reply.accepted ≤ length A
 
 pub kept_row : NumbersCount → (A : History) (key : List ℕ) (kept : Entry) → IsOfMachine A → entry_of A key ≡ Some kept → IsKeptRow A key kept
 kept_row count [] key kept made e = cc
@@ -62,8 +62,8 @@ kept_row count (entry ∷ A) key kept made e = by (same_text entry.command.key k
     by true t later =
         let first : Some entry ≡ Some kept = rw t at e in
         let same : entry ≡ kept = cc in
-        let numbered : entry.answer.accepted ≡ length (entry ∷ A) = count A entry (of_machine (entry ∷ A) made) in
-        let number : kept.answer.accepted ≡ entry.answer.accepted = ap (λ (x : Entry). x.answer.accepted) (sym same) in
+        let numbered : entry.reply.accepted ≡ length (entry ∷ A) = count A entry (of_machine (entry ∷ A) made) in
+        let number : kept.reply.accepted ≡ entry.reply.accepted = ap (λ (x : Entry). x.reply.accepted) (sym same) in
         record {
           key_is = ap (λ (x : Entry). x.command.key) (sym same) ∙ same-is entry.command.key key t;
           among = subst (λ (x : Entry). IsIn (key_row x) (rows_by_number (entry ∷ A))) same
@@ -107,26 +107,26 @@ module _ (count : NumbersCount) (rows : List KeyRow) (index : ℕ) (A : History)
       let whole = row_behind rows index A row had low at in
       let among : IsIn (key_row kept) rows = rw whole (in-front (key_row kept) (rows_by_number A) (row ∷ drop (index + 1) rows) k.among) in
       let here : IsIn row rows = rw whole (in-behind row (rows_by_number A) (row ∷ drop (index + 1) rows) (inl refl)) in
-      let same : kept.answer.accepted ≡ row.accepted = ap (λ (r : KeyRow). r.accepted) (own (key_row kept) row among here k.key_is) in
+      let same : kept.reply.accepted ≡ row.accepted = ap (λ (r : KeyRow). r.accepted) (own (key_row kept) row among here k.key_is) in
       omega (arith, same, number, k.low, had.count)
 
   -- and after its command one more row is taken
   pub taken_on : (B : History) → Takes row A B → HasTaken rows (index + 1) B
-  taken_on B takes = by (entered_or_kept A takes.command takes.answer B takes.step)
+  taken_on B takes = by (entered_or_kept A takes.command takes.reply B takes.step)
     where
-      by : (B ≡ with_command A takes.command takes.answer) ⊎ ((kept : Entry) × (entry_of A takes.command.key ≡ Some kept) × (B ≡ A))
+      by : (B ≡ with_command A takes.command takes.reply) ⊎ ((kept : Entry) × (entry_of A takes.command.key ≡ Some kept) × (B ≡ A))
           → HasTaken rows (index + 1) B
       by (inl new) =
-          let step : machine A takes.command (Accepts takes.answer) (with_command A takes.command takes.answer) =
-          subst (machine A takes.command (Accepts takes.answer)) new takes.step in
-          let numbered : takes.answer.accepted ≡ length (with_command A takes.command takes.answer) =
-          count A (record { command = takes.command; answer = takes.answer })
-          (of_machine (with_command A takes.command takes.answer) (step, made)) in
-          let same : key_row (record { command = takes.command; answer = takes.answer }) ≡ row =
-          row_by_parts row _ _ _ _ takes.told.key (omega (arith, numbered, number, had.count)) takes.told.text takes.reply in
-          let longer : rows_by_number (with_command A takes.command takes.answer) ≡ rows_by_number A ++ row ∷ [] =
-          one_more (record { command = takes.command; answer = takes.answer }) A ∙ ap (λ (r : KeyRow). rows_by_number A ++ r ∷ []) same in
-          let long : length B ≡ length (with_command A takes.command takes.answer) = ap length new in
+          let step : machine A takes.command (Accepts takes.reply) (with_command A takes.command takes.reply) =
+          subst (machine A takes.command (Accepts takes.reply)) new takes.step in
+          let numbered : takes.reply.accepted ≡ length (with_command A takes.command takes.reply) =
+          count A (record { command = takes.command; reply = takes.reply })
+          (of_machine (with_command A takes.command takes.reply) (step, made)) in
+          let same : key_row (record { command = takes.command; reply = takes.reply }) ≡ row =
+          row_by_parts row _ _ _ _ takes.told.key (omega (arith, numbered, number, had.count)) takes.told.text takes.text in
+          let longer : rows_by_number (with_command A takes.command takes.reply) ≡ rows_by_number A ++ row ∷ [] =
+          one_more (record { command = takes.command; reply = takes.reply }) A ∙ ap (λ (r : KeyRow). rows_by_number A ++ r ∷ []) same in
+          let long : length B ≡ length (with_command A takes.command takes.reply) = ap length new in
           record {
             rows_are = row_behind rows index A row had low at ∙ sym (append_one (rows_by_number A) (drop (index + 1) rows) row)
                 ∙ ap (λ (l : List KeyRow). l ++ drop (index + 1) rows) (sym longer ∙ ap rows_by_number (sym new));

@@ -27,7 +27,7 @@ use Rattle.kcr_history.specs.Conditions.{fault}
 use Rattle.kcr_history.specs.History.{History, entry_of}
 use Rattle.kcr_history.specs.Json.{quoted, member}
 use Rattle.kcr_history.specs.Laws.{IsSeatedFirst}
-use Rattle.kcr_history.specs.Machine.{Accepts, Refuses, SeatRequest, seat_request, reply_to, with_command, IsAcceptedWith, seats, machine, IsAnswerTo}
+use Rattle.kcr_history.specs.Machine.{Accepts, Refuses, SeatRequest, seat_request, reply_to, with_command, IsAcceptedWith, seats, machine, IsReplyTo}
 use Rattle.kcr_history.specs.Room.{sheet, sheet_after, is_in}
 use Rattle.kcr_history.specs.Seating.{is_seating, IsFirst}
 use Rattle.kcr_history.specs.Tables.{seats_at}
@@ -36,7 +36,7 @@ use Rattle.kcr_forms.specs.Acts.{IsAct}
 use Rattle.kcr_forms.specs.Split.{split_at_byte}
 use Rattle.kcr_forms.proofs.Cutting.{Lacks, cut-again}
 use Rattle.kcr_forms.proofs.Readers.{lacks-below}
-use Rattle.kcr_laws.proofs.Accepted.{same_answer, other_outcome}
+use Rattle.kcr_laws.proofs.Accepted.{same_reply, other_outcome}
 use Rattle.kcr_laws.proofs.Fixed.{accepted_fixed}
 use Rattle.kcr_laws.proofs.Halves.{one_half}
 use Rattle.kcr_laws.proofs.Trials.{same_people, people-are, rest_seated}
@@ -183,7 +183,7 @@ module _ (A : History) (key : List ℕ) where
   abbrev IsFree : Act → Type 0
   IsFree act = (entry_of A key ≡ None) × (fault A act ≡ None)
 
-  pub accepted_step : AreValues A → (act : Act) (this answer : ReplyData) (A' : History) → IsFree act → IsAnswerTo A act this (seat_request A act)
+  pub accepted_step : AreValues A → (act : Act) (this answer : ReplyData) (A' : History) → IsFree act → IsReplyTo A act this (seat_request A act)
       → machine A (of act) (Accepts answer) A' → IsThisOrOther A (of act) this answer A'
   accepted_step v (Sign c k at) this answer A' free (q, fill, is) m = by_seats (rw (free.0, free.1) at m)
     where
@@ -201,7 +201,7 @@ module _ (A : History) (key : List ℕ) where
 
       by_seats : seats A x s (Accepts answer) A' → IsThisOrOther A x this answer A'
       by_seats (inl w) = subst (λ (z : ReplyData). IsThisOrOther A x z answer A') (sym is)
-          (these_or_others A v s (length A + 1) None (Some k) x w.0 q w.1.seating fill answer A' (same_answer _ _ w.2.0) w.2.1
+          (these_or_others A v s (length A + 1) None (Some k) x w.0 q w.1.seating fill answer A' (same_reply _ _ w.2.0) w.2.1
           (λ first. (accepted_fixed A x answer with A' (with_command A x with) m (again first)).0))
       by_seats (inr w) = absurd (other_outcome _ _ w.2.0)
   accepted_step v (RecordException c text true at) this answer A' free (q, fill, is) m = by_seats (rw (free.0, free.1) at m)
@@ -221,18 +221,18 @@ module _ (A : History) (key : List ℕ) where
       by_seats : seats A x s (Accepts answer) A' → IsThisOrOther A x this answer A'
       by_seats (inl w) = subst (λ (z : ReplyData). IsThisOrOther A x z answer A') (sym is)
           (these_or_others A v s (length A + 1) (Some (suc (exceptions_of A c))) (Some (next_step A c)) x w.0 q w.1.seating fill answer A'
-          (same_answer _ _ w.2.0) w.2.1 (λ first. (accepted_fixed A x answer with A' (with_command A x with) m (again first)).0))
+          (same_reply _ _ w.2.0) w.2.1 (λ first. (accepted_fixed A x answer with A' (with_command A x with) m (again first)).0))
       by_seats (inr w) = absurd (other_outcome _ _ w.2.0)
   accepted_step v act this answer A' free is m =
       let step : IsAcceptedWith A (of act) (reply_to A act None) (Accepts answer) A' = rw (free.0, free.1) at m in
-      inl (same_answer _ _ step.0 ∙ sym is, step.1 ∙ ap (with_command A (of act)) (sym is))
+      inl (same_reply _ _ step.0 ∙ sym is, step.1 ∙ ap (with_command A (of act)) (sym is))
 
-  never_refused : (act : Act) (this : ReplyData) (refusal : Refusal) (A' : History) (o : Option SeatRequest) → IsAnswerTo A act this o
+  never_refused : (act : Act) (this : ReplyData) (refusal : Refusal) (A' : History) (o : Option SeatRequest) → IsReplyTo A act this o
       → MatchOption o (IsAcceptedWith A (of act) (reply_to A act None) (Refuses refusal) A') (λ s. seats A (of act) s (Refuses refusal) A') → ⊥
   never_refused act this refusal A' None is step = other_outcome _ _ (sym step.0)
   never_refused act this refusal A' (Some s) is (inl w) = other_outcome _ _ (sym w.2.0)
   never_refused act this refusal A' (Some s) is (inr w) = one_half A s.ceremony s.at s.seats is.0 w.0 is.1 w.1.short
 
-  pub refused_step : (act : Act) (this : ReplyData) (refusal : Refusal) (A' : History) → IsFree act → IsAnswerTo A act this (seat_request A act)
+  pub refused_step : (act : Act) (this : ReplyData) (refusal : Refusal) (A' : History) → IsFree act → IsReplyTo A act this (seat_request A act)
       → machine A (of act) (Refuses refusal) A' → ⊥
   refused_step act this refusal A' free is m = never_refused act this refusal A' (seat_request A act) is (rw (free.0, free.1) at m)

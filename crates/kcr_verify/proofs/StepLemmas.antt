@@ -60,10 +60,10 @@ module _ (A : History) (entry : Entry) (h : IsRegister (entry ∷ A)) (values : 
     (A' : History) where
   -- a reply to the command of the next entry is that entry's, and the register then has it; or it is another, and so is the seating
   pub goes_on : (reply : Reply) → AppliesCommand A command (Ok reply) A'
-      → ((reply.text ≡ reply_text entry.answer) × (A' ≡ entry ∷ A)) ⊎ ((reply.text ≢ reply_text entry.answer) × IsOther A entry)
+      → ((reply.text ≡ reply_text entry.reply) × (A' ≡ entry ∷ A)) ⊎ ((reply.text ≢ reply_text entry.reply) × IsOther A entry)
   goes_on reply step =
       let m : machine A entry.command (Accepts step.0) A' = subst (λ (x : Command). machine A x (Accepts step.0) A') same step.1 in
-      elim (accepted_step A entry.command.key values.1 entry.command.act entry.answer step.0 A' (h.0.new_key, h.0.no_fault) h.0.answered m) [
+      elim (accepted_step A entry.command.key values.1 entry.command.act entry.reply step.0 A' (h.0.new_key, h.0.no_fault) h.0.answered m) [
         | inl this ↦ inl (step.2 ∙ ap reply_text this.0, this.1)
         | inr other ↦ inr (λ text. other.0 (sym step.2 ∙ text), other.1)
       ]
@@ -72,7 +72,7 @@ module _ (A : History) (entry : Entry) (h : IsRegister (entry ∷ A)) (values : 
   pub not_refused : (refusal : Refusal) → AppliesCommand A command (Err refusal) A' → refusal ≢ Memory → refusal ≢ Disk → ⊥
   not_refused refusal step memory disk =
       let m : machine A entry.command (Refuses refusal) A' = subst (λ (x : Command). machine A x (Refuses refusal) A') same (step.1 memory disk) in
-      refused_step A entry.command.key entry.command.act entry.answer refusal A' (h.0.new_key, h.0.no_fault) h.0.answered m
+      refused_step A entry.command.key entry.command.act entry.reply refusal A' (h.0.new_key, h.0.no_fault) h.0.answered m
 
 -- what a history that the machine leads to grew from has first seatings
 first_before : (later A : History) → HasFirstSeatings (later ++ A) → HasFirstSeatings A

@@ -145,13 +145,13 @@ pub record IsToldBy (row : KeyRow) (command : Command) : Type 0 where
 abbrev pub TellsNothing : KeyRow → Type 0
 TellsNothing row = (act : Act) → IsAct act → command_text act ≢ row.command
 
--- the machine accepts the row's command and goes from A to B; this is so of the text of its answer
+-- the machine accepts the row's command and goes from A to B; this is so of the text of its reply
 pub record TakesWith (Is : List ℕ → Type 0) (row : KeyRow) (A B : History) : Type 0 where
   pub command : Command
   pub told : IsToldBy row command
-  pub answer : ReplyData
-  pub step : machine A command (Accepts answer) B
-  pub reply : Is (reply_text answer)
+  pub reply : ReplyData
+  pub step : machine A command (Accepts reply) B
+  pub text : Is (reply_text reply)
 
 -- and answers as the row says, or otherwise
 abbrev pub Takes : KeyRow → History → History → Type 0
@@ -265,7 +265,7 @@ pub record IsVerification (view : FullView) (A : History) (told : Verification) 
 
 -- the entry was accepted after A with people who are not the first seating
 abbrev pub IsOther : History → Entry → Type 0
-IsOther A entry = ¬ IsSeatedFirst A (seat_request A entry.command.act) entry.answer.seating
+IsOther A entry = ¬ IsSeatedFirst A (seat_request A entry.command.act) entry.reply.seating
 
 -- of the commands of A whose recorded seating is not the first one, the first has this number
 pub record IsFirstOther (A : History) (number : ℕ) : Type 0 where
@@ -281,7 +281,7 @@ pub record IsFirstOther (A : History) (number : ℕ) : Type 0 where
 -- comes before the recorded one
 abbrev pub HasNext : History → Entry → History → Option Difference → Type 0
 HasNext A entry A' None = A' ≡ entry ∷ A
-HasNext A entry A' (Some difference) = (difference ≡ Differences.Reply entry.answer.accepted) × IsOther A entry
+HasNext A entry A' (Some difference) = (difference ≡ Differences.Reply entry.reply.accepted) × IsOther A entry
 
 -- so with all commands of A, which were given to an empty register
 abbrev pub HasAll : History → History → Option Difference → Type 0

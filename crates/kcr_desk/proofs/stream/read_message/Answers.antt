@@ -8,7 +8,7 @@ use Rattle.kcr_desk.specs.NextHead.{EndsAs}
 use Rattle.kcr_desk.specs.Input.{unread}
 use Rattle.kcr_desk.specs.Run.{ending_text}
 use Rattle.kcr_base.specs.declared.refusal.Refusal.TheVariants.{Cut}
-use Rattle.kcr_desk.specs.Texts.{continue_text, answer_text, fault_response}
+use Rattle.kcr_desk.specs.Texts.{continue_text, answer, fault_response}
 use Rattle.kcr_desk.specs.Output.{IsQueued}
 use Rattle.kcr_desk.proofs.WaitingLemmas.{with_more_behind, sent_front, sent_on}
 use Rattle.kcr_desk.proofs.TurnLemmas.{ends_before, breaks_ending, breaks_continue, plan_more, cut_ends}
@@ -53,9 +53,9 @@ cut_at_end g c =
 so_far : (g : Over) (c : After-enqueue_refusal g)
     → IsQueued (g.W.Write.contents c.args.writer.now.inner) (g.W.Write.contents c.read_body.new.writer.inner)
     (c.args.queue.now.items ++ ending_text (cut_off c.args.plan c.is_head_method-head_only.result))
-    (c.read_body.new.queue.items ++ answer_text c.is_head_method-head_only.result true (fault_response Cut))
+    (c.read_body.new.queue.items ++ answer c.is_head_method-head_only.result true (fault_response Cut))
 so_far g c =
-    with_more_behind c.args.queue.now.items (continue_text c.args.plan) (answer_text c.is_head_method-head_only.result true (fault_response Cut))
+    with_more_behind c.args.queue.now.items (continue_text c.args.plan) (answer c.is_head_method-head_only.result true (fault_response Cut))
     (sent_on c.in_ok-enqueue_continue.ensures.gathered c.in_ok-read_body.ensures.gathered)
 
 pub returns-in_err-enqueue_refusal-clause-turn : goal.returns-in_err-enqueue_refusal-clause-turn

@@ -1,5 +1,5 @@
 use Rattle.kcr_history.proofs.Listed.{answer}
-use Rattle.kcr_history.proofs.replies.answer_text.Goals as goal
+use Rattle.kcr_history.proofs.replies.reply_text.Goals as goal
 
 pub returns : goal.returns
 returns c =

@@ -30,8 +30,8 @@ returns-clause-done g c clean inside accepted number had =
     let held = c.in_ok-change_all.ensures.tables clean (tables accepted) decided.1 in
     let verdict = c.in_ok-verdict.verdict in
     let inside1 = c.in_ok-verdict.ensures.frame.inside clean1 inside in (
-      steps accepted c.args.turn.now.command.now verdict verdict.answer decided.0,
-      next_stores accepted c.args.turn.now.command.now verdict verdict.answer _ _ was decided.0 (rw c.as_slice.ensures.value at held),
+      steps accepted c.args.turn.now.command.now verdict verdict.new_reply decided.0,
+      next_stores accepted c.args.turn.now.command.now verdict verdict.new_reply _ _ was decided.0 (rw c.as_slice.ensures.value at held),
       c.in_ok-change_all.ensures.frame.inside clean inside1,
     )
 

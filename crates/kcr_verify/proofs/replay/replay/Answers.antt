@@ -39,7 +39,7 @@ returns-in-Ok-Some-clause-own g c clean A h values is =
     (c.loop-index.invariant.own (c.in-Ok-Some.ensures.clean clean) A h values is) low at in
     let differs = rw c.in-Ok-Some.field-0-is at c.in-Ok-Some.ensures.own clean next.entry next.grown next.values next.row_is in
     let before = c.in-Ok-Some.ensures.clean clean in (
-      next.entry.answer.accepted,
+      next.entry.reply.accepted,
       differs.0,
       record {
         later = next.then.0;

@@ -13,9 +13,9 @@ returns-then-eq-clause-told g c clean =
     record {
       command = record { key = c.args.row.now.key; act = c.in-Some.act };
       told = told_by c.args.row.now c.in-Some.act (found ∙ c.as_bytes.ensures);
-      answer = step.0;
+      reply = step.0;
       step = step.1;
-      reply = sym step.2 ∙ same;
+      text = sym step.2 ∙ same;
     }
 
 pub returns-then-eq-clause-of_machine : goal.returns-then-eq-clause-of_machine
@@ -42,9 +42,9 @@ returns-in-Ok-clause-told g c clean =
       record {
         command = record { key = c.args.row.now.key; act = c.in-Some.act };
         told = told_by c.args.row.now c.in-Some.act (found ∙ c.as_bytes.ensures);
-        answer = step.0;
+        reply = step.0;
         step = step.1;
-        reply = λ same. other (step.2 ∙ same);
+        text = λ same. other (step.2 ∙ same);
       },
     )
 

@@ -28,7 +28,7 @@ pushed_spec 𝓤 𝓛 𝓜 𝓡 wired =
     (λ κs. (shr_Tells (named 0) κs.0 past.the_row, (shr_Tells (named 1) κs.1.0 command.the_row, (shr_Tells (named 2) κs.1.1.0 answer.the_row, tt))))
     (λ κs qs bounds a z are.
     let y : (walk_of 𝓛 f.ended stayed c).Ghost = ((κs, qs, bounds, a, (shr_vals a.0, (shr_vals a.1.0, (shr_vals a.1.1.0, tt)))), z) in
-    let more : GhostHistory = record { entries = record { command = a.1.0.now; answer = a.1.1.0.now } ∷ a.0.now.entries; is_genuine = a.0.now.is_genuine } in
+    let more : GhostHistory = record { entries = record { command = a.1.0.now; reply = a.1.1.0.now } ∷ a.0.now.entries; is_genuine = a.0.now.is_genuine } in
     via 𝓤 _ (fst∗ 𝓤 _ (emp 𝓤)) (qed 𝓛 (raw (alive 𝓛 f.signature κs qs) ∷ ‵ (owns (types_at f.signature.params κs) a y.0.4) ∷ []) ∵
     enter ! _ _ _ _ _ $ alloc_all ! (λ l. pass_all ! refl ((tt, tt), ((tt, tt), ((tt, tt), tt))) $ sets ! (agg ! (no_more !)) refl (tt, tt) $
     returns ! (look_at ! 0 refl) $ free_all ! refl $
