@@ -9,7 +9,7 @@ use Rattle.kcr_base.specs.declared.refusal.Refusal.{Refusal}
 use Rattle.kcr_base.specs.declared.refusal.Refusal.TheVariants.{Memory, Disk}
 use Rattle.kcr_history.specs.History.{History, pushed_onto, entry_of}
 use Rattle.kcr_history.specs.Machine.{Outcome, Accepts, Refuses, machine, IsOfMachine, IsRegister}
-use Rattle.kcr_history.specs.Texts.{reply_text, command_text}
+use Rattle.kcr_history.specs.Texts.{path_text, reply_text, command_text}
 use Rattle.kcr_history.specs.declared.commands.ReplyData.{ReplyData}
 use Rattle.kcr_history.specs.declared.commands.Command.{Command}
 use Rattle.kcr_history.specs.declared.commands.Entry.{Entry}
@@ -23,7 +23,7 @@ use Rattle.kcr_wire.specs.Commands.{command_of}
 use Rattle.kcr_wire.specs.declared.method.Method.{Method}
 use Rattle.kcr_wire.specs.declared.method.Method.TheVariants.{Post}
 use Rattle.kcr_export.specs.Bodies.{body_text}
-use Rattle.kcr_export.specs.Requests.{head_text, path_text, request_text}
+use Rattle.kcr_export.specs.Requests.{head_text, request_text}
 use Rattle.kcr_export.proofs.Again.{told_again}
 use Rattle.kcr_export.proofs.Paths.{act-path}
 use Rattle.kcr_export.proofs.Pieces.{IsPathByte, path-utf8}

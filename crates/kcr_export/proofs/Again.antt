@@ -1,5 +1,5 @@
 -- A command's path and body are read as the command.
-use Rattle.std.proofs.Common.{◌≡◌, true, Ok, Some, refl}
+use Rattle.std.proofs.Common.{◌≡◌, true, Ok, refl}
 use Rattle.kcr_base.specs.Key.{IsKey}
 use Rattle.kcr_history.specs.declared.commands.Command.{Command}
 use Rattle.kcr_history.specs.declared.commands.Act.{Act}
@@ -9,7 +9,7 @@ use Rattle.kcr_forms.specs.Acts.{IsAct}
 use Rattle.kcr_wire.specs.Commands.{may_post, command_of}
 use Rattle.kcr_wire.specs.Endpoints.{allow_of_endpoint}
 use Rattle.kcr_export.specs.Bodies.{body_text}
-use Rattle.kcr_export.specs.Requests.{path_text}
+use Rattle.kcr_history.specs.Texts.{path_text}
 use Rattle.kcr_export.proofs.Reading.{target_for, body-read, command-again}
 use Rattle.kcr_export.proofs.Targets.{act-target}
 

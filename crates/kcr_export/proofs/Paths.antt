@@ -1,25 +1,22 @@
 -- The path of an act is short, and has the bytes of a path.
-use Rattle.std.proofs.Common.{◌≡◌, ℕ, ◌+◌, ◌<◌, ◌≤◌, Bool, true, ◌||◌, eqb, List, [], ◌∷◌, ◌++◌, length, codes, sym, ap, ◌∙◌, subst, refl, arith, All, length-append, append_assoc}
+use Rattle.std.proofs.Common.{◌≡◌, ℕ, ◌<◌, ◌≤◌, true, ◌||◌, eqb, List, ◌++◌, length, codes, sym, subst, refl, arith, All, length-append, append_assoc}
 use Rattle.std.specs.Fmt.{decimal}
 use Rattle.std.specs.List.{list_all}
-use Rattle.std.proofs.lemmas.List.Elements.{All-append, All-weaker}
 use Rattle.kcr_base.specs.Initials.{IsInitials}
-use Rattle.kcr_base.specs.Key.{IsKeyByte}
 use Rattle.kcr_base.specs.Number.{IsNumber}
-use Rattle.kcr_base.specs.Place.{IsPlace, place_text}
+use Rattle.kcr_base.specs.Place.{place_text}
 use Rattle.kcr_base.specs.Serial.{IsSerial}
 use Rattle.kcr_custody.specs.declared.SafeNumber.{SafeNumber}
 use Rattle.kcr_custody.specs.declared.SafeNumber.TheVariants.{One, Two}
-use Rattle.kcr_history.specs.Texts.{at_person, at_place, at_ceremony, at_bag, at_step, at_safe}
+use Rattle.kcr_history.specs.Texts.{at_person, at_place, at_ceremony, at_bag, at_safe, path_text}
 use Rattle.kcr_history.specs.declared.commands.Act.{Act}
 use Rattle.kcr_history.specs.declared.commands.Act.TheVariants.{Enter, Train, Withdraw, Appoint, Replace, Release, AddBox, AddItem, Plan, Open, Close, RecordSheet}
 use Rattle.kcr_history.specs.declared.commands.Act.TheVariants.{Sign, RecordException, SetSafe, Seal, Take, Put, Cut}
 use Rattle.kcr_forms.specs.Acts.{IsAct}
 use Rattle.kcr_forms.specs.Forms.{is_key_byte}
 use Rattle.kcr_forms.proofs.Paths.{piece}
-use Rattle.kcr_export.specs.Requests.{path_text}
 use Rattle.kcr_export.proofs.Bytes.{IsWord, initials-word, serial-word, number-word, place-word}
-use Rattle.kcr_export.proofs.Pieces.{IsPathByte, path-literal, with-piece, path-utf8}
+use Rattle.kcr_export.proofs.Pieces.{IsPathByte, path-literal, with-piece}
 
 -- a path, or the end of one, of at most N bytes
 pub record IsPath (most : ℕ) (path : List ℕ) : Type 0 where

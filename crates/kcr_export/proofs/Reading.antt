@@ -1,9 +1,7 @@
 -- A body's members are read as the act, and the key as the key.
-use Rattle.std.proofs.Common.{◌≡◌, ℕ, List, [], ◌∷◌, map, codes, Option, Some, Ok, option_map, option_and_then, refl, sym, ap, ◌∙◌, arith, All}
-use Rattle.std.specs.Str.{IsUtf8}
+use Rattle.std.proofs.Common.{◌≡◌, ℕ, List, [], ◌∷◌, map, codes, Option, Some, Ok, refl, sym, All}
 use Rattle.std.proofs.lemmas.List.Elements.{All-head, All-tail}
-use Rattle.serde_json.specs.Data.{Data, string, object, Members, no_members, member}
-use Rattle.serde_json.specs.Read.{read}
+use Rattle.serde_json.specs.Data.{Data, string, object, no_members, member}
 use Rattle.serde_json.specs.View.{items_of}
 use Rattle.kcr_base.specs.Initials.{IsInitials}
 use Rattle.kcr_base.specs.Key.{IsKey}
@@ -25,7 +23,8 @@ use Rattle.kcr_wire.specs.Members.{script_at, way_at, remark_at, to_at, box_at, 
 use Rattle.kcr_wire.specs.declared.endpoint.Endpoint.{Endpoint}
 use Rattle.kcr_wire.specs.declared.endpoint.Endpoint.TheVariants as target
 use Rattle.kcr_wire.proofs.Json.{json-some}
-use Rattle.kcr_export.specs.Bodies.{members_of, body_text}
+use Rattle.kcr_history.specs.Texts.{members_of}
+use Rattle.kcr_export.specs.Bodies.{json_members, body_text}
 use Rattle.kcr_export.proofs.Bytes.{word-utf8, literal}
 use Rattle.kcr_export.proofs.Sent.{AreSent, kept, object-read, object-utf8}
 use Rattle.kcr_export.proofs.Values.{act-sent}
@@ -54,7 +53,7 @@ target_for (Cut ceremony serial at) = target.Cut ceremony serial
 
 -- the members as a reader keeps them
 abbrev pub data_of : List ℕ → Act → Data
-data_of key act = object (kept (member (codes "key") (string key) (members_of act)) no_members)
+data_of key act = object (kept (member (codes "key") (string key) (json_members (members_of act))) no_members)
 
 key-again : (key : List ℕ) → IsKey key → key_of key ≡ Some key
 key-again key is = sym (key-read (Some key) key (is, refl))
@@ -105,6 +104,6 @@ command-again key (Cut ceremony serial at) is_key is = rw (key-again key is_key,
 pub body-read : (c : Command) → IsKey c.key → IsAct c.act → json_of (body_text c) ≡ Some (data_of c.key c.act)
 unfolding body_text
 body-read c is_key is =
-    let ms = member (codes "key") (string c.key) (members_of c.act) in
+    let ms = member (codes "key") (string c.key) (json_members (members_of c.act)) in
     let sent : AreSent ms = (word-utf8 (codes "key") (literal (codes "key") refl), word-utf8 c.key is_key.each, act-sent c.act is) in
     json-some (body_text c) (data_of c.key c.act) (object-utf8 ms sent, object-read ms sent)

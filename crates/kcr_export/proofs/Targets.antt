@@ -1,8 +1,8 @@
 -- The path of an act is a path of the register, and asks for what the act needs.
-use Rattle.std.proofs.Common.{◌≡◌, ℕ, ◌<◌, eqb, false, List, [], ◌∷◌, ◌++◌, length, codes, Option, Some, None, Result, Ok, inl, inr, refl, sym, ap, ◌∙◌, subst, arith, All, append_assoc}
+use Rattle.std.proofs.Common.{◌≡◌, ℕ, ◌<◌, List, [], ◌∷◌, ◌++◌, codes, Option, Some, None, Ok, inl, inr, refl, sym, ap, ◌∙◌, subst, arith, All, append_assoc}
 use Rattle.std.specs.Fmt.{decimal}
 use Rattle.std.specs.Option.{option_map, option_and_then, ok_or}
-use Rattle.std.proofs.lemmas.List.Elements.{All-append, All-cons, All-weaker}
+use Rattle.std.proofs.lemmas.List.Elements.{All-cons, All-weaker}
 use Rattle.matchit.specs.Router.{RouteOf}
 use Rattle.matchit.specs.Seek.{first, seek}
 use Rattle.matchit.proofs.OnLiterals.{matchit_on_literals}
@@ -12,26 +12,23 @@ use Rattle.kcr_base.specs.Number.{IsNumber}
 use Rattle.kcr_base.specs.Place.{IsPlace, place_text}
 use Rattle.kcr_base.specs.Serial.{IsSerial}
 use Rattle.kcr_base.specs.declared.place.Place.{Place}
-use Rattle.kcr_base.specs.declared.refusal.Refusal.{Refusal}
 use Rattle.kcr_base.specs.declared.refusal.Refusal.TheVariants as refusal
 use Rattle.kcr_custody.specs.declared.SafeNumber.{SafeNumber}
 use Rattle.kcr_custody.specs.declared.SafeNumber.TheVariants.{One, Two}
-use Rattle.kcr_history.specs.Texts.{at_person, at_place, at_ceremony, at_bag, at_step, at_safe, safe_text}
+use Rattle.kcr_history.specs.Texts.{at_person, at_place, at_ceremony, at_bag, at_step, at_safe, path_text}
 use Rattle.kcr_history.specs.declared.commands.Act.{Act}
 use Rattle.kcr_history.specs.declared.commands.Act.TheVariants.{Enter, Train, Withdraw, Appoint, Replace, Release, AddBox, AddItem, Plan, Open, Close, RecordSheet}
 use Rattle.kcr_history.specs.declared.commands.Act.TheVariants.{Sign, RecordException, SetSafe, Seal, Take, Put, Cut}
 use Rattle.kcr_forms.specs.Acts.{IsAct}
 use Rattle.kcr_forms.specs.Forms.{initials_of, place_of, ceremony_of, step_of, serial_of, safe_of}
-use Rattle.kcr_forms.proofs.Cutting.{Lacks, lacks-literal}
 use Rattle.kcr_forms.proofs.Formed.{initials, places-read, ceremonies, steps, serials, safes}
 use Rattle.kcr_forms.proofs.Paths.{piece}
 use Rattle.kcr_wire.specs.Routes.{table, add_all, add}
-use Rattle.kcr_wire.specs.Endpoints.{text_in, path_of, target_by, target_at, target_of, with_parts, second_piece, fourth_piece}
+use Rattle.kcr_wire.specs.Endpoints.{target_by, target_at, target_of, with_parts, second_piece, fourth_piece}
 use Rattle.kcr_wire.specs.declared.route.Route.{Route}
 use Rattle.kcr_wire.specs.declared.route.Route.TheVariants as route
 use Rattle.kcr_wire.specs.declared.endpoint.Endpoint.{Endpoint}
 use Rattle.kcr_wire.specs.declared.endpoint.Endpoint.TheVariants as target
-use Rattle.kcr_export.specs.Requests.{path_text}
 use Rattle.kcr_export.proofs.Bytes.{IsWord, literal, initials-word, serial-word, number-word, place-word, word-slash, word-below}
 use Rattle.kcr_export.proofs.Reading.{target_for}
 use Rattle.kcr_export.proofs.Pieces.{IsPathByte, path-literal, with-piece, whole-path, second, fourth, last-fourth}

@@ -1,14 +1,16 @@
 -- The pieces in which a body is written are its text.
-use Rattle.std.proofs.Common.{◌≡◌, ℕ, true, false, map, List, [], ◌∷◌, ◌++◌, codes, refl, sym, ap, ◌∙◌, append_assoc, append-nil}
+use Rattle.std.proofs.Common.{◌≡◌, ℕ, true, false, map, List, [], ◌∷◌, ◌++◌, codes, refl, sym, ap, ◌∙◌, append_assoc}
 use Rattle.json.specs.Print.{escape, escape_byte, quoted}
-use Rattle.serde_json.specs.Data.{Data, string, Members, no_members, member}
+use Rattle.serde_json.specs.Data.{Data, string}
 use Rattle.serde_json.specs.View.{items_of}
 use Rattle.serde_json.specs.Written.{compact_text, members_text, items_have_float}
 use Rattle.kcr_base.specs.Refusal.{member_text}
 use Rattle.kcr_base.specs.declared.refusal.Member.{Member}
 use Rattle.kcr_base.specs.declared.refusal.Member.TheVariants as name
 use Rattle.kcr_history.specs.declared.commands.Command.{Command}
-use Rattle.kcr_export.specs.Bodies.{members_of, body_text, added}
+use Rattle.std.specs.List.{fold}
+use Rattle.kcr_history.specs.Texts.{MemberValue, members_of}
+use Rattle.kcr_export.specs.Bodies.{json_of, json_members, body_text, next_member}
 
 -- no name needs an escape
 name-escape : (m : Member) → escape (member_text m) ≡ member_text m
@@ -40,43 +42,32 @@ pieces : (t a n b v : List ℕ) → (((t ++ a) ++ n) ++ b) ++ v ≡ t ++ (a ++ (
 pieces t a n b v = simp append_assoc
 
 pub value_told : (text : List ℕ) (m : Member) (value : Data)
-    → text ++ codes ",\"" ++ member_text m ++ codes "\":" ++ compact_text value ≡ text ++ added (member (member_text m) value no_members)
+    → text ++ codes ",\"" ++ member_text m ++ codes "\":" ++ compact_text value ≡ text ++ next_member (member_text m) value
 value_told text m value =
     let n = member_text m in
     let v = compact_text value in
     pieces text (codes ",\"") n (codes "\":") v
-    ∙ ap (λ (s : List ℕ). text ++ 44 ∷ 34 ∷ s) (sym (append-nil ((n ++ 34 ∷ []) ++ 58 ∷ v) ∙ append_assoc n (34 ∷ []) (58 ∷ v)))
-    ∙ ap (λ (e : List ℕ). text ++ 44 ∷ 34 ∷ (((e ++ 34 ∷ []) ++ 58 ∷ v) ++ [])) (sym (name-escape m))
+    ∙ ap (λ (s : List ℕ). text ++ 44 ∷ 34 ∷ s) (sym (append_assoc n (34 ∷ []) (58 ∷ v)))
+    ∙ ap (λ (e : List ℕ). text ++ 44 ∷ 34 ∷ ((e ++ 34 ∷ []) ++ 58 ∷ v)) (sym (name-escape m))
 
-member-text : (q c a e : List ℕ) → ((q ++ 58 ∷ c) ++ a) ++ e ≡ q ++ 58 ∷ (c ++ (a ++ e))
-member-text q c a e = append_assoc (q ++ 58 ∷ c) a e ∙ append_assoc q (58 ∷ c) (a ++ e)
+-- a text with members behind it, one after the other
+abbrev pub with_members : List ℕ → List (Member × MemberValue) → List ℕ
+with_members text ms = fold (λ text m. text ++ next_member (member_text m.0) (json_of m.1)) text ms
 
-added-text : (ms : Members) → members_text true ms ≡ added ms ++ codes "}"
-added-text no_members = refl
-added-text (member k d ms) =
-    ap (λ (s : List ℕ). 44 ∷ (quoted k ++ 58 ∷ (compact_text d ++ s))) (added-text ms)
-    ∙ ap (λ (s : List ℕ). 44 ∷ s) (sym (member-text (quoted k) (compact_text d) (added ms) (codes "}")))
+-- they and the last bracket are the end of an object
+members_told : (text : List ℕ) (ms : List (Member × MemberValue)) → with_members text ms ++ codes "}" ≡ text ++ members_text true (json_members ms)
+members_told text [] = refl
+members_told text (m ∷ ms) =
+    let next = next_member (member_text m.0) (json_of m.1) in
+    let rest = members_text true (json_members ms) in
+    members_told (text ++ next) ms ∙ append_assoc text next rest
+    ∙ ap (λ (s : List ℕ). text ++ 44 ∷ s) (append_assoc (quoted (member_text m.0)) (58 ∷ compact_text (json_of m.1)) rest)
 
-pub body_told : (x : Command) → (codes "{\"key\":" ++ compact_text (string x.key)) ++ added (members_of x.act) ++ codes "}" ≡ body_text x
+pub body_told : (x : Command) → with_members (codes "{\"key\":" ++ compact_text (string x.key)) (members_of x.act) ++ codes "}" ≡ body_text x
 unfolding body_text escape_byte
 body_told x =
-    let front = codes "{\"key\":" in
-    let key = quoted x.key in
-    let rest = added (members_of x.act) in
-    append_assoc (front ++ key) rest (codes "}") ∙ append_assoc front key (rest ++ codes "}")
-    ∙ ap (λ (s : List ℕ). front ++ (key ++ s)) (sym (added-text (members_of x.act)))
-
--- ---- members one after another
-
--- one member behind another
-abbrev pub one : List ℕ → Data → List ℕ
-one name value = codes "," ++ (quoted name ++ (codes ":" ++ compact_text value))
-
-pub three : (t a b c : List ℕ) → ((t ++ (a ++ [])) ++ (b ++ [])) ++ c ≡ t ++ (a ++ (b ++ c))
-three t a b c = simp (append_assoc, append-nil)
-
-pub four : (t a b c d : List ℕ) → (((t ++ (a ++ [])) ++ (b ++ [])) ++ (c ++ [])) ++ d ≡ t ++ (a ++ (b ++ (c ++ d)))
-four t a b c d = simp (append_assoc, append-nil)
+    members_told (codes "{\"key\":" ++ quoted x.key) (members_of x.act)
+    ∙ append_assoc (codes "{\"key\":") (quoted x.key) (members_text true (json_members (members_of x.act)))
 
 -- an array of texts has no float
 pub texts-whole : (list : List (List ℕ)) → items_have_float (items_of (map string list)) ≡ false

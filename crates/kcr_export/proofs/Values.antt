@@ -1,10 +1,10 @@
 -- The values of an act's members can be sent: their texts are UTF-8, and their numbers fit.
-use Rattle.std.proofs.Common.{◌≡◌, ℕ, ◌^◌, ◌<◌, ◌≤◌, Bool, true, false, List, [], ◌∷◌, map, codes, refl, arith, All}
+use Rattle.std.proofs.Common.{ℕ, ◌^◌, ◌<◌, List, codes, refl, arith}
 use Rattle.std.specs.Str.{IsUtf8}
 use Rattle.std.specs.Fmt.{decimal}
 use Rattle.std.proofs.lemmas.List.Elements.{All-weaker}
 use Rattle.json.proofs.Printed.Utf8.{IsUtf8-are_ascii}
-use Rattle.serde_json.specs.Data.{string, Members, no_members, member}
+use Rattle.serde_json.specs.Data.{string, no_members, member}
 use Rattle.kcr_base.specs.Day.{IsDay, day_text}
 use Rattle.kcr_base.specs.Facility.{facility_text}
 use Rattle.kcr_base.specs.Initials.{IsInitials}
@@ -27,12 +27,12 @@ use Rattle.kcr_custody.specs.declared.Destination.TheVariants.{SafeOne, DepositB
 use Rattle.kcr_room.specs.declared.Way.{Way}
 use Rattle.kcr_room.specs.declared.Way.TheVariants as way
 use Rattle.kcr_room.specs.Room.{way_text}
-use Rattle.kcr_history.specs.Texts.{store_text}
+use Rattle.kcr_history.specs.Texts.{store_text, members_of}
 use Rattle.kcr_history.specs.declared.commands.Act.{Act}
 use Rattle.kcr_history.specs.declared.commands.Act.TheVariants.{Enter, Train, Withdraw, Appoint, Replace, Release, AddBox, AddItem, Plan, Open, Close, RecordSheet}
 use Rattle.kcr_history.specs.declared.commands.Act.TheVariants.{Sign, RecordException, SetSafe, Seal, Take, Put, Cut}
 use Rattle.kcr_forms.specs.Acts.{IsAct, IsDestination}
-use Rattle.kcr_export.specs.Bodies.{members_of}
+use Rattle.kcr_export.specs.Bodies.{json_members}
 use Rattle.kcr_export.proofs.Bytes.{initials-word, serial-word, number-word, place-word, word-utf8, ascii-utf8}
 use Rattle.kcr_export.proofs.Sent.{AreSent, are-texts}
 
@@ -102,7 +102,7 @@ fits n is = omega (arith, is.until)
 at : (t : ℕ) → IsMoment t → AreSent (member (codes "at") (string (moment_text t)) no_members)
 at t is = (named name.At, moment t is, tt)
 
-pub act-sent : (act : Act) → IsAct act → AreSent (members_of act)
+pub act-sent : (act : Act) → IsAct act → AreSent (json_members (members_of act))
 act-sent (Enter who text) is = (named name.Who, initials who is.0, (named name.Name, is.1.text, tt))
 act-sent (Train who r since until) is = (named name.Role, role r, (named name.From, day since is.1, (named name.Until, day until is.2, tt)))
 act-sent (Withdraw who r d) is = (named name.Role, role r, (named name.Day, day d is.1, tt))

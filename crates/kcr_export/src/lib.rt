@@ -6,10 +6,8 @@
 #![tactic(auto)]
 
 mod body;
-mod kinds;
 mod laws;
 mod members;
-mod path;
 mod request;
 
 pub use body::write_body;

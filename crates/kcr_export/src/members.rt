@@ -1,130 +1,39 @@
-//! Members of a body, one after another. Each stands behind another, so a comma comes before it.
-ghost use Rattle.std.specs.Prelude.{◌≡◌, ◌++◌, IfOk, false, codes, map, string_bytes};
-ghost use Rattle.serde_json.specs.Data.{string, number, unsigned, boolean, array, member, no_members};
+//! The members of a body, one after another. Each stands behind another, so a comma comes before it.
+ghost use Rattle.std.specs.Prelude.{◌≡◌, ◌++◌, IfOk, OnOk, false, map, string_bytes};
+ghost use Rattle.serde_json.specs.Data.{string, array};
 ghost use Rattle.serde_json.specs.View.{view, items_of};
 ghost use Rattle.serde_json.specs.Written.{has_float};
-ghost use Rattle.kcr_base.specs.Place.{place_text};
 ghost use Rattle.kcr_base.specs.Refusal.{member_text};
-ghost use Rattle.kcr_history.specs.Texts.{store_text};
-ghost use Rattle.kcr_export.specs.Bodies.{added, codes_json, day_json, moment_json};
+ghost use Rattle.kcr_export.specs.Bodies.{next_member};
 
-use itoa::Buffer;
-use kcr_base::{Day, Initials, ItemCode, Items, Member, Moment, People, Place};
-use kcr_custody::Destination;
+use kcr_base::Member;
+use kcr_base::lists::DistinctList;
+use kcr_history::{Coded, Teller};
 use serde_json::{Value, json};
 use std::alloc::{AllocError, Global};
 
-/// The text with a member: a comma, its name, a colon and its value.
-fn with_value(
-    alloc: Global,
-    text: String,
-    name: Member,
-    value: &Value,
-) -> Result<String, AllocError>
-    requires { has_float (view value.now) ≡ false }
-    ensures { IfOk result (λ longer.
-        string_bytes longer ≡ string_bytes text ++ added (member (member_text name) (view value.now) no_members)) }
-{
-    let written = value.to_string(alloc)?;
-    let mut text = text;
-    text.push_str(",\"")?;
-    text.push_str(name.text())?;
-    text.push_str("\":")?;
-    text.push_str(written.as_str())?;
-    Ok(text)
+/// The text of a body so far.
+#[derive(Drop)]
+pub(crate) struct BodyText {
+    /// Where the JSON of each value is made.
+    pub(crate) alloc: Global,
+    /// An object without its last bracket.
+    pub(crate) text: String,
 }
 
-/// The text with a member that is a text.
-pub(crate) fn with_text(
-    alloc: Global,
-    text: String,
-    name: Member,
-    value: &str,
-) -> Result<String, AllocError>
-    ensures { IfOk result (λ longer.
-        string_bytes longer ≡ string_bytes text ++ added (member (member_text name) (string value.now) no_members)) }
-{
-    let value = json!(in alloc; value)?;
-    with_value(alloc, text, name, &value)
-}
-
-/// The text with a member that is a number.
-pub(crate) fn with_number(
-    alloc: Global,
-    text: String,
-    name: Member,
-    value: u32,
-) -> Result<String, AllocError>
-    ensures { IfOk result (λ longer.
-        string_bytes longer
-        ≡ string_bytes text ++ added (member (member_text name) (number (unsigned value)) no_members)) }
-{
-    let value = json!(in alloc; value)?;
-    with_value(alloc, text, name, &value)
-}
-
-/// The text with a member that is a truth value.
-pub(crate) fn with_truth(
-    alloc: Global,
-    text: String,
-    name: Member,
-    value: bool,
-) -> Result<String, AllocError>
-    ensures { IfOk result (λ longer.
-        string_bytes longer ≡ string_bytes text ++ added (member (member_text name) (boolean value) no_members)) }
-{
-    let value = json!(in alloc; value)?;
-    with_value(alloc, text, name, &value)
-}
-
-/// The text with a member that is a day.
-pub(crate) fn with_day(
-    alloc: Global,
-    text: String,
-    name: Member,
-    value: Day,
-) -> Result<String, AllocError>
-    ensures { IfOk result (λ longer.
-        string_bytes longer ≡ string_bytes text ++ added (member (member_text name) (day_json value) no_members)) }
-{
-    let code = value.code();
-    with_text(alloc, text, name, code.as_str())
-}
-
-/// The text with the member `at`, the last of its act.
-pub(crate) fn with_moment(alloc: Global, text: String, value: Moment) -> Result<String, AllocError>
-    ensures { IfOk result (λ longer.
-        string_bytes longer ≡ string_bytes text ++ added (member (codes "at") (moment_json value) no_members)) }
-{
-    let code = value.code();
-    with_text(alloc, text, Member::At, code.as_str())
-}
-
-/// The text with the member `place`.
-pub(crate) fn with_place(alloc: Global, text: String, value: Place) -> Result<String, AllocError>
-    ensures { IfOk result (λ longer.
-        string_bytes longer
-        ≡ string_bytes text ++ added (member (codes "place") (string (place_text value)) no_members)) }
-{
-    let code = value.text();
-    with_text(alloc, text, Member::Place, code.as_str())
-}
-
-/// The text with the member `to`, where a bag is put: `safe1`, or the number of a box, as a text.
-pub(crate) fn with_store(
-    alloc: Global,
-    text: String,
-    value: Destination,
-) -> Result<String, AllocError>
-    ensures { IfOk result (λ longer.
-        string_bytes longer ≡ string_bytes text ++ added (member (codes "to") (string (store_text value)) no_members)) }
-{
-    match value {
-        Destination::SafeOne => with_text(alloc, text, Member::To, "safe1"),
-        Destination::DepositBox(number) => {
-            let mut digits = Buffer::new();
-            with_text(alloc, text, Member::To, digits.format(number.get()))
-        }
+impl BodyText {
+    /// Writes a member: a comma, its name, a colon and its value.
+    fn push(&mut self, name: Member, value: &Value) -> Result<(), AllocError>
+        requires { has_float (view value.now) ≡ false }
+        ensures { OnOk result (string_bytes self.new.text
+            ≡ string_bytes self.old.text ++ next_member (member_text name) (view value.now)) }
+    {
+        let written = value.to_string(self.alloc)?;
+        self.text.push_str(",\"")?;
+        self.text.push_str(name.text())?;
+        self.text.push_str("\":")?;
+        self.text.push_str(written.as_str())?;
+        Ok(())
     }
 }
 
@@ -135,55 +44,53 @@ fn text_value(alloc: Global, text: &str) -> Result<Value, AllocError>
     json!(in alloc; text)
 }
 
-/// People, each as JSON.
-fn people_values(alloc: Global, people: &[Initials]) -> Result<Vec<Value>, AllocError>
-    ensures { IfOk result (λ v. map view v.items ≡ map string people.now) }
+/// Codes, each as JSON.
+fn code_values<T: Coded>(alloc: Global, codes: &[T]) -> Result<Vec<Value>, AllocError>
+    ensures { IfOk result (λ v. map view v.items ≡ map string (T.texts codes.now)) }
 {
     let mut values = Vec::new(alloc);
-    for who in people {
-        values.push(text_value(alloc, who.as_str())?)?;
+    for code in codes {
+        values.push(text_value(alloc, code.code())?)?;
     }
     Ok(values)
 }
 
-/// Items, each as JSON.
-fn item_values(alloc: Global, items: &[ItemCode]) -> Result<Vec<Value>, AllocError>
-    ensures { IfOk result (λ v. map view v.items ≡ map string items.now) }
-{
-    let mut values = Vec::new(alloc);
-    for item in items {
-        values.push(text_value(alloc, item.as_str())?)?;
-    }
-    Ok(values)
-}
-
-/// Codes, as a JSON array.
+/// Values, as a JSON array.
 fn array_value(alloc: Global, values: Vec<Value>) -> Result<Value, AllocError>
     ensures { IfOk result (λ v. view v ≡ array (items_of (map view values.items))) }
 {
     json!(in alloc; values)
 }
 
-/// The text with the member `who`, people of a sheet.
-pub(crate) fn with_people(
-    alloc: Global,
-    text: String,
-    people: &People,
-) -> Result<String, AllocError>
-    ensures { IfOk result (λ longer.
-        string_bytes longer ≡ string_bytes text ++ added (member (codes "who") (codes_json people.now) no_members)) }
-{
-    let values = people_values(alloc, people.as_slice())?;
-    let value = array_value(alloc, values)?;
-    with_value(alloc, text, Member::Who, &value)
-}
+impl Teller for BodyText {
+    ghost use Rattle.std.specs.Prelude.{ℕ, List, ◌++◌, string_bytes};
+    ghost use Rattle.kcr_base.specs.Refusal.{member_text};
+    ghost use Rattle.kcr_export.specs.Bodies.{json_of, next_member};
 
-/// The text with the member `items`, those of a bag.
-pub(crate) fn with_items(alloc: Global, text: String, items: &Items) -> Result<String, AllocError>
-    ensures { IfOk result (λ longer.
-        string_bytes longer ≡ string_bytes text ++ added (member (codes "items") (codes_json items.now) no_members)) }
-{
-    let values = item_values(alloc, items.as_slice())?;
-    let value = array_value(alloc, values)?;
-    with_value(alloc, text, Member::Items, &value)
+    ghost Seen = { List ℕ };
+
+    ghost seen = { λ s. string_bytes s.text };
+
+    ghost adds = { λ text m. text ++ next_member (member_text m.0) (json_of m.1) };
+
+    fn text(&mut self, name: Member, value: &str) -> Result<(), AllocError> {
+        let value = text_value(self.alloc, value)?;
+        self.push(name, &value)
+    }
+
+    fn number(&mut self, name: Member, value: u32) -> Result<(), AllocError> {
+        let value = json!(in self.alloc; value)?;
+        self.push(name, &value)
+    }
+
+    fn truth(&mut self, name: Member, value: bool) -> Result<(), AllocError> {
+        let value = json!(in self.alloc; value)?;
+        self.push(name, &value)
+    }
+
+    fn list<T: Coded>(&mut self, name: Member, value: &DistinctList<T>) -> Result<(), AllocError> {
+        let values = code_values(self.alloc, value.as_slice())?;
+        let value = array_value(self.alloc, values)?;
+        self.push(name, &value)
+    }
 }

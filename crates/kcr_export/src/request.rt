@@ -3,9 +3,8 @@ ghost use Rattle.std.specs.Prelude.{◌≡◌, IfOk, string_bytes};
 ghost use Rattle.kcr_export.specs.Requests.{head_text, request_text};
 
 use crate::body::write_body;
-use crate::path::path_of;
 use itoa::Buffer;
-use kcr_history::Command;
+use kcr_history::{Command, path_text};
 use std::alloc::{AllocError, Global};
 
 /// The request line and the fields, to the empty line.
@@ -28,7 +27,7 @@ pub fn write_request(alloc: Global, command: &Command) -> Result<String, AllocEr
     ensures { IfOk result (λ text. string_bytes text ≡ request_text command.now) }
 {
     let body = write_body(alloc, command)?;
-    let path = path_of(alloc, &command.act)?;
+    let path = path_text(alloc, &command.act)?;
     let mut text = with_head(alloc, path.as_str(), body.len())?;
     text.push_str(body.as_str())?;
     Ok(text)

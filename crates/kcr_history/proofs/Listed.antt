@@ -8,7 +8,7 @@ use Rattle.std.specs.Fmt.{decimal}
 use Rattle.std.specs.Int.Digits.{digits_of}
 use Rattle.std.proofs.lemmas.Fmt.{decimal-digits_of}
 use Rattle.std.specs.List.{join_with_byte, flat_map}
-use Rattle.std.proofs.lemmas.List.{take_more, map_more, get_or_default}
+use Rattle.std.proofs.lemmas.List.{map_more, get_or_default}
 use Rattle.std.proofs.lemmas.List.Concat.{flat_map-append}
 use Rattle.kcr_base.specs.declared.refusal.Refusal.{Refusal}
 use Rattle.kcr_history.specs.Json.{quoted, member, object}
@@ -33,15 +33,16 @@ pub separator_more : {X : Type 0} (xs : List X) (i : ℕ) → i < length xs → 
 separator_more [] i h = absurd (omega arith)
 separator_more (x ∷ xs) i h = rw add-one
 
--- the next text stands behind those before it, and a comma if there are any
-pub joined_more : (xs : List (List ℕ)) (i : ℕ) (x : List ℕ) → i < length xs → x ≡ get_or xs i x
-    → join_with_byte 44 (take (i + 1) xs) ≡ join_with_byte 44 (take i xs) ++ separator (take i xs) ++ x
-joined_more xs i x h e = rw (take_more xs i x h, ← e) (joined-append (take i xs) x)
-
--- the same if each text is made of an element
+-- the text of the next element stands behind those before it, and a comma if there are any
 joined_map_more : {X : Type 0} (f : X → List ℕ) (xs : List X) (i : ℕ) (x : X) → i < length xs → x ≡ get_or xs i x
     → join_with_byte 44 (map f (take (i + 1) xs)) ≡ join_with_byte 44 (map f (take i xs)) ++ separator (take i xs) ++ f x
 joined_map_more f xs i x h e = rw (map_more f xs i x h, ← e, ← separator-map f (take i xs)) (joined-append (map f (take i xs)) (f x))
+
+-- the same if the texts of several are those of each
+pub listed_more : {X : Type 0} (f : X → List ℕ) (texts : List X → List (List ℕ)) → ((all : List X) → texts all ≡ map f all)
+    → (xs : List X) (i : ℕ) (x : X) → i < length xs → x ≡ get_or xs i x
+    → join_with_byte 44 (texts (take (i + 1) xs)) ≡ join_with_byte 44 (texts (take i xs)) ++ separator (take i xs) ++ f x
+listed_more f texts each xs i x h e = rw (each (take (i + 1) xs), each (take i xs)) (joined_map_more f xs i x h e)
 
 -- a loop over a list so far: its text, and what stands before the next element
 pub record IsJoined {X : Type 0} (told said before : List ℕ) (xs : List X) : Type 0 where

@@ -1,13 +1,15 @@
 -- The texts of commands and of replies to accepted ones.
 use Rattle.std.specs.Prelude.{ℕ, Bool, true, false, List, [], ◌∷◌, ◌++◌, map, codes, Option, Some, None, option_map}
 use Rattle.std.specs.Fmt.{decimal}
-use Rattle.std.specs.List.{join_with_byte}
+use Rattle.std.specs.List.{join_with_byte, fold}
 use Rattle.kcr_base.specs.Same.{same_text}
 use Rattle.kcr_base.specs.Day.{day_text}
 use Rattle.kcr_base.specs.Facility.{facility_text}
 use Rattle.kcr_base.specs.Moment.{moment_text}
 use Rattle.kcr_base.specs.Place.{place_text}
 use Rattle.kcr_base.specs.Role.{role_text}
+use Rattle.kcr_base.specs.declared.refusal.Member.{Member}
+use Rattle.kcr_base.specs.declared.refusal.Member.TheVariants as Members
 use Rattle.kcr_custody.specs.declared.SafeNumber.{SafeNumber}
 use Rattle.kcr_custody.specs.declared.SafeNumber.TheVariants.{One, Two}
 use Rattle.kcr_custody.specs.declared.Destination.{Destination}
@@ -65,38 +67,85 @@ at_step ceremony step = at_ceremony ceremony (codes "steps/" ++ decimal step ++ 
 abbrev pub at_safe : ℕ → SafeNumber → List ℕ
 at_safe ceremony safe = at_ceremony ceremony (codes "safes/" ++ safe_text safe)
 
+-- the path to which the act's command is posted
+abbrev pub path_text : Act → List ℕ
+path_text (Enter who name) = codes "/people"
+path_text (Train who role since until) = at_person who (codes "roles")
+path_text (Withdraw who role day) = at_person who (codes "withdrawals")
+path_text (Appoint place who day) = codes "/custodians"
+path_text (Replace place who day) = at_place (place_text place) (codes "replacement")
+path_text (Release place day) = at_place (place_text place) (codes "release")
+path_text (AddBox facility number place) = codes "/boxes"
+path_text (AddItem ceremony item at) = codes "/items"
+path_text (Plan number facility day script) = codes "/ceremonies"
+path_text (Open ceremony at) = at_ceremony ceremony (codes "opening")
+path_text (Close ceremony at) = at_ceremony ceremony (codes "closing")
+path_text (RecordSheet ceremony way who at) = at_ceremony ceremony (codes "sheet")
+path_text (Sign ceremony step at) = at_step ceremony step
+path_text (RecordException ceremony text pass at) = at_ceremony ceremony (codes "exceptions")
+path_text (SetSafe ceremony safe is_open by at) = at_safe ceremony safe
+path_text (Seal ceremony serial items at) = at_bag ceremony serial (codes "seal")
+path_text (Take ceremony serial at) = at_bag ceremony serial (codes "take")
+path_text (Put ceremony serial to at) = at_bag ceremony serial (codes "put")
+path_text (Cut ceremony serial at) = at_bag ceremony serial (codes "cut")
+
+-- the value of a member: a text, a number, a truth value, a list of texts
+pub data MemberValue : Type 0 where
+  Word : List ℕ → MemberValue
+  Whole : ℕ → MemberValue
+  Truth : Bool → MemberValue
+  Several : List (List ℕ) → MemberValue
+
+-- a member that is a text
+abbrev pub word : Member → List ℕ → Member × MemberValue
+word name text = (name, Word text)
+
+-- the moment of an act, its last member
+abbrev pub at_member : ℕ → List (Member × MemberValue)
+at_member at = word Members.At (moment_text at) ∷ []
+
+-- the members of an act's body but the key, in their order
+abbrev pub members_of : Act → List (Member × MemberValue)
+members_of (Enter who name) = word Members.Who who ∷ word Members.Name name ∷ []
+members_of (Train who role since until) =
+    word Members.Role (role_text role) ∷ word Members.From (day_text since) ∷ word Members.Until (day_text until) ∷ []
+members_of (Withdraw who role day) = word Members.Role (role_text role) ∷ word Members.Day (day_text day) ∷ []
+members_of (Appoint place who day) =
+    word Members.Place (place_text place) ∷ word Members.Who who ∷ word Members.Day (day_text day) ∷ []
+members_of (Replace place who day) = word Members.Who who ∷ word Members.Day (day_text day) ∷ []
+members_of (Release place day) = word Members.Day (day_text day) ∷ []
+members_of (AddBox facility number place) =
+    word Members.Facility (facility_text facility) ∷ (Members.Box, Whole number)
+    ∷ word Members.Place (place_text place) ∷ []
+members_of (AddItem ceremony item at) = (Members.Ceremony, Whole ceremony) ∷ word Members.Item item ∷ at_member at
+members_of (Plan number facility day script) =
+    (Members.Number, Whole number) ∷ word Members.Facility (facility_text facility)
+    ∷ word Members.Day (day_text day) ∷ word Members.Script script ∷ []
+members_of (Open ceremony at) = at_member at
+members_of (Close ceremony at) = at_member at
+members_of (RecordSheet ceremony way who at) = word Members.Way (way_text way) ∷ (Members.Who, Several who) ∷ at_member at
+members_of (Sign ceremony step at) = at_member at
+members_of (RecordException ceremony text pass at) = word Members.Text text ∷ (Members.Pass, Truth pass) ∷ at_member at
+members_of (SetSafe ceremony safe is_open by at) = (Members.Open, Truth is_open) ∷ word Members.By by ∷ at_member at
+members_of (Seal ceremony serial items at) = (Members.Items, Several items) ∷ at_member at
+members_of (Take ceremony serial at) = at_member at
+members_of (Put ceremony serial to at) = word Members.To (store_text to) ∷ at_member at
+members_of (Cut ceremony serial at) = at_member at
+
+-- a value on a line
+abbrev pub value_text : MemberValue → List ℕ
+value_text (Word text) = text
+value_text (Whole number) = decimal number
+value_text (Truth truth) = truth_text truth
+value_text (Several texts) = listed texts
+
+-- a text with the value of a member on a line of its own behind it
+abbrev pub with_line : List ℕ → Member × MemberValue → List ℕ
+with_line text m = text ++ line (value_text m.1)
+
 -- the path of the command's request, then the value of each member but the key, each on a line of its own
 abbrev pub command_text : Act → List ℕ
-command_text (Enter who name) = codes "/people" ++ line who ++ line name
-command_text (Train who role since until) =
-    at_person who (codes "roles") ++ line (role_text role) ++ line (day_text since) ++ line (day_text until)
-command_text (Withdraw who role day) =
-    at_person who (codes "withdrawals") ++ line (role_text role) ++ line (day_text day)
-command_text (Appoint place who day) = codes "/custodians" ++ line (place_text place) ++ line who ++ line (day_text day)
-command_text (Replace place who day) =
-    at_place (place_text place) (codes "replacement") ++ line who ++ line (day_text day)
-command_text (Release place day) = at_place (place_text place) (codes "release") ++ line (day_text day)
-command_text (AddBox facility number place) =
-    codes "/boxes" ++ line (facility_text facility) ++ line (decimal number) ++ line (place_text place)
-command_text (AddItem ceremony item at) =
-    codes "/items" ++ line (decimal ceremony) ++ line item ++ line (moment_text at)
-command_text (Plan number facility day script) =
-    codes "/ceremonies" ++ line (decimal number) ++ line (facility_text facility) ++ line (day_text day) ++ line script
-command_text (Open ceremony at) = at_ceremony ceremony (codes "opening") ++ line (moment_text at)
-command_text (Close ceremony at) = at_ceremony ceremony (codes "closing") ++ line (moment_text at)
-command_text (RecordSheet ceremony way who at) =
-    at_ceremony ceremony (codes "sheet") ++ line (way_text way) ++ line (listed who) ++ line (moment_text at)
-command_text (Sign ceremony step at) = at_step ceremony step ++ line (moment_text at)
-command_text (RecordException ceremony text pass at) =
-    at_ceremony ceremony (codes "exceptions") ++ line text ++ line (truth_text pass) ++ line (moment_text at)
-command_text (SetSafe ceremony safe state by at) =
-    at_safe ceremony safe ++ line (truth_text state) ++ line by ++ line (moment_text at)
-command_text (Seal ceremony serial items at) =
-    at_bag ceremony serial (codes "seal") ++ line (listed items) ++ line (moment_text at)
-command_text (Take ceremony serial at) = at_bag ceremony serial (codes "take") ++ line (moment_text at)
-command_text (Put ceremony serial to at) =
-    at_bag ceremony serial (codes "put") ++ line (store_text to) ++ line (moment_text at)
-command_text (Cut ceremony serial at) = at_bag ceremony serial (codes "cut") ++ line (moment_text at)
+command_text act = fold with_line (path_text act) (members_of act)
 
 -- two commands are the same if their texts are equal
 abbrev pub same_command : Act → Act → Bool

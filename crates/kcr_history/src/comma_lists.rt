@@ -1,34 +1,39 @@
 //! Codes with commas between them.
-ghost use Rattle.std.specs.Prelude.{◌≡◌, IfOk, string_bytes};
+ghost use Rattle.std.specs.Prelude.{◌≡◌, ◌++◌, OnOk, string_bytes};
 ghost use Rattle.kcr_history.specs.Texts;
 
-use kcr_base::{Items, People};
-use std::alloc::{AllocError, Global};
+use kcr_base::lists::ListElement;
+use kcr_base::{Initials, ItemCode};
+use std::alloc::AllocError;
 
-/// People with commas between them.
-pub(crate) fn people_text(alloc: Global, people: &People) -> Result<String, AllocError>
-    ensures { IfOk result (λ text. string_bytes text ≡ Texts.listed people.now) }
-{
-    let mut text = String::new(alloc);
-    let mut separator = "";
-    for who in people.as_slice() {
-        text.push_str(separator)?;
-        text.push_str(who.as_str())?;
-        separator = ",";
-    }
-    Ok(text)
+/// What a list names, with its text at hand.
+pub trait Coded: ListElement {
+    /// Its text.
+    fn code(&self) -> &str
+        ensures { result.now ≡ Self.ListElement.text self.now };
 }
 
-/// Items with commas between them.
-pub(crate) fn items_text(alloc: Global, items: &Items) -> Result<String, AllocError>
-    ensures { IfOk result (λ text. string_bytes text ≡ Texts.listed items.now) }
+impl Coded for Initials {
+    fn code(&self) -> &str {
+        self.as_str()
+    }
+}
+
+impl Coded for ItemCode {
+    fn code(&self) -> &str {
+        self.as_str()
+    }
+}
+
+/// Writes codes with commas between them behind a text.
+pub(crate) fn push_codes<T: Coded>(text: &mut String, codes: &[T]) -> Result<(), AllocError>
+    ensures { OnOk result (string_bytes text.new ≡ string_bytes text.old ++ Texts.listed (T.texts codes.now)) }
 {
-    let mut text = String::new(alloc);
     let mut separator = "";
-    for item in items.as_slice() {
+    for code in codes {
         text.push_str(separator)?;
-        text.push_str(item.as_str())?;
+        text.push_str(code.code())?;
         separator = ",";
     }
-    Ok(text)
+    Ok(())
 }

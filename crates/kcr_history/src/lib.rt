@@ -20,14 +20,17 @@ mod report_rows;
 mod row_laws;
 mod row_types;
 mod steps_done;
+mod telling;
 mod texts;
 mod views;
 
 pub use asks_by_kind::asks;
+pub use comma_lists::Coded;
 pub use commands::{Act, Command, Entry, Reply, ReplyData};
 pub use fitting::fits;
 pub use kcr_base::Text;
 pub use lists::{InitialsList, ItemList};
+pub use paths::path_text;
 pub use questions::{
     BagShown, CustodiansShown, CustodyShown, HolderShown, PersonShown, Question, RoleShown,
     RoomShown, Shown, StepsShown,
@@ -42,6 +45,7 @@ pub use row_types::{
     CeremonyRow, CeremonyState, ExceptionRow, KeyRow, MarkRow, SeatingRow, StepRow, StepState,
 };
 pub use steps_done::last_seated;
+pub use telling::{Teller, tell};
 pub use texts::command_text;
 pub use views::{
     AppointmentFilter, Asks, Change, Finding, FullView, ItemFilter, Selection, StayFilter,

@@ -1,18 +1,16 @@
-//! Pieces of command texts: paths, and values on lines of their own.
-ghost use Rattle.std.specs.Prelude.{◌≡◌, ◌++◌, IfOk, string_bytes, map};
-ghost use Rattle.std.specs.Fmt.{decimal};
-ghost use Rattle.kcr_base.specs.Day.{day_text};
-ghost use Rattle.kcr_base.specs.Moment.{moment_text};
+//! The paths to which commands are posted.
+ghost use Rattle.std.specs.Prelude.{◌≡◌, IfOk, string_bytes};
 ghost use Rattle.kcr_base.specs.Place.{place_text};
 ghost use Rattle.kcr_history.specs.Texts;
 
+use crate::commands::Act;
 use itoa::Buffer;
-use kcr_base::{CeremonyNumber, Day, Initials, Moment, Place, Serial, StepNumber};
+use kcr_base::{CeremonyNumber, Initials, Place, Serial, StepNumber};
 use kcr_custody::SafeNumber;
 use std::alloc::{AllocError, Global};
 
 /// `/people/`, the person, a slash, and the rest of the path.
-pub(crate) fn at_person(alloc: Global, who: &Initials, rest: &str) -> Result<String, AllocError>
+fn at_person(alloc: Global, who: &Initials, rest: &str) -> Result<String, AllocError>
     ensures { IfOk result (λ text. string_bytes text ≡ Texts.at_person who.now rest.now) }
 {
     let mut text = String::from_str(alloc, "/people/")?;
@@ -23,7 +21,7 @@ pub(crate) fn at_person(alloc: Global, who: &Initials, rest: &str) -> Result<Str
 }
 
 /// `/custodians/`, the place, a slash, and the rest of the path.
-pub(crate) fn at_place(alloc: Global, place: Place, rest: &str) -> Result<String, AllocError>
+fn at_place(alloc: Global, place: Place, rest: &str) -> Result<String, AllocError>
     ensures { IfOk result (λ text. string_bytes text ≡ Texts.at_place (place_text place) rest.now) }
 {
     let code = place.text();
@@ -35,11 +33,7 @@ pub(crate) fn at_place(alloc: Global, place: Place, rest: &str) -> Result<String
 }
 
 /// `/ceremonies/`, the ceremony's number, a slash, and the rest of the path.
-pub(crate) fn at_ceremony(
-    alloc: Global,
-    ceremony: CeremonyNumber,
-    rest: &str,
-) -> Result<String, AllocError>
+fn at_ceremony(alloc: Global, ceremony: CeremonyNumber, rest: &str) -> Result<String, AllocError>
     ensures { IfOk result (λ text. string_bytes text ≡ Texts.at_ceremony ceremony rest.now) }
 {
     let mut number = Buffer::new();
@@ -51,7 +45,7 @@ pub(crate) fn at_ceremony(
 }
 
 /// The same for a bag: `bags/`, its serial, a slash, and the rest.
-pub(crate) fn at_bag(
+fn at_bag(
     alloc: Global,
     ceremony: CeremonyNumber,
     serial: &Serial,
@@ -67,11 +61,7 @@ pub(crate) fn at_bag(
 }
 
 /// The same for a step: `steps/`, its number, and `/signature`.
-pub(crate) fn at_step(
-    alloc: Global,
-    ceremony: CeremonyNumber,
-    step: StepNumber,
-) -> Result<String, AllocError>
+fn at_step(alloc: Global, ceremony: CeremonyNumber, step: StepNumber) -> Result<String, AllocError>
     ensures { IfOk result (λ text. string_bytes text ≡ Texts.at_step ceremony step) }
 {
     let mut number = Buffer::new();
@@ -81,58 +71,55 @@ pub(crate) fn at_step(
     Ok(text)
 }
 
-/// The text with a value on a line of its own.
-pub(crate) fn with_line(text: String, value: &str) -> Result<String, AllocError>
-    ensures { IfOk result (λ longer. string_bytes longer ≡ string_bytes text ++ Texts.line value.now) }
-{
-    let mut text = text;
-    text.push_str("\n")?;
-    text.push_str(value)?;
-    Ok(text)
-}
-
-/// The text with a number on a line of its own.
-pub(crate) fn with_number(text: String, value: u32) -> Result<String, AllocError>
-    ensures { IfOk result (λ longer. string_bytes longer ≡ string_bytes text ++ Texts.line (decimal value)) }
-{
-    let mut number = Buffer::new();
-    with_line(text, number.format(value))
-}
-
-/// The text with a day on a line of its own.
-pub(crate) fn with_day(text: String, value: Day) -> Result<String, AllocError>
-    ensures { IfOk result (λ longer. string_bytes longer ≡ string_bytes text ++ Texts.line (day_text value)) }
-{
-    let code = value.code();
-    with_line(text, code.as_str())
-}
-
-/// The text with a moment on a line of its own.
-pub(crate) fn with_moment(text: String, value: Moment) -> Result<String, AllocError>
-    ensures { IfOk result (λ longer. string_bytes longer ≡ string_bytes text ++ Texts.line (moment_text value)) }
-{
-    let code = value.code();
-    with_line(text, code.as_str())
-}
-
-/// The text with a place on a line of its own.
-pub(crate) fn with_place(text: String, value: Place) -> Result<String, AllocError>
-    ensures { IfOk result (λ longer. string_bytes longer ≡ string_bytes text ++ Texts.line (place_text value)) }
-{
-    let code = value.text();
-    with_line(text, code.as_str())
-}
-
 /// The same for a safe: `safes/`, and its number.
-pub(crate) fn at_safe(
-    alloc: Global,
-    ceremony: CeremonyNumber,
-    safe: SafeNumber,
-) -> Result<String, AllocError>
+fn at_safe(alloc: Global, ceremony: CeremonyNumber, safe: SafeNumber) -> Result<String, AllocError>
     ensures { IfOk result (λ text. string_bytes text ≡ Texts.at_safe ceremony safe) }
 {
     match safe {
         SafeNumber::One => at_ceremony(alloc, ceremony, "safes/1"),
         SafeNumber::Two => at_ceremony(alloc, ceremony, "safes/2"),
+    }
+}
+
+/// The path of a command's request, as `/ceremonies/61/steps/1/signature`. The error is out of memory.
+pub fn path_text(alloc: Global, act: &Act) -> Result<String, AllocError>
+    ensures { IfOk result (λ text. string_bytes text ≡ Texts.path_text act.now) }
+{
+    match act {
+        Act::Enter { .. } => String::from_str(alloc, "/people"),
+        Act::Train { who, .. } => at_person(alloc, who, "roles"),
+        Act::Withdraw { who, .. } => at_person(alloc, who, "withdrawals"),
+        Act::Appoint { .. } => String::from_str(alloc, "/custodians"),
+        Act::Replace { place, .. } => at_place(alloc, *place, "replacement"),
+        Act::Release { place, .. } => at_place(alloc, *place, "release"),
+        Act::AddBox { .. } => String::from_str(alloc, "/boxes"),
+        Act::AddItem { .. } => String::from_str(alloc, "/items"),
+        Act::Plan { .. } => String::from_str(alloc, "/ceremonies"),
+        Act::Open { ceremony, .. } => at_ceremony(alloc, *ceremony, "opening"),
+        Act::Close { ceremony, .. } => at_ceremony(alloc, *ceremony, "closing"),
+        Act::RecordSheet { ceremony, .. } => at_ceremony(alloc, *ceremony, "sheet"),
+        Act::Sign { ceremony, step, .. } => at_step(alloc, *ceremony, *step),
+        Act::RecordException { ceremony, .. } => at_ceremony(alloc, *ceremony, "exceptions"),
+        Act::SetSafe { ceremony, safe, .. } => at_safe(alloc, *ceremony, *safe),
+        Act::Seal {
+            ceremony,
+            serial,
+            ..
+        } => at_bag(alloc, *ceremony, serial, "seal"),
+        Act::Take {
+            ceremony,
+            serial,
+            ..
+        } => at_bag(alloc, *ceremony, serial, "take"),
+        Act::Put {
+            ceremony,
+            serial,
+            ..
+        } => at_bag(alloc, *ceremony, serial, "put"),
+        Act::Cut {
+            ceremony,
+            serial,
+            ..
+        } => at_bag(alloc, *ceremony, serial, "cut"),
     }
 }

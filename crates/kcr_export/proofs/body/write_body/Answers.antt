@@ -1,7 +1,13 @@
-use Rattle.kcr_export.proofs.Told.{body_told}
+use Rattle.std.proofs.Common.{List, ℕ, ◌++◌, codes, ap, ◌∙◌}
+use Rattle.json.specs.Print.{quoted}
+use Rattle.kcr_history.specs.Texts.{members_of}
+use Rattle.kcr_export.proofs.Told.{with_members, body_told}
 use Rattle.kcr_export.proofs.body.write_body.Goals as goal
 
 pub returns : goal.returns
 returns c =
-    rw (c.in_ok-push_str.ensures.bytes, c.in_ok-text-2.ensures, c.in_ok-text.ensures, c.as_str.ensures.value)
-    (body_told c.args.command.now)
+    c.in_ok-push_str.ensures.bytes
+    ∙ ap (λ (text : List ℕ). text ++ codes "}") (c.in_ok-tell.ensures
+    ∙ ap (λ text. with_members text (members_of c.args.command.now.act)) (c.in_ok-text.ensures
+    ∙ ap (λ (key : List ℕ). codes "{\"key\":" ++ quoted key) c.as_str.ensures.value))
+    ∙ body_told c.args.command.now

@@ -1,7 +1,7 @@
 use Rattle.std.proofs.Common.{string_bytes}
 use Rattle.serde_json.specs.View.{view}
 use Rattle.kcr_export.proofs.Told.{value_told}
-use Rattle.kcr_export.proofs.members.with_value.Goals as goal
+use Rattle.kcr_export.proofs.members.BodyText.push.Goals as goal
 
 pub returns : goal.returns
 returns c =
@@ -13,4 +13,4 @@ returns c =
       c.as_str.ensures.value,
       c.in_ok-written.ensures.text c.requires,
       c.text.ensures,
-    ) (value_told (string_bytes c.args.text) c.args.name (view c.args.value.now))
+    ) (value_told (string_bytes c.args.self.now.text) c.args.name (view c.args.value.now))

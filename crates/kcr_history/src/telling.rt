@@ -1,0 +1,177 @@
+//! The members of a command's body, given to a writer one after the other.
+ghost use Rattle.std.specs.Prelude.{◌≡◌, OnOk};
+ghost use Rattle.std.specs.List.{fold};
+ghost use Rattle.kcr_base.specs.Day.{day_text};
+ghost use Rattle.kcr_base.specs.Moment.{moment_text};
+ghost use Rattle.kcr_base.specs.Place.{place_text};
+ghost use Rattle.kcr_base.specs.declared.refusal.Member.TheVariants as Members;
+ghost use Rattle.kcr_history.specs.Texts.{Word, members_of, store_text};
+
+use crate::comma_lists::Coded;
+use crate::commands::Act;
+use itoa::Buffer;
+use kcr_base::lists::DistinctList;
+use kcr_base::{Day, Member, Moment, Place};
+use kcr_custody::Destination;
+use std::alloc::AllocError;
+
+/// A writer of members, as lines of a text or as a JSON object. The error of each call is out of memory.
+pub trait Teller {
+    ghost use Rattle.std.specs.Prelude.{◌≡◌, OnOk};
+    ghost use Rattle.kcr_base.specs.declared.refusal.Member.{Member};
+    ghost use Rattle.kcr_history.specs.Texts.{MemberValue, Word, Whole, Truth, Several};
+
+    /// What was written, as a contract sees it.
+    ghost Seen: { Type 0 };
+
+    /// What was written so far.
+    ghost seen: { Self → Seen };
+
+    /// What is there after one more member.
+    ghost adds: { Seen → Member × MemberValue → Seen };
+
+    /// Writes a member that is a text.
+    fn text(&mut self, name: Member, value: &str) -> Result<(), AllocError>
+        ensures { OnOk result (seen self.new ≡ adds (seen self.old) (name, Word value.now)) };
+
+    /// Writes a member that is a number.
+    fn number(&mut self, name: Member, value: u32) -> Result<(), AllocError>
+        ensures { OnOk result (seen self.new ≡ adds (seen self.old) (name, Whole value)) };
+
+    /// Writes a member that is a truth value.
+    fn truth(&mut self, name: Member, value: bool) -> Result<(), AllocError>
+        ensures { OnOk result (seen self.new ≡ adds (seen self.old) (name, Truth value)) };
+
+    /// Writes a member that is a list.
+    fn list<T: Coded>(&mut self, name: Member, value: &DistinctList<T>) -> Result<(), AllocError>
+        ensures { OnOk result (seen self.new ≡ adds (seen self.old) (name, Several (T.texts value.now))) };
+}
+
+fn tell_day<W: Teller>(to: &mut W, name: Member, day: Day) -> Result<(), AllocError>
+    ensures { OnOk result (W.seen to.new ≡ W.adds (W.seen to.old) (name, Word (day_text day))) }
+{
+    let code = day.code();
+    to.text(name, code.as_str())
+}
+
+fn tell_moment<W: Teller>(to: &mut W, at: Moment) -> Result<(), AllocError>
+    ensures { OnOk result (W.seen to.new ≡ W.adds (W.seen to.old) (Members.At, Word (moment_text at))) }
+{
+    let code = at.code();
+    to.text(Member::At, code.as_str())
+}
+
+fn tell_place<W: Teller>(to: &mut W, place: Place) -> Result<(), AllocError>
+    ensures { OnOk result (W.seen to.new ≡ W.adds (W.seen to.old) (Members.Place, Word (place_text place))) }
+{
+    let code = place.text();
+    to.text(Member::Place, code.as_str())
+}
+
+/// Where a bag is put: `safe1`, or the number of a box.
+fn tell_store<W: Teller>(to: &mut W, store: Destination) -> Result<(), AllocError>
+    ensures { OnOk result (W.seen to.new ≡ W.adds (W.seen to.old) (Members.To, Word (store_text store))) }
+{
+    match store {
+        Destination::SafeOne => to.text(Member::To, "safe1"),
+        Destination::DepositBox(number) => {
+            let mut digits = Buffer::new();
+            to.text(Member::To, digits.format(number.get()))
+        }
+    }
+}
+
+/// Writes the members of an act's body but the key, in the order in which the API lists them. The error is out of
+/// memory.
+pub fn tell<W: Teller>(act: &Act, to: &mut W) -> Result<(), AllocError>
+    ensures { OnOk result (W.seen to.new ≡ fold W.adds (W.seen to.old) (members_of act.now)) }
+{
+    match act {
+        Act::Enter { who, name } => {
+            to.text(Member::Who, who.as_str())?;
+            to.text(Member::Name, name.as_str())
+        }
+        Act::Train {
+            role,
+            since,
+            until,
+            ..
+        } => {
+            to.text(Member::Role, role.text())?;
+            tell_day(to, Member::From, *since)?;
+            tell_day(to, Member::Until, *until)
+        }
+        Act::Withdraw { role, day, .. } => {
+            to.text(Member::Role, role.text())?;
+            tell_day(to, Member::Day, *day)
+        }
+        Act::Appoint { place, who, day } => {
+            tell_place(to, *place)?;
+            to.text(Member::Who, who.as_str())?;
+            tell_day(to, Member::Day, *day)
+        }
+        Act::Replace { who, day, .. } => {
+            to.text(Member::Who, who.as_str())?;
+            tell_day(to, Member::Day, *day)
+        }
+        Act::Release { day, .. } => tell_day(to, Member::Day, *day),
+        Act::AddBox {
+            facility,
+            number,
+            place,
+        } => {
+            to.text(Member::Facility, facility.text())?;
+            to.number(Member::Box, number.get())?;
+            tell_place(to, *place)
+        }
+        Act::AddItem { ceremony, item, at } => {
+            to.number(Member::Ceremony, ceremony.get())?;
+            to.text(Member::Item, item.as_str())?;
+            tell_moment(to, *at)
+        }
+        Act::Plan {
+            number,
+            facility,
+            day,
+            script,
+        } => {
+            to.number(Member::Number, number.get())?;
+            to.text(Member::Facility, facility.text())?;
+            tell_day(to, Member::Day, *day)?;
+            to.text(Member::Script, script.as_str())
+        }
+        Act::RecordSheet { way, who, at, .. } => {
+            to.text(Member::Way, way.text())?;
+            to.list(Member::Who, who)?;
+            tell_moment(to, *at)
+        }
+        Act::RecordException { text, pass, at, .. } => {
+            to.text(Member::Text, text.as_str())?;
+            to.truth(Member::Pass, *pass)?;
+            tell_moment(to, *at)
+        }
+        Act::SetSafe {
+            is_open,
+            by,
+            at,
+            ..
+        } => {
+            to.truth(Member::Open, *is_open)?;
+            to.text(Member::By, by.as_str())?;
+            tell_moment(to, *at)
+        }
+        Act::Seal { items, at, .. } => {
+            to.list(Member::Items, items)?;
+            tell_moment(to, *at)
+        }
+        Act::Put { to: store, at, .. } => {
+            tell_store(to, *store)?;
+            tell_moment(to, *at)
+        }
+        Act::Open { at, .. }
+        | Act::Close { at, .. }
+        | Act::Sign { at, .. }
+        | Act::Take { at, .. }
+        | Act::Cut { at, .. } => tell_moment(to, *at),
+    }
+}
