@@ -1,7 +1,9 @@
 -- A body's members are read as the act, and the key as the key.
-use Rattle.std.proofs.Common.{◌≡◌, ℕ, List, [], ◌∷◌, map, codes, Option, Some, Ok, refl, sym, All}
+use Rattle.std.proofs.Common.{◌≡◌, ℕ, List, [], ◌∷◌, map, codes, Option, Some, Ok, option_map, option_and_then, refl, sym, ap, ◌∙◌, arith, All}
+use Rattle.std.specs.Str.{IsUtf8}
 use Rattle.std.proofs.lemmas.List.Elements.{All-head, All-tail}
-use Rattle.serde_json.specs.Data.{Data, string, object, no_members, member}
+use Rattle.serde_json.specs.Data.{Data, string, object, Members, no_members, member}
+use Rattle.serde_json.specs.Read.{read}
 use Rattle.serde_json.specs.View.{items_of}
 use Rattle.kcr_base.specs.Initials.{IsInitials}
 use Rattle.kcr_base.specs.Key.{IsKey}
@@ -13,43 +15,19 @@ use Rattle.kcr_history.specs.declared.commands.Act.{Act}
 use Rattle.kcr_history.specs.declared.commands.Act.TheVariants.{Enter, Train, Withdraw, Appoint, Replace, Release, AddBox, AddItem, Plan, Open, Close, RecordSheet}
 use Rattle.kcr_history.specs.declared.commands.Act.TheVariants.{Sign, RecordException, SetSafe, Seal, Take, Put, Cut}
 use Rattle.kcr_forms.specs.Acts.{IsAct}
-use Rattle.kcr_forms.specs.Forms.{key_of, initials_of, item_of, number_to, listed_to}
+use Rattle.kcr_forms.specs.Forms.{key_of, initials_of, item_of, number_to, listed_of}
+use Rattle.kcr_forms.specs.Posts.{post_of}
 use Rattle.kcr_forms.proofs.FormLemmas.{key-read, number-new, listed-new}
-use Rattle.kcr_forms.proofs.Formed.{days, moments, roles, facilities, ways, places-read, initials, items, names, remarks, stores}
+use Rattle.kcr_forms.proofs.Formed.{days, moments, roles, facilities, ways, places-read, initials, items, names, remarks, scripts, stores}
 use Rattle.kcr_forms.proofs.Readers.{Reads}
 use Rattle.kcr_wire.specs.Commands.{command_by}
-use Rattle.kcr_wire.specs.Members.{json_of, texts_in, key_at, who_at, by_at, name_at, role_at, from_at, until_at, day_at, place_at, facility_at, item_at, at_at}
-use Rattle.kcr_wire.specs.Members.{script_at, way_at, remark_at, to_at, box_at, ceremony_at, number_at, open_at, pass_at, people_at, items_at}
-use Rattle.kcr_wire.specs.declared.endpoint.Endpoint.{Endpoint}
-use Rattle.kcr_wire.specs.declared.endpoint.Endpoint.TheVariants as target
+use Rattle.kcr_wire.specs.Members.{json_of, each_in}
 use Rattle.kcr_wire.proofs.Json.{json-some}
 use Rattle.kcr_history.specs.Texts.{members_of}
 use Rattle.kcr_export.specs.Bodies.{json_members, body_text}
 use Rattle.kcr_export.proofs.Bytes.{word-utf8, literal}
 use Rattle.kcr_export.proofs.Sent.{AreSent, kept, object-read, object-utf8}
 use Rattle.kcr_export.proofs.Values.{act-sent}
-
--- what the path of an act asks for
-abbrev pub target_for : Act → Endpoint
-target_for (Enter who name) = target.People
-target_for (Train who role since until) = target.Roles who
-target_for (Withdraw who role day) = target.Withdrawals who
-target_for (Appoint place who day) = target.Custodians
-target_for (Replace place who day) = target.Replacement place
-target_for (Release place day) = target.Release place
-target_for (AddBox facility box place) = target.Boxes
-target_for (AddItem ceremony item at) = target.Items
-target_for (Plan ceremony facility day script) = target.Ceremonies
-target_for (Open ceremony at) = target.Opening ceremony
-target_for (Close ceremony at) = target.Closing ceremony
-target_for (RecordSheet ceremony way who at) = target.Sheet ceremony
-target_for (Sign ceremony step at) = target.Signature ceremony step
-target_for (RecordException ceremony text pass at) = target.Exceptions ceremony
-target_for (SetSafe ceremony safe is_open by at) = target.Safe ceremony safe
-target_for (Seal ceremony serial list at) = target.Seal ceremony serial
-target_for (Take ceremony serial at) = target.Take ceremony serial
-target_for (Put ceremony serial to at) = target.Put ceremony serial
-target_for (Cut ceremony serial at) = target.Cut ceremony serial
 
 -- the members as a reader keeps them
 abbrev pub data_of : List ℕ → Act → Data
@@ -61,18 +39,17 @@ key-again key is = sym (key-read (Some key) key (is, refl))
 number-again : (n : ℕ) → IsNumber 9999 n → number_to 9999 n ≡ Some n
 number-again n is = sym (number-new 9999 n (Some n) (is, refl))
 
-texts-again : (IsValue : List ℕ → Type 0) (form : List ℕ → Option (List ℕ)) → Reads IsValue (λ text. text) form → (list : List (List ℕ))
-    → All IsValue list → texts_in form (items_of (map string list)) ≡ Some list
-unfolding texts_in
-texts-again IsValue form reads [] each = refl
-texts-again IsValue form reads (text ∷ list) each =
-    rw (reads.again text (All-head IsValue text list each), texts-again IsValue form reads list (All-tail IsValue text list each)) refl
+each-again : (IsValue : List ℕ → Type 0) (form : List ℕ → Option (List ℕ)) → Reads IsValue (λ text. text) form → (list : List (List ℕ))
+    → All IsValue list → each_in form (items_of (map string list)) ≡ Some list
+unfolding each_in
+each-again IsValue form reads [] each = refl
+each-again IsValue form reads (text ∷ list) each =
+    rw (reads.again text (All-head IsValue text list each), each-again IsValue form reads list (All-tail IsValue text list each)) refl
 
-listed-again : (limit : ℕ) (list : List (List ℕ)) → IsListed limit list → listed_to limit list ≡ Some list
-listed-again limit list is = sym (listed-new limit list (Some list) (is, refl))
+listed-again : (limit : ℕ) (list : List (List ℕ)) → IsListed limit list → listed_of limit (λ texts. texts) list ≡ Some list
+listed-again limit list is = sym (listed-new limit (λ texts. texts) list (Some list) (is, refl))
 
-pub command-again : (key : List ℕ) (act : Act) → IsKey key → IsAct act → command_by (target_for act) (data_of key act) ≡ Ok (record { key = key; act = act })
-unfolding key_at who_at by_at name_at role_at from_at until_at day_at place_at facility_at item_at at_at script_at way_at remark_at to_at box_at ceremony_at number_at open_at pass_at people_at items_at
+pub command-again : (key : List ℕ) (act : Act) → IsKey key → IsAct act → command_by (post_of act) (data_of key act) ≡ Ok (record { key = key; act = act })
 command-again key (Enter who name) is_key is = rw (key-again key is_key, initials.reads.again who is.0, names.again name is.1) refl
 command-again key (Train who role since until) is_key is =
     rw (key-again key is_key, roles.reads.again role tt, days.reads.again since is.1, days.reads.again until is.2) refl
@@ -86,16 +63,16 @@ command-again key (AddBox facility box place) is_key is =
 command-again key (AddItem ceremony item at) is_key is =
     rw (key-again key is_key, number-again ceremony is.0, items.reads.again item is.1, moments.again at is.2) refl
 command-again key (Plan ceremony facility day script) is_key is =
-    rw (key-again key is_key, number-again ceremony is.0, facilities.reads.again facility tt, days.reads.again day is.1) refl
+    rw (key-again key is_key, number-again ceremony is.0, facilities.reads.again facility tt, days.reads.again day is.1, scripts.again script is.2) refl
 command-again key (Open ceremony at) is_key is = rw (key-again key is_key, moments.again at is.1) refl
 command-again key (Close ceremony at) is_key is = rw (key-again key is_key, moments.again at is.1) refl
 command-again key (RecordSheet ceremony way who at) is_key is =
-    rw (key-again key is_key, ways.reads.again way tt, texts-again IsInitials initials_of initials.reads who is.1.each, listed-again 32 who is.1.listed, moments.again at is.2) refl
+    rw (key-again key is_key, ways.reads.again way tt, each-again IsInitials initials_of initials.reads who is.1.each, listed-again 32 who is.1.listed, moments.again at is.2) refl
 command-again key (Sign ceremony step at) is_key is = rw (key-again key is_key, moments.again at is.2) refl
 command-again key (RecordException ceremony text pass at) is_key is = rw (key-again key is_key, remarks.reads.again text is.1, moments.again at is.2) refl
 command-again key (SetSafe ceremony safe state by at) is_key is = rw (key-again key is_key, initials.reads.again by is.1, moments.again at is.2) refl
 command-again key (Seal ceremony serial list at) is_key is =
-    rw (key-again key is_key, texts-again IsSerial item_of items.reads list is.2.each, listed-again 64 list is.2.listed, moments.again at is.3) refl
+    rw (key-again key is_key, each-again IsSerial item_of items.reads list is.2.each, listed-again 64 list is.2.listed, moments.again at is.3) refl
 command-again key (Take ceremony serial at) is_key is = rw (key-again key is_key, moments.again at is.2) refl
 command-again key (Put ceremony serial to at) is_key is = rw (key-again key is_key, stores.reads.again to is.2, moments.again at is.3) refl
 command-again key (Cut ceremony serial at) is_key is = rw (key-again key is_key, moments.again at is.2) refl

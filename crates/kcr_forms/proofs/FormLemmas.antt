@@ -15,7 +15,7 @@ use Rattle.kcr_base.specs.Lists.{IsListed, are_apart}
 use Rattle.kcr_base.specs.Number.{IsNumber}
 use Rattle.kcr_base.specs.Serial.{IsDigit, IsSerial}
 use Rattle.kcr_forms.specs.Forms.{is_between, is_capital, is_key_byte, is_serial_byte, is_printing, is_initials, is_key, is_serial, is_line}
-use Rattle.kcr_forms.specs.Forms.{initials_of, key_of, serial_of, item_of, name_of, remark_of, number_to, listed_to}
+use Rattle.kcr_forms.specs.Forms.{initials_of, key_of, serial_of, item_of, name_of, remark_of, number_to, listed_of}
 
 -- a reader that answers the text exactly on a form answers it if and only if the form's test does
 if_form-is : {V : Type 0} (r : Option V) (P : Type 0) (text : V) (test : Bool) → SomeIff r P text → (test ≡ true → P) → (P → test ≡ true)
@@ -129,14 +129,15 @@ pub number-large : (limit n : ℕ) → (n ≤ limit → ⊥) → number_to limit
 unfolding number_to
 number-large limit n h = rw (false_from_ne_true (is_between 1 limit n) (λ e. h (within-from 1 limit n e).1))
 
-pub listed-new : (limit : ℕ) (list : List (List ℕ)) (r : Option (List (List ℕ))) → SomeIff r (IsListed limit list) list → r ≡ listed_to limit list
-unfolding listed_to
-listed-new limit list r h =
-    if_form-is r (IsListed limit list) list (is_between 1 limit (length list) && are_apart list) h
-    (λ e. let parts = and_parts (is_between 1 limit (length list)) (are_apart list) e in
-    let long = within-from 1 limit (length list) parts.0 in
+pub listed-new : {V : Type 0} (limit : ℕ) (texts : List V → List (List ℕ)) (list : List V) (r : Option (List V))
+    → SomeIff r (IsListed limit (texts list)) list → r ≡ listed_of limit texts list
+unfolding listed_of
+listed-new limit texts list r h =
+    if_form-is r (IsListed limit (texts list)) list (is_between 1 limit (length (texts list)) && are_apart (texts list)) h
+    (λ e. let parts = and_parts (is_between 1 limit (length (texts list))) (are_apart (texts list)) e in
+    let long = within-from 1 limit (length (texts list)) parts.0 in
     record { at_least_one = long.0; at_most = long.1; apart = parts.1 })
-    (λ i. rw (within-to 1 limit (length list) (i.at_least_one, i.at_most), i.apart) refl)
+    (λ i. rw (within-to 1 limit (length (texts list)) (i.at_least_one, i.at_most), i.apart) refl)
 
 -- what answers of readers cite
 pub ruleset form_readings = (initials-read, key-read, serial-read, item-read, name-read, remark-read, listed-new)

@@ -42,7 +42,7 @@ use Rattle.kcr_room.specs.declared.Way.TheVariants.{Enter, Leave}
 use Rattle.kcr_room.specs.Room.{way_text}
 use Rattle.kcr_history.specs.Texts.{safe_text, store_text, truth_text, listed}
 use Rattle.kcr_forms.specs.Forms.{by_text, number_by_text, initials_of, serial_of, item_of, name_of, remark_of, is_initials, is_serial, is_line, day_of}
-use Rattle.kcr_forms.specs.Forms.{moment_of, ceremony_of, box_of, step_of, role_of, facility_of, way_of, safe_of, places, place_of, destination_of, listed_to}
+use Rattle.kcr_forms.specs.Forms.{moment_of, ceremony_of, box_of, step_of, role_of, facility_of, way_of, safe_of, places, place_of, destination_of, listed_to, listed_of}
 use Rattle.kcr_forms.specs.Forms.{if_form, is_between}
 use Rattle.kcr_forms.proofs.FormLemmas.{initials-read, serial-read, item-read, name-read, remark-read, listed-new}
 use Rattle.kcr_forms.proofs.TextLemmas.{number-read}
@@ -325,7 +325,7 @@ pieces (code ∷ next ∷ more) some each =
 codes-found : (limit : ℕ) (IsValue : List ℕ → Type 0) (read : List ℕ → Option (List ℕ)) → Reads IsValue (λ text. text) read
     → (text : List ℕ) (list : List (List ℕ))
     → option_and_then (listed_to limit) (each_of read (between_commas text)) ≡ Some list → listed list ≡ text
-unfolding listed_to
+unfolding listed_of
 codes-found limit IsValue read reads text list e =
     option_and_then_some (listed_to limit) (each_of read (between_commas text)) list e (λ all told few.
     let same = (cond_some (is_between 1 limit (length all) && are_apart all) all list few).1 in
@@ -339,7 +339,7 @@ codes-again limit IsValue read reads lacks list is each =
     ap (λ (texts : List (List ℕ)). option_and_then (listed_to limit) (each_of read texts))
     (pieces list is.at_least_one (All-weaker IsValue (λ code. Lacks 44 code) lacks list each))
     ∙ ap (option_and_then (listed_to limit)) (each-again IsValue read reads list each)
-    ∙ sym (listed-new limit list (Some list) (is, refl))
+    ∙ sym (listed-new limit (λ texts. texts) list (Some list) (is, refl))
 
 join-at_least : (low : ℕ) (list : List (List ℕ)) → low ≤ 44 → All (λ code. AtLeast low code) list → AtLeast low (listed list)
 join-at_least low [] le each = All-nil (λ b. low ≤ b)

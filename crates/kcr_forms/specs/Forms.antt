@@ -156,6 +156,10 @@ destination_of text = if same_text text (codes "safe1") then Some SafeOne else o
 unfoldable pub number_to : ℕ → ℕ → Option ℕ
 number_to limit n = if is_between 1 limit n then Some n else None
 
--- the list, if it has 1 to `limit` codes and none of them twice
-unfoldable pub listed_to : ℕ → List (List ℕ) → Option (List (List ℕ))
-listed_to limit list = if is_between 1 limit (length list) && are_apart list then Some list else None
+-- the list, if it has 1 to `limit` values, none of them twice by their texts
+unfoldable pub listed_of : {V : Type 0} → ℕ → (List V → List (List ℕ)) → List V → Option (List V)
+listed_of limit texts list = if is_between 1 limit (length (texts list)) && are_apart (texts list) then Some list else None
+
+-- the same for codes, which are their own texts
+abbrev pub listed_to : ℕ → List (List ℕ) → Option (List (List ℕ))
+listed_to limit list = listed_of limit (λ texts. texts) list

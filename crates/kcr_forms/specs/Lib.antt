@@ -3,3 +3,6 @@ pub mod Acts
 pub mod Split
 pub mod ActTexts
 pub mod Values
+pub mod OrMemory
+pub mod Reading
+pub mod Posts

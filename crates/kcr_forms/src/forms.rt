@@ -6,11 +6,13 @@
 ghost use Rattle.std.specs.Prelude.{◌≡◌, IfOk};
 ghost use Rattle.kcr_forms.specs.Forms.{initials_of, key_of, serial_of, item_of, name_of, remark_of, day_of, moment_of};
 ghost use Rattle.kcr_forms.specs.Forms.{ceremony_of, box_of, step_of, role_of, facility_of, way_of, safe_of, place_of};
-ghost use Rattle.kcr_forms.specs.Forms.{destination_of, number_to, listed_to};
+ghost use Rattle.kcr_forms.specs.Forms.{destination_of, number_to, listed_of};
 
+use kcr_base::lists::{DistinctList, ListElement};
+use kcr_base::number::{Number, Numbered};
 use kcr_base::{
-    BoxNumber, CeremonyNumber, Day, Facility, Initials, ItemCode, Items, Key, Moment, Name, People,
-    Place, Remark, Role, Serial, StepNumber,
+    BoxNumber, CeremonyNumber, Day, Facility, Initials, ItemCode, Key, Moment, Name, Place, Remark,
+    Role, Serial, StepNumber,
 };
 use kcr_custody::{Destination, SafeNumber};
 use kcr_room::Way;
@@ -145,36 +147,19 @@ pub fn read_destination(text: &[u8]) -> Option<Destination>
     }
 }
 
-/// The number of a ceremony, from a JSON whole number.
-pub fn ceremony_number(number: u64) -> Option<CeremonyNumber>
-    ensures { result ≡ number_to 9999 number }
+/// The number of its kind that a JSON whole number is.
+pub fn number_to<K: Numbered>(number: u64) -> Option<Number<K>>
+    ensures { result ≡ number_to K.limit number }
 {
     match u32::try_from(number) {
-        Ok(number) => CeremonyNumber::new(number),
+        Ok(number) => Number::new(number),
         Err(_) => None,
     }
 }
 
-/// The number of a box, from a JSON whole number.
-pub fn box_number(number: u64) -> Option<BoxNumber>
-    ensures { result ≡ number_to 9999 number }
+/// The people or the items of a list, if they are not too many and none comes twice.
+pub fn listed<T: ListElement>(list: Vec<T>) -> Option<DistinctList<T>>
+    ensures { result ≡ listed_of T.MAX_LEN T.texts list.items }
 {
-    match u32::try_from(number) {
-        Ok(number) => BoxNumber::new(number),
-        Err(_) => None,
-    }
-}
-
-/// The people of a list, if they are 1 to 32 and none comes twice.
-pub fn people_from(list: Vec<Initials>) -> Option<People>
-    ensures { result ≡ listed_to 32 list.items }
-{
-    People::new(list)
-}
-
-/// The items of a list, if they are 1 to 64 and none comes twice.
-pub fn items_from(list: Vec<ItemCode>) -> Option<Items>
-    ensures { result ≡ listed_to 64 list.items }
-{
-    Items::new(list)
+    DistinctList::new(list)
 }

@@ -7,17 +7,25 @@
 //! after it are read as that kind's values. A script is the last value of its act, so it may have lines of its own.
 #![tactic(auto)]
 
+mod act;
 mod act_reader;
 mod bags;
 mod ceremonies;
 mod collections;
 pub mod forms;
+mod from_text;
 pub mod laws;
 mod lists;
+mod members;
 mod parts;
 mod people;
 mod places;
+mod post;
 mod split;
 mod values;
 
+pub use act::act_at;
 pub use act_reader::read_act;
+pub use from_text::FromText;
+pub use members::{Members, required};
+pub use post::Post;

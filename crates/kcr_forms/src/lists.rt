@@ -3,7 +3,7 @@ ghost use Rattle.std.specs.Prelude.{◌≡◌, map, option_map, IfOk};
 ghost use Rattle.kcr_forms.specs.Forms.{initials_of, item_of};
 ghost use Rattle.kcr_forms.specs.ActTexts;
 
-use crate::forms::{items_from, people_from, read_initials, read_item};
+use crate::forms::{listed, read_initials, read_item};
 use kcr_base::{Initials, ItemCode, Items, People};
 use std::alloc::{AllocError, Global};
 
@@ -53,7 +53,7 @@ pub(crate) fn read_people(alloc: Global, text: &[u8]) -> Result<Option<People>, 
     let Some(list) = each_person(alloc, &codes)? else {
         return Ok(None);
     };
-    Ok(people_from(list))
+    Ok(listed(list))
 }
 
 /// The items with commas between them. The error is out of memory.
@@ -65,5 +65,5 @@ pub(crate) fn read_items(alloc: Global, text: &[u8]) -> Result<Option<Items>, Al
     let Some(list) = each_item(alloc, &codes)? else {
         return Ok(None);
     };
-    Ok(items_from(list))
+    Ok(listed(list))
 }

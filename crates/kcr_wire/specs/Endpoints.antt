@@ -15,6 +15,11 @@ use Rattle.kcr_wire.specs.declared.allow.Allow.{Allow}
 use Rattle.kcr_wire.specs.declared.allow.Allow.TheVariants as allow
 use Rattle.kcr_wire.specs.declared.route.Route.{Route}
 use Rattle.kcr_wire.specs.declared.route.Route.TheVariants as route
+use Rattle.kcr_base.specs.declared.place.Place.{Place}
+use Rattle.kcr_history.specs.declared.questions.Question.TheVariants as question
+use Rattle.kcr_forms.specs.declared.post.Post.{Post}
+use Rattle.kcr_forms.specs.declared.post.Post.TheVariants as post
+use Rattle.kcr_wire.specs.declared.question.Inquiry.TheVariants as inquiry
 use Rattle.kcr_wire.specs.declared.endpoint.Endpoint.{Endpoint}
 use Rattle.kcr_wire.specs.declared.endpoint.Endpoint.TheVariants as target
 
@@ -50,35 +55,48 @@ after_of text = number_by_text decimal 0 4000000000 text
 abbrev pub with_parts : {A B : Type 0} → (A → B → Endpoint) → Option A → Option B → Option Endpoint
 with_parts make part other = option_and_then (λ a. option_map (make a) other) part
 
+-- a path on a person, on a place, on a ceremony, and on something in a ceremony
+abbrev pub on_person : (List ℕ → Post) → List ℕ → Option Endpoint
+on_person make path = option_map (λ who. target.Post (make who)) (initials_of (second_piece path))
+
+abbrev pub on_place : (Place → Post) → List ℕ → Option Endpoint
+on_place make path = option_map (λ place. target.Post (make place)) (place_of (second_piece path))
+
+abbrev pub on_ceremony : (ℕ → Post) → List ℕ → Option Endpoint
+on_ceremony make path = option_map (λ n. target.Post (make n)) (ceremony_of (second_piece path))
+
+abbrev pub in_ceremony : {V : Type 0} → (ℕ → V → Post) → (List ℕ → Option V) → List ℕ → Option Endpoint
+in_ceremony make read path = with_parts (λ n v. target.Post (make n v)) (ceremony_of (second_piece path)) (read (fourth_piece path))
+
 -- what a path of this route asks for, if each part in braces is of its form
 abbrev pub target_by : Route → List ℕ → Option Endpoint
-target_by route.People path = Some target.People
-target_by route.Roles path = option_map target.Roles (initials_of (second_piece path))
-target_by route.Withdrawals path = option_map target.Withdrawals (initials_of (second_piece path))
-target_by route.Custodians path = Some target.Custodians
-target_by route.Replacement path = option_map target.Replacement (place_of (second_piece path))
-target_by route.Release path = option_map target.Release (place_of (second_piece path))
-target_by route.Boxes path = Some target.Boxes
-target_by route.Items path = Some target.Items
-target_by route.Ceremonies path = Some target.Ceremonies
-target_by route.Opening path = option_map target.Opening (ceremony_of (second_piece path))
-target_by route.Closing path = option_map target.Closing (ceremony_of (second_piece path))
-target_by route.Sheet path = option_map target.Sheet (ceremony_of (second_piece path))
-target_by route.Signature path =
-    with_parts target.Signature (ceremony_of (second_piece path)) (step_of (fourth_piece path))
-target_by route.Exceptions path = option_map target.Exceptions (ceremony_of (second_piece path))
-target_by route.Safes path = with_parts target.Safe (ceremony_of (second_piece path)) (safe_of (fourth_piece path))
-target_by route.Seal path = with_parts target.Seal (ceremony_of (second_piece path)) (serial_of (fourth_piece path))
-target_by route.Take path = with_parts target.Take (ceremony_of (second_piece path)) (serial_of (fourth_piece path))
-target_by route.Put path = with_parts target.Put (ceremony_of (second_piece path)) (serial_of (fourth_piece path))
-target_by route.Cut path = with_parts target.Cut (ceremony_of (second_piece path)) (serial_of (fourth_piece path))
-target_by route.CustodiansOn path = option_map target.CustodiansOn (day_of (second_piece path))
-target_by route.Bag path = option_map target.Bag (serial_of (second_piece path))
-target_by route.Room path = with_parts target.Room (ceremony_of (second_piece path)) (moment_of (fourth_piece path))
-target_by route.Script path = option_map target.Script (ceremony_of (second_piece path))
-target_by route.Attendance path = option_map target.Attendance (ceremony_of (second_piece path))
-target_by route.Custody path = Some target.Custody
-target_by route.Commands path = option_map target.Commands (after_of (second_piece path))
+target_by route.People path = Some (target.Post post.People)
+target_by route.Roles path = on_person post.Roles path
+target_by route.Withdrawals path = on_person post.Withdrawals path
+target_by route.Custodians path = Some (target.Post post.Custodians)
+target_by route.Replacement path = on_place post.Replacement path
+target_by route.Release path = on_place post.Release path
+target_by route.Boxes path = Some (target.Post post.Boxes)
+target_by route.Items path = Some (target.Post post.Items)
+target_by route.Ceremonies path = Some (target.Post post.Ceremonies)
+target_by route.Opening path = on_ceremony post.Opening path
+target_by route.Closing path = on_ceremony post.Closing path
+target_by route.Sheet path = on_ceremony post.Sheet path
+target_by route.Signature path = in_ceremony post.Signature step_of path
+target_by route.Exceptions path = on_ceremony post.Exceptions path
+target_by route.Safes path = in_ceremony post.Safe safe_of path
+target_by route.Seal path = in_ceremony post.Seal serial_of path
+target_by route.Take path = in_ceremony post.Take serial_of path
+target_by route.Put path = in_ceremony post.Put serial_of path
+target_by route.Cut path = in_ceremony post.Cut serial_of path
+target_by route.CustodiansOn path = option_map (λ day. target.Ask (inquiry.Question (question.Custodians day))) (day_of (second_piece path))
+target_by route.Bag path = option_map (λ serial. target.Ask (inquiry.Question (question.Bag serial))) (serial_of (second_piece path))
+target_by route.Room path =
+    with_parts (λ n at. target.Ask (inquiry.Question (question.Room n at))) (ceremony_of (second_piece path)) (moment_of (fourth_piece path))
+target_by route.Script path = option_map (λ n. target.Ask (inquiry.Script n)) (ceremony_of (second_piece path))
+target_by route.Attendance path = option_map (λ n. target.Ask (inquiry.Attendance n)) (ceremony_of (second_piece path))
+target_by route.Custody path = Some (target.Ask inquiry.Custody)
+target_by route.Commands path = option_map (λ after. target.Ask (inquiry.Commands after)) (after_of (second_piece path))
 
 -- what a path asks for, by the route that the router finds for it
 abbrev pub target_at : List ℕ → Option Endpoint
@@ -90,15 +108,9 @@ target_of target = ok_or (option_and_then target_at (text_in (path_of target))) 
 
 -- the methods that a path takes
 abbrev pub allow_of_endpoint : Endpoint → Allow
-allow_of_endpoint target.People = allow.GetHeadPost
-allow_of_endpoint (target.CustodiansOn day) = allow.GetHead
-allow_of_endpoint (target.Bag serial) = allow.GetHead
-allow_of_endpoint (target.Room ceremony at) = allow.GetHead
-allow_of_endpoint (target.Script ceremony) = allow.GetHead
-allow_of_endpoint (target.Attendance ceremony) = allow.GetHead
-allow_of_endpoint target.Custody = allow.GetHead
-allow_of_endpoint (target.Commands after) = allow.GetHead
-allow_of_endpoint _ = allow.Post
+allow_of_endpoint (target.Post post.People) = allow.GetHeadPost
+allow_of_endpoint (target.Post _) = allow.Post
+allow_of_endpoint (target.Ask _) = allow.GetHead
 
 -- the methods that a target takes, if it is a path of the register
 unfoldable pub allow_of : List ℕ → Option Allow

@@ -1,4 +1,3 @@
-pub mod OrMemory
 pub mod Routes
 pub mod Endpoints
 pub mod Members

@@ -5,47 +5,25 @@ ghost use Rattle.kcr_wire.specs.Endpoints.{target_by, target_of, allow_of_endpoi
 
 use crate::after::After;
 use crate::allow::Allow;
+use crate::question::Inquiry;
 use crate::route::{Route, router};
-use kcr_base::{CeremonyNumber, Day, Initials, Moment, Place, Refusal, Serial, StepNumber};
-use kcr_custody::SafeNumber;
+use kcr_base::Refusal;
+use kcr_forms::Post;
 use kcr_forms::forms::{
     read_ceremony, read_day, read_initials, read_moment, read_place, read_safe, read_serial,
     read_step,
 };
+use kcr_history::Question;
 use matchit::Router;
 use std::alloc::Global;
 use std::marker::Model;
 use std::str;
 
-/// A path with its parts in braces read.
+/// A path with its parts in braces read: one that takes a command, or one that is only asked. `/people` takes both.
 #[derive(Clone, Copy)]
 pub enum Endpoint {
-    People,
-    Roles(Initials),
-    Withdrawals(Initials),
-    Custodians,
-    Replacement(Place),
-    Release(Place),
-    Boxes,
-    Items,
-    Ceremonies,
-    Opening(CeremonyNumber),
-    Closing(CeremonyNumber),
-    Sheet(CeremonyNumber),
-    Signature(CeremonyNumber, StepNumber),
-    Exceptions(CeremonyNumber),
-    Safe(CeremonyNumber, SafeNumber),
-    Seal(CeremonyNumber, Serial),
-    Take(CeremonyNumber, Serial),
-    Put(CeremonyNumber, Serial),
-    Cut(CeremonyNumber, Serial),
-    CustodiansOn(Day),
-    Bag(Serial),
-    Room(CeremonyNumber, Moment),
-    Script(CeremonyNumber),
-    Attendance(CeremonyNumber),
-    Custody,
-    Commands(After),
+    Post(Post),
+    Ask(Inquiry),
 }
 
 // The place of the first question mark.
@@ -127,32 +105,40 @@ fn read_parts(route: Route, path: &[u8]) -> Option<Endpoint>
     let part = second_piece(path);
     let other = fourth_piece(path);
     let target = match route {
-        Route::People => Endpoint::People,
-        Route::Roles => Endpoint::Roles(read_initials(part)?),
-        Route::Withdrawals => Endpoint::Withdrawals(read_initials(part)?),
-        Route::Custodians => Endpoint::Custodians,
-        Route::Replacement => Endpoint::Replacement(read_place(part)?),
-        Route::Release => Endpoint::Release(read_place(part)?),
-        Route::Boxes => Endpoint::Boxes,
-        Route::Items => Endpoint::Items,
-        Route::Ceremonies => Endpoint::Ceremonies,
-        Route::Opening => Endpoint::Opening(read_ceremony(part)?),
-        Route::Closing => Endpoint::Closing(read_ceremony(part)?),
-        Route::Sheet => Endpoint::Sheet(read_ceremony(part)?),
-        Route::Signature => Endpoint::Signature(read_ceremony(part)?, read_step(other)?),
-        Route::Exceptions => Endpoint::Exceptions(read_ceremony(part)?),
-        Route::Safes => Endpoint::Safe(read_ceremony(part)?, read_safe(other)?),
-        Route::Seal => Endpoint::Seal(read_ceremony(part)?, read_serial(other)?),
-        Route::Take => Endpoint::Take(read_ceremony(part)?, read_serial(other)?),
-        Route::Put => Endpoint::Put(read_ceremony(part)?, read_serial(other)?),
-        Route::Cut => Endpoint::Cut(read_ceremony(part)?, read_serial(other)?),
-        Route::CustodiansOn => Endpoint::CustodiansOn(read_day(part)?),
-        Route::Bag => Endpoint::Bag(read_serial(part)?),
-        Route::Room => Endpoint::Room(read_ceremony(part)?, read_moment(other)?),
-        Route::Script => Endpoint::Script(read_ceremony(part)?),
-        Route::Attendance => Endpoint::Attendance(read_ceremony(part)?),
-        Route::Custody => Endpoint::Custody,
-        Route::Commands => Endpoint::Commands(After::read(part)?),
+        Route::People => Endpoint::Post(Post::People),
+        Route::Roles => Endpoint::Post(Post::Roles(read_initials(part)?)),
+        Route::Withdrawals => Endpoint::Post(Post::Withdrawals(read_initials(part)?)),
+        Route::Custodians => Endpoint::Post(Post::Custodians),
+        Route::Replacement => Endpoint::Post(Post::Replacement(read_place(part)?)),
+        Route::Release => Endpoint::Post(Post::Release(read_place(part)?)),
+        Route::Boxes => Endpoint::Post(Post::Boxes),
+        Route::Items => Endpoint::Post(Post::Items),
+        Route::Ceremonies => Endpoint::Post(Post::Ceremonies),
+        Route::Opening => Endpoint::Post(Post::Opening(read_ceremony(part)?)),
+        Route::Closing => Endpoint::Post(Post::Closing(read_ceremony(part)?)),
+        Route::Sheet => Endpoint::Post(Post::Sheet(read_ceremony(part)?)),
+        Route::Signature => Endpoint::Post(Post::Signature(
+            read_ceremony(part)?,
+            read_step(other)?,
+        )),
+        Route::Exceptions => Endpoint::Post(Post::Exceptions(read_ceremony(part)?)),
+        Route::Safes => Endpoint::Post(Post::Safe(read_ceremony(part)?, read_safe(other)?)),
+        Route::Seal => Endpoint::Post(Post::Seal(read_ceremony(part)?, read_serial(other)?)),
+        Route::Take => Endpoint::Post(Post::Take(read_ceremony(part)?, read_serial(other)?)),
+        Route::Put => Endpoint::Post(Post::Put(read_ceremony(part)?, read_serial(other)?)),
+        Route::Cut => Endpoint::Post(Post::Cut(read_ceremony(part)?, read_serial(other)?)),
+        Route::CustodiansOn => Endpoint::Ask(Inquiry::Question(Question::Custodians(read_day(
+            part,
+        )?))),
+        Route::Bag => Endpoint::Ask(Inquiry::Question(Question::Bag(read_serial(part)?))),
+        Route::Room => Endpoint::Ask(Inquiry::Question(Question::Room(
+            read_ceremony(part)?,
+            read_moment(other)?,
+        ))),
+        Route::Script => Endpoint::Ask(Inquiry::Script(read_ceremony(part)?)),
+        Route::Attendance => Endpoint::Ask(Inquiry::Attendance(read_ceremony(part)?)),
+        Route::Custody => Endpoint::Ask(Inquiry::Custody),
+        Route::Commands => Endpoint::Ask(Inquiry::Commands(After::read(part)?)),
     };
     Some(target)
 }
@@ -194,7 +180,10 @@ impl RouteTable {
             return Err(Refusal::Path);
         };
         match self.router.at(path) {
-            Ok(found) => read_parts(*found.value, path.as_bytes()).ok_or(Refusal::Path),
+            Ok(found) => match read_parts(*found.value, path.as_bytes()) {
+                Some(endpoint) => Ok(endpoint),
+                None => Err(Refusal::Path),
+            },
             Err(_) => Err(Refusal::Path),
         }
     }
@@ -217,15 +206,9 @@ impl Endpoint {
         ensures { result ≡ allow_of_endpoint self }
     {
         match self {
-            Endpoint::People => Allow::GetHeadPost,
-            Endpoint::CustodiansOn(_)
-            | Endpoint::Bag(_)
-            | Endpoint::Room(_, _)
-            | Endpoint::Script(_)
-            | Endpoint::Attendance(_)
-            | Endpoint::Custody
-            | Endpoint::Commands(_) => Allow::GetHead,
-            _ => Allow::Post,
+            Endpoint::Post(Post::People) => Allow::GetHeadPost,
+            Endpoint::Post(_) => Allow::Post,
+            Endpoint::Ask(_) => Allow::GetHead,
         }
     }
 }

@@ -4,10 +4,9 @@
 
 mod after;
 pub mod allow;
+mod body;
 pub mod command;
 pub mod endpoint;
-pub mod json_texts;
-mod json_values;
 pub mod method;
 pub mod question;
 pub mod route;

@@ -6,6 +6,7 @@ use crate::after::After;
 use crate::endpoint::{Endpoint, RouteTable};
 use crate::method::Method;
 use kcr_base::{CeremonyNumber, Refusal};
+use kcr_forms::Post;
 use kcr_history::Question;
 
 /// What a GET or HEAD asks for: a question, whose answer is a value, or a report, whose answer is a
@@ -25,19 +26,13 @@ pub enum Inquiry {
 }
 
 // The inquiry that a path takes, or the refusal of a path that takes commands alone.
-fn question_at(target: &Endpoint) -> Result<Inquiry, Refusal>
-    ensures { result ≡ question_by target.now }
+fn question_at(target: Endpoint) -> Result<Inquiry, Refusal>
+    ensures { result ≡ question_by target }
 {
-    match *target {
-        Endpoint::People => Ok(Inquiry::Question(Question::People)),
-        Endpoint::CustodiansOn(day) => Ok(Inquiry::Question(Question::Custodians(day))),
-        Endpoint::Bag(serial) => Ok(Inquiry::Question(Question::Bag(serial))),
-        Endpoint::Room(ceremony, at) => Ok(Inquiry::Question(Question::Room(ceremony, at))),
-        Endpoint::Script(ceremony) => Ok(Inquiry::Script(ceremony)),
-        Endpoint::Attendance(ceremony) => Ok(Inquiry::Attendance(ceremony)),
-        Endpoint::Custody => Ok(Inquiry::Custody),
-        Endpoint::Commands(after) => Ok(Inquiry::Commands(after)),
-        _ => Err(Refusal::Method),
+    match target {
+        Endpoint::Ask(inquiry) => Ok(inquiry),
+        Endpoint::Post(Post::People) => Ok(Inquiry::Question(Question::People)),
+        Endpoint::Post(_) => Err(Refusal::Method),
     }
 }
 
@@ -49,10 +44,10 @@ impl RouteTable {
     pub fn read_question(&self, method: Method, target: &[u8]) -> Result<Inquiry, Refusal>
         ensures { result ≡ question_of method target.now }
     {
-        let target = self.resolve(target)?;
-        match method {
-            Method::Get | Method::Head => question_at(&target),
-            Method::Post | Method::Other => Err(Refusal::Method),
+        match (self.resolve(target), method) {
+            (Ok(endpoint), Method::Get | Method::Head) => question_at(endpoint),
+            (Ok(_), Method::Post | Method::Other) => Err(Refusal::Method),
+            (Err(refusal), _) => Err(refusal),
         }
     }
 }

@@ -1,7 +1,7 @@
 use Rattle.std.proofs.Common.{refl}
 use Rattle.kcr_wire.proofs.Json.{json-some, json-none}
 use Rattle.std.proofs.lemmas.Bool.{false≢true}
-use Rattle.kcr_wire.proofs.json_texts.read_body.Goals as goal
+use Rattle.kcr_wire.proofs.body.read_body.Goals as goal
 
 pub returns-in-Ok-clause-ok : goal.returns-in-Ok-clause-ok
 returns-in-Ok-clause-ok c = json-some _ _ c.in-Ok.ensures.ok

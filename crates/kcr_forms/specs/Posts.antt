@@ -1,0 +1,103 @@
+-- The shape of each command: its path, and the members of its body with their forms.
+use Rattle.std.specs.Prelude.{ℕ, List, Bool, Option, Result, Ok}
+use Rattle.kcr_base.specs.declared.refusal.Member.{Member}
+use Rattle.kcr_base.specs.declared.refusal.Member.TheVariants as member
+use Rattle.kcr_base.specs.declared.refusal.Refusal.{Refusal}
+use Rattle.kcr_history.specs.declared.commands.Act.{Act}
+use Rattle.kcr_history.specs.declared.commands.Act.TheVariants as act
+use Rattle.kcr_forms.specs.ActTexts.{script_of}
+use Rattle.kcr_forms.specs.Forms.{initials_of, item_of, name_of, remark_of, day_of, moment_of, place_of, facility_of}
+use Rattle.kcr_forms.specs.Forms.{role_of, way_of, destination_of, listed_of}
+use Rattle.kcr_forms.specs.OrMemory.{and_then}
+use Rattle.kcr_forms.specs.Reading.{Reading, formed}
+use Rattle.kcr_forms.specs.declared.post.Post.{Post}
+use Rattle.kcr_forms.specs.declared.post.Post.TheVariants as post
+
+-- the path to which an act's command is posted
+abbrev pub post_of : Act → Post
+post_of (act.Enter who name) = post.People
+post_of (act.Train who role since until) = post.Roles who
+post_of (act.Withdraw who role day) = post.Withdrawals who
+post_of (act.Appoint place who day) = post.Custodians
+post_of (act.Replace place who day) = post.Replacement place
+post_of (act.Release place day) = post.Release place
+post_of (act.AddBox facility number place) = post.Boxes
+post_of (act.AddItem ceremony item at) = post.Items
+post_of (act.Plan number facility day script) = post.Ceremonies
+post_of (act.Open ceremony at) = post.Opening ceremony
+post_of (act.Close ceremony at) = post.Closing ceremony
+post_of (act.RecordSheet ceremony way who at) = post.Sheet ceremony
+post_of (act.Sign ceremony step at) = post.Signature ceremony step
+post_of (act.RecordException ceremony text pass at) = post.Exceptions ceremony
+post_of (act.SetSafe ceremony safe is_open by at) = post.Safe ceremony safe
+post_of (act.Seal ceremony serial items at) = post.Seal ceremony serial
+post_of (act.Take ceremony serial at) = post.Take ceremony serial
+post_of (act.Put ceremony serial to at) = post.Put ceremony serial
+post_of (act.Cut ceremony serial at) = post.Cut ceremony serial
+
+-- THE ACT OF A PATH AND ITS MEMBERS
+
+-- continues with a member, and with what is left after it
+abbrev pub next : {S A B : Type 0} → Reading S → Member → Option A → S → (A → S → Result B Refusal) → Result B Refusal
+next r name value s go = and_then (formed name value) (λ v. go v (r.rest s))
+
+abbrev pub word : {S A B : Type 0} → Reading S → Member → (List ℕ → Option A) → S
+    → (A → S → Result B Refusal) → Result B Refusal
+word r name form s go = next r name (r.word form name s) s go
+
+abbrev pub number : {S B : Type 0} → Reading S → Member → S → (ℕ → S → Result B Refusal) → Result B Refusal
+number r name s go = next r name (r.number 9999 name s) s go
+
+abbrev pub truth : {S B : Type 0} → Reading S → Member → S → (Bool → S → Result B Refusal) → Result B Refusal
+truth r name s go = next r name (r.truth name s) s go
+
+-- codes, at most so many and each of them once
+abbrev pub list : {S B : Type 0} → Reading S → Member → ℕ → (List ℕ → Option (List ℕ)) → S
+    → (List (List ℕ) → S → Result B Refusal) → Result B Refusal
+list r name most form s go = next r name (r.list form (listed_of most (λ texts. texts)) name s) s go
+
+abbrev pub last : {S A B : Type 0} → Reading S → Member → (List ℕ → Option A) → S → (A → B) → Result B Refusal
+last r name form s make = and_then (formed name (r.last form name s)) (λ v. Ok (make v))
+
+-- the moment, which is the last member
+abbrev pub at_last : {S B : Type 0} → Reading S → S → (ℕ → B) → Result B Refusal
+at_last r s make = last r member.At moment_of s make
+
+-- the act of a path and its members: each of its form, or the refusal of the first one that is not
+abbrev pub act_by : {S : Type 0} → Reading S → Post → S → Result Act Refusal
+act_by r post.People s = word r member.Who initials_of s (λ who s. last r member.Name name_of s (act.Enter who))
+act_by r (post.Roles who) s =
+    word r member.Role role_of s (λ role s. word r member.From day_of s (λ since s.
+    last r member.Until day_of s (act.Train who role since)))
+act_by r (post.Withdrawals who) s = word r member.Role role_of s (λ role s. last r member.Day day_of s (act.Withdraw who role))
+act_by r post.Custodians s =
+    word r member.Place place_of s (λ place s. word r member.Who initials_of s (λ who s.
+    last r member.Day day_of s (act.Appoint place who)))
+act_by r (post.Replacement place) s = word r member.Who initials_of s (λ who s. last r member.Day day_of s (act.Replace place who))
+act_by r (post.Release place) s = last r member.Day day_of s (act.Release place)
+act_by r post.Boxes s =
+    word r member.Facility facility_of s (λ facility s. number r member.Box s (λ n s.
+    last r member.Place place_of s (act.AddBox facility n)))
+act_by r post.Items s =
+    number r member.Ceremony s (λ ceremony s. word r member.Item item_of s (λ item s. at_last r s (act.AddItem ceremony item)))
+act_by r post.Ceremonies s =
+    number r member.Number s (λ n s. word r member.Facility facility_of s (λ facility s. word r member.Day day_of s (λ day s.
+    last r member.Script script_of s (act.Plan n facility day))))
+act_by r (post.Opening ceremony) s = at_last r s (act.Open ceremony)
+act_by r (post.Closing ceremony) s = at_last r s (act.Close ceremony)
+act_by r (post.Sheet ceremony) s =
+    word r member.Way way_of s (λ way s. list r member.Who 32 initials_of s (λ who s.
+    at_last r s (act.RecordSheet ceremony way who)))
+act_by r (post.Signature ceremony step) s = at_last r s (act.Sign ceremony step)
+act_by r (post.Exceptions ceremony) s =
+    word r member.Text remark_of s (λ text s. truth r member.Pass s (λ pass s.
+    at_last r s (act.RecordException ceremony text pass)))
+act_by r (post.Safe ceremony safe) s =
+    truth r member.Open s (λ is_open s. word r member.By initials_of s (λ by s.
+    at_last r s (act.SetSafe ceremony safe is_open by)))
+act_by r (post.Seal ceremony serial) s =
+    list r member.Items 64 item_of s (λ items s. at_last r s (act.Seal ceremony serial items))
+act_by r (post.Take ceremony serial) s = at_last r s (act.Take ceremony serial)
+act_by r (post.Put ceremony serial) s =
+    word r member.To destination_of s (λ to s. at_last r s (act.Put ceremony serial to))
+act_by r (post.Cut ceremony serial) s = at_last r s (act.Cut ceremony serial)
