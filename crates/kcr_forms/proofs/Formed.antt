@@ -1,7 +1,6 @@
 -- The readers of the forms read the texts of their values and no others.
-use Rattle.std.proofs.Common.{◌≡◌, ℕ, ◌+◌, ◌-◌, ◌*◌, ◌≤◌, ◌<◌, ◌⊎◌, Bool, true, false, not, ◌&&◌, eqb, nat_le, List, [], ◌∷◌, suc}
+use Rattle.std.proofs.Common.{◌≡◌, ℕ, ◌+◌, ◌-◌, ◌*◌, ◌≤◌, ◌<◌, ◌⊎◌, Bool, true, false, not, eqb, nat_le, List, [], ◌∷◌, suc}
 use Rattle.std.proofs.Common.{length, get_or, codes, Option, Some, refl, sym, ap, subst, ◌∙◌, arith, All}
-use Rattle.std.specs.Option.{option_map, option_and_then}
 use Rattle.std.specs.Bool.{⊤}
 use Rattle.std.specs.Fmt.{decimal}
 use Rattle.std.specs.Int.Digits.{digits_of}
@@ -13,14 +12,13 @@ use Rattle.std.proofs.lemmas.Bool.{leb-true}
 use Rattle.std.proofs.lemmas.Fmt.{decimal_injective, decimal-digits_of, decimal_is_IsNumeral}
 use Rattle.std.proofs.lemmas.List.Elements.{All-get_or, All-nil, All-weaker, All-map, All-append, All-head, All-tail, All-from_recursion}
 use Rattle.std.proofs.lemmas.List.Sums.{AllPass-from_list_all}
-use Rattle.std.proofs.lemmas.List.Splits.{slice_split_none, slice_split_at, join_with_byte-slice_split}
-use Rattle.std.proofs.lemmas.Option.{cond_some, option_and_then_some}
+use Rattle.std.proofs.lemmas.List.Splits.{slice_split_none, slice_split_at}
+use Rattle.std.proofs.lemmas.Option.{cond_some}
 use Rattle.kcr_base.specs.Same.{same_text}
 use Rattle.kcr_base.specs.Day.{IsDay, day_text}
 use Rattle.kcr_base.specs.Facility.{facility_text}
 use Rattle.kcr_base.specs.Initials.{IsCapital, IsInitials}
 use Rattle.kcr_base.specs.Line.{IsPrinting, IsLine}
-use Rattle.kcr_base.specs.Lists.{IsListed, are_apart}
 use Rattle.kcr_base.specs.Moment.{IsMoment, moment_text}
 use Rattle.kcr_base.specs.Number.{IsNumber}
 use Rattle.kcr_base.specs.Reads.{HasText, ReadsText}
@@ -42,13 +40,13 @@ use Rattle.kcr_room.specs.declared.Way.TheVariants.{Enter, Leave}
 use Rattle.kcr_room.specs.Room.{way_text}
 use Rattle.kcr_history.specs.Texts.{safe_text, store_text, truth_text, listed}
 use Rattle.kcr_forms.specs.Forms.{by_text, number_by_text, initials_of, serial_of, item_of, name_of, remark_of, is_initials, is_serial, is_line, day_of}
-use Rattle.kcr_forms.specs.Forms.{moment_of, ceremony_of, box_of, step_of, role_of, facility_of, way_of, safe_of, places, place_of, destination_of, listed_to, listed_of}
-use Rattle.kcr_forms.specs.Forms.{if_form, is_between}
-use Rattle.kcr_forms.proofs.FormLemmas.{initials-read, serial-read, item-read, name-read, remark-read, listed-new}
+use Rattle.kcr_forms.specs.Forms.{moment_of, ceremony_of, box_of, step_of, role_of, facility_of, way_of, safe_of, places, place_of, destination_of, script_of, truth_of}
+use Rattle.kcr_forms.specs.Forms.{if_form}
+use Rattle.kcr_forms.proofs.FormLemmas.{initials-read, serial-read, item-read, name-read, remark-read}
 use Rattle.kcr_forms.proofs.TextLemmas.{number-read}
 use Rattle.kcr_forms.proofs.ValueLemmas.{day-read, moment-read, place-read}
-use Rattle.kcr_forms.specs.Acts.{ArePeople, AreItems, IsDestination}
-use Rattle.kcr_forms.specs.ActTexts.{script_of, truth_of, each_of, between_commas, people_from, items_from}
+use Rattle.kcr_forms.specs.Acts.{IsDestination}
+use Rattle.kcr_forms.specs.Lines.{each_of, between_commas}
 use Rattle.kcr_forms.proofs.Cutting.{Lacks, lacks-literal}
 use Rattle.kcr_forms.proofs.Dates.{day-same, moment-same, day-printing}
 use Rattle.kcr_forms.proofs.Readers.{named, nothing, option_map_some, Reads, Value, InPath, AtLeast, lacks-below, at_least-less}
@@ -300,46 +298,18 @@ stores = record {
 
 -- ---- lists
 
-each-found : (IsValue : List ℕ → Type 0) (read : List ℕ → Option (List ℕ)) → Reads IsValue (λ text. text) read → (texts list : List (List ℕ))
-    → each_of read texts ≡ Some list → list ≡ texts
-each-found IsValue read reads [] list e = cc
-each-found IsValue read reads (text ∷ texts) list e =
-    option_and_then_some (λ value. option_map (λ values. value ∷ values) (each_of read texts)) (read text) list e (λ value first rest.
-    option_map_some (λ (values : List (List ℕ)). value ∷ values) (each_of read texts) list rest (λ values others same.
-    sym same ∙ (λ j. reads.found text value first j ∷ each-found IsValue read reads texts values others j)))
-
-each-again : (IsValue : List ℕ → Type 0) (read : List ℕ → Option (List ℕ)) → Reads IsValue (λ text. text) read → (list : List (List ℕ))
+pub each-again : (IsValue : List ℕ → Type 0) (read : List ℕ → Option (List ℕ)) → Reads IsValue (λ text. text) read → (list : List (List ℕ))
     → All IsValue list → each_of read list ≡ Some list
 each-again IsValue read reads [] each = refl
 each-again IsValue read reads (code ∷ codes) each =
     rw (reads.again code (All-head IsValue code codes each), each-again IsValue read reads codes (All-tail IsValue code codes each)) refl
 
-pieces : (list : List (List ℕ)) → 1 ≤ length list → All (λ code. Lacks 44 code) list → between_commas (listed list) ≡ list
+pub pieces : (list : List (List ℕ)) → 1 ≤ length list → All (λ code. Lacks 44 code) list → between_commas (listed list) ≡ list
 pieces [] some each = absurd (omega (arith, some))
 pieces (code ∷ []) some each = slice_split_none (λ b. eqb b 44) code (All-head (λ c. Lacks 44 c) code [] each)
 pieces (code ∷ next ∷ more) some each =
     slice_split_at (λ b. eqb b 44) code 44 (listed (next ∷ more)) (All-head (λ c. Lacks 44 c) code (next ∷ more) each) refl
     ∙ ap (λ (texts : List (List ℕ)). code ∷ texts) (pieces (next ∷ more) (omega arith) (All-tail (λ c. Lacks 44 c) code (next ∷ more) each))
-
--- a list of codes that lack commas, each of which its reader reads
-codes-found : (limit : ℕ) (IsValue : List ℕ → Type 0) (read : List ℕ → Option (List ℕ)) → Reads IsValue (λ text. text) read
-    → (text : List ℕ) (list : List (List ℕ))
-    → option_and_then (listed_to limit) (each_of read (between_commas text)) ≡ Some list → listed list ≡ text
-unfolding listed_of
-codes-found limit IsValue read reads text list e =
-    option_and_then_some (listed_to limit) (each_of read (between_commas text)) list e (λ all told few.
-    let same = (cond_some (is_between 1 limit (length all) && are_apart all) all list few).1 in
-    ap listed (sym same ∙ each-found IsValue read reads (between_commas text) all told) ∙ join_with_byte-slice_split 44 text)
-
-codes-again : (limit : ℕ) (IsValue : List ℕ → Type 0) (read : List ℕ → Option (List ℕ)) → Reads IsValue (λ text. text) read
-    → ((code : List ℕ) → IsValue code → Lacks 44 code)
-    → (list : List (List ℕ)) → IsListed limit list → All IsValue list
-    → option_and_then (listed_to limit) (each_of read (between_commas (listed list))) ≡ Some list
-codes-again limit IsValue read reads lacks list is each =
-    ap (λ (texts : List (List ℕ)). option_and_then (listed_to limit) (each_of read texts))
-    (pieces list is.at_least_one (All-weaker IsValue (λ code. Lacks 44 code) lacks list each))
-    ∙ ap (option_and_then (listed_to limit)) (each-again IsValue read reads list each)
-    ∙ sym (listed-new limit (λ texts. texts) list (Some list) (is, refl))
 
 join-at_least : (low : ℕ) (list : List (List ℕ)) → low ≤ 44 → All (λ code. AtLeast low code) list → AtLeast low (listed list)
 join-at_least low [] le each = All-nil (λ b. low ≤ b)
@@ -349,27 +319,17 @@ join-at_least low (code ∷ next ∷ more) le each =
     (All-append (λ b. low ≤ b) (44 ∷ []) (listed (next ∷ more)) (All-from_recursion (λ b. low ≤ b) (44 ∷ []) (le, tt))
     (join-at_least low (next ∷ more) le (All-tail (λ c. AtLeast low c) code (next ∷ more) each)))
 
-pub people : Value ArePeople listed people_from
-unfolding people_from
-people = record {
-  reads = record {
-    found = λ text v e. codes-found 32 IsInitials initials_of initials.reads text v e;
-    again = λ v are. codes-again 32 IsInitials initials_of initials.reads
-        (λ code is. lacks-below 44 65 code (omega arith) (initials-at_least code is)) v are.listed are.each;
-  };
-  printing = λ v are. join-at_least 32 v (omega arith) (All-weaker IsInitials (λ code. AtLeast 32 code) initials.printing v are.each);
-}
+-- a list of printing codes has no line feed
+pub codes-feed : (IsValue : List ℕ → Type 0) → ((v : List ℕ) → IsValue v → AtLeast 32 v) → (list : List (List ℕ)) → All IsValue list → Lacks 10 (listed list)
+codes-feed IsValue printing list each =
+    lacks-below 10 32 (listed list) (omega arith) (join-at_least 32 list (omega arith) (All-weaker IsValue (λ code. AtLeast 32 code) printing list each))
 
-pub item_lists : Value AreItems listed items_from
-unfolding items_from
-item_lists = record {
-  reads = record {
-    found = λ text v e. codes-found 64 IsSerial item_of items.reads text v e;
-    again = λ v are. codes-again 64 IsSerial item_of items.reads
-        (λ code is. lacks-below 44 48 code (omega arith) (serial-at_least code is)) v are.listed are.each;
-  };
-  printing = λ v are. join-at_least 32 v (omega arith) (All-weaker IsSerial (λ code. AtLeast 32 code) items.printing v are.each);
-}
+-- a code has no comma
+pub initials-lack : (code : List ℕ) → IsInitials code → Lacks 44 code
+initials-lack code is = lacks-below 44 65 code (omega arith) (initials-at_least code is)
+
+pub items-lack : (code : List ℕ) → IsSerial code → Lacks 44 code
+items-lack code is = lacks-below 44 48 code (omega arith) (serial-at_least code is)
 
 -- ---- texts in paths
 

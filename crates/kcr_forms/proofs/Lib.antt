@@ -1,12 +1,11 @@
 pub mod FormLemmas
 pub mod TextLemmas
 pub mod ValueLemmas
-pub mod Acts
 pub mod Again
 pub mod Cutting
 pub mod Dates
 pub mod Formed
-pub mod Found
+pub mod Gives
 pub mod Listing
 pub mod Paths
 pub mod Readers

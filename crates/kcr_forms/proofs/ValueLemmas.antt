@@ -21,7 +21,7 @@ use Rattle.kcr_base.proofs.Members.{IsIn, in-front, in-behind, map-in}
 use Rattle.kcr_room.specs.declared.Way.{Way}
 use Rattle.kcr_room.specs.declared.Way.TheVariants.{Enter, Leave}
 use Rattle.kcr_room.specs.Room.{way_text}
-use Rattle.kcr_forms.specs.Forms.{number_by_text, day_of, moment_of, ceremony_of, box_of, step_of, role_of, facility_of, way_of, places, place_of}
+use Rattle.kcr_forms.specs.Forms.{number_by_text, number_of, day_of, moment_of, ceremony_of, box_of, step_of, role_of, facility_of, way_of, places, place_of}
 use Rattle.kcr_forms.proofs.TextLemmas.{in-range, each-map, each-range, by_text-read, number-read}
 
 pub day-read : (bytes : List ℕ) (r : Option ℕ) → HasText IsDay day_text bytes r → ReadsText IsDay day_text bytes r → r ≡ day_of bytes
@@ -47,6 +47,11 @@ decimal-read limit bytes r found only =
     parts : (o : Option ℕ) → IfSome o (IsNumberText limit bytes) → HasText (IsNumber limit) decimal bytes o
     parts None h = tt
     parts (Some n) h = (h.number, h.text)
+
+pub numeral-read : (limit : ℕ) (bytes : List ℕ) (r : Option ℕ) → IfSome r (IsNumberText limit bytes) → ((n : ℕ) → IsNumberText limit bytes n → r ≡ Some n)
+    → r ≡ number_of limit bytes
+unfolding number_of
+numeral-read limit bytes r found only = decimal-read limit bytes r found only
 
 pub ceremony-read : (bytes : List ℕ) (r : Option ℕ) → IfSome r (IsNumberText 9999 bytes) → ((n : ℕ) → IsNumberText 9999 bytes n → r ≡ Some n)
     → r ≡ ceremony_of bytes
@@ -111,4 +116,4 @@ unfolding place_of
 place-read bytes r found only = by_text-read IsPlace place_text bytes r places each-place in-places found only
 
 -- what answers of readers cite
-pub ruleset value_readings = (day-read, moment-read, ceremony-read, box-read, step-read, role-read, facility-read, way-read, place-read)
+pub ruleset value_readings = (day-read, moment-read, ceremony-read, box-read, step-read, numeral-read, role-read, facility-read, way-read, place-read)

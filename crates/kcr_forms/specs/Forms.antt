@@ -1,6 +1,6 @@
 -- The forms of texts, numbers and lists, as the value that each of them tells.
 use Rattle.std.specs.Prelude.{ℕ, ◌+◌, ◌*◌, ◌-◌, ◌&&◌, ◌||◌, ◌==◌, not, List, [], ◌∷◌, ◌++◌, length, map, codes, nat_le}
-use Rattle.std.specs.Prelude.{Bool, Option, Some, None, option_map, if◌then◌else◌}
+use Rattle.std.specs.Prelude.{Bool, true, false, Option, Some, None, option_map, if◌then◌else◌}
 use Rattle.std.specs.Fmt.{decimal}
 use Rattle.std.specs.Str.{is_utf8}
 use Rattle.std.specs.List.{list_all, find, range_with_len}
@@ -92,6 +92,10 @@ name_of text = if_form (is_line 120 text) text
 unfoldable pub remark_of : List ℕ → Option (List ℕ)
 remark_of text = if_form (is_line 1000 text) text
 
+-- a script's text, if it is UTF-8
+unfoldable pub script_of : List ℕ → Option (List ℕ)
+script_of text = if_form (is_utf8 text) text
+
 -- VALUES BY THEIR TEXTS
 
 -- the value, of a list of them, that has this text
@@ -121,6 +125,17 @@ box_of text = number_by_text decimal 1 9999 text
 -- the number of a step whose decimal text this is
 unfoldable pub step_of : List ℕ → Option ℕ
 step_of text = number_by_text decimal 1 400 text
+
+-- the number from 1 to `limit` whose decimal text this is
+unfoldable pub number_of : ℕ → List ℕ → Option ℕ
+number_of limit text = number_by_text decimal 1 limit text
+
+-- `true` or `false`
+unfoldable pub truth_of : List ℕ → Option Bool
+truth_of text =
+    if same_text text (codes "true") then Some true
+    else if same_text text (codes "false") then Some false
+    else None
 
 -- the role whose text this is
 unfoldable pub role_of : List ℕ → Option Role
@@ -159,7 +174,3 @@ number_to limit n = if is_between 1 limit n then Some n else None
 -- the list, if it has 1 to `limit` values, none of them twice by their texts
 unfoldable pub listed_of : {V : Type 0} → ℕ → (List V → List (List ℕ)) → List V → Option (List V)
 listed_of limit texts list = if is_between 1 limit (length (texts list)) && are_apart (texts list) then Some list else None
-
--- the same for codes, which are their own texts
-abbrev pub listed_to : ℕ → List (List ℕ) → Option (List (List ℕ))
-listed_to limit list = listed_of limit (λ texts. texts) list

@@ -6,3 +6,4 @@ pub mod Values
 pub mod OrMemory
 pub mod Reading
 pub mod Posts
+pub mod Lines

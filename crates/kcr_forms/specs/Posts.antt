@@ -5,9 +5,8 @@ use Rattle.kcr_base.specs.declared.refusal.Member.TheVariants as member
 use Rattle.kcr_base.specs.declared.refusal.Refusal.{Refusal}
 use Rattle.kcr_history.specs.declared.commands.Act.{Act}
 use Rattle.kcr_history.specs.declared.commands.Act.TheVariants as act
-use Rattle.kcr_forms.specs.ActTexts.{script_of}
 use Rattle.kcr_forms.specs.Forms.{initials_of, item_of, name_of, remark_of, day_of, moment_of, place_of, facility_of}
-use Rattle.kcr_forms.specs.Forms.{role_of, way_of, destination_of, listed_of}
+use Rattle.kcr_forms.specs.Forms.{role_of, way_of, destination_of, script_of, listed_of}
 use Rattle.kcr_forms.specs.OrMemory.{and_then}
 use Rattle.kcr_forms.specs.Reading.{Reading, formed}
 use Rattle.kcr_forms.specs.declared.post.Post.{Post}

@@ -3,56 +3,65 @@ ghost use Rattle.std.specs.Prelude.{◌≡◌, IfOk, IfSome, Some};
 ghost use Rattle.kcr_history.specs.Texts.{command_text};
 ghost use Rattle.kcr_history.specs.declared.commands.Act.{Act};
 ghost use Rattle.kcr_forms.specs.Acts.{IsAct};
-ghost use Rattle.kcr_forms.specs.ActTexts.{in_collection, of_path, act_of};
+ghost use Rattle.kcr_forms.specs.ActTexts.{act_told, if_told, act_of};
+ghost use Rattle.kcr_forms.specs.Lines.{lines};
+ghost use Rattle.kcr_forms.specs.OrMemory.{OrMemory};
+ghost use Rattle.kcr_forms.specs.Posts.{act_by};
 
-use crate::ceremonies::on_ceremony;
-use crate::collections::on_collection;
-use crate::people::on_person;
-use crate::places::on_place;
-use crate::split::{is_text, split_at_byte};
-use kcr_history::Act;
+use crate::act::act_at;
+use crate::lines::Lines;
+use crate::path::post_at;
+use crate::post::Post;
+use crate::split::split_at_byte;
+use kcr_base::{Refusal, same_text};
+use kcr_history::{Act, command_text};
 use std::alloc::{AllocError, Global};
 
-/// The act on what the list of this name has, with this path and these values.
-#[tactic(auto, unfolding(crate::specs::ActTexts::in_collection))]
-fn on_thing(
-    alloc: Global,
-    name: &[u8],
-    path: &[u8],
-    values: &[u8],
-) -> Result<Option<Act>, AllocError>
-    ensures { IfOk result (λ act. act ≡ in_collection name.now path.now values.now) }
+/// The act of a path with these lines.
+fn act_of_lines(alloc: Global, post: Post, text: &[u8]) -> Result<Act, Refusal>
+    ensures { OrMemory result (act_by lines post text.now) }
 {
-    if is_text(name, "people") {
-        Ok(on_person(path, values))
-    } else if is_text(name, "custodians") {
-        Ok(on_place(path, values))
-    } else if is_text(name, "ceremonies") {
-        on_ceremony(alloc, path, values)
+    act_at(alloc, post, &mut Lines { text })
+}
+
+/// The act that a text tells, if its path and its lines do.
+#[tactic(auto, unfolding(crate::specs::ActTexts::act_told))]
+fn act_told(alloc: Global, text: &[u8]) -> Result<Option<Act>, AllocError>
+    ensures { IfOk result (λ act. act ≡ act_told text.now) }
+{
+    let Some(([b'/', path @ ..], values)) = split_at_byte(b'\n', text) else {
+        return Ok(None);
+    };
+    let Some(post) = post_at(path) else {
+        return Ok(None);
+    };
+    match act_of_lines(alloc, post, values) {
+        Ok(act) => Ok(Some(act)),
+        Err(Refusal::Memory) => Err(AllocError),
+        Err(_) => Ok(None),
+    }
+}
+
+/// The act, if this is its text.
+fn if_told(alloc: Global, act: Act, text: &[u8]) -> Result<Option<Act>, AllocError>
+    ensures { IfOk result (λ found. found ≡ if_told act text.now) }
+{
+    let again = command_text(alloc, &act)?;
+    if same_text(again.as_bytes(), text) {
+        Ok(Some(act))
     } else {
         Ok(None)
     }
 }
 
-/// The act with this path, less the slash that it begins with, and these values.
-#[tactic(auto, unfolding(crate::specs::ActTexts::of_path))]
-fn on_path(alloc: Global, path: &[u8], values: &[u8]) -> Result<Option<Act>, AllocError>
-    ensures { IfOk result (λ act. act ≡ of_path path.now values.now) }
-{
-    match split_at_byte(b'/', path) {
-        Some((name, rest)) => on_thing(alloc, name, rest, values),
-        None => on_collection(alloc, path, values),
-    }
-}
-
-/// The act that a text tells.
+/// The act that a text tells, if the text is its own.
 #[tactic(auto, unfolding(crate::specs::ActTexts::act_of))]
 fn act_of_text(alloc: Global, text: &[u8]) -> Result<Option<Act>, AllocError>
     ensures { IfOk result (λ act. act ≡ act_of text.now) }
 {
-    match split_at_byte(b'\n', text) {
-        Some(([b'/', path @ ..], values)) => on_path(alloc, path, values),
-        _ => Ok(None),
+    match act_told(alloc, text)? {
+        Some(act) => if_told(alloc, act, text),
+        None => Ok(None),
     }
 }
 

@@ -1,8 +1,7 @@
 //! Values that a member gives by a text.
 ghost use Rattle.std.specs.Prelude.{◌≡◌, List, ℕ, Option, IfOk};
 ghost use Rattle.kcr_forms.specs.Forms.{initials_of, key_of, item_of, name_of, remark_of, day_of, moment_of, role_of};
-ghost use Rattle.kcr_forms.specs.Forms.{facility_of, way_of, place_of, destination_of};
-ghost use Rattle.kcr_forms.specs.ActTexts.{script_of};
+ghost use Rattle.kcr_forms.specs.Forms.{facility_of, way_of, place_of, destination_of, script_of};
 
 use crate::forms::{
     read_day, read_destination, read_facility, read_initials, read_item, read_key, read_moment,

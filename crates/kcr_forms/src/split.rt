@@ -13,7 +13,7 @@ fn first_at(byte: u8, text: &[u8]) -> Option<usize>
 
 /// What stands before the first such byte, and what after it.
 #[tactic(auto, unfolding(crate::specs::Split::split_at_byte))]
-pub(crate) fn split_at_byte(byte: u8, text: &[u8]) -> Option<(&[u8], &[u8])>
+pub fn split_at_byte(byte: u8, text: &[u8]) -> Option<(&[u8], &[u8])>
     ensures { MatchOption result (Split.split_at_byte byte text.now ≡ None)
         (λ p. Split.split_at_byte byte text.now ≡ Some (p.0.now, p.1.now)) }
 {
@@ -29,30 +29,8 @@ pub(crate) fn split_two_lines(text: &[u8]) -> Option<(&[u8], &[u8])>
     split_at_byte(b'\n', text)
 }
 
-/// The first two lines, and all after them.
-#[tactic(auto, unfolding(crate::specs::Split::split_three_lines))]
-pub(crate) fn split_three_lines(text: &[u8]) -> Option<(&[u8], &[u8], &[u8])>
-    ensures { MatchOption result (Split.split_three_lines text.now ≡ None)
-        (λ p. Split.split_three_lines text.now ≡ Some (p.0.now, p.1.now, p.2.now)) }
-{
-    let (first, rest) = split_two_lines(text)?;
-    let (second, third) = split_two_lines(rest)?;
-    Some((first, second, third))
-}
-
-/// The first three lines, and all after them.
-#[tactic(auto, unfolding(crate::specs::Split::split_four_lines))]
-pub(crate) fn split_four_lines(text: &[u8]) -> Option<(&[u8], &[u8], &[u8], &[u8])>
-    ensures { MatchOption result (Split.split_four_lines text.now ≡ None)
-        (λ p. Split.split_four_lines text.now ≡ Some (p.0.now, p.1.now, p.2.now, p.3.now)) }
-{
-    let (first, rest) = split_two_lines(text)?;
-    let (second, third, fourth) = split_three_lines(rest)?;
-    Some((first, second, third, fourth))
-}
-
 /// Whether the bytes are those of this word.
-pub(crate) fn is_text(bytes: &[u8], word: &str) -> bool
+pub fn is_text(bytes: &[u8], word: &str) -> bool
     ensures { result ≡ same_text bytes.now word.now }
 {
     bytes == word.as_bytes()

@@ -1,6 +1,6 @@
 //! Values whose readers are not among the register's forms.
 ghost use Rattle.std.specs.Prelude.{◌≡◌, IfOk};
-ghost use Rattle.kcr_forms.specs.ActTexts;
+ghost use Rattle.kcr_forms.specs.Forms;
 
 use crate::split::is_text;
 use kcr_base::Text;
@@ -9,7 +9,7 @@ use std::str;
 
 /// The script with this text, if it is UTF-8. The error is out of memory.
 pub(crate) fn read_script(alloc: Global, text: &[u8]) -> Result<Option<Text>, AllocError>
-    ensures { IfOk result (λ script. script ≡ ActTexts.script_of text.now) }
+    ensures { IfOk result (λ script. script ≡ Forms.script_of text.now) }
 {
     match str::from_utf8(text) {
         Ok(text) => Ok(Some(Text::copy_of(alloc, text)?)),
@@ -18,9 +18,9 @@ pub(crate) fn read_script(alloc: Global, text: &[u8]) -> Result<Option<Text>, Al
 }
 
 /// What `true` and `false` tell.
-#[tactic(auto, unfolding(crate::specs::ActTexts::truth_of))]
+#[tactic(auto, unfolding(crate::specs::Forms::truth_of))]
 pub(crate) fn read_truth(text: &[u8]) -> Option<bool>
-    ensures { result ≡ ActTexts.truth_of text.now }
+    ensures { result ≡ Forms.truth_of text.now }
 {
     if is_text(text, "true") {
         Some(true)

@@ -1,8 +1,7 @@
 use Rattle.std.proofs.Common.{sym, ap, ◌∙◌}
 use Rattle.std.proofs.lemmas.Result.{IfOk-weaker}
 use Rattle.kcr_forms.specs.ActTexts.{act_of}
-use Rattle.kcr_forms.proofs.Found.{found-is}
-use Rattle.kcr_forms.proofs.Again.{act-again}
+use Rattle.kcr_forms.proofs.Again.{act-again, found-is}
 use Rattle.kcr_forms.proofs.act_reader.read_act.Goals as goal
 
 pub returns-clause-found : goal.returns-clause-found

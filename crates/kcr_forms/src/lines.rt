@@ -1,0 +1,82 @@
+//! The members of a command as the lines of its stored text.
+#![tactic(auto, using(crate::proofs::FormLemmas::form_readings, crate::proofs::ValueLemmas::value_readings))]
+
+ghost use Rattle.std.specs.Prelude.{◌≡◌};
+ghost use Rattle.kcr_forms.specs.Forms.{number_of};
+ghost use Rattle.kcr_forms.specs.Lines.{lines};
+
+use crate::from_text::FromText;
+use crate::lists::read_list;
+use crate::members::{Members, required};
+use crate::split::split_two_lines;
+use crate::values::read_truth;
+use kcr_base::lists::{DistinctList, ListElement};
+use kcr_base::number::{Number, Numbered};
+use kcr_base::{Member, Refusal};
+use std::alloc::Global;
+
+/// The lines of a stored text behind its path.
+#[derive(Drop)]
+pub(crate) struct Lines<'t> {
+    pub(crate) text: &'t [u8],
+}
+
+/// The number of its kind with this decimal text.
+fn read_number<K: Numbered>(text: &[u8]) -> Option<Number<K>>
+    ensures { result ≡ number_of K.limit text.now }
+{
+    Number::read(text)
+}
+
+impl<'t> Members for Lines<'t> {
+    ghost use Rattle.std.specs.Prelude.{ℕ, List};
+
+    ghost Given = { List ℕ };
+
+    ghost given = { λ s. s.text.now };
+
+    ghost reading = { lines };
+
+    fn word<T: FromText + Drop>(&mut self, alloc: Global, name: Member) -> Result<T, Refusal> {
+        let Some((line, rest)) = split_two_lines(self.text) else {
+            return Err(Refusal::Form { member: name });
+        };
+        self.text = rest;
+        let value = T::from_text(alloc, line)?;
+        required(value, name)
+    }
+
+    fn last<T: FromText + Drop>(&mut self, alloc: Global, name: Member) -> Result<T, Refusal> {
+        let value = T::from_text(alloc, self.text)?;
+        required(value, name)
+    }
+
+    fn number<K: Numbered>(&mut self, name: Member) -> Result<Number<K>, Refusal> {
+        let Some((line, rest)) = split_two_lines(self.text) else {
+            return Err(Refusal::Form { member: name });
+        };
+        self.text = rest;
+        required(read_number(line), name)
+    }
+
+    fn truth(&mut self, name: Member) -> Result<bool, Refusal> {
+        let Some((line, rest)) = split_two_lines(self.text) else {
+            return Err(Refusal::Form { member: name });
+        };
+        self.text = rest;
+        required(read_truth(line), name)
+    }
+
+    fn list<T: ListElement + FromText + Drop>(
+        &mut self,
+        alloc: Global,
+        name: Member,
+    ) -> Result<DistinctList<T>, Refusal> {
+        let Some((line, rest)) = split_two_lines(self.text) else {
+            return Err(Refusal::Form { member: name });
+        };
+        self.text = rest;
+        let value = read_list(alloc, line)?;
+        required(value, name)
+    }
+}
