@@ -1,14 +1,12 @@
 -- A text is cut at its first such byte in one way.
-use Rattle.std.proofs.Common.{◌≡◌, ℕ, ◌+◌, ◌<◌, true, false, not, eqb, List, ◌∷◌, ◌++◌, length, get_or, take, drop, Option, Some}
-use Rattle.std.proofs.Common.{None, refl, sym, ap, ◌∙◌, arith, add-one, All, length-append}
+use Rattle.std.proofs.Common.{◌≡◌, ℕ, ◌+◌, ◌<◌, true, false, not, eqb, List, ◌∷◌, ◌++◌, length, take, drop, Some}
+use Rattle.std.proofs.Common.{None, refl, ap, ◌∙◌, arith, All, length-append}
 use Rattle.std.specs.List.{position, position_or_len, list_all}
 use Rattle.std.specs.Option.{option_map}
-use Rattle.std.proofs.Math.Seq.{drop-cons, drop-append-add, take-append_seam, get_or-append_seam}
+use Rattle.std.proofs.Math.Seq.{drop-append-add, take-append_seam, get_or-append_seam}
 use Rattle.std.proofs.Math.ListN.{get_or-append}
-use Rattle.std.proofs.lemmas.Bool.{eqb-true, eq-eqb, lt-ltb, le-ltb}
-use Rattle.std.proofs.lemmas.List.{take-append-drop}
+use Rattle.std.proofs.lemmas.Bool.{eq-eqb, lt-ltb, le-ltb}
 use Rattle.std.proofs.lemmas.List.Elements.{All-get_or, All-weaker}
-use Rattle.std.proofs.lemmas.List.Quantifiers.{position-Some}
 use Rattle.std.proofs.lemmas.List.Sums.{position_or_len_is, AllPass-from_list_all}
 use Rattle.kcr_forms.specs.Split.{split_at_byte}
 
@@ -29,22 +27,6 @@ pub record IsWord (text : List ℕ) : Type 0 where
 
 pub word : (text : List ℕ) → list_all (λ b. not (eqb b 10)) text ≡ true → list_all (λ b. not (eqb b 47)) text ≡ true → IsWord text
 word text feed slash = record { feed = lacks-literal 10 text feed; slash = lacks-literal 47 text slash }
-
--- what is found at a place is what the text has round it
-cut-from : (byte : ℕ) (text : List ℕ) (place : Option ℕ) → position (λ b. eqb b byte) text ≡ place → (p : List ℕ × List ℕ)
-    → option_map (λ i. (take i text, drop (i + 1) text)) place ≡ Some p → text ≡ p.0 ++ byte ∷ p.1
-cut-from byte text None at p e = cc
-cut-from byte text (Some i) at p e =
-    let is = position-Some (λ b. eqb b byte) text i 0 at in
-    let here : get_or text i 0 ≡ byte = eqb-true (get_or text i 0) byte is.1 in
-    let same : (take i text, drop (i + 1) text) ≡ p = cc in
-    let whole : text ≡ take i text ++ byte ∷ drop (i + 1) text =
-    sym (take-append-drop i text) ∙ ap (λ (xs : List ℕ). take i text ++ xs) (drop-cons text i 0 is.0 ∙ (λ j. here j ∷ drop (sym (add-one i) j) text)) in
-    whole ∙ (λ j. (same j).0 ++ byte ∷ (same j).1)
-
-pub cut-found : (byte : ℕ) (text : List ℕ) (p : List ℕ × List ℕ) → split_at_byte byte text ≡ Some p → text ≡ p.0 ++ byte ∷ p.1
-unfolding split_at_byte
-cut-found byte text p e = cut-from byte text (position (λ b. eqb b byte) text) refl p e
 
 -- where the byte first stands
 first-place : (byte : ℕ) (x y : List ℕ) → Lacks byte x → position_or_len (λ b. eqb b byte) (x ++ byte ∷ y) ≡ length x

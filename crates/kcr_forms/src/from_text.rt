@@ -1,14 +1,14 @@
 //! Values that a member gives by a text.
+#![tactic(auto, using(crate::proofs::FormLemmas::form_readings, crate::proofs::ValueLemmas::value_readings))]
+
 ghost use Rattle.std.specs.Prelude.{◌≡◌, List, ℕ, Option, IfOk};
 ghost use Rattle.kcr_forms.specs.Forms.{initials_of, key_of, item_of, name_of, remark_of, day_of, moment_of, role_of};
-ghost use Rattle.kcr_forms.specs.Forms.{facility_of, way_of, place_of, destination_of, script_of};
+ghost use Rattle.kcr_forms.specs.Forms.{facility_of, way_of, place_of, box_of, destination_of, script_of};
 
-use crate::forms::{
-    read_day, read_destination, read_facility, read_initials, read_item, read_key, read_moment,
-    read_name, read_place, read_remark, read_role, read_way,
-};
 use crate::values::read_script;
-use kcr_base::{Day, Facility, Initials, ItemCode, Key, Moment, Name, Place, Remark, Role, Text};
+use kcr_base::{
+    BoxNumber, Day, Facility, Initials, ItemCode, Key, Moment, Name, Place, Remark, Role, Text,
+};
 use kcr_custody::Destination;
 use kcr_room::Way;
 use std::alloc::{AllocError, Global};
@@ -27,7 +27,7 @@ impl FromText for Initials {
     ghost form = { initials_of };
 
     fn from_text(_alloc: Global, text: &[u8]) -> Result<Option<Self>, AllocError> {
-        Ok(read_initials(text))
+        Ok(Initials::read(text))
     }
 }
 
@@ -35,7 +35,7 @@ impl FromText for Key {
     ghost form = { key_of };
 
     fn from_text(_alloc: Global, text: &[u8]) -> Result<Option<Self>, AllocError> {
-        Ok(read_key(text))
+        Ok(Key::read(text))
     }
 }
 
@@ -43,7 +43,7 @@ impl FromText for ItemCode {
     ghost form = { item_of };
 
     fn from_text(_alloc: Global, text: &[u8]) -> Result<Option<Self>, AllocError> {
-        Ok(read_item(text))
+        Ok(ItemCode::read(text))
     }
 }
 
@@ -51,7 +51,7 @@ impl FromText for Name {
     ghost form = { name_of };
 
     fn from_text(alloc: Global, text: &[u8]) -> Result<Option<Self>, AllocError> {
-        read_name(alloc, text)
+        Name::read(alloc, text)
     }
 }
 
@@ -59,7 +59,7 @@ impl FromText for Remark {
     ghost form = { remark_of };
 
     fn from_text(alloc: Global, text: &[u8]) -> Result<Option<Self>, AllocError> {
-        read_remark(alloc, text)
+        Remark::read(alloc, text)
     }
 }
 
@@ -75,7 +75,7 @@ impl FromText for Day {
     ghost form = { day_of };
 
     fn from_text(_alloc: Global, text: &[u8]) -> Result<Option<Self>, AllocError> {
-        Ok(read_day(text))
+        Ok(Day::read(text))
     }
 }
 
@@ -83,7 +83,7 @@ impl FromText for Moment {
     ghost form = { moment_of };
 
     fn from_text(_alloc: Global, text: &[u8]) -> Result<Option<Self>, AllocError> {
-        Ok(read_moment(text))
+        Ok(Moment::read(text))
     }
 }
 
@@ -91,7 +91,7 @@ impl FromText for Place {
     ghost form = { place_of };
 
     fn from_text(_alloc: Global, text: &[u8]) -> Result<Option<Self>, AllocError> {
-        Ok(read_place(text))
+        Ok(Place::read(text))
     }
 }
 
@@ -99,7 +99,7 @@ impl FromText for Facility {
     ghost form = { facility_of };
 
     fn from_text(_alloc: Global, text: &[u8]) -> Result<Option<Self>, AllocError> {
-        Ok(read_facility(text))
+        Ok(Facility::read(text))
     }
 }
 
@@ -107,7 +107,7 @@ impl FromText for Role {
     ghost form = { role_of };
 
     fn from_text(_alloc: Global, text: &[u8]) -> Result<Option<Self>, AllocError> {
-        Ok(read_role(text))
+        Ok(Role::read(text))
     }
 }
 
@@ -115,7 +115,7 @@ impl FromText for Way {
     ghost form = { way_of };
 
     fn from_text(_alloc: Global, text: &[u8]) -> Result<Option<Self>, AllocError> {
-        Ok(read_way(text))
+        Ok(Way::read(text))
     }
 }
 
@@ -125,4 +125,23 @@ impl FromText for Destination {
     fn from_text(_alloc: Global, text: &[u8]) -> Result<Option<Self>, AllocError> {
         Ok(read_destination(text))
     }
+}
+
+/// Where a bag is put: `safe1`, or the number of a box.
+#[tactic(auto, unfolding(crate::specs::Forms::destination_of))]
+fn read_destination(text: &[u8]) -> Option<Destination>
+    ensures { result ≡ destination_of text.now }
+{
+    if text == b"safe1".as_slice() {
+        Some(Destination::SafeOne)
+    } else {
+        read_box(text).map(Destination::DepositBox)
+    }
+}
+
+/// The number of a box with this text.
+fn read_box(text: &[u8]) -> Option<BoxNumber>
+    ensures { result ≡ box_of text.now }
+{
+    BoxNumber::read(text)
 }
