@@ -1,6 +1,8 @@
 //! How long a connection is waited for: a reader and a writer of a socket that share one patience.
 #![tactic(auto)]
 
+ghost use Rattle.std.specs.Prelude.{◌≡◌, if◌then◌else◌};
+
 use std::cell::Cell;
 use std::io::{self, ErrorKind, Read, Write};
 use std::net::TcpStream;
@@ -26,14 +28,27 @@ pub struct Patience {
 }
 
 impl Patience {
-    /// Nothing was read or written yet.
-    pub fn new(idle: u32) -> Patience {
+    /// Nothing was read or written yet. `idle` is for how many seconds a connection may be silent between two messages.
+    pub fn new(idle: u32) -> Patience
+        ensures { result.idle ≡ idle }
+    {
         Patience {
             idle: idle as u64,
             is_between: Cell::new(true),
             silence: Cell::new(0),
             waited: Cell::new(0),
             limit: Cell::new(0),
+        }
+    }
+
+    /// For how many seconds the next byte is waited for, between two messages or within one.
+    fn timeout(&self, is_between: bool) -> u64
+        ensures { result ≡ if is_between then self.now.idle else TIMEOUT_SECONDS }
+    {
+        if is_between {
+            self.idle
+        } else {
+            TIMEOUT_SECONDS
         }
     }
 }
@@ -47,7 +62,10 @@ pub struct TimedReader<'a> {
 
 impl<'a> TimedReader<'a> {
     /// The connection, which is waited for with this patience.
-    pub fn new(stream: &'a TcpStream, patience: &'a Patience) -> TimedReader<'a> {
+    pub fn new(stream: &'a TcpStream, patience: &'a Patience) -> TimedReader<'a>
+        ensures stream { result.stream.now ≡ stream.now }
+        ensures patience { result.patience.now ≡ patience.now }
+    {
         TimedReader { stream, patience }
     }
 
@@ -65,11 +83,7 @@ impl<'a> TimedReader<'a> {
 impl Read for TimedReader<'_> {
     fn read(&mut self, buf: &mut [u8]) -> io::Result<usize> {
         let is_between = self.patience.is_between.get();
-        self.wait_for(if is_between {
-            self.patience.idle
-        } else {
-            TIMEOUT_SECONDS
-        });
+        self.wait_for(self.patience.timeout(is_between));
         let mut stream = self.stream;
         let count = stream.read(buf)?;
         self.patience.is_between.set(false);
@@ -92,7 +106,10 @@ impl<'a> TimedWriter<'a> {
         rt: &'a HostRuntime,
         stream: &'a TcpStream,
         patience: &'a Patience,
-    ) -> TimedWriter<'a> {
+    ) -> TimedWriter<'a>
+        ensures stream { result.stream.now ≡ stream.now }
+        ensures patience { result.patience.now ≡ patience.now }
+    {
         TimedWriter {
             rt,
             stream,

@@ -1,6 +1,8 @@
 //! Whether the files of an open register are still there: another program may remove, cut or replace them.
 #![tactic(auto)]
 
+ghost use Rattle.std.specs.Prelude.{◌≡◌, IfOk, string_bytes};
+
 use std::cell::Cell;
 use std::fs::{self, Metadata};
 use std::io::{self, ErrorKind, Write};
@@ -38,7 +40,9 @@ pub struct Watch<'a> {
 impl<'a> Watch<'a> {
     /// Watches the files of the register that was just opened at this path. Errors: those of the system, and out of
     /// memory.
-    pub fn over(rt: &'a HostRuntime, path: &str) -> io::Result<Watch<'a>> {
+    pub fn over(rt: &'a HostRuntime, path: &str) -> io::Result<Watch<'a>>
+        ensures { IfOk result (λ watch. string_bytes watch.file ≡ path.now) }
+    {
         let file = String::from_str(rt.alloc(), path)?;
         let mut log = fs::canonicalize(rt, path)?.into_string();
         log.push_str("-wal")?;
@@ -84,7 +88,10 @@ pub struct Watched<'a, W> {
 
 impl<'a, W> Watched<'a, W> {
     /// The writer of the answers. A register in memory has no files to watch.
-    pub fn new(writer: W, watch: Option<&'a Watch<'a>>) -> Watched<'a, W> {
+    pub fn new(writer: W, watch: Option<&'a Watch<'a>>) -> Watched<'a, W>
+        ensures writer { result.writer ≡ writer }
+        ensures watch { result.watch ≡ watch.entry }
+    {
         Watched { writer, watch }
     }
 }
