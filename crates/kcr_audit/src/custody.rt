@@ -1,15 +1,14 @@
 //! Items and bags that are not where one can find them.
 ghost use Rattle.std.specs.Prelude.{◌≡◌, Some, find, option_map};
-ghost use Rattle.std.specs.List.{list_any};
 ghost use Rattle.kcr_custody.specs.Balance;
-ghost use Rattle.kcr_custody.specs.Custody;
 ghost use Rattle.kcr_history.specs.Audit;
 ghost use Rattle.kcr_history.specs.declared.views.Finding.TheVariants as Findings;
 ghost use Rattle.kcr_audit.specs.Kinds.{IsFindingOfKind};
 ghost use Rattle.kcr_audit.specs.Defects;
 
-use kcr_base::{Facility, ItemCode, Serial};
-use kcr_custody::{Bag, BoxRow, Item, Rest, Spot};
+use kcr_base::{ItemCode, Serial};
+use kcr_custody::queries::has_box;
+use kcr_custody::{Bag, Item, Rest, Spot};
 use kcr_history::{Finding, FullView};
 
 /// Whether a bag at this spot can hold items: a spent one holds none.
@@ -84,20 +83,6 @@ pub(crate) fn find_lost_item(view: &FullView) -> Option<Finding>
     ensures { IsFindingOfKind view.now 1 result }
 {
     first_lost(view)
-}
-
-/// Whether the row is of this box.
-fn is_box(row: BoxRow, facility: Facility, number: u32) -> bool
-    ensures { result ≡ Custody.is_box facility number row }
-{
-    row.facility == facility && row.number == number
-}
-
-/// Whether the facility has the box.
-fn has_box(boxes: &[BoxRow], facility: Facility, number: u32) -> bool
-    ensures { result ≡ list_any (Custody.is_box facility number) boxes.now }
-{
-    boxes.iter().any(|row| is_box(*row, facility, number))
 }
 
 /// Whether the spot is in a box that is not there.

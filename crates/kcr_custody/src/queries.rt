@@ -28,7 +28,7 @@ fn is_box(row: BoxRow, facility: Facility, number: u32) -> bool
 }
 
 /// Whether the facility has the box.
-pub(crate) fn has_box(boxes: &[BoxRow], facility: Facility, number: u32) -> bool
+pub fn has_box(boxes: &[BoxRow], facility: Facility, number: u32) -> bool
     ensures { result ≡ list_any (Custody.is_box facility number) boxes.now }
 {
     boxes.iter().any(|row| is_box(*row, facility, number))
