@@ -122,59 +122,48 @@ fn ends_by(ceremony: u32, people: &[Initials], stay: &Stay) -> bool
     stay.ceremony == ceremony && is_among(people, stay.who) && has_no_end(stay.until)
 }
 
-// The stays of a ceremony, in their order.
-fn stays_in(alloc: Global, stays: &[Stay], ceremony: u32) -> Result<Vec<Stay>, AllocError>
-    ensures { IfOk result (λ own. own.items ≡ filter (Requests.of_ceremony ceremony) stays.now) }
-{
-    let mut own = Vec::new(alloc);
-    for stay in stays {
-        if stay.ceremony == ceremony {
-            own.push(*stay)?;
-        }
-    }
-    Ok(own)
-}
-
-// The ceremony's stays with those who come.
+// The ceremony's stays with those who come, from the moment on.
 fn after_enter(
     alloc: Global,
     stays: &[Stay],
     request: &SheetRequest<'_>,
 ) -> Result<Vec<Stay>, AllocError>
     ensures { let asked : SheetRequest = request.now in IfOk result (λ later.
-        later.items ≡ Requests.stays_after_request stays.now asked.ceremony Enter asked.people.now asked.at) }
+        later.items ≡ Requests.stays_from_moment stays.now asked.ceremony Enter asked.people.now asked.at) }
 {
-    let mut later = stays_in(alloc, stays, request.ceremony)?;
-    for who in request.people {
-        later.push(new_stay(request.ceremony, request.at, *who))?;
-    }
+    let mut later: Vec<Stay> = stays
+        .iter()
+        .filter(|stay| stay.ceremony == request.ceremony)
+        .map(|stay| clipped_to_moment(request.at, stay))
+        .collect(alloc)?;
+    later.extend_from_slice(&new_stays(alloc, request)?)?;
     Ok(later)
 }
 
-// The ceremony's stays if these people leave.
+// The ceremony's stays if these people leave, from the moment on.
 fn after_leave(
     alloc: Global,
     stays: &[Stay],
     request: &SheetRequest<'_>,
 ) -> Result<Vec<Stay>, AllocError>
     ensures { let asked : SheetRequest = request.now in IfOk result (λ later.
-        later.items ≡ Requests.stays_after_request stays.now asked.ceremony Leave asked.people.now asked.at) }
+        later.items ≡ Requests.stays_from_moment stays.now asked.ceremony Leave asked.people.now asked.at) }
 {
     stays
         .iter()
         .filter(|stay| stay.ceremony == request.ceremony)
-        .map(|stay| with_end(request.people, request.at, stay))
+        .map(|stay| clipped_to_moment(request.at, &with_end(request.people, request.at, stay)))
         .collect(alloc)
 }
 
-// The ceremony's stays after the request.
-fn stays_after_request(
+// The ceremony's stays after the request, from its moment on.
+fn stays_from_moment(
     alloc: Global,
     stays: &[Stay],
     request: &SheetRequest<'_>,
 ) -> Result<Vec<Stay>, AllocError>
     ensures { let asked : SheetRequest = request.now in IfOk result (λ later.
-        later.items ≡ Requests.stays_after_request stays.now asked.ceremony asked.way asked.people.now asked.at) }
+        later.items ≡ Requests.stays_from_moment stays.now asked.ceremony asked.way asked.people.now asked.at) }
 {
     match request.way {
         Way::Enter => after_enter(alloc, stays, request),
@@ -235,22 +224,6 @@ fn clipped_to_moment(at: Moment, stay: &Stay) -> Stay
         since,
         until: stay.until,
     }
-}
-
-// The ceremony's stays after the request, from its moment on.
-fn stays_from_moment(
-    alloc: Global,
-    stays: &[Stay],
-    request: &SheetRequest<'_>,
-) -> Result<Vec<Stay>, AllocError>
-    ensures { let asked : SheetRequest = request.now in IfOk result (λ cut.
-        cut.items ≡ Requests.stays_from_moment stays.now asked.ceremony asked.way asked.people.now asked.at) }
-{
-    let stays = stays_after_request(alloc, stays, request)?;
-    stays
-        .iter()
-        .map(|stay| clipped_to_moment(request.at, stay))
-        .collect(alloc)
 }
 
 fn is_overfull(entered: usize, request: &SheetRequest<'_>) -> bool
