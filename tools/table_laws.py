@@ -43,18 +43,8 @@ def shows(test="[]"):
 
 def still(t):
     """The other tables stay if the rows of this one are changed."""
-    fields = {"sound": "sound"}
-    for u in TABLES:
-        fields[u.name] = "keeps" if u is t else f"keeps_still register_schema {t.tree} {u.place} old new _ others refl refl k.{u.name}"
-    for u in TABLES:
-        if u.is_stored:
-            fields[u.stored_fact] = "stored" if u is t else f"k.{u.stored_fact}"
-    stored = t.is_stored or "(λ _. ⊤)"
-    return f"""
--- the other tables stay if the rows of this one are changed
-pub still : (old new : Trees) (rows : List {t.type}) (t : StoredTables) → IsSound register_schema new → TreeHolds {t.place} new (map {t.row_of} rows) → AllByRecursion {stored} rows
-    → ((tree : ℕ) → tree ≢ {t.tree} → IsNoIndex register_schema tree → new tree ≡ old tree) → TreesHold old t → TreesHold new ({t.with_rows('t', 'rows')})
-still old new rows t sound keeps stored others k = {lines(fields)}"""
+    stored = " ".join("stored" if u is t else f"k.{u.stored_fact}" for u in TABLES if u.is_stored)
+    return f"λ old new rows t sound keeps stored others k. still_at {TABLES.index(t)} {t.tree} old new t _ (map {t.row_of} rows) refl refl sound keeps others k {stored}"
 
 
 def terms(t):
@@ -181,7 +171,7 @@ def table_laws(t):
         "one": "one",
         "keeps": f"λ db t k. k.{t.name}",
         "stores": f"λ db t k. k.{t.stored_fact}" if t.is_stored else f"λ db t k. each_is {t.rows_of('t')}",
-        "still": "still",
+        "still": still(t),
         "stands": f"λ m t s. {same if t.name == 'versions' else f's.rows.{t.name}'}",
     }
     return f"""
@@ -199,17 +189,13 @@ def laws(t):
     common = ["◌≡◌", "◌≢◌", "inl", "inr", "IsPermutation", "ℕ", "pos", "List", "[]", "◌∷◌", "map", "codes", "true", "refl", "sym", "ap", "subst", "◌∙◌", "◌==◌"]
     out += f"use Rattle.std.proofs.Common.{{{', '.join(common)}}}\n"
     out += """use Rattle.std.specs.Bool.{⊤}
-use Rattle.std.specs.List.{AllByRecursion}
 use Rattle.std.proofs.lemmas.List.Sorted.{IsPermutation-refl}
 use Rattle.sqlite.specs.declared.types.Value.TheVariants.{Null, Int, Text}
 """
     if any("column r" in is_same for is_same in fields.values()):
         out += "use Rattle.sqlite.specs.Order.{Row, column}\n"
     out += """use Rattle.sqlite.specs.Term.{Term, lit, col}
-use Rattle.sqlite.specs.Tree.{Trees}
-use Rattle.sqlite.specs.Edit.{IsNoIndex}
 use Rattle.sqlite.specs.Listing.{understood}
-use Rattle.sqlite_catalog.specs.Listing.{IsSound}
 use Rattle.sqlite_value.specs.declared.keys.Key.{Key}
 use Rattle.sqlite_tied.specs.Compute.{everything}
 use Rattle.kcr_base.specs.Same.{same_text}
@@ -222,8 +208,7 @@ use Rattle.kcr_base.specs.Place.{place_text}
         out += "use Rattle.kcr_history.specs.declared.views.AppointmentsOf.TheVariants as Wanted\n"
     if t.name == "items":
         out += "use Rattle.kcr_history.specs.declared.views.ItemFilter.TheVariants as Wanted\n"
-    out += "use Rattle.kcr_rows.specs.Keyed.{TreeHolds}\n"
-    out += "use Rattle.kcr_rows.proofs.FilterLemmas.{has_value, value_is}\nuse Rattle.kcr_rows.proofs.WriteLemmas.{cast_null, cast_int}\nuse Rattle.kcr_rows.proofs.TableLemmas.{keeps_still, each_is}\n"
+    out += "use Rattle.kcr_rows.proofs.FilterLemmas.{has_value, value_is}\nuse Rattle.kcr_rows.proofs.WriteLemmas.{cast_null, cast_int}\nuse Rattle.kcr_rows.proofs.TableLemmas.{each_is}\n"
     ones = sorted({c.kind.one for c in cols if c.kind.one} & ONES)
     out += f"use Rattle.kcr_rows.proofs.SameLemmas.{{{', '.join(ones + ['text_ties', 'number_ties'])}}}\n"
     own = sorted(({c.kind.one for c in cols if c.kind.one} - ONES) | {x for c in cols for x in c.kind.casts if x != "cast_int"})
@@ -235,7 +220,7 @@ use Rattle.kcr_base.specs.Place.{place_text}
     facts = sorted({x for x in (t.is_read, t.is_stored) if x})
     if facts:
         out += f"use Rattle.kcr_rows.specs.States.{{{', '.join(facts)}}}\n"
-    out += f"use Rattle.kcr_tables.specs.Schema.{{register_schema, {t.name}}}\nuse Rattle.kcr_tables.specs.StoredTables.{{StoredTables, TreesHold, {', '.join(u.place for u in TABLES)}}}\n"
+    out += f"use Rattle.kcr_tables.specs.Schema.{{{t.name}}}\nuse Rattle.kcr_tables.specs.StoredTables.{{{t.place}}}\nuse Rattle.kcr_tables.specs.Still.{{still_at}}\n"
     out += "use Rattle.kcr_tables.specs.NewTables.{new_tables}\nuse Rattle.kcr_tables.specs.Parts.{text_in, number_in}\nuse Rattle.kcr_tables.specs.Statements.{shown_columns, key_order, is_given, SelectsRows, new_terms, key_test, update_terms, InsertsRow, UpdatesRow}\nuse Rattle.kcr_tables.specs.Table.{TableSpec, IsTable, LookupSpec, IsLookup}\n"
     out += f"\nabbrev pub project : List Term\nproject = shown_columns {t.place}\n"
     out += f"\nabbrev order : List (Term × Key)\norder = key_order {t.place}\n"
@@ -248,5 +233,5 @@ use Rattle.kcr_base.specs.Place.{place_text}
     for r in t.readings:
         if not r.greatest:
             out += finds(t, r)
-    out += puts(t) + still(t) + table_laws(t)
+    out += puts(t) + table_laws(t)
     write(f"specs/{t.laws}.antt", out)

@@ -153,3 +153,100 @@ abbrev pub shut : Facility → SafeNumber → SafeRow
 shut facility safe = record { facility = facility; safe = safe; is_open = false }
 """
     write("specs/NewTables.antt", out)
+
+
+def spec_still():
+    """The other tables stay if the rows of one are changed: said of a list of tables, each by its place and its rows."""
+    held = "".join(f"(pair k.{t.name} " for t in TABLES)[1:] + "tt" + ")" * (len(TABLES) - 1)
+    stored = [t for t in TABLES if t.is_stored]
+    facts = "".join(f" → AllByRecursion {t.is_stored} {t.rows_of('t')}" for t in stored)
+    names = " ".join(t.stored_fact for t in stored)
+    fields = "".join(f"  {t.name} = h{'.1' * at}.0;\n" for at, t in enumerate(TABLES))
+    fields += "".join(f"  {t.stored_fact} = {t.stored_fact};\n" for t in stored)
+    rows = "\n    ∷ ".join(f"({t.place}, map {t.row_of} {t.rows_of('t')})" for t in TABLES)
+    out = "-- If the rows of one table are changed, the other tables stay: said of all tables as a list.\n"
+    out += """use Rattle.std.proofs.Common.{◌≡◌, ◌≢◌, ℕ, zero, suc, Bool, true, false, not, ◌&&◌, ◌==◌, List, [], ◌∷◌, map, subst, sym}
+use Rattle.std.specs.Bool.{⊤}
+use Rattle.std.specs.List.{AllByRecursion, list_all}
+use Rattle.std.proofs.lemmas.Bool.{and_parts, not-true}
+use Rattle.sqlite.specs.Edit.{IsNoIndex}
+use Rattle.sqlite.specs.Order.{Row}
+use Rattle.sqlite.specs.Tree.{Trees}
+use Rattle.sqlite_catalog.specs.Listing.{IsSound}
+use Rattle.kcr_rows.specs.Keyed.{TableLayout, TreeHolds}
+use Rattle.kcr_rows.proofs.TableLemmas.{keeps_still}
+"""
+    out += "use Rattle.kcr_rows.specs.Rows.{" + ", ".join(t.row_of for t in TABLES) + "}\n"
+    out += "use Rattle.kcr_rows.specs.States.{" + ", ".join(t.is_stored for t in stored) + "}\n"
+    out += "use Rattle.kcr_tables.specs.Schema.{register_schema}\nuse Rattle.kcr_tables.specs.StoredTables.{StoredTables, TreesHold, " + ", ".join(t.place for t in TABLES) + "}\n"
+    out += f"""
+-- each table: where it lies, and its rows
+abbrev pub placed_rows : StoredTables → List (TableLayout × List Row)
+placed_rows t =
+    {rows} ∷ []
+
+-- each of these tables has its rows
+abbrev pub AllHold : Trees → List (TableLayout × List Row) → Type 0
+AllHold db [] = ⊤
+AllHold db (table ∷ tables) = TreeHolds table.0 db table.1 × AllHold db tables
+
+-- table N has these rows
+abbrev pub HoldsAt : ℕ → Trees → List Row → List (TableLayout × List Row) → Type 0
+HoldsAt at db rows [] = ⊤
+HoldsAt zero db rows (table ∷ tables) = TreeHolds table.0 db rows
+HoldsAt (suc at) db rows (table ∷ tables) = HoldsAt at db rows tables
+
+-- these rows in table N
+abbrev pub with_rows_at : ℕ → List Row → List (TableLayout × List Row) → List (TableLayout × List Row)
+with_rows_at at rows [] = []
+with_rows_at zero rows (table ∷ tables) = (table.0, rows) ∷ tables
+with_rows_at (suc at) rows (table ∷ tables) = table ∷ with_rows_at at rows tables
+
+-- the table lies in another tree than this one, which is no index
+abbrev pub is_apart : ℕ → TableLayout × List Row → Bool
+is_apart tree table = not (table.0.tree == tree) && list_all (λ i. not (i.tree == table.0.tree)) register_schema.indexes
+
+-- so do all but table N
+abbrev pub are_apart : ℕ → ℕ → List (TableLayout × List Row) → Bool
+are_apart at tree [] = true
+are_apart zero tree (table ∷ tables) = list_all (is_apart tree) tables
+are_apart (suc at) tree (table ∷ tables) = is_apart tree table && are_apart at tree tables
+
+-- the trees that are no index stay, but for this one
+abbrev pub OthersStay : ℕ → Trees → Trees → Type 0
+OthersStay tree old new = (other : ℕ) → other ≢ tree → IsNoIndex register_schema other → new other ≡ old other
+
+stays : (tree : ℕ) (old new : Trees) → OthersStay tree old new → (table : TableLayout × List Row) → is_apart tree table ≡ true → TreeHolds table.0 old table.1 → TreeHolds table.0 new table.1
+stays tree old new others table apart =
+    let parts = and_parts _ _ apart in keeps_still register_schema tree table.0 old new table.1 others (not-true _ parts.0) parts.1
+
+all_stay : (tree : ℕ) (old new : Trees) → OthersStay tree old new → (tables : List (TableLayout × List Row)) → list_all (is_apart tree) tables ≡ true → AllHold old tables → AllHold new tables
+all_stay tree old new others [] apart held = tt
+all_stay tree old new others (table ∷ tables) apart held =
+    let parts = and_parts _ _ apart in (stays tree old new others table parts.0 held.0, all_stay tree old new others tables parts.1 held.1)
+
+one_changed : (tree : ℕ) (old new : Trees) → OthersStay tree old new → (at : ℕ) (rows : List Row) (tables : List (TableLayout × List Row)) → are_apart at tree tables ≡ true → HoldsAt at new rows tables → AllHold old tables → AllHold new (with_rows_at at rows tables)
+one_changed tree old new others at rows [] apart changed held = tt
+one_changed tree old new others zero rows (table ∷ tables) apart changed held = (changed, all_stay tree old new others tables apart held.1)
+one_changed tree old new others (suc at) rows (table ∷ tables) apart changed held =
+    let parts = and_parts _ _ apart in (stays tree old new others table parts.0 held.0, one_changed tree old new others at rows tables parts.1 changed held.1)
+
+pair : {{A B : Type 0}} → A → B → A × B
+pair a b = (a, b)
+
+as_list : (db : Trees) (t : StoredTables) → TreesHold db t → AllHold db (placed_rows t)
+as_list db t k = {held}
+
+as_record : (db : Trees) (t : StoredTables) → IsSound register_schema db → AllHold db (placed_rows t){facts} → TreesHold db t
+as_record db t sound h {names} = record {{
+  sound = sound;
+{fields}}}
+
+-- table N has new rows, and the other tables have their own as before
+pub still_at : (at tree : ℕ) (old new : Trees) (before t : StoredTables) (rows : List Row) → with_rows_at at rows (placed_rows before) ≡ placed_rows t
+    → are_apart at tree (placed_rows before) ≡ true → IsSound register_schema new → HoldsAt at new rows (placed_rows before)
+    → OthersStay tree old new → TreesHold old before{facts} → TreesHold new t
+still_at at tree old new before t rows same apart sound changed others held {names} =
+    as_record new t sound (subst (AllHold new) same (one_changed tree old new others at rows (placed_rows before) apart changed (as_list old before held))) {names}
+"""
+    write("specs/Still.antt", out)

@@ -24,7 +24,7 @@ from table_joint import lemmas_joint, lemmas_make
 from table_laws import laws
 from table_list import TABLES
 from table_source import source, source_rows, source_texts
-from table_specs import spec_changed, spec_first, spec_held, spec_joint, spec_made, spec_rows, spec_schema
+from table_specs import spec_changed, spec_first, spec_held, spec_joint, spec_made, spec_rows, spec_schema, spec_still
 
 
 def main():
@@ -39,6 +39,7 @@ def main():
     spec_changed()
     spec_joint()
     spec_first()
+    spec_still()
     source_rows()
     source_texts()
     lemmas_make()

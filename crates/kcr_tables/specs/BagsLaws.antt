@@ -1,30 +1,22 @@
 -- What the table bags proves of its texts, and of its place among the others.
-use Rattle.std.proofs.Common.{◌≡◌, ◌≢◌, ℕ, List, [], ◌∷◌, map, codes, true, refl, sym, ap, ◌∙◌}
-use Rattle.std.specs.List.{AllByRecursion}
+use Rattle.std.proofs.Common.{◌≡◌, ℕ, List, [], ◌∷◌, map, codes, true, refl, sym, ap, ◌∙◌}
 use Rattle.sqlite.specs.declared.types.Value.TheVariants.{Null, Text}
 use Rattle.sqlite.specs.Term.{Term}
-use Rattle.sqlite.specs.Tree.{Trees}
-use Rattle.sqlite.specs.Edit.{IsNoIndex}
 use Rattle.sqlite.specs.Listing.{understood}
-use Rattle.sqlite_catalog.specs.Listing.{IsSound}
 use Rattle.sqlite_value.specs.declared.keys.Key.{Key}
 use Rattle.sqlite_tied.specs.Compute.{everything}
 use Rattle.kcr_history.specs.Views.{is_of_serial}
-use Rattle.kcr_rows.specs.Keyed.{TreeHolds}
 use Rattle.kcr_rows.proofs.FilterLemmas.{has_value, value_is}
 use Rattle.kcr_rows.proofs.WriteLemmas.{cast_null}
-use Rattle.kcr_rows.proofs.TableLemmas.{keeps_still}
 use Rattle.kcr_rows.proofs.SameLemmas.{text_ties}
 use Rattle.kcr_rows.proofs.StateLemmas.{one_spot}
 use Rattle.kcr_custody.specs.Spots.{spot_text}
 use Rattle.kcr_rows.specs.Rows.{bag_row}
 use Rattle.kcr_custody.specs.declared.Bag.{Bag}
 use Rattle.kcr_rows.specs.States.{HasBoxNumber}
-use Rattle.kcr_tables.specs.Schema.{register_schema, bags}
-use Rattle.kcr_tables.specs.StoredTables.{StoredTables, TreesHold, people_place, trainings_place, appointments_place}
-use Rattle.kcr_tables.specs.StoredTables.{boxes_place, safes_place, bags_place, items_place, ceremonies_place}
-use Rattle.kcr_tables.specs.StoredTables.{marks_place, steps_place, seatings_place, sheet_place, exceptions_place}
-use Rattle.kcr_tables.specs.StoredTables.{versions_place, keys_place, stays_place, withdrawals_place}
+use Rattle.kcr_tables.specs.Schema.{bags}
+use Rattle.kcr_tables.specs.StoredTables.{bags_place}
+use Rattle.kcr_tables.specs.Still.{still_at}
 use Rattle.kcr_tables.specs.Parts.{text_in}
 use Rattle.kcr_tables.specs.Statements.{shown_columns, key_order, is_given, SelectsRows, new_terms, key_test}
 use Rattle.kcr_tables.specs.Statements.{update_terms, InsertsRow, UpdatesRow}
@@ -109,40 +101,13 @@ updates = record {
   is = refl;
 }
 
--- the other tables stay if the rows of this one are changed
-pub still : (old new : Trees) (rows : List Bag) (t : StoredTables) → IsSound register_schema new
-    → TreeHolds bags_place new (map bag_row rows) → AllByRecursion HasBoxNumber rows
-    → ((tree : ℕ) → tree ≢ 11 → IsNoIndex register_schema tree → new tree ≡ old tree) → TreesHold old t
-    → TreesHold new (record t { rows = record t.rows { bags = rows } })
-still old new rows t sound keeps stored others k = record {
-  sound = sound;
-  people = keeps_still register_schema 11 people_place old new _ others refl refl k.people;
-  trainings = keeps_still register_schema 11 trainings_place old new _ others refl refl k.trainings;
-  appointments = keeps_still register_schema 11 appointments_place old new _ others refl refl k.appointments;
-  boxes = keeps_still register_schema 11 boxes_place old new _ others refl refl k.boxes;
-  safes = keeps_still register_schema 11 safes_place old new _ others refl refl k.safes;
-  bags = keeps;
-  items = keeps_still register_schema 11 items_place old new _ others refl refl k.items;
-  ceremonies = keeps_still register_schema 11 ceremonies_place old new _ others refl refl k.ceremonies;
-  marks = keeps_still register_schema 11 marks_place old new _ others refl refl k.marks;
-  steps = keeps_still register_schema 11 steps_place old new _ others refl refl k.steps;
-  seatings = keeps_still register_schema 11 seatings_place old new _ others refl refl k.seatings;
-  sheet = keeps_still register_schema 11 sheet_place old new _ others refl refl k.sheet;
-  exceptions = keeps_still register_schema 11 exceptions_place old new _ others refl refl k.exceptions;
-  versions = keeps_still register_schema 11 versions_place old new _ others refl refl k.versions;
-  keys = keeps_still register_schema 11 keys_place old new _ others refl refl k.keys;
-  stays = keeps_still register_schema 11 stays_place old new _ others refl refl k.stays;
-  withdrawals = keeps_still register_schema 11 withdrawals_place old new _ others refl refl k.withdrawals;
-  spot = stored;
-  seats = k.seats;
-}
-
 pub table_laws : IsTable table bag_row HasBoxNumber
 table_laws = record {
   lists = lists;
   one = one;
   keeps = λ db t k. k.bags;
   stores = λ db t k. k.spot;
-  still = still;
+  still = λ old new rows t sound keeps stored others k. still_at 5 11 old new t _
+      (map bag_row rows) refl refl sound keeps others k stored k.seats;
   stands = λ m t s. s.rows.bags;
 }

@@ -1,30 +1,23 @@
 -- What the table exceptions proves of its texts, and of its place among the others.
-use Rattle.std.proofs.Common.{◌≡◌, ◌≢◌, ℕ, pos, List, [], ◌∷◌, map, codes, true, refl, sym, ap, ◌∙◌}
+use Rattle.std.proofs.Common.{◌≡◌, ℕ, pos, List, [], ◌∷◌, map, codes, true, refl, sym, ap, ◌∙◌}
 use Rattle.std.specs.Bool.{⊤}
-use Rattle.std.specs.List.{AllByRecursion}
 use Rattle.sqlite.specs.declared.types.Value.TheVariants.{Null, Int, Text}
 use Rattle.sqlite.specs.Order.{Row, column}
 use Rattle.sqlite.specs.Term.{Term}
-use Rattle.sqlite.specs.Tree.{Trees}
-use Rattle.sqlite.specs.Edit.{IsNoIndex}
 use Rattle.sqlite.specs.Listing.{understood}
-use Rattle.sqlite_catalog.specs.Listing.{IsSound}
 use Rattle.sqlite_value.specs.declared.keys.Key.{Key}
 use Rattle.sqlite_tied.specs.Compute.{everything}
 use Rattle.kcr_history.specs.Views.{is_exception_of}
-use Rattle.kcr_rows.specs.Keyed.{TreeHolds}
 use Rattle.kcr_rows.proofs.FilterLemmas.{has_value, value_is}
 use Rattle.kcr_rows.proofs.WriteLemmas.{cast_null, cast_int}
-use Rattle.kcr_rows.proofs.TableLemmas.{keeps_still, each_is}
+use Rattle.kcr_rows.proofs.TableLemmas.{each_is}
 use Rattle.kcr_rows.proofs.SameLemmas.{one_number, number_ties}
 use Rattle.kcr_rows.proofs.StateLemmas.{cast_or_null}
 use Rattle.kcr_rows.specs.Rows.{exception_row}
 use Rattle.kcr_history.specs.declared.row_types.ExceptionRow.{ExceptionRow}
-use Rattle.kcr_tables.specs.Schema.{register_schema, exceptions}
-use Rattle.kcr_tables.specs.StoredTables.{StoredTables, TreesHold, people_place, trainings_place, appointments_place}
-use Rattle.kcr_tables.specs.StoredTables.{boxes_place, safes_place, bags_place, items_place, ceremonies_place}
-use Rattle.kcr_tables.specs.StoredTables.{marks_place, steps_place, seatings_place, sheet_place, exceptions_place}
-use Rattle.kcr_tables.specs.StoredTables.{versions_place, keys_place, stays_place, withdrawals_place}
+use Rattle.kcr_tables.specs.Schema.{exceptions}
+use Rattle.kcr_tables.specs.StoredTables.{exceptions_place}
+use Rattle.kcr_tables.specs.Still.{still_at}
 use Rattle.kcr_tables.specs.Parts.{text_in, number_in}
 use Rattle.kcr_tables.specs.Statements.{shown_columns, key_order, is_given, SelectsRows, new_terms, InsertsRow}
 use Rattle.kcr_tables.specs.Table.{TableSpec, IsTable, LookupSpec, IsLookup}
@@ -99,40 +92,13 @@ inserts = record {
   is = refl;
 }
 
--- the other tables stay if the rows of this one are changed
-pub still : (old new : Trees) (rows : List ExceptionRow) (t : StoredTables) → IsSound register_schema new
-    → TreeHolds exceptions_place new (map exception_row rows) → AllByRecursion (λ _. ⊤) rows
-    → ((tree : ℕ) → tree ≢ 26 → IsNoIndex register_schema tree → new tree ≡ old tree) → TreesHold old t
-    → TreesHold new (record t { rows = record t.rows { exceptions = rows } })
-still old new rows t sound keeps stored others k = record {
-  sound = sound;
-  people = keeps_still register_schema 26 people_place old new _ others refl refl k.people;
-  trainings = keeps_still register_schema 26 trainings_place old new _ others refl refl k.trainings;
-  appointments = keeps_still register_schema 26 appointments_place old new _ others refl refl k.appointments;
-  boxes = keeps_still register_schema 26 boxes_place old new _ others refl refl k.boxes;
-  safes = keeps_still register_schema 26 safes_place old new _ others refl refl k.safes;
-  bags = keeps_still register_schema 26 bags_place old new _ others refl refl k.bags;
-  items = keeps_still register_schema 26 items_place old new _ others refl refl k.items;
-  ceremonies = keeps_still register_schema 26 ceremonies_place old new _ others refl refl k.ceremonies;
-  marks = keeps_still register_schema 26 marks_place old new _ others refl refl k.marks;
-  steps = keeps_still register_schema 26 steps_place old new _ others refl refl k.steps;
-  seatings = keeps_still register_schema 26 seatings_place old new _ others refl refl k.seatings;
-  sheet = keeps_still register_schema 26 sheet_place old new _ others refl refl k.sheet;
-  exceptions = keeps;
-  versions = keeps_still register_schema 26 versions_place old new _ others refl refl k.versions;
-  keys = keeps_still register_schema 26 keys_place old new _ others refl refl k.keys;
-  stays = keeps_still register_schema 26 stays_place old new _ others refl refl k.stays;
-  withdrawals = keeps_still register_schema 26 withdrawals_place old new _ others refl refl k.withdrawals;
-  spot = k.spot;
-  seats = k.seats;
-}
-
 pub table_laws : IsTable table exception_row (λ _. ⊤)
 table_laws = record {
   lists = lists;
   one = one;
   keeps = λ db t k. k.exceptions;
   stores = λ db t k. each_is t.rows.exceptions;
-  still = still;
+  still = λ old new rows t sound keeps stored others k. still_at 12 26 old new t _
+      (map exception_row rows) refl refl sound keeps others k k.spot k.seats;
   stands = λ m t s. s.rows.exceptions;
 }

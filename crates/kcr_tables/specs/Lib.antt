@@ -12,6 +12,7 @@ pub mod Exact
 pub mod Statements
 pub mod Table
 pub mod Parts
+pub mod Still
 pub mod AppointmentsLaws
 pub mod BagsLaws
 pub mod BoxesLaws

@@ -1,27 +1,20 @@
 -- What the table sheet proves of its texts, and of its place among the others.
-use Rattle.std.proofs.Common.{◌≡◌, ◌≢◌, ℕ, pos, List, [], ◌∷◌, map, codes, true, refl, ap}
+use Rattle.std.proofs.Common.{◌≡◌, ℕ, pos, List, [], ◌∷◌, map, codes, true, refl, ap}
 use Rattle.std.specs.Bool.{⊤}
-use Rattle.std.specs.List.{AllByRecursion}
 use Rattle.sqlite.specs.declared.types.Value.TheVariants.{Null, Text}
 use Rattle.sqlite.specs.Term.{Term}
-use Rattle.sqlite.specs.Tree.{Trees}
-use Rattle.sqlite.specs.Edit.{IsNoIndex}
 use Rattle.sqlite.specs.Listing.{understood}
-use Rattle.sqlite_catalog.specs.Listing.{IsSound}
 use Rattle.sqlite_value.specs.declared.keys.Key.{Key}
 use Rattle.sqlite_tied.specs.Compute.{everything}
-use Rattle.kcr_rows.specs.Keyed.{TreeHolds}
 use Rattle.kcr_rows.proofs.WriteLemmas.{cast_null, cast_int}
-use Rattle.kcr_rows.proofs.TableLemmas.{keeps_still, each_is}
+use Rattle.kcr_rows.proofs.TableLemmas.{each_is}
 use Rattle.kcr_rows.proofs.StateLemmas.{one_way}
 use Rattle.kcr_rows.specs.States.{way_number}
 use Rattle.kcr_rows.specs.Rows.{sheet_row}
 use Rattle.kcr_room.specs.declared.SheetRow.{SheetRow}
-use Rattle.kcr_tables.specs.Schema.{register_schema, sheet}
-use Rattle.kcr_tables.specs.StoredTables.{StoredTables, TreesHold, people_place, trainings_place, appointments_place}
-use Rattle.kcr_tables.specs.StoredTables.{boxes_place, safes_place, bags_place, items_place, ceremonies_place}
-use Rattle.kcr_tables.specs.StoredTables.{marks_place, steps_place, seatings_place, sheet_place, exceptions_place}
-use Rattle.kcr_tables.specs.StoredTables.{versions_place, keys_place, stays_place, withdrawals_place}
+use Rattle.kcr_tables.specs.Schema.{sheet}
+use Rattle.kcr_tables.specs.StoredTables.{sheet_place}
+use Rattle.kcr_tables.specs.Still.{still_at}
 use Rattle.kcr_tables.specs.Parts.{text_in, number_in}
 use Rattle.kcr_tables.specs.Statements.{shown_columns, key_order, SelectsRows, new_terms, InsertsRow}
 use Rattle.kcr_tables.specs.Table.{TableSpec, IsTable}
@@ -76,40 +69,13 @@ inserts = record {
   is = refl;
 }
 
--- the other tables stay if the rows of this one are changed
-pub still : (old new : Trees) (rows : List SheetRow) (t : StoredTables) → IsSound register_schema new
-    → TreeHolds sheet_place new (map sheet_row rows) → AllByRecursion (λ _. ⊤) rows
-    → ((tree : ℕ) → tree ≢ 24 → IsNoIndex register_schema tree → new tree ≡ old tree) → TreesHold old t
-    → TreesHold new (record t { rows = record t.rows { sheet = rows } })
-still old new rows t sound keeps stored others k = record {
-  sound = sound;
-  people = keeps_still register_schema 24 people_place old new _ others refl refl k.people;
-  trainings = keeps_still register_schema 24 trainings_place old new _ others refl refl k.trainings;
-  appointments = keeps_still register_schema 24 appointments_place old new _ others refl refl k.appointments;
-  boxes = keeps_still register_schema 24 boxes_place old new _ others refl refl k.boxes;
-  safes = keeps_still register_schema 24 safes_place old new _ others refl refl k.safes;
-  bags = keeps_still register_schema 24 bags_place old new _ others refl refl k.bags;
-  items = keeps_still register_schema 24 items_place old new _ others refl refl k.items;
-  ceremonies = keeps_still register_schema 24 ceremonies_place old new _ others refl refl k.ceremonies;
-  marks = keeps_still register_schema 24 marks_place old new _ others refl refl k.marks;
-  steps = keeps_still register_schema 24 steps_place old new _ others refl refl k.steps;
-  seatings = keeps_still register_schema 24 seatings_place old new _ others refl refl k.seatings;
-  sheet = keeps;
-  exceptions = keeps_still register_schema 24 exceptions_place old new _ others refl refl k.exceptions;
-  versions = keeps_still register_schema 24 versions_place old new _ others refl refl k.versions;
-  keys = keeps_still register_schema 24 keys_place old new _ others refl refl k.keys;
-  stays = keeps_still register_schema 24 stays_place old new _ others refl refl k.stays;
-  withdrawals = keeps_still register_schema 24 withdrawals_place old new _ others refl refl k.withdrawals;
-  spot = k.spot;
-  seats = k.seats;
-}
-
 pub table_laws : IsTable table sheet_row (λ _. ⊤)
 table_laws = record {
   lists = lists;
   one = one;
   keeps = λ db t k. k.sheet;
   stores = λ db t k. each_is t.rows.sheet;
-  still = still;
+  still = λ old new rows t sound keeps stored others k. still_at 11 24 old new t _
+      (map sheet_row rows) refl refl sound keeps others k k.spot k.seats;
   stands = λ m t s. s.rows.sheet;
 }

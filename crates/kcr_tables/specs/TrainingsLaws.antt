@@ -1,29 +1,22 @@
 -- What the table trainings proves of its texts, and of its place among the others.
-use Rattle.std.proofs.Common.{◌≡◌, ◌≢◌, ℕ, pos, List, [], ◌∷◌, map, codes, true, refl, sym, ap, ◌∙◌}
+use Rattle.std.proofs.Common.{◌≡◌, ℕ, pos, List, [], ◌∷◌, map, codes, true, refl, sym, ap, ◌∙◌}
 use Rattle.std.specs.Bool.{⊤}
-use Rattle.std.specs.List.{AllByRecursion}
 use Rattle.sqlite.specs.declared.types.Value.TheVariants.{Null, Text}
 use Rattle.sqlite.specs.Term.{Term}
-use Rattle.sqlite.specs.Tree.{Trees}
-use Rattle.sqlite.specs.Edit.{IsNoIndex}
 use Rattle.sqlite.specs.Listing.{understood}
-use Rattle.sqlite_catalog.specs.Listing.{IsSound}
 use Rattle.sqlite_value.specs.declared.keys.Key.{Key}
 use Rattle.sqlite_tied.specs.Compute.{everything}
 use Rattle.kcr_history.specs.Views.{is_training_of}
-use Rattle.kcr_rows.specs.Keyed.{TreeHolds}
 use Rattle.kcr_rows.proofs.FilterLemmas.{has_value, value_is}
 use Rattle.kcr_rows.proofs.WriteLemmas.{cast_null, cast_int}
-use Rattle.kcr_rows.proofs.TableLemmas.{keeps_still, each_is}
+use Rattle.kcr_rows.proofs.TableLemmas.{each_is}
 use Rattle.kcr_rows.proofs.SameLemmas.{one_role, text_ties}
 use Rattle.kcr_base.specs.Role.{role_text}
 use Rattle.kcr_rows.specs.Rows.{training_row}
 use Rattle.kcr_people.specs.declared.Training.{Training}
-use Rattle.kcr_tables.specs.Schema.{register_schema, trainings}
-use Rattle.kcr_tables.specs.StoredTables.{StoredTables, TreesHold, people_place, trainings_place, appointments_place}
-use Rattle.kcr_tables.specs.StoredTables.{boxes_place, safes_place, bags_place, items_place, ceremonies_place}
-use Rattle.kcr_tables.specs.StoredTables.{marks_place, steps_place, seatings_place, sheet_place, exceptions_place}
-use Rattle.kcr_tables.specs.StoredTables.{versions_place, keys_place, stays_place, withdrawals_place}
+use Rattle.kcr_tables.specs.Schema.{trainings}
+use Rattle.kcr_tables.specs.StoredTables.{trainings_place}
+use Rattle.kcr_tables.specs.Still.{still_at}
 use Rattle.kcr_tables.specs.Parts.{text_in, number_in}
 use Rattle.kcr_tables.specs.Statements.{shown_columns, key_order, is_given, SelectsRows, new_terms, InsertsRow}
 use Rattle.kcr_tables.specs.Table.{TableSpec, IsTable, LookupSpec, IsLookup}
@@ -95,40 +88,13 @@ inserts = record {
   is = refl;
 }
 
--- the other tables stay if the rows of this one are changed
-pub still : (old new : Trees) (rows : List Training) (t : StoredTables) → IsSound register_schema new
-    → TreeHolds trainings_place new (map training_row rows) → AllByRecursion (λ _. ⊤) rows
-    → ((tree : ℕ) → tree ≢ 2 → IsNoIndex register_schema tree → new tree ≡ old tree) → TreesHold old t
-    → TreesHold new (record t { rows = record t.rows { trainings = rows } })
-still old new rows t sound keeps stored others k = record {
-  sound = sound;
-  people = keeps_still register_schema 2 people_place old new _ others refl refl k.people;
-  trainings = keeps;
-  appointments = keeps_still register_schema 2 appointments_place old new _ others refl refl k.appointments;
-  boxes = keeps_still register_schema 2 boxes_place old new _ others refl refl k.boxes;
-  safes = keeps_still register_schema 2 safes_place old new _ others refl refl k.safes;
-  bags = keeps_still register_schema 2 bags_place old new _ others refl refl k.bags;
-  items = keeps_still register_schema 2 items_place old new _ others refl refl k.items;
-  ceremonies = keeps_still register_schema 2 ceremonies_place old new _ others refl refl k.ceremonies;
-  marks = keeps_still register_schema 2 marks_place old new _ others refl refl k.marks;
-  steps = keeps_still register_schema 2 steps_place old new _ others refl refl k.steps;
-  seatings = keeps_still register_schema 2 seatings_place old new _ others refl refl k.seatings;
-  sheet = keeps_still register_schema 2 sheet_place old new _ others refl refl k.sheet;
-  exceptions = keeps_still register_schema 2 exceptions_place old new _ others refl refl k.exceptions;
-  versions = keeps_still register_schema 2 versions_place old new _ others refl refl k.versions;
-  keys = keeps_still register_schema 2 keys_place old new _ others refl refl k.keys;
-  stays = keeps_still register_schema 2 stays_place old new _ others refl refl k.stays;
-  withdrawals = keeps_still register_schema 2 withdrawals_place old new _ others refl refl k.withdrawals;
-  spot = k.spot;
-  seats = k.seats;
-}
-
 pub table_laws : IsTable table training_row (λ _. ⊤)
 table_laws = record {
   lists = lists;
   one = one;
   keeps = λ db t k. k.trainings;
   stores = λ db t k. each_is t.rows.trainings;
-  still = still;
+  still = λ old new rows t sound keeps stored others k. still_at 1 2 old new t _
+      (map training_row rows) refl refl sound keeps others k k.spot k.seats;
   stands = λ m t s. s.rows.trainings;
 }
