@@ -1,5 +1,5 @@
 """Writes the lemmas over all tables."""
-from table_list import TABLES, MACHINE
+from table_list import TABLES
 from table_specs import uses
 from table_writer import write
 
@@ -9,14 +9,18 @@ def parts(names, rest):
     return "".join(f"({name}, " for name in names) + rest + ")" * len(names)
 
 
+MADE = "(refl, refl, (refl, refl), refl, refl, refl, refl)"
+
+
 def lemmas_make():
     n = len(TABLES)
     out = f"""-- One CREATE TABLE after the other.
-use Rattle.std.proofs.Common.{{◌≡◌, ℕ, zero, suc, ◌+◌, ◌<◌, take, Ok, refl, sym, ap, ◌∙◌, arith}}
+use Rattle.std.proofs.Common.{{◌≡◌, ℕ, zero, suc, ◌+◌, ◌<◌, [], false, take, Ok, refl, sym, ap, ◌∙◌, arith}}
 use Rattle.sqlite.specs.Table.{{Table}}
 use Rattle.sqlite.specs.Command.TheVariants.{{CreateTable}}
 use Rattle.sqlite.specs.Compile.{{table_defined_by}}
-use Rattle.sqlite.specs.Change.{{created}}
+use Rattle.sqlite.specs.Change.{{created, next_tree}}
+use Rattle.sqlite.specs.Does.{{lacks_sequence}}
 use Rattle.sqlite.specs.State.{{State, Executes}}
 use Rattle.sqlite.specs.Listing.{{understood}}
 use Rattle.sqlite.proofs.Callers.{{IsPlain, command_of, statement_of}}
@@ -26,39 +30,51 @@ use Rattle.kcr_rows.specs.Columns.{{AreEmpty}}
 use Rattle.kcr_rows.proofs.CreateLemmas.{{creates}}
 use Rattle.kcr_tables.specs.Schema.{{all_tables, {', '.join(t.name for t in TABLES)}}}
 use Rattle.kcr_tables.specs.Creation.{{text_at, schema_prefix}}
+
+-- text N makes this table after those before it
+abbrev pub Makes : ℕ → Table → Type 0
+Makes at table =
+    (command_of (understood (schema_prefix at) (text_at at)) ≡ CreateTable)
+    × (statement_of (text_at at) (understood (schema_prefix at) (text_at at)) ≡ text_at at)
+    × IsPlain (understood (schema_prefix at) (text_at at))
+    × (table_defined_by (text_at at) ≡ Ok (record table {{ tree = 0 }}))
+    × (created (schema_prefix at) (record table {{ tree = 0 }}) ≡ schema_prefix (at + 1))
+    × (next_tree (schema_prefix at) ≡ table.tree)
+    × (lacks_sequence (schema_prefix (at + 1)) ≡ false)
+
+pub defines : (at : ℕ) (table : Table) → Makes at table → (found : Table) → table_defined_by (text_at at) ≡ Ok found → created (schema_prefix at) found ≡ schema_prefix (at + 1)
+defines at table makes found h =
+    let both : Ok found ≡ Ok (record table {{ tree = 0 }}) = sym h ∙ makes.3 in
+    let same : found ≡ record table {{ tree = 0 }} = cc in
+    ap (created (schema_prefix at)) same ∙ makes.4
+
+makes_next : (at : ℕ) (table : Table) → Makes at table → (old new : State) (count : ℕ) → old.now.schema ≡ schema_prefix at → AreEmpty (schema_prefix at).tables old.now.trees → Executes (text_at at) [] old new (Ok count) → (new.now.schema ≡ schema_prefix (at + 1)) × AreEmpty ((schema_prefix at).tables ++ table ∷ []) new.now.trees × IsSound (schema_prefix (at + 1)) new.now.trees
+makes_next at table makes = creates (schema_prefix at) (text_at at) table (schema_prefix (at + 1)) makes.0 makes.1 makes.2 (defines at table makes) makes.5 makes.6
 """
-    for t in TABLES:
-        a = t.at
-        # the tables that older versions lack, which are made over the others too
-        public = "pub " if a >= 15 else ""
+    for t in TABLES[15:]:
         out += f"""
-abbrev {public}bare_{t.name} : Table
-bare_{t.name} = record {t.name} {{ tree = 0 }}
-
-{public}is_{a} : (command_of (understood (schema_prefix {a}) (text_at {a})) ≡ CreateTable) × (statement_of (text_at {a}) (understood (schema_prefix {a}) (text_at {a})) ≡ text_at {a}) × IsPlain (understood (schema_prefix {a}) (text_at {a})) × (table_defined_by (text_at {a}) ≡ Ok bare_{t.name})
+-- an older version lacks it, and it is made over the others too
+pub makes_{t.name} : Makes {t.at} {t.name}
 unfolding understood everything
-is_{a} = (refl, refl, (refl, refl), refl)
-
-{public}defines_{a} : (found : Table) → table_defined_by (text_at {a}) ≡ Ok found → created (schema_prefix {a}) found ≡ schema_prefix {a + 1}
-defines_{a} found h = let both : Ok found ≡ Ok bare_{t.name} = sym h ∙ is_{a}.3 in let same : found ≡ bare_{t.name} = cc in ap (created (schema_prefix {a})) same
+makes_{t.name} = {MADE}
 """
     out += f"""
 abbrev pub Next : ℕ → State → State → Type 0
 Next at old new = (new.now.schema ≡ schema_prefix (at + 1)) × AreEmpty (take (at + 1) all_tables) new.now.trees × IsSound (schema_prefix (at + 1)) new.now.trees
 
 pub create_next : (at : ℕ) → at < {n} → (old new : State) (count : ℕ) → old.now.schema ≡ schema_prefix at → AreEmpty (take at all_tables) old.now.trees → Executes (text_at at) [] old new (Ok count) → Next at old new
-""".replace("Executes (text_at at) []", "Executes (text_at at) []")
+unfolding understood everything
+"""
     for t in TABLES:
-        a = t.at
         pattern = "zero"
-        for _ in range(a):
+        for _ in range(t.at):
             pattern = f"(suc {pattern})"
-        out += f"create_next {pattern} low = creates (schema_prefix {a}) (text_at {a}) {t.name} (schema_prefix {a + 1}) is_{a}.0 is_{a}.1 is_{a}.2 defines_{a} refl refl\n"
+        out += f"create_next {pattern} low = makes_next {t.at} {t.name} {f'makes_{t.name}' if t.at >= 15 else MADE}\n"
     pattern = "at"
     for _ in range(n):
         pattern = f"(suc {pattern})"
     out += f"create_next {pattern} low = absurd (omega arith)\n"
-    out = out.replace("take, Ok, refl", "[], take, Ok, refl")
+    out = out.replace("[], false,", "[], ◌∷◌, ◌++◌, false,")
     write("proofs/MakeLemmas.antt", out)
 
     out = f"""-- A new register.
@@ -150,17 +166,14 @@ use Rattle.kcr_tables.proofs.HoldLemmas.{held_of, tables_of}
     out += "\n-- ---- changes\n\n-- the rows of values rise by so many keys\nabbrev pub Rise : {X : Type 0} → ℕ → (X → Row) → List X → Type 0\nRise keys row_of xs = IsAscending (λ a b. by_key keys a b ≡ Less) (map row_of xs)\n\n-- those of each table do\npub record Rises (t : machine.Tables) : Type 0 where\n"
     for t in puts:
         out += f"  pub {t.name} : Rise {t.keys} {t.row_of} t.{t.name}\n"
-    out += "\npub kept_rises : (db : Trees) (t : StoredTables) → TreesHold db t → Rises t.rows\nkept_rises db t k = record {\n"
+    out += "\npub kept_rises : (db : Trees) (t : StoredTables) → TreesHold db t → Rises t.rows\nkept_rises db t k = search rules\n\nafter_rises : (c : Change) (t : machine.Tables) → Rises t → Rises (rows_after c t)\n"
     for t in puts:
-        out += f"  {t.name} = k.{t.name}.rising;\n"
-    out += "}\n\nafter_rises : (c : Change) (t : machine.Tables) → Rises t → Rises (rows_after c t)\nafter_rises c t r = record {\n"
+        out += f"after_rises ({t.change} row) t r = search (rules, put_in_rising {t.keys} {t.row_of} row t.{t.name} r.{t.name})\n"
+    out += "\n-- one change: its table's rows are those of the machine, in another order\nafter_same : (c : Change) (m t : machine.Tables) → Rises t → machine.SameTables m t → machine.SameTables (changes.changed c m) (rows_after c t)\n"
     for t in puts:
-        out += f"  {t.name} = elim c as (λ c. Rise {t.keys} {t.row_of} (rows_after c t).{t.name})\n      [ {t.change} row ↦ put_in_rising {t.keys} {t.row_of} row t.{t.name} r.{t.name} | _ ↦ r.{t.name} ];\n"
-    out += "}\n\n-- one change: its table's rows are those of the machine, in another order\nafter_same : (c : Change) (m t : machine.Tables) → Rises t → machine.SameTables m t → machine.SameTables (changes.changed c m) (rows_after c t)\nafter_same c m t r s = record {\n"
-    for t in puts:
-        put = f"put-stands {t.keys} {t.row_of} {t.same} key_of_{t.name} row _ _ r.{t.name} s.{t.name}"
-        out += f"  {t.name} = elim c as (λ c. IsPermutation (changes.changed c m).{t.name} (rows_after c t).{t.name})\n      [ {t.change} row ↦ {put} | _ ↦ s.{t.name} ];\n"
-    out += """}
+        put = f"put-stands {t.keys} {t.row_of} {t.same} key_of_{t.name} row m.{t.name} t.{t.name} r.{t.name} s.{t.name}"
+        out += f"after_same ({t.change} row) m t r s = search (rules, {put})\n"
+    out += """
 
 -- the changes one after the other
 pub all_stand : (list : List Change) (m : machine.Tables) (t : StoredTables) → Rises t.rows → SameRows m t → SameRows (changes.changed_by list m) (changed_all list t)
@@ -186,14 +199,7 @@ of_both : {X : Type 0} {xs ys zs : List X} → IsPermutation xs ys → IsPermuta
 of_both p q = IsPermutation-trans _ _ _ (IsPermutation-sym _ _ p) q
 
 pub same_stands : (m n : machine.Tables) (t : StoredTables) → machine.SameTables m n → SameRows m t → SameRows n t
-same_stands m n t same s = record {
-  rows = record {
-"""
-    for name in MACHINE:
-        out += f"    {name} = of_both same.{name} s.rows.{name};\n"
-    out += """  };
-  versions = s.versions;
-}
+same_stands m n t same s = search (rules, of_both)
 
 pub same_keeps : (m n : machine.Tables) (db : Trees) → machine.SameTables m n → TreesHoldTables m db → TreesHoldTables n db
 same_keeps m n db same h = record { t = h.t; kept = h.kept; stands = same_stands m n h.t same h.stands }

@@ -22,7 +22,7 @@ use Rattle.sqlite.specs.Listing.{understood}
 use Rattle.sqlite.proofs.Callers.{IsPlain, command_of, statement_of, runs_as}
 use Rattle.kcr_rows.proofs.WriteLemmas.{went, same_value}
 use Rattle.kcr_tables.specs.Creation.{text_at, schema_prefix}
-use Rattle.kcr_tables.proofs.MakeLemmas.{is_15, defines_15, is_16, defines_16}
+use Rattle.kcr_tables.proofs.MakeLemmas.{defines, makes_stays, makes_withdrawals}
 
 -- ---- one more table
 
@@ -55,11 +55,12 @@ module _ (at : ℕ) (table : Table)
       }
 
 pub creates_stays : (old new : State) (count : ℕ) → old.now.schema ≡ schema_prefix 15 → Executes (text_at 15) [] old new (Ok count) → Gains 15 stays old.now new.now
-creates_stays = creates_over 15 stays is_15.0 is_15.1 is_15.2 defines_15 refl refl
+creates_stays = creates_over 15 stays makes_stays.0 makes_stays.1 makes_stays.2 (defines 15 stays makes_stays) makes_stays.5 makes_stays.6
 
 pub creates_withdrawals : (old new : State) (count : ℕ) → old.now.schema ≡ schema_prefix 16 → Executes (text_at 16) [] old new (Ok count)
     → Gains 16 withdrawals old.now new.now
-creates_withdrawals = creates_over 16 withdrawals is_16.0 is_16.1 is_16.2 defines_16 refl refl
+creates_withdrawals = creates_over 16 withdrawals makes_withdrawals.0 makes_withdrawals.1 makes_withdrawals.2
+    (defines 16 withdrawals makes_withdrawals) makes_withdrawals.5 makes_withdrawals.6
 
 -- ---- all that an older file lacks
 

@@ -146,97 +146,49 @@ pub record Rises (t : machine.Tables) : Type 0 where
   pub withdrawals : Rise 4 withdrawal_row t.withdrawals
 
 pub kept_rises : (db : Trees) (t : StoredTables) → TreesHold db t → Rises t.rows
-kept_rises db t k = record {
-  people = k.people.rising;
-  trainings = k.trainings.rising;
-  appointments = k.appointments.rising;
-  boxes = k.boxes.rising;
-  safes = k.safes.rising;
-  bags = k.bags.rising;
-  items = k.items.rising;
-  ceremonies = k.ceremonies.rising;
-  marks = k.marks.rising;
-  steps = k.steps.rising;
-  seatings = k.seatings.rising;
-  sheet = k.sheet.rising;
-  exceptions = k.exceptions.rising;
-  keys = k.keys.rising;
-  stays = k.stays.rising;
-  withdrawals = k.withdrawals.rising;
-}
+kept_rises db t k = search rules
 
 after_rises : (c : Change) (t : machine.Tables) → Rises t → Rises (rows_after c t)
-after_rises c t r = record {
-  people = elim c as (λ c. Rise 1 person_row (rows_after c t).people)
-      [ PutPerson row ↦ put_in_rising 1 person_row row t.people r.people | _ ↦ r.people ];
-  trainings = elim c as (λ c. Rise 4 training_row (rows_after c t).trainings)
-      [ PutTraining row ↦ put_in_rising 4 training_row row t.trainings r.trainings | _ ↦ r.trainings ];
-  appointments = elim c as (λ c. Rise 2 appointment_row (rows_after c t).appointments)
-      [ PutAppointment row ↦ put_in_rising 2 appointment_row row t.appointments r.appointments | _ ↦ r.appointments ];
-  boxes = elim c as (λ c. Rise 2 box_row (rows_after c t).boxes)
-      [ PutBox row ↦ put_in_rising 2 box_row row t.boxes r.boxes | _ ↦ r.boxes ];
-  safes = elim c as (λ c. Rise 2 safe_row (rows_after c t).safes)
-      [ PutSafe row ↦ put_in_rising 2 safe_row row t.safes r.safes | _ ↦ r.safes ];
-  bags = elim c as (λ c. Rise 1 bag_row (rows_after c t).bags)
-      [ PutBag row ↦ put_in_rising 1 bag_row row t.bags r.bags | _ ↦ r.bags ];
-  items = elim c as (λ c. Rise 1 item_row (rows_after c t).items)
-      [ PutItem row ↦ put_in_rising 1 item_row row t.items r.items | _ ↦ r.items ];
-  ceremonies = elim c as (λ c. Rise 1 ceremony_row (rows_after c t).ceremonies)
-      [ PutCeremony row ↦ put_in_rising 1 ceremony_row row t.ceremonies r.ceremonies | _ ↦ r.ceremonies ];
-  marks = elim c as (λ c. Rise 1 mark_row (rows_after c t).marks)
-      [ PutMark row ↦ put_in_rising 1 mark_row row t.marks r.marks | _ ↦ r.marks ];
-  steps = elim c as (λ c. Rise 2 step_row (rows_after c t).steps)
-      [ PutStep row ↦ put_in_rising 2 step_row row t.steps r.steps | _ ↦ r.steps ];
-  seatings = elim c as (λ c. Rise 3 seating_row (rows_after c t).seatings)
-      [ PutSeating row ↦ put_in_rising 3 seating_row row t.seatings r.seatings | _ ↦ r.seatings ];
-  sheet = elim c as (λ c. Rise 2 sheet_row (rows_after c t).sheet)
-      [ PutSheet row ↦ put_in_rising 2 sheet_row row t.sheet r.sheet | _ ↦ r.sheet ];
-  exceptions = elim c as (λ c. Rise 2 exception_row (rows_after c t).exceptions)
-      [ PutException row ↦ put_in_rising 2 exception_row row t.exceptions r.exceptions | _ ↦ r.exceptions ];
-  keys = elim c as (λ c. Rise 1 key_row (rows_after c t).keys)
-      [ PutKey row ↦ put_in_rising 1 key_row row t.keys r.keys | _ ↦ r.keys ];
-  stays = elim c as (λ c. Rise 2 stay_row (rows_after c t).stays)
-      [ PutStay row ↦ put_in_rising 2 stay_row row t.stays r.stays | _ ↦ r.stays ];
-  withdrawals = elim c as (λ c. Rise 4 withdrawal_row (rows_after c t).withdrawals)
-      [ PutWithdrawal row ↦ put_in_rising 4 withdrawal_row row t.withdrawals r.withdrawals | _ ↦ r.withdrawals ];
-}
+after_rises (PutPerson row) t r = search (rules, put_in_rising 1 person_row row t.people r.people)
+after_rises (PutTraining row) t r = search (rules, put_in_rising 4 training_row row t.trainings r.trainings)
+after_rises (PutAppointment row) t r = search (rules, put_in_rising 2 appointment_row row t.appointments r.appointments)
+after_rises (PutBox row) t r = search (rules, put_in_rising 2 box_row row t.boxes r.boxes)
+after_rises (PutSafe row) t r = search (rules, put_in_rising 2 safe_row row t.safes r.safes)
+after_rises (PutBag row) t r = search (rules, put_in_rising 1 bag_row row t.bags r.bags)
+after_rises (PutItem row) t r = search (rules, put_in_rising 1 item_row row t.items r.items)
+after_rises (PutCeremony row) t r = search (rules, put_in_rising 1 ceremony_row row t.ceremonies r.ceremonies)
+after_rises (PutMark row) t r = search (rules, put_in_rising 1 mark_row row t.marks r.marks)
+after_rises (PutStep row) t r = search (rules, put_in_rising 2 step_row row t.steps r.steps)
+after_rises (PutSeating row) t r = search (rules, put_in_rising 3 seating_row row t.seatings r.seatings)
+after_rises (PutSheet row) t r = search (rules, put_in_rising 2 sheet_row row t.sheet r.sheet)
+after_rises (PutException row) t r = search (rules, put_in_rising 2 exception_row row t.exceptions r.exceptions)
+after_rises (PutKey row) t r = search (rules, put_in_rising 1 key_row row t.keys r.keys)
+after_rises (PutStay row) t r = search (rules, put_in_rising 2 stay_row row t.stays r.stays)
+after_rises (PutWithdrawal row) t r = search (rules, put_in_rising 4 withdrawal_row row t.withdrawals r.withdrawals)
 
 -- one change: its table's rows are those of the machine, in another order
 after_same : (c : Change) (m t : machine.Tables) → Rises t → machine.SameTables m t → machine.SameTables (changes.changed c m) (rows_after c t)
-after_same c m t r s = record {
-  people = elim c as (λ c. IsPermutation (changes.changed c m).people (rows_after c t).people)
-      [ PutPerson row ↦ put-stands 1 person_row same_person key_of_people row _ _ r.people s.people | _ ↦ s.people ];
-  trainings = elim c as (λ c. IsPermutation (changes.changed c m).trainings (rows_after c t).trainings)
-      [ PutTraining row ↦ put-stands 4 training_row same_training key_of_trainings row _ _ r.trainings s.trainings | _ ↦ s.trainings ];
-  appointments = elim c as (λ c. IsPermutation (changes.changed c m).appointments (rows_after c t).appointments)
-      [ PutAppointment row ↦ put-stands 2 appointment_row same_appointment key_of_appointments row _ _ r.appointments s.appointments | _ ↦ s.appointments ];
-  boxes = elim c as (λ c. IsPermutation (changes.changed c m).boxes (rows_after c t).boxes)
-      [ PutBox row ↦ put-stands 2 box_row same_box key_of_boxes row _ _ r.boxes s.boxes | _ ↦ s.boxes ];
-  safes = elim c as (λ c. IsPermutation (changes.changed c m).safes (rows_after c t).safes)
-      [ PutSafe row ↦ put-stands 2 safe_row same_safe_row key_of_safes row _ _ r.safes s.safes | _ ↦ s.safes ];
-  bags = elim c as (λ c. IsPermutation (changes.changed c m).bags (rows_after c t).bags)
-      [ PutBag row ↦ put-stands 1 bag_row same_bag key_of_bags row _ _ r.bags s.bags | _ ↦ s.bags ];
-  items = elim c as (λ c. IsPermutation (changes.changed c m).items (rows_after c t).items)
-      [ PutItem row ↦ put-stands 1 item_row same_item key_of_items row _ _ r.items s.items | _ ↦ s.items ];
-  ceremonies = elim c as (λ c. IsPermutation (changes.changed c m).ceremonies (rows_after c t).ceremonies)
-      [ PutCeremony row ↦ put-stands 1 ceremony_row same_ceremony key_of_ceremonies row _ _ r.ceremonies s.ceremonies | _ ↦ s.ceremonies ];
-  marks = elim c as (λ c. IsPermutation (changes.changed c m).marks (rows_after c t).marks)
-      [ PutMark row ↦ put-stands 1 mark_row same_mark key_of_marks row _ _ r.marks s.marks | _ ↦ s.marks ];
-  steps = elim c as (λ c. IsPermutation (changes.changed c m).steps (rows_after c t).steps)
-      [ PutStep row ↦ put-stands 2 step_row same_step key_of_steps row _ _ r.steps s.steps | _ ↦ s.steps ];
-  seatings = elim c as (λ c. IsPermutation (changes.changed c m).seatings (rows_after c t).seatings)
-      [ PutSeating row ↦ put-stands 3 seating_row same_seating key_of_seatings row _ _ r.seatings s.seatings | _ ↦ s.seatings ];
-  sheet = elim c as (λ c. IsPermutation (changes.changed c m).sheet (rows_after c t).sheet)
-      [ PutSheet row ↦ put-stands 2 sheet_row same_sheet_row key_of_sheet row _ _ r.sheet s.sheet | _ ↦ s.sheet ];
-  exceptions = elim c as (λ c. IsPermutation (changes.changed c m).exceptions (rows_after c t).exceptions)
-      [ PutException row ↦ put-stands 2 exception_row same_exception key_of_exceptions row _ _ r.exceptions s.exceptions | _ ↦ s.exceptions ];
-  keys = elim c as (λ c. IsPermutation (changes.changed c m).keys (rows_after c t).keys)
-      [ PutKey row ↦ put-stands 1 key_row same_key_row key_of_keys row _ _ r.keys s.keys | _ ↦ s.keys ];
-  stays = elim c as (λ c. IsPermutation (changes.changed c m).stays (rows_after c t).stays)
-      [ PutStay row ↦ put-stands 2 stay_row same_stay key_of_stays row _ _ r.stays s.stays | _ ↦ s.stays ];
-  withdrawals = elim c as (λ c. IsPermutation (changes.changed c m).withdrawals (rows_after c t).withdrawals)
-      [ PutWithdrawal row ↦ put-stands 4 withdrawal_row same_withdrawn key_of_withdrawals row _ _ r.withdrawals s.withdrawals | _ ↦ s.withdrawals ];
-}
+after_same (PutPerson row) m t r s = search (rules, put-stands 1 person_row same_person key_of_people row m.people t.people r.people s.people)
+after_same (PutTraining row) m t r s = search
+    (rules, put-stands 4 training_row same_training key_of_trainings row m.trainings t.trainings r.trainings s.trainings)
+after_same (PutAppointment row) m t r s = search
+    (rules, put-stands 2 appointment_row same_appointment key_of_appointments row m.appointments t.appointments r.appointments s.appointments)
+after_same (PutBox row) m t r s = search (rules, put-stands 2 box_row same_box key_of_boxes row m.boxes t.boxes r.boxes s.boxes)
+after_same (PutSafe row) m t r s = search (rules, put-stands 2 safe_row same_safe_row key_of_safes row m.safes t.safes r.safes s.safes)
+after_same (PutBag row) m t r s = search (rules, put-stands 1 bag_row same_bag key_of_bags row m.bags t.bags r.bags s.bags)
+after_same (PutItem row) m t r s = search (rules, put-stands 1 item_row same_item key_of_items row m.items t.items r.items s.items)
+after_same (PutCeremony row) m t r s = search
+    (rules, put-stands 1 ceremony_row same_ceremony key_of_ceremonies row m.ceremonies t.ceremonies r.ceremonies s.ceremonies)
+after_same (PutMark row) m t r s = search (rules, put-stands 1 mark_row same_mark key_of_marks row m.marks t.marks r.marks s.marks)
+after_same (PutStep row) m t r s = search (rules, put-stands 2 step_row same_step key_of_steps row m.steps t.steps r.steps s.steps)
+after_same (PutSeating row) m t r s = search (rules, put-stands 3 seating_row same_seating key_of_seatings row m.seatings t.seatings r.seatings s.seatings)
+after_same (PutSheet row) m t r s = search (rules, put-stands 2 sheet_row same_sheet_row key_of_sheet row m.sheet t.sheet r.sheet s.sheet)
+after_same (PutException row) m t r s = search
+    (rules, put-stands 2 exception_row same_exception key_of_exceptions row m.exceptions t.exceptions r.exceptions s.exceptions)
+after_same (PutKey row) m t r s = search (rules, put-stands 1 key_row same_key_row key_of_keys row m.keys t.keys r.keys s.keys)
+after_same (PutStay row) m t r s = search (rules, put-stands 2 stay_row same_stay key_of_stays row m.stays t.stays r.stays s.stays)
+after_same (PutWithdrawal row) m t r s = search
+    (rules, put-stands 4 withdrawal_row same_withdrawn key_of_withdrawals row m.withdrawals t.withdrawals r.withdrawals s.withdrawals)
 
 -- the changes one after the other
 pub all_stand : (list : List Change) (m : machine.Tables) (t : StoredTables) → Rises t.rows → SameRows m t
@@ -265,27 +217,7 @@ of_both : {X : Type 0} {xs ys zs : List X} → IsPermutation xs ys → IsPermuta
 of_both p q = IsPermutation-trans _ _ _ (IsPermutation-sym _ _ p) q
 
 pub same_stands : (m n : machine.Tables) (t : StoredTables) → machine.SameTables m n → SameRows m t → SameRows n t
-same_stands m n t same s = record {
-  rows = record {
-    people = of_both same.people s.rows.people;
-    trainings = of_both same.trainings s.rows.trainings;
-    withdrawals = of_both same.withdrawals s.rows.withdrawals;
-    appointments = of_both same.appointments s.rows.appointments;
-    boxes = of_both same.boxes s.rows.boxes;
-    safes = of_both same.safes s.rows.safes;
-    bags = of_both same.bags s.rows.bags;
-    items = of_both same.items s.rows.items;
-    ceremonies = of_both same.ceremonies s.rows.ceremonies;
-    marks = of_both same.marks s.rows.marks;
-    steps = of_both same.steps s.rows.steps;
-    seatings = of_both same.seatings s.rows.seatings;
-    sheet = of_both same.sheet s.rows.sheet;
-    stays = of_both same.stays s.rows.stays;
-    exceptions = of_both same.exceptions s.rows.exceptions;
-    keys = of_both same.keys s.rows.keys;
-  };
-  versions = s.versions;
-}
+same_stands m n t same s = search (rules, of_both)
 
 pub same_keeps : (m n : machine.Tables) (db : Trees) → machine.SameTables m n → TreesHoldTables m db → TreesHoldTables n db
 same_keeps m n db same h = record { t = h.t; kept = h.kept; stands = same_stands m n h.t same h.stands }
