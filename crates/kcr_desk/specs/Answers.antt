@@ -35,8 +35,6 @@ use Rattle.kcr_wire.specs.declared.method.Method.{Method}
 use Rattle.kcr_wire.specs.declared.method.Method.TheVariants.{Get, Head, Post, Other}
 use Rattle.kcr_desk.specs.declared.response.MediaType.{MediaType}
 use Rattle.kcr_desk.specs.declared.response.MediaType.TheVariants.{Json, Text, Csv}
-use Rattle.kcr_print.specs.declared.reports.CeremonyReport.{CeremonyReport}
-use Rattle.kcr_print.specs.declared.reports.CeremonyReport.TheVariants.{Script, Attendance}
 use Rattle.kcr_print.specs.Requests.{requests_between}
 use Rattle.kcr_print.specs.declared.fault.PrintFault.{PrintFault}
 use Rattle.kcr_print.specs.declared.fault.PrintFault.TheVariants.{Refused, Write}
@@ -93,11 +91,6 @@ shown_response target (Err refusal) = refusal_response target refusal
 abbrev pub report_response : MediaType → List ℕ → Result (List ℕ) Refusal → ResponseValue
 report_response kind target (Ok text) = ok_response kind text
 report_response kind target (Err refusal) = refusal_response target refusal
-
--- the media type of a report of a ceremony
-abbrev pub media_type_of : CeremonyReport → MediaType
-media_type_of (Script ceremony) = Text
-media_type_of (Attendance ceremony) = Csv
 
 -- a register that is not broken takes the command, whose parts are values of their types, as the machine does. A fault
 -- of the device breaks it, and then a crash may have left the history with the command

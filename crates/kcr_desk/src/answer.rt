@@ -5,14 +5,13 @@ ghost use Rattle.sqlite.specs.State.{HasCleanDisk};
 ghost use Rattle.kcr_wire.specs.Commands.{command_of};
 ghost use Rattle.kcr_wire.specs.Questions.{question_of};
 ghost use Rattle.kcr_store.specs.Commands.{IsQuestionResult};
-ghost use Rattle.kcr_print.specs.Reports.{ceremony_of, text_of};
 ghost use Rattle.kcr_wire.specs.declared.method.Method.TheVariants.{Post};
 ghost use Rattle.kcr_history.specs.Refusals.{carries};
 ghost use Rattle.kcr_base.specs.declared.refusal.Refusal.TheVariants as Refusals;
 ghost use Rattle.kcr_desk.specs.Answers.{Answers, AnswersAs, Answered, AnswersCommand, AnswersReading, AnswersInquiry};
 ghost use Rattle.kcr_desk.specs.Answers.{IsReported, method_of, json_response, refusal_response, shown_response, report_response};
 ghost use Rattle.kcr_desk.specs.Answers.{allowed, RespondsRefusal, TakesInquiry, RepliesInquiry, RespondsOrMemory, refusal_of};
-ghost use Rattle.kcr_desk.specs.Answers.{media_type_of, outcome_of, MayBeReported, MayBeShown, MayBeText, IsText};
+ghost use Rattle.kcr_desk.specs.Answers.{outcome_of, MayBeReported, MayBeShown, MayBeText, IsText};
 ghost use Rattle.kcr_desk.specs.Answers.{IsFeed};
 ghost use Rattle.kcr_desk.specs.declared.response.MediaType.TheVariants as kinds;
 ghost use Rattle.kcr_history.specs.Prints as prints;
@@ -21,10 +20,10 @@ ghost use Rattle.kcr_desk.specs.Responses.{response_value};
 use crate::responder::{Request, Responder};
 use crate::response::{Body, Heading, MediaType, Response, refusal_heading};
 use http::StatusCode;
-use kcr_base::{Counted, Refusal, Text};
+use kcr_base::{CeremonyNumber, Counted, Refusal, Text};
 use kcr_forms::laws::acts_are_values;
 use kcr_history::{Command, Question, fixed_text};
-use kcr_print::{CeremonyReport, PrintFault, ceremony_report, custody, export};
+use kcr_print::{PrintFault, annotated, attendance_csv, custody, export};
 use kcr_store::Register;
 use kcr_wire::{After, Allow, Inquiry, Method, RouteTable, write_refusal, write_shown};
 use sqlite::Alter;
@@ -181,32 +180,38 @@ fn report_response(
     }
 }
 
-/// The media type of a report of a ceremony.
-fn media_type_of(report: &CeremonyReport) -> MediaType
-    ensures { result ≡ media_type_of report.now }
-{
-    match report {
-        CeremonyReport::Script(_) => MediaType::Text,
-        CeremonyReport::Attendance(_) => MediaType::Csv,
-    }
-}
-
-/// Prints a report of a ceremony into memory, and tells it.
-fn answer_report<S: Alter>(
+/// Prints the annotated script of a ceremony into memory, and tells it.
+fn take_script<S: Alter>(
     alloc: Global,
     register: &mut Register<S>,
     paths: &RouteTable,
     target: &[u8],
-    report: CeremonyReport,
+    ceremony: CeremonyNumber,
 ) -> Response
     ensures { AnswersReading S.Store register.old target.now (response_value result) register.new
-        (report_response (media_type_of report) target.now) (MayBeReported (ceremony_of report))
-        (IsReported (text_of report) (ceremony_of report)) }
+        (report_response kinds.Text target.now) (MayBeReported ceremony) (IsReported prints.annotated ceremony) }
 {
-    let kind = media_type_of(&report);
     let mut page = Counted::new(Vec::new(alloc));
-    let outcome = ceremony_report(alloc, register, report, &mut page);
-    report_response(alloc, paths, target, kind, page.into_inner(), outcome)
+    let outcome = annotated(alloc, register, ceremony, &mut page);
+    let text = page.into_inner();
+    report_response(alloc, paths, target, MediaType::Text, text, outcome)
+}
+
+/// Prints the attendance of a ceremony into memory, and tells it.
+fn take_attendance<S: Alter>(
+    alloc: Global,
+    register: &mut Register<S>,
+    paths: &RouteTable,
+    target: &[u8],
+    ceremony: CeremonyNumber,
+) -> Response
+    ensures { AnswersReading S.Store register.old target.now (response_value result) register.new
+        (report_response kinds.Csv target.now) (MayBeReported ceremony) (IsReported prints.attendance ceremony) }
+{
+    let mut page = Counted::new(Vec::new(alloc));
+    let outcome = attendance_csv(alloc, register, ceremony, &mut page);
+    let text = page.into_inner();
+    report_response(alloc, paths, target, MediaType::Csv, text, outcome)
 }
 
 /// Prints custody into memory, and tells it.
@@ -221,14 +226,8 @@ fn take_custody<S: Alter>(
 {
     let mut page = Counted::new(Vec::new(alloc));
     let outcome = custody(alloc, register, &mut page);
-    report_response(
-        alloc,
-        paths,
-        target,
-        MediaType::Text,
-        page.into_inner(),
-        outcome,
-    )
+    let text = page.into_inner();
+    report_response(alloc, paths, target, MediaType::Text, text, outcome)
 }
 
 /// The most commands of one answer.
@@ -248,14 +247,8 @@ fn take_commands<S: Alter>(
     let after = after.get();
     let mut page = Counted::new(Vec::new(alloc));
     let outcome = export(alloc, register, after, after + MAX_FEED_COMMANDS, &mut page);
-    report_response(
-        alloc,
-        paths,
-        target,
-        MediaType::Text,
-        page.into_inner(),
-        outcome,
-    )
+    let text = page.into_inner();
+    report_response(alloc, paths, target, MediaType::Text, text, outcome)
 }
 
 /// Asks the register for what a GET or HEAD asks for, and tells it.
@@ -270,14 +263,8 @@ fn answer_get<S: Alter>(
 {
     match inquiry {
         Inquiry::Question(question) => answer_question(alloc, register, paths, target, &question),
-        Inquiry::Script(ceremony) => {
-            let report = CeremonyReport::Script(ceremony);
-            answer_report(alloc, register, paths, target, report)
-        }
-        Inquiry::Attendance(ceremony) => {
-            let report = CeremonyReport::Attendance(ceremony);
-            answer_report(alloc, register, paths, target, report)
-        }
+        Inquiry::Script(ceremony) => take_script(alloc, register, paths, target, ceremony),
+        Inquiry::Attendance(ceremony) => take_attendance(alloc, register, paths, target, ceremony),
         Inquiry::Custody => take_custody(alloc, register, paths, target),
         Inquiry::Commands(after) => take_commands(alloc, register, paths, target, after),
     }

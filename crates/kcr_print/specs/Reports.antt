@@ -12,7 +12,6 @@ use Rattle.kcr_base.specs.declared.refusal.Refusal.{Refusal}
 use Rattle.kcr_base.specs.declared.refusal.Refusal.TheVariants as Refusals
 use Rattle.kcr_history.specs.Ceremonies.{is_ceremony}
 use Rattle.kcr_history.specs.History.{History}
-use Rattle.kcr_history.specs.Prints.{annotated, attendance}
 use Rattle.kcr_tables.specs.Refusals.{IsFault}
 use Rattle.kcr_store.specs.Register.{RegisterState, IsConsistent}
 use Rattle.kcr_store.specs.Calls.{KeepsHistory, OfHistory}
@@ -20,8 +19,6 @@ use Rattle.kcr_store.specs.Rows.{IsNotPlanned, NamesCeremony}
 use Rattle.kcr_print.specs.Written.{WritesPrefix}
 use Rattle.kcr_print.specs.declared.fault.PrintFault.{PrintFault}
 use Rattle.kcr_print.specs.declared.fault.PrintFault.TheVariants.{Refused, Write}
-use Rattle.kcr_print.specs.declared.reports.CeremonyReport.{CeremonyReport}
-use Rattle.kcr_print.specs.declared.reports.CeremonyReport.TheVariants.{Script, Attendance}
 
 -- memory ran out, the device failed, or the report is refused for what it is asked for; or a write failed
 abbrev pub Stops : (Refusal → Type 0) → PrintFault → Type 0
@@ -81,16 +78,6 @@ pub record Prints {S W : Type 0} (g : Ghosts S) (contents : W → Option (List �
   pub clean : HasCleanDisk (state g after.conn) → HasCleanDisk (state g before.conn)
   pub kept : IsConsistent g after
   pub told : CountsWriteFaults old new result
-
--- the ceremony of a report
-abbrev pub ceremony_of : CeremonyReport → ℕ
-ceremony_of (Script ceremony) = ceremony
-ceremony_of (Attendance ceremony) = ceremony
-
--- the text that a report is for a history and a ceremony
-abbrev pub text_of : CeremonyReport → History → ℕ → List ℕ
-text_of (Script ceremony) = annotated
-text_of (Attendance ceremony) = attendance
 
 -- what is printed whole is of a ceremony that was planned
 abbrev pub IsOfPlanned : {S : Type 0} → Ghosts S → RegisterState S → RegisterState S → Result ⊤ PrintFault → ℕ → Type 0

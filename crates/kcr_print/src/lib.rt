@@ -6,7 +6,6 @@
 #![tactic(auto)]
 
 mod attendance_lines;
-mod ceremony;
 mod custody_lines;
 mod fault;
 mod journal_lines;
@@ -19,7 +18,6 @@ mod script_lines;
 mod write_rows;
 mod writing;
 
-pub use ceremony::{annotated, attendance_csv};
 pub use fault::{PrintFault, WriteFailed};
-pub use reports::{CeremonyReport, ceremony_report, custody, export, exports_join, journal};
+pub use reports::{annotated, attendance_csv, custody, export, exports_join, journal};
 pub use writing::write_whole;

@@ -8,14 +8,13 @@ ghost use Rattle.kcr_store.specs.Register.{IsConsistent};
 ghost use Rattle.kcr_base.specs.Counted.{inner_of};
 ghost use Rattle.kcr_reading.specs.Commands.{commands_within};
 ghost use Rattle.kcr_store.specs.Calls.{OfHistory};
-ghost use Rattle.kcr_print.specs.Reports.{PrintsPart, PrintsCeremonyPart, RefusesBetweenRows, ceremony_of, text_of};
+ghost use Rattle.kcr_print.specs.Reports.{PrintsPart, PrintsCeremonyPart, RefusesBetweenRows};
 ghost use Rattle.kcr_print.specs.Journal.{row_journal};
 ghost use Rattle.kcr_print.specs.Requests.{row_request, row_requests};
 
 use crate::attendance_lines::Header;
 use crate::fault::PrintFault;
 use crate::print_lines::PrintLines;
-use crate::reports::CeremonyReport;
 use crate::script_lines::{Foot, Head};
 use crate::write_rows::{write_row, write_rows};
 use kcr_base::{CeremonyNumber, Counted};
@@ -47,33 +46,41 @@ fn write_all_rows<S: Alter, P: PrintLines, R: Cursor<Row = P>, W: Write>(
     write_rows(alloc, &mut rows, writer)
 }
 
-/// Writes a report of a ceremony.
-pub(crate) fn print_ceremony_report<S: Alter, W: Write>(
+/// Writes the annotated script of a ceremony.
+pub(crate) fn print_script<S: Alter, W: Write>(
     alloc: Global,
     register: &mut Register<S>,
-    report: CeremonyReport,
+    ceremony: CeremonyNumber,
     writer: &mut Counted<W>,
 ) -> Result<(), PrintFault>
     requires kept { IsConsistent S.Store register.old }
     requires whole { register.old.in_doubt ≡ None }
-    ensures { PrintsCeremonyPart (text_of report) (ceremony_of report) S.Store W.contents register.old register.new writer.old
+    ensures { PrintsCeremonyPart prints.annotated ceremony S.Store W.contents register.old register.new writer.old
         writer.new result }
 {
-    let ceremony = report.ceremony();
     let number = ceremony.get();
     let row = register.ceremony_row(ceremony)?;
-    match report {
-        CeremonyReport::Script(_) => {
-            write_row(alloc, &Head { row: &row }, writer)?;
-            write_all_rows(alloc, register, StepCursor::new(number), writer)?;
-            write_all_rows(alloc, register, ExceptionCursor::new(number), writer)?;
-            write_row(alloc, &Foot { row: &row }, writer)
-        }
-        CeremonyReport::Attendance(_) => {
-            write_row(alloc, &Header, writer)?;
-            write_all_rows(alloc, register, StayCursor::new(number), writer)
-        }
-    }
+    write_row(alloc, &Head { row: &row }, writer)?;
+    write_all_rows(alloc, register, StepCursor::new(number), writer)?;
+    write_all_rows(alloc, register, ExceptionCursor::new(number), writer)?;
+    write_row(alloc, &Foot { row: &row }, writer)
+}
+
+/// Writes the attendance of a ceremony.
+pub(crate) fn print_attendance<S: Alter, W: Write>(
+    alloc: Global,
+    register: &mut Register<S>,
+    ceremony: CeremonyNumber,
+    writer: &mut Counted<W>,
+) -> Result<(), PrintFault>
+    requires kept { IsConsistent S.Store register.old }
+    requires whole { register.old.in_doubt ≡ None }
+    ensures { PrintsCeremonyPart prints.attendance ceremony S.Store W.contents register.old register.new writer.old
+        writer.new result }
+{
+    register.ceremony_row(ceremony)?;
+    write_row(alloc, &Header, writer)?;
+    write_all_rows(alloc, register, StayCursor::new(ceremony.get()), writer)
 }
 
 /// Writes custody.

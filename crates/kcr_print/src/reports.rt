@@ -8,38 +8,17 @@ ghost use Rattle.kcr_base.specs.Counted.{inner_of};
 ghost use Rattle.kcr_history.specs.Tables.{tables};
 ghost use Rattle.kcr_reading.specs.Commands.{commands_within};
 ghost use Rattle.kcr_store.specs.Calls.{OfHistory};
-ghost use Rattle.kcr_print.specs.Reports.{KeepsRegister, Prints, PrintsPlanned, RefusesBetweenRows, ceremony_of, text_of};
+ghost use Rattle.kcr_print.specs.Reports.{KeepsRegister, Prints, PrintsPlanned, RefusesBetweenRows};
 ghost use Rattle.kcr_print.specs.Journal.{PrintsJournal, row_journal};
 ghost use Rattle.kcr_print.specs.Requests.{Exports, requests_between, row_request, row_requests};
 
 use crate::fault::PrintFault;
-use crate::parts::{print_ceremony_report, print_custody, print_journal, print_requests};
+use crate::parts::{print_attendance, print_custody, print_journal, print_requests, print_script};
 use kcr_base::{CeremonyNumber, Counted, Refusal};
 use kcr_store::Register;
 use sqlite::Alter;
 use std::alloc::Global;
 use std::io::Write;
-
-/// A report of a ceremony.
-#[derive(Clone, Copy)]
-pub enum CeremonyReport {
-    /// The annotated script: a head, the steps with their seats or the people who filled them, and the exceptions.
-    Script(CeremonyNumber),
-    /// The attendance as comma separated values (RFC 4180, with a line feed at the end of each row): a header, and a
-    /// row for each stay by its beginning, then initials.
-    Attendance(CeremonyNumber),
-}
-
-impl CeremonyReport {
-    /// The ceremony.
-    pub(crate) fn ceremony(&self) -> CeremonyNumber
-        ensures { result ≡ ceremony_of self.now }
-    {
-        match *self {
-            CeremonyReport::Script(ceremony) | CeremonyReport::Attendance(ceremony) => ceremony,
-        }
-    }
-}
 
 /// Breaks the register if a report met an I/O error, and gives the report's outcome on.
 fn note_disk_fault<S: Alter>(
@@ -62,27 +41,47 @@ fn note_disk_fault<S: Alter>(
     }
 }
 
-/// Writes a report of a ceremony. A ceremony that was never planned is refused as unknown (12), with nothing written.
-/// Out of memory (33), an I/O error (34) or a write that fails may come at any row, and leaves a beginning of
-/// the report written. An I/O error breaks the register; a broken one answers 35, and nothing is written.
-pub fn ceremony_report<S: Alter, W: Write>(
+/// Writes the annotated script of a ceremony: a head, the steps with their seats or the people who filled them, and the
+/// exceptions. A ceremony that was never planned is refused as unknown (12), with nothing written. Out of memory (33), an
+/// I/O error (34) or a write that fails may come at any row, and leaves a beginning of the report written. An I/O error
+/// breaks the register; a broken one answers 35, and nothing is written.
+pub fn annotated<S: Alter, W: Write>(
     alloc: Global,
     register: &mut Register<S>,
-    report: CeremonyReport,
+    ceremony: CeremonyNumber,
     writer: &mut Counted<W>,
 ) -> Result<(), PrintFault>
-    ensures { PrintsPlanned (text_of report) (ceremony_of report) S.Store W.contents register.old register.new
-        writer.old writer.new result }
+    ensures { PrintsPlanned prints.annotated ceremony S.Store W.contents register.old register.new writer.old
+        writer.new result }
 {
     if register.is_broken() {
         return Err(PrintFault::Refused(Refusal::Broken));
     }
-    let outcome = print_ceremony_report(alloc, register, report, writer);
+    let outcome = print_script(alloc, register, ceremony, writer);
+    note_disk_fault(register, outcome)
+}
+
+/// Writes the attendance of a ceremony as comma separated values (RFC 4180, with a line feed at the end of each row): a
+/// header, and a row for each stay by its beginning, then initials. Its faults, and what they leave, are those of
+/// `annotated`.
+pub fn attendance_csv<S: Alter, W: Write>(
+    alloc: Global,
+    register: &mut Register<S>,
+    ceremony: CeremonyNumber,
+    writer: &mut Counted<W>,
+) -> Result<(), PrintFault>
+    ensures { PrintsPlanned prints.attendance ceremony S.Store W.contents register.old register.new writer.old
+        writer.new result }
+{
+    if register.is_broken() {
+        return Err(PrintFault::Refused(Refusal::Broken));
+    }
+    let outcome = print_attendance(alloc, register, ceremony, writer);
     note_disk_fault(register, outcome)
 }
 
 /// Writes custody: the four safes, then the bags by serial, each with its items by code, then the loose items by code.
-/// The refusals are those of `ceremony_report` but 12.
+/// The refusals are those of `annotated` but 12.
 pub fn custody<S: Alter, W: Write>(
     alloc: Global,
     register: &mut Register<S>,

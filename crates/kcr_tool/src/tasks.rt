@@ -9,7 +9,7 @@ ghost use Rattle.kcr_words.specs.declared.words.Task.TheVariants as task;
 use kcr_base::{CeremonyNumber, Counted};
 use kcr_desk::serve;
 use kcr_fault::Fault;
-use kcr_print::{CeremonyReport, ceremony_report, custody};
+use kcr_print::{annotated, attendance_csv, custody};
 use kcr_store::Register;
 use sqlite::Alter;
 use std::alloc::Global;
@@ -47,8 +47,7 @@ pub fn print<S: Alter, W: Write>(
 ) -> Result<(), Fault>
     ensures { Reports S.Store W.contents (task.Print ceremony) register.old output.old output.new result }
 {
-    let report = CeremonyReport::Script(ceremony);
-    match ceremony_report(alloc, register, report, output) {
+    match annotated(alloc, register, ceremony, output) {
         Ok(()) => Ok(()),
         Err(fault) => Err(Fault::from(fault)),
     }
@@ -63,8 +62,7 @@ pub fn attendance<S: Alter, W: Write>(
 ) -> Result<(), Fault>
     ensures { Reports S.Store W.contents (task.Attendance ceremony) register.old output.old output.new result }
 {
-    let report = CeremonyReport::Attendance(ceremony);
-    match ceremony_report(alloc, register, report, output) {
+    match attendance_csv(alloc, register, ceremony, output) {
         Ok(()) => Ok(()),
         Err(fault) => Err(Fault::from(fault)),
     }

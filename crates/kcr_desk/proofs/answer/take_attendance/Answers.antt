@@ -1,0 +1,11 @@
+use Rattle.std.proofs.Common.{rules}
+use Rattle.kcr_history.specs.Prints.{attendance}
+use Rattle.kcr_desk.specs.declared.response.MediaType.TheVariants.{Csv}
+use Rattle.kcr_desk.proofs.ReportLemmas.{report_answered}
+use Rattle.kcr_desk.proofs.answer.take_attendance.Goals as goal
+
+pub returns : goal.returns
+returns g c =
+    let e = c.attendance_csv-outcome.ensures in
+    report_answered g.S.Store c.args.target.now _ Csv c.into_inner-text.result.items attendance c.args.ceremony
+    e.prints (λ founded whole clean. search (rules, e.prints.printed founded whole clean)) e.planned c.report_response.ensures

@@ -1,4 +1,0 @@
-use Rattle.kcr_print.proofs.ceremony.annotated.Goals as goal
-
-pub returns : goal.returns
-returns g c = c.ceremony_report.ensures
