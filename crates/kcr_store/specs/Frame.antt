@@ -1,5 +1,5 @@
 -- What a call over a connection leaves, whatever it answers.
-use Rattle.std.specs.Prelude.{◌≡◌, false, Result, IfErr}
+use Rattle.std.specs.Prelude.{◌≡◌, false, Result, IfErr, IsTrue, OnOk}
 use Rattle.sqlite.specs.Store.{Ghosts}
 use Rattle.sqlite.specs.Tree.{Trees}
 use Rattle.sqlite.specs.State.{HasCleanDisk, Survives}
@@ -20,3 +20,8 @@ pub record OnlyReads {A E : Type 0} {S : Type 0} (g : Ghosts S) (MayFail : E →
   pub clean : HasCleanDisk (state g new) → HasCleanDisk (state g old)
   pub whole : (A : History) → IsDurable A (state g old) → IsDurable A (state g new)
   pub cause : IfErr result MayFail
+
+-- within a transaction it answers only if the store was open
+abbrev pub NeedsOpen : {A E S : Type 0} → Ghosts S → Held S → Held S → Result A E → Type 0
+NeedsOpen g old new result =
+    HasCleanDisk (state g new) → IsTrue (state g old).in_transaction → OnOk result (IsTrue (state g old).is_open)

@@ -1,8 +1,10 @@
 -- What an opening finds and makes.
-use Rattle.std.specs.Prelude.{◌≡◌, ◌⊎◌, ◌≢◌, ℕ, ℤ, [], length, IsTrue, Bool, true, false, Some, Result, MatchResult}
+use Rattle.std.specs.Prelude.{◌≡◌, ◌⊎◌, ◌≢◌, ◌+◌, ℕ, ℤ, pos, [], length, IsTrue, Bool, true, false, Some, Result, MatchResult}
 use Rattle.sqlite.specs.Effect.{Database}
 use Rattle.sqlite.specs.Files.{HoldsDatabase, AreFoundIn, IsEmpty}
-use Rattle.sqlite.specs.State.{State, HasCleanDisk}
+use Rattle.sqlite.specs.Held.{Held, state}
+use Rattle.sqlite.specs.State.{State, HasCleanDisk, IsLive}
+use Rattle.sqlite.specs.Store.{Ghosts}
 use Rattle.sqlite.specs.Tree.{Trees}
 use Rattle.sqlite_wal.specs.Recovery.{Image}
 use Rattle.kcr_history.specs.History.{History}
@@ -33,6 +35,12 @@ RefusesBy number db _ = Unit {0}
 
 abbrev pub IsAnswerBy : {A : Type 0} → ℤ → Database → Result A OpenFault → Type 0
 IsAnswerBy number db result = MatchResult result (λ _. version_in db ≡ Some number) (RefusesBy number db)
+
+-- what is answered to a database with the schema of version N, by its number, if the store serves
+abbrev pub GoesByNumber : {A S : Type 0} → Ghosts S → ℕ → Held S → Held S → Result A OpenFault → Type 0
+GoesByNumber g number old new result =
+    HasCleanDisk (state g new) → IsLive (state g old) → (state g old).now.schema ≡ schema_prefix (14 + number)
+    → IsAnswerBy (pos number) (state g old).now result
 
 -- the trees hold the tables of the history, as a file of any version has them that is taken
 abbrev pub HoldsHistory : History → Trees → Type 0

@@ -1,5 +1,5 @@
 //! All rows of a database of any version, which stays as it is.
-ghost use Rattle.std.specs.Prelude.{◌≡◌, ◌≢◌, ◌+◌, ◌⊎◌, [], false, pos, Ok, IfOk, IfErr, IsTrue};
+ghost use Rattle.std.specs.Prelude.{◌≡◌, ◌≢◌, ◌+◌, ◌⊎◌, [], false, Ok, IfOk, IfErr, IsTrue};
 ghost use Rattle.std.specs.Prelude.{OnOk};
 ghost use Rattle.sqlite.specs.State.{HasCleanDisk, IsLive};
 ghost use Rattle.sqlite.specs.Held.{state};
@@ -9,11 +9,10 @@ ghost use Rattle.kcr_older.specs.OldFiles.{HoldsHistoryAs, HoldsFirst, numbered}
 ghost use Rattle.kcr_older.specs.Kind.{IsForeignSchema, no_schema};
 ghost use Rattle.kcr_older.specs.Migrated.{migrated_tables};
 ghost use Rattle.kcr_older.specs.Versions.{number_of};
-ghost use Rattle.kcr_tables.specs.Creation.{schema_prefix};
 ghost use Rattle.kcr_rows.specs.Frame.{StaysInTransaction};
-ghost use Rattle.kcr_store.specs.Frame.{StaysOutside};
-ghost use Rattle.kcr_store.specs.DatabaseRows.{Gives, GivesOr, IsBroughtView, IsKeptView, IsNumberedView, IsUnread};
-ghost use Rattle.kcr_store.specs.Opening.{IsAnswer, IsAnswerBy, IsGenuine};
+ghost use Rattle.kcr_store.specs.Frame.{NeedsOpen, StaysOutside};
+ghost use Rattle.kcr_store.specs.DatabaseRows.{Gives, GivesCurrent, GivesOlder, GivesOr, IsBroughtView, IsKeptView, IsNumberedView, IsUnread};
+ghost use Rattle.kcr_store.specs.Opening.{IsAnswer, IsGenuine};
 ghost use Rattle.kcr_store.specs.FullView.{IsListed};
 ghost use Rattle.kcr_tables.specs.StoredTables.{StoredTables as Held, Holds};
 ghost use Rattle.kcr_tables.specs.MachineTables.{HoldsTables};
@@ -36,9 +35,7 @@ fn empty_register_rows<S: Alter>(
     ensures same_reference { tx.new.conn.ghost_name ≡ tx.old.conn.ghost_name }
     ensures rows { HasCleanDisk (state S.Store tx.new.conn.now) → (state S.Store tx.old.conn.now).now.schema ≡ no_schema
         → IfOk result (IsListed (tables [])) }
-    ensures opened { HasCleanDisk (state S.Store tx.new.conn.now)
-        → IsTrue (state S.Store tx.old.conn.now).in_transaction
-        → OnOk result (IsTrue (state S.Store tx.old.conn.now).is_open) }
+    ensures opened { NeedsOpen S.Store tx.old.conn.now tx.new.conn.now result }
     ensures frame { StaysInTransaction IsFault (state S.Store tx.old.conn.now) (state S.Store tx.new.conn.now) result }
 {
     make(tx)?;
@@ -57,9 +54,7 @@ fn migrated_rows<S: Alter>(
         → IfOk result (IsKeptView (migrated_tables from t)) }
     ensures own { HasCleanDisk (state S.Store tx.new.conn.now) → (A : History)
         → HoldsHistoryAs (number_of from) A (state S.Store tx.old.conn.now).now → IfOk result (IsListed (tables A)) }
-    ensures opened { HasCleanDisk (state S.Store tx.new.conn.now)
-        → IsTrue (state S.Store tx.old.conn.now).in_transaction
-        → OnOk result (IsTrue (state S.Store tx.old.conn.now).is_open) }
+    ensures opened { NeedsOpen S.Store tx.old.conn.now tx.new.conn.now result }
     ensures frame { StaysInTransaction IsFault (state S.Store tx.old.conn.now) (state S.Store tx.new.conn.now) result }
 {
     migrate(alloc, tx, from)?;
@@ -80,14 +75,9 @@ fn given(rows: Result<FullView, Refusal>) -> Result<FullView, OpenFault>
 /// All rows of a register of this version, if the database has its number.
 fn current_rows<S: Alter>(alloc: Global, tx: &mut Transaction<'_, S>) -> Result<FullView, OpenFault>
     ensures same_reference { tx.new.conn.ghost_name ≡ tx.old.conn.ghost_name }
-    ensures answer { HasCleanDisk (state S.Store tx.new.conn.now) → IsLive (state S.Store tx.old.conn.now)
-        → (state S.Store tx.old.conn.now).now.schema ≡ schema_prefix 17
-        → IsAnswerBy (pos 3) (state S.Store tx.old.conn.now).now result }
-    ensures rows { HasCleanDisk (state S.Store tx.new.conn.now) → (t : Held)
-        → Holds (state S.Store tx.old.conn.now).now t → IfOk result (IsKeptView t) }
-    ensures opened { HasCleanDisk (state S.Store tx.new.conn.now)
-        → IsTrue (state S.Store tx.old.conn.now).in_transaction
-        → OnOk result (IsTrue (state S.Store tx.old.conn.now).is_open) }
+    ensures gives { HasCleanDisk (state S.Store tx.new.conn.now) → IsLive (state S.Store tx.old.conn.now)
+        → GivesCurrent (state S.Store tx.old.conn.now).now result }
+    ensures opened { NeedsOpen S.Store tx.old.conn.now tx.new.conn.now result }
     ensures frame { StaysInTransaction (λ _. Unit {0}) (state S.Store tx.old.conn.now) (state S.Store tx.new.conn.now) result }
 {
     match expect_number(alloc, tx, VERSION) {
@@ -103,17 +93,9 @@ fn older_rows<S: Alter>(
     from: OldVersion,
 ) -> Result<FullView, OpenFault>
     ensures same_reference { tx.new.conn.ghost_name ≡ tx.old.conn.ghost_name }
-    ensures answer { HasCleanDisk (state S.Store tx.new.conn.now) → IsLive (state S.Store tx.old.conn.now)
-        → (state S.Store tx.old.conn.now).now.schema ≡ schema_prefix (14 + number_of from)
-        → IsAnswerBy (pos (number_of from)) (state S.Store tx.old.conn.now).now result }
-    ensures rows { HasCleanDisk (state S.Store tx.new.conn.now) → (t : Held)
-        → HoldsFirst (14 + number_of from) (state S.Store tx.old.conn.now).now t → t.versions ≡ numbered (number_of from)
-        → IfOk result (IsKeptView (migrated_tables from t)) }
-    ensures own { HasCleanDisk (state S.Store tx.new.conn.now) → (A : History)
-        → HoldsHistoryAs (number_of from) A (state S.Store tx.old.conn.now).now → IfOk result (IsListed (tables A)) }
-    ensures opened { HasCleanDisk (state S.Store tx.new.conn.now)
-        → IsTrue (state S.Store tx.old.conn.now).in_transaction
-        → OnOk result (IsTrue (state S.Store tx.old.conn.now).is_open) }
+    ensures gives { HasCleanDisk (state S.Store tx.new.conn.now) → IsLive (state S.Store tx.old.conn.now)
+        → GivesOlder from (state S.Store tx.old.conn.now).now result }
+    ensures opened { NeedsOpen S.Store tx.old.conn.now tx.new.conn.now result }
     ensures frame { StaysInTransaction (λ _. Unit {0}) (state S.Store tx.old.conn.now) (state S.Store tx.new.conn.now) result }
 {
     match expect_number(alloc, tx, from.number()) {
@@ -131,9 +113,7 @@ fn rows_as<S: Alter>(
     ensures same_reference { tx.new.conn.ghost_name ≡ tx.old.conn.ghost_name }
     ensures gives { HasCleanDisk (state S.Store tx.new.conn.now) → IsLive (state S.Store tx.old.conn.now)
         → Gives standing (state S.Store tx.old.conn.now).now result }
-    ensures opened { HasCleanDisk (state S.Store tx.new.conn.now)
-        → IsTrue (state S.Store tx.old.conn.now).in_transaction
-        → OnOk result (IsTrue (state S.Store tx.old.conn.now).is_open) }
+    ensures opened { NeedsOpen S.Store tx.old.conn.now tx.new.conn.now result }
     ensures read { IfOk result (λ _. ¬ IsUnread standing) }
     ensures frame { StaysInTransaction (λ _. Unit {0}) (state S.Store tx.old.conn.now) (state S.Store tx.new.conn.now) result }
 {

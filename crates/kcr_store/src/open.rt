@@ -1,5 +1,5 @@
 //! Taking a database over.
-ghost use Rattle.std.specs.Prelude.{◌≡◌, ◌≢◌, ◌↔◌, ◌⊎◌, ◌+◌, false, length, [], pos, IsTrue, is_some, IfOk, IfErr};
+ghost use Rattle.std.specs.Prelude.{◌≡◌, ◌≢◌, ◌↔◌, ◌⊎◌, false, length, [], pos, IsTrue, is_some, IfOk, IfErr};
 ghost use Rattle.std.specs.Prelude.{OnOk};
 ghost use Rattle.sqlite.specs.State.{HasCleanDisk, IsLive, IsUnchanged, Survives};
 ghost use Rattle.sqlite.specs.Files.{file_state};
@@ -12,7 +12,6 @@ ghost use Rattle.kcr_history.specs.Tables.{tables};
 ghost use Rattle.kcr_rows.specs.Frame.{StaysInTransaction};
 ghost use Rattle.kcr_tables.specs.Frame.{Reads};
 ghost use Rattle.kcr_tables.specs.MachineTables.{HoldsTables};
-ghost use Rattle.kcr_tables.specs.Creation.{schema_prefix};
 ghost use Rattle.kcr_older.specs.OldFiles.{HoldsHistoryAs};
 ghost use Rattle.kcr_older.specs.Kind.{IsOfOtherVersion, IsOtherNumber, IsForeignSchema, IsOfKind, no_schema};
 ghost use Rattle.kcr_older.specs.Kind.{numbered_table};
@@ -22,6 +21,7 @@ ghost use Rattle.kcr_store.specs.Frame.{StaysOutside};
 ghost use Rattle.kcr_store.specs.Stored.{IsTables, OfStored};
 ghost use Rattle.kcr_store.specs.Register.{IsSynced};
 ghost use Rattle.kcr_store.specs.Opening.{IsGenuine, FilesHoldHistory, IsMigrated, IsOpeningOf, IsOpened, IsAnswer, IsAnswerBy};
+ghost use Rattle.kcr_store.specs.Opening.{GoesByNumber};
 
 use kcr_base::Refusal;
 use kcr_older::{DatabaseKind, OldVersion, database_kind, migrate, version_in};
@@ -214,9 +214,7 @@ fn last_number<S: Alter>(alloc: Global, tx: &mut Transaction<'_, S>) -> Result<u
 /// The number of the last command of a register of this version, if the database has its number. Nothing is changed.
 fn count_in<S: Alter>(alloc: Global, tx: &mut Transaction<'_, S>) -> Result<u32, OpenFault>
     ensures same_reference { tx.new.conn.ghost_name ≡ tx.old.conn.ghost_name }
-    ensures answer { HasCleanDisk (state S.Store tx.new.conn.now) → IsLive (state S.Store tx.old.conn.now)
-        → (state S.Store tx.old.conn.now).now.schema ≡ schema_prefix 17
-        → IsAnswerBy (pos 3) (state S.Store tx.old.conn.now).now result }
+    ensures answer { GoesByNumber S.Store 3 tx.old.conn.now tx.new.conn.now result }
     ensures count { OfStored (state S.Store tx.old.conn.now) (state S.Store tx.new.conn.now)
         (λ A. IfOk result (λ count. count ≡ length A)) }
     ensures frame { StaysInTransaction (λ _. Unit {0}) (state S.Store tx.old.conn.now) (state S.Store tx.new.conn.now) result }
@@ -233,8 +231,7 @@ fn count_in<S: Alter>(alloc: Global, tx: &mut Transaction<'_, S>) -> Result<u32,
 /// The same in a transaction that is rolled back.
 fn read_count<S: Alter>(alloc: Global, conn: &mut Connection<S>) -> Result<u32, OpenFault>
     requires autocommit { conn.old.in_transaction ≡ false }
-    ensures answer { HasCleanDisk (state S.Store conn.new) → IsLive (state S.Store conn.old)
-        → (state S.Store conn.old).now.schema ≡ schema_prefix 17 → IsAnswerBy (pos 3) (state S.Store conn.old).now result }
+    ensures answer { GoesByNumber S.Store 3 conn.old conn.new result }
     ensures count { HasCleanDisk (state S.Store conn.new) → (A : History)
         → (IsTrue (state S.Store conn.old).is_open → IsSynced A (state S.Store conn.old))
         → IfOk result (λ count. count ≡ length A) }
@@ -255,8 +252,7 @@ fn open_current<S: Alter>(alloc: Global, conn: &mut Connection<S>) -> Result<u32
     ensures shows { HasCleanDisk (state S.Store conn.new) → (A : History)
         → (IsTrue (state S.Store conn.old).is_open → IsSynced A (state S.Store conn.old))
         → IfOk result (λ count. IsOpened A count (state S.Store conn.new)) }
-    ensures answer { HasCleanDisk (state S.Store conn.new) → IsLive (state S.Store conn.old)
-        → (state S.Store conn.old).now.schema ≡ schema_prefix 17 → IsAnswerBy (pos 3) (state S.Store conn.old).now result }
+    ensures answer { GoesByNumber S.Store 3 conn.old conn.new result }
     ensures frame { StaysOutside S.Store (λ _. ⊥) conn.old conn.new }
 {
     let count = read_count(alloc, conn)?;
@@ -288,9 +284,7 @@ fn renewed_count<S: Alter>(
     from: OldVersion,
 ) -> Result<u32, OpenFault>
     ensures same_reference { tx.new.conn.ghost_name ≡ tx.old.conn.ghost_name }
-    ensures answer { HasCleanDisk (state S.Store tx.new.conn.now) → IsLive (state S.Store tx.old.conn.now)
-        → (state S.Store tx.old.conn.now).now.schema ≡ schema_prefix (14 + number_of from)
-        → IsAnswerBy (pos (number_of from)) (state S.Store tx.old.conn.now).now result }
+    ensures answer { GoesByNumber S.Store (number_of from) tx.old.conn.now tx.new.conn.now result }
     ensures brought { HasCleanDisk (state S.Store tx.new.conn.now) → (A : History)
         → HoldsHistoryAs (number_of from) A (state S.Store tx.old.conn.now).now
         → IfOk result (λ count. (count ≡ length A) × HoldsTables (tables A) (state S.Store tx.new.conn.now).now) }
@@ -317,9 +311,7 @@ fn migrate_database<S: Alter>(
         → HoldsHistoryAs (number_of from) A (state S.Store conn.old).now
         → IfOk result (λ count. IsOpened A count (state S.Store conn.new)) }
     ensures opened { HasCleanDisk (state S.Store conn.new) → OnOk result (IsTrue (state S.Store conn.old).is_open) }
-    ensures answer { HasCleanDisk (state S.Store conn.new) → IsLive (state S.Store conn.old)
-        → (state S.Store conn.old).now.schema ≡ schema_prefix (14 + number_of from)
-        → IsAnswerBy (pos (number_of from)) (state S.Store conn.old).now result }
+    ensures answer { GoesByNumber S.Store (number_of from) conn.old conn.new result }
     ensures left { IfErr result (λ e. e ≢ OpenFault.Disk
         → Survives (state S.Store conn.old) (state S.Store conn.new) (λ _. ⊥)) }
     ensures frame { StaysOutside S.Store (IsMigrated (number_of from) (state S.Store conn.old).now) conn.old conn.new }

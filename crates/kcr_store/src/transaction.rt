@@ -349,12 +349,7 @@ fn read_room<S: Alter>(
         (state S.Store tx.new.conn.now) result }
 {
     let number = ceremony.get();
-    let planned = find_rows::<_, u32, CeremonyRow>(alloc, tx, &number)?;
-    if planned.is_empty() {
-        return Err(Refusal::Unknown {
-            thing: Thing::Ceremony(number),
-        });
-    }
+    find_ceremony(alloc, tx, ceremony)?;
     let stays = stays_ending_at_or_after(alloc, tx, number, at)?;
     let people = present_in(alloc, &stays, number, at)?;
     Ok(RoomShown { at, people })

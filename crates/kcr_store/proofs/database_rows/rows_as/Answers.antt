@@ -15,16 +15,10 @@ returns-in-Empty-clause-opened g c clean inside =
     given_open (IsTrue (state g.S.Store c.args.tx.now.conn.now).is_open) c.empty_register_rows.result _ c.given.ensures.rows (c.empty_register_rows.ensures.opened clean inside)
 
 pub returns-in-Current-clause-gives : goal.returns-in-Current-clause-gives
-returns-in-Current-clause-gives g c clean live =
-    let is = c.current_rows.ensures in
-    rw c.in-Current.is (record { answer = is.answer clean live; rows = is.rows clean })
+returns-in-Current-clause-gives g c clean live = rw c.in-Current.is (c.current_rows.ensures.gives clean live)
 
 pub returns-in-Version2-clause-gives : goal.returns-in-Version2-clause-gives
-returns-in-Version2-clause-gives g c clean live =
-    let is = c.older_rows.ensures in
-    rw c.in-Version2.is (record { answer = is.answer clean live; rows = is.rows clean; own = is.own clean })
+returns-in-Version2-clause-gives g c clean live = rw c.in-Version2.is (c.older_rows.ensures.gives clean live)
 
 pub returns-in-Version1-clause-gives : goal.returns-in-Version1-clause-gives
-returns-in-Version1-clause-gives g c clean live =
-    let is = c.older_rows-in-Version1.ensures in
-    rw c.in-Version1.is (record { answer = is.answer clean live; rows = is.rows clean; own = is.own clean })
+returns-in-Version1-clause-gives g c clean live = rw c.in-Version1.is (c.older_rows-in-Version1.ensures.gives clean live)
