@@ -37,14 +37,16 @@ def main():
     if wanted.unreached:
         return list_unreached(library, reach)
     if wanted.long:
-        return list_long(reach)
+        return list_long(library, reach)
     lacking = list(missing(contracts, reach))
     if lacking:
         raise Stop("\n".join(lacking))
-    text = "\n".join(page(library, contracts, reach, examples_of(library))).rstrip() + "\n"
+    first = Reach(library, contract_names(library, contracts[0])).items.keys()
+    left = len(unreached(library, reach))
+    text = "\n".join(page(library, contracts, reach, first, left, examples_of(library))).rstrip() + "\n"
     if wanted.check:
         return check(text)
-    write(text, reach, unused(contracts, reach))
+    write(text, reach, left, unused(contracts, reach))
     return 0
 
 
@@ -68,11 +70,11 @@ def examples_of(library):
     return {key: name for key, (_, name) in nearest.items()}
 
 
-def write(text, reach, not_needed):
+def write(text, reach, left, not_needed):
     with open(PAGE, "w", encoding="utf-8") as file:
         file.write(text)
-    lines = sum(len(shown(item)) for item in reach.items.values())
-    print(f"{PAGE}: {len(reach.items)} definitions in {lines} lines")
+    print(f"{PAGE}: {len(reach.items)} definitions; the page has {text.count(chr(10)):,} lines")
+    print(f"{left} definitions in specs/ are not in it: `--unreached` lists them")
     for entry in not_needed:
         print(f"not needed: {entry}")
 
@@ -92,11 +94,15 @@ def check(text):
     return 1
 
 
+def unreached(library, reach):
+    return [item for path, source in library.sources.items() if "/specs/" in path for item in source.items.values()
+            if item.key() not in reach.items]
+
+
 def list_unreached(library, reach):
     """Those that other clauses lead to come first: they belong in `specs/`. No clause leads to the others."""
     others = Reach(library, cited(library)).items
-    left = [item for path, source in library.sources.items() if "/specs/" in path for item in source.items.values()
-            if item.key() not in reach.items]
+    left = unreached(library, reach)
     list_items("definitions that clauses of other functions lead to", [x for x in left if x.key() in others])
     list_items("definitions that no clause leads to", [x for x in left if x.key() not in others])
     return 0
@@ -108,8 +114,8 @@ def list_items(title, items):
         print(f"  {path}: {', '.join(item.name for item in items if item.path == path)}")
 
 
-def list_long(reach):
-    lengths = {item.key(): len(shown(item)) - len(item.comment) for item in reach.items.values()}
+def list_long(library, reach):
+    lengths = {item.key(): len(shown(library, item)) for item in reach.items.values()}
     for (path, name), length in sorted(lengths.items(), key=lambda entry: (-entry[1], entry[0])):
         if length > LONG:
             print(f"{length:4} {path} {name}")

@@ -3,6 +3,7 @@
 # The functions whose contracts the statement is: the crate, the file in `src/`, and the function.
 CONTRACTS = [
     ("kcr_desk", "desk", "serve"),
+    ("kcr_desk", "connection", "one"),
     ("kcr_store", "register", "Register::in_memory"),
     ("kcr_store", "open", "connect"),
     ("kcr_store", "register", "Register::adopt"),
@@ -24,6 +25,14 @@ SENTENCES = {
         "read_fault": "`Read` is returned only if a read failed, or if 1,000,000 reads returned bytes.",
         "write_fault": "`Write` is returned only if a write failed.",
         "bound": "At most 1,000,000 reads return bytes.",
+    },
+    "kcr_desk::one": {
+        "read_fault": "The stream ends by `Read` only if a read failed, or if 1,000,000 reads returned bytes.",
+        "write_fault": "It ends by `Write` only if a write failed.",
+        "bound": "At most 1,000,000 reads return bytes.",
+        "broken": "The answer says whether the register is broken.",
+        "connects": "Nothing but the messages of this one connection changed the register.",
+        "kept": "The register is whole.",
     },
     "kcr_store::Register::in_memory": {
         "new": "The register is founded, has no command, and is not broken.",
@@ -105,8 +114,8 @@ PARTS = [
     ("The run",
      "The machine's steps over the messages of a stream, and all that is written. The messages and the texts that it "
      "names stand in the parts below.",
-     """kcr_desk/src/fault kcr_desk/src/stream kcr_rows/Refusals kcr_store/Commands kcr_store/Rows kcr_print/Written
-     kcr_desk/Run kcr_desk/Answers kcr_machine/RowDecision kcr_rules/Refusals"""),
+     """kcr_desk/src/fault kcr_desk/src/stream kcr_desk/src/connection kcr_rows/Refusals kcr_store/Commands kcr_store/Rows kcr_print/Written
+     kcr_desk/Run kcr_desk/Answers kcr_desk/Connections kcr_machine/RowDecision kcr_rules/Refusals"""),
     ("The cut of the stream",
      "Which bytes are which messages, and how a stream ends.",
      """kcr_desk/src/head kcr_desk/Members kcr_desk/Framing kcr_desk/Stream"""),
@@ -148,6 +157,9 @@ PARTS = [
      kcr_tool/Runs"""),
 ]
 
+# The contract whose definitions the table at the front counts.
+FIRST = "serve"
+
 # The last part of what is answered and kept. The parts behind it say how that is written as bytes, and what the program
 # does with it.
 CORE_ENDS = "The cut of the stream"
@@ -160,19 +172,27 @@ functions of the program, each clause below a sentence, and every definition tha
 reader needs them. A definition has the comment that its file has. `tools/statement.py` writes the page from the
 sources, and the gate compares the two.
 
-How to read it: `f : A → B` says that `f` takes an `A` and returns a `B`. The lines below it are its cases, and the
-first that fits counts. A fact is a type: a definition that ends in `Type 0` is a fact and no value. `(x : A) → P` says
-that `P` holds of each `x`, `(x : A) × P` that it holds of some `x`. A record of facts holds if each of its fields does.
-`x.old` is a value before the call, `x.new` after it.
+How to read it: `f : A → B` says that `f` takes an `A` and returns a `B`. Behind each `|` stands a case, with its
+arguments before the `=`; the first that fits counts. `f (x : A) : B = y` says both in one. A fact is a type: a
+definition that ends in `Type 0` is a fact and no value. `(x : A) → P` says that `P` holds of each `x`, `(x : A) × P`
+that it holds of some `x`. A record of facts holds if each of its fields does. `x.old` is a value before the call,
+`x.new` after it. `type A = B` is a type of the program that clauses see as `B`.
+
+The words are those of the files, on fewer lines: without `abbrev`, `unfoldable` and `pub`, a function of one case with
+its arguments before the colon, and a variant behind the name of its type. A comment stands over its definition or
+behind it. `[kcr_base/Same]` heads what stands in `crates/kcr_base/specs/Same.antt`, and `[kcr_base/src/day]` what
+stands in `crates/kcr_base/src/day.rt`. “here `f` of `M`” tells names that several files have, or that have another name
+in `M`.
 """.strip().split("\n") + [""]
 
 # What the statement leaves out, and why.
 NOT_IN_IT = [
     ("the proofs, in `proofs/`", "the prover checks them, and refuses a wrong one"),
-    ("the bodies of functions, and all other contracts",
+    ("the bodies of functions, and all other contracts: those of `R::apply`, `R::look` and the rows that a register gives "
+     "one at a time, of the decisions by rows, of the tables, of the reports' parts",
      "the prover checks each body against its contract, and proves the contracts here from the others"),
-    ("definitions to which no clause here leads, as what a command comes to by rows (`tools/statement.py --unreached`)",
-     "they serve proofs: no clause here says anything else if one of them is wrong"),
+    ("{unreached:,} definitions to which no clause here leads (`tools/statement.py --unreached` lists them)",
+     "they serve other contracts or proofs: no clause here says anything else if one of them is wrong"),
     ("how a type keeps its value", "a clause speaks only of the value"),
     ("the definitions of the kit", "they are named at the end, each with what it stands for; they stand in the kit"),
     ("the step from a crash after a call to a crash within one",
@@ -182,9 +202,9 @@ NOT_IN_IT = [
 ]
 
 CONTRACTS_ABOUT = (
-    "The comment over a clause is its sentence. `serve` is the theorem. `in_memory`, or `connect` and then `adopt`, "
-    "make the register with which it begins; `open` is what the program does with a file. `act` is the program. "
-    "`verify` and `rebuild` compare a register with its own commands."
+    "The comment over a clause is its sentence. `serve` is the theorem, and `one` the same for a connection of `kcr "
+    "serve`. `in_memory`, or `connect` and then `adopt`, make the register with which it begins; `open` is what the "
+    "program does with a file. `act` is the program. `verify` and `rebuild` compare a register with its own commands."
 )
 
 KIT_ABOUT = (

@@ -1,13 +1,12 @@
 """Writes the page of the statement."""
 import re
-import textwrap
 
 from statement_kit import KIT, kit_lines
-from statement_list import ABOUT, CONTRACTS_ABOUT, CORE_ENDS, EXAMPLES_ABOUT, KIT_ABOUT, NOT_IN_IT, PARTS, SENTENCES
+from statement_layout import comment, filled, laid_out
+from statement_list import (ABOUT, CONTRACTS_ABOUT, CORE_ENDS, EXAMPLES_ABOUT, FIRST, KIT_ABOUT, NOT_IN_IT, PARTS,
+                            SENTENCES)
 from statement_names import clauses_of
 from statement_read import Stop
-
-WIDTH = 120
 
 
 class Part:
@@ -19,11 +18,8 @@ class Part:
         self.wanted = files.split()
         self.files = []  # (path, items in their order)
 
-    def lines(self):
-        return sum(len(shown(item)) for _, items in self.files for item in items)
-
-    def count(self):
-        return sum(len(items) for _, items in self.files)
+    def items(self):
+        return [item for _, items in self.files for item in items]
 
 
 def short(path):
@@ -54,31 +50,31 @@ def home_of(path, parts):
     return parts[counts.index(max(counts))]
 
 
-def wrapped(text, mark, indent=""):
-    """A comment, laid out anew."""
-    return textwrap.wrap(text, WIDTH, initial_indent=indent + mark, subsequent_indent=indent + mark,
-                         break_long_words=False, break_on_hyphens=False)
+def shown(library, item):
+    """The lines of an item with its comment, as they are printed: of a type whose clauses see another value, that."""
+    if item.path.endswith(".antt"):
+        return laid_out(item, with_types(library.sources[item.path].imports, item.lines))
+    model = library.model_of(item)
+    return laid_out(item, item.lines, model and value_of(item, " ".join(model.value.split())))
 
 
-def shown(item):
-    """The lines of an item with its comment, as they are printed."""
-    if item.kind in ("definition", "record", "data"):
-        return ["-- " + line for line in item.comment] + item.lines
-    return ["/// " + line for line in item.comment] + compact(item.lines)
+def with_types(imports, lines):
+    """The lines with the name of its type before each variant: `Thing.Bag` for a `Bag` of the module `Things`."""
+    named = {name: module.split(".")[-2] for name, (module, inner) in imports.items() if is_of_variants(module, inner)}
+    if not named:
+        return lines
+    before_variant = re.compile(r"(?<![\w.])(" + "|".join(named) + r")\.(?=[A-Z])")
+    return [before_variant.sub(lambda found: named[found[1]] + ".", line) for line in lines]
 
 
-def compact(lines):
-    """A type of Rust with its variants, or the fields of each, on one line where they fit."""
-    text = "\n".join(lines)
-    if "//" not in text and len(lines) > 2:
-        body = re.sub(r"\(.*?\)", lambda part: part[0].replace(" ", "\0"), " ".join(" ".join(lines[1:-1]).split()))
-        return [lines[0], *(line.replace("\0", " ") for line in wrapped(body, "    ")), lines[-1]]
-    for block in reversed(list(re.finditer(r"^ +\w+ ?[{(]\n(?: {8,}\S.*\n)+    [})],", text, re.M))):
-        if "//" not in block[0]:
-            joined = " ".join(block[0].split()).replace(", }", " }").replace("( ", "(").replace(", )", ")")
-            if len(joined) + 4 <= WIDTH:
-                text = text[:block.start()] + "    " + joined + text[block.end():]
-    return text.split("\n")
+def is_of_variants(module, inner):
+    return inner is None and module.endswith(".TheVariants")
+
+
+def value_of(item, value):
+    """The value with the argument of an alias in place of the parameter."""
+    given = re.search(r"= \w+<(\w+)>", item.text()) if item.kind == "alias" else None
+    return re.sub(r"\bT\b", given[1], value) if given else value
 
 
 def sentence_of(contract, clause):
@@ -97,80 +93,69 @@ def missing(contracts, reach):
         yield f"`{name}` of the kit's crate {crate} has no line: write one into tools/statement_kit.py"
 
 
-def contract_lines(contract):
-    """The signature of a contract and its clauses, each below its sentence."""
-    out = contract.signature.split("\n")
-    for clause in contract.clauses:
-        out += wrapped(sentence_of(contract, clause), "// ", "    ") + clause.text.split("\n")
-    return out
-
-
 def contract_text(contract, doubled):
-    """A contract, with what the function does."""
+    """A contract, with what the function does: its signature and its clauses, each below its sentence."""
     told = re.sub(r"  +", "\n\n", " ".join(contract.comment))
-    lines = contract_lines(contract)
-    aliases = alias_text({**contract.source.imports, **contract.imports}, lines, doubled)
-    return [f"### `{contract.root}`", "", f"`{contract.path}`. {told}", "", *aliases, "```rust", *lines, "```", ""]
+    lines = filled(re.sub(r"\( ", "(", re.sub(r",? \)", ")", " ".join(contract.signature.split()))))
+    for clause in contract.clauses:
+        lines += comment(sentence_of(contract, clause), "    ")
+        lines += filled(" ".join(clause.text.split()), "    ")
+    names = alias_lines({**contract.source.imports, **contract.imports}, lines, doubled)
+    return [f"### `{contract.root}`", "", f"`{contract.path}`. {told}", "", "```text", *names, *lines, "```", ""]
 
 
 def part_text(library, part, doubled):
-    out = [f"## {part.title}", "", part.about, ""]
+    out = []
+    for paths, items in headed_files(library, part):
+        source = library.sources[paths[0]]
+        out += [""] + comment(" ".join([f"[{heading(paths)}]", *source.about]))
+        body = body_lines(library, items)
+        out += alias_lines(source.imports, body, doubled - {item.name for item in items}) + body
+    return [f"## {part.title}", "", part.about, "", "```text", *out[1:], "```", ""]
+
+
+def headed_files(library, part):
+    """The files below one heading with their items: files of a crate's types that say nothing of themselves share it."""
+    out = []
     for path, items in part.files:
-        out += file_text(library, path, items, doubled)
-    return out
+        joins = path.endswith(".rt") and not library.sources[path].about
+        if joins and out and out[-1][2] and out[-1][0][0].split("/")[1] == path.split("/")[1]:
+            out[-1][0].append(path)
+            out[-1][1].extend(items)
+        else:
+            out.append(([path], list(items), joins))
+    return [(paths, items) for paths, items, _ in out]
 
 
-def file_text(library, path, items, doubled):
-    """The items of a file, below what its names from elsewhere are."""
-    source, rust = library.sources[path], path.endswith(".rt")
-    seen = [item for item in items if rust and library.model_of(item)]
-    others = [item for item in items if item not in seen]
-    out = [f"### `{path}`", ""] + ([" ".join(source.about), ""] if source.about else []) + model_text(library, seen)
-    if others:
-        body = body_lines(others)
-        out += [] if rust else alias_text(source.imports, body, doubled - {item.name for item in items})
-        out += ["```rust" if rust else "```text", *body, "```", ""]
-    return out
+def heading(paths):
+    return ", ".join([short(paths[0]), *(short(path).split("/")[-1] for path in paths[1:])])
 
 
-def body_lines(items):
+def body_lines(library, items):
     """The items, each section of their file below its comment."""
     out, section = [], []
     for item in items:
         if item.section != section:
             section = item.section
-            out += ["-- " + line.lstrip("- ") for line in section] + [""]
-        out += shown(item) + [""]
-    return out[:-1]
+            out += comment(" ".join(line.lstrip("- ") for line in section))
+        out += shown(library, item)
+    return out
 
 
-def model_text(library, items):
-    """The types that a clause sees as another value."""
-    out = []
-    for item in items:
-        value = " ".join(library.model_of(item).value.split())
-        out.append(f"- `{item.name}`, to a clause `{filled(item, value)}`: {' '.join(item.comment)}")
-    return out + [""] if out else []
-
-
-def filled(item, value):
-    """The value with the argument of an alias in place of the parameter."""
-    given = re.search(r"= \w+<(\w+)>", item.text()) if item.kind == "alias" else None
-    return re.sub(r"\bT\b", given[1], value) if given else value
-
-
-def alias_text(imports, lines, doubled):
+def alias_lines(imports, lines, doubled):
     """What the names are that lines have from elsewhere under another name, or that others have too."""
     text = re.sub(r'"[^"]*"|(--|//).*', "", "\n".join(lines))
     named, before_dots = set(re.findall(r"(?<![.\w])\w+", text)), set(re.findall(r"(?<![.\w])(\w+)\.\w", text))
     told = {}
     for name, (module, inner) in sorted(imports.items()):
+        if is_of_variants(module, inner):
+            continue
         if inner is None and name in before_dots:
             told.setdefault(module, []).append(f"`{name}.`")
         elif inner is not None and name in named and (inner != name or name in doubled):
             told.setdefault(module, []).append(f"`{name}`" + (f" as `{inner}`" if inner != name else ""))
     out = [f"{', '.join(names)} of {origin(module)}" for module, names in told.items()]
-    return [f"Names from elsewhere: {'; '.join(out)}.", ""] if out else []
+    return comment(f"here {'; '.join(out)}") if out else []
 
 
 def origin(module):
@@ -178,7 +163,7 @@ def origin(module):
     parts = [part.strip("«»") for part in module.split(".")[1:] if part not in ("specs", "TheVariants")]
     if "declared" in parts:
         parts.remove("declared")
-    return "`" + "::".join(parts) + "`"
+    return "/".join(parts)
 
 
 def kit_text(reach):
@@ -195,24 +180,35 @@ def plain(name):
     return "`" + name.replace("◌", " ").strip().replace("|", "\\|") + "`"
 
 
-def front_text(contracts, parts):
+def front_text(library, contracts, parts, texts, first):
     """The tables at the front: how much there is to read, and what is left out."""
-    said = sum(len(contract_lines(contract)) for contract in contracts)
-    rows = [("The contracts", f"{sum(len(c.clauses) for c in contracts)} clauses", said)]
-    for part in parts:
-        rows.append((part.title, f"{part.count()} definitions", part.lines()))
-        if part.title == CORE_ENDS:
-            core = sum(row[2] for row in rows)
-    rows += [("**All**", "", sum(row[2] for row in rows)), (f"of that up to “{CORE_ENDS}”", "", core)]
-    out = ["| Part | What is in it | Lines |", "|---|---|---|"]
-    out += [f"| {title} | {what} | {lines:,} |" for title, what, lines in rows]
-    out += ["", "Blank lines and headings are not counted.", "", "| Not in it | Why it need not be |", "|---|---|"]
-    return out + [f"| {left_out} | {why} |" for left_out, why in NOT_IN_IT] + [""]
+    rows = [("The contracts", f"{sum(len(c.clauses) for c in contracts)} clauses", "", sized(texts[0]))]
+    for part, text in zip(parts, texts[1:]):
+        items = part.items()
+        rows.append((part.title, f"{len(items)} definitions", sum(item.key() in first for item in items), sized(text)))
+    core = [part.title for part in parts].index(CORE_ENDS) + 2
+    needed = [line for part in parts for item in part.items() if item.key() in first for line in shown(library, item)]
+    rows += [("**All**", "", sum(row[2] or 0 for row in rows), sized(sum(texts, []))),
+             (f"of that up to “{CORE_ENDS}”", "", sum(row[2] or 0 for row in rows[:core]), sized(sum(texts[:core], []))),
+             (f"of that the definitions for `{FIRST}`", "", len(first), sized(needed))]
+    out = [f"| Part | What is in it | Of these for `{FIRST}` | Lines | Words |", "|---|---|---|---|---|"]
+    return out + [f"| {title} | {what} | {count} | {size} |" for title, what, count, size in rows] + [""]
+
+
+def sized(lines):
+    """How many lines and words there are, as two cells."""
+    return f"{len(lines):,} | {len(' '.join(lines).split()):,}"
+
+
+def left_out_text(unreached):
+    """What the page leaves out, with the number of definitions that it does not reach."""
+    out = ["| Not in it | Why it need not be |", "|---|---|"]
+    return out + [f"| {left_out.format(unreached=unreached)} | {why} |" for left_out, why in NOT_IN_IT] + [""]
 
 
 def examples_text(parts, examples):
     """The definitions with a value, each with the example that computes it."""
-    valued = [item for part in parts for _, items in part.files for item in items if has_value(item)]
+    valued = [item for part in parts for item in part.items() if has_value(item)]
     count = sum(item.key() in examples for item in valued)
     out = ["## Definitions and examples", "", EXAMPLES_ABOUT.format(shown=count, none=len(valued) - count), "",
            "| File | Example: definitions | No example |", "|---|---|---|"]
@@ -245,14 +241,15 @@ def unused(contracts, reach):
                 if (root, clause) not in needed)
 
 
-def page(library, contracts, reach, examples):
-    """The lines of the page."""
+def page(library, contracts, reach, first, unreached, examples):
+    """The lines of the page. `first` has the keys of what the first contract leads to, and `unreached` is the number of
+    definitions to which no contract leads."""
     parts = parts_of(library, reach)
     names = [item.name for item in reach.items.values()]
     doubled = {name for name in names if names.count(name) > 1}
-    out = ABOUT + front_text(contracts, parts) + ["## The contracts", "", CONTRACTS_ABOUT, ""]
+    texts = [["## The contracts", "", CONTRACTS_ABOUT, ""]]
     for contract in contracts:
-        out += contract_text(contract, doubled)
-    for part in parts:
-        out += part_text(library, part, doubled)
-    return out + kit_text(reach) + examples_text(parts, examples)
+        texts[0] += contract_text(contract, doubled)
+    texts += [part_text(library, part, doubled) for part in parts]
+    front = front_text(library, contracts, parts, texts, first) + left_out_text(unreached)
+    return ABOUT + front + sum(texts, []) + kit_text(reach) + examples_text(parts, examples)
