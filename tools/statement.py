@@ -19,11 +19,12 @@ sys.dont_write_bytecode = True  # no files beside these
 
 from statement_contracts import Contract, contracts_in
 from statement_list import CONTRACTS, EXAMPLES
-from statement_names import Library, Reach, acts_named, cited, contract_names
+from statement_names import Library, Reach, acts_named, cited, contract_names, used_by_tactics
 from statement_read import Stop
 from statement_write import missing, page, shown, unused
 
 PAGE = "docs/STATEMENT.md"
+HOMES = tuple("/".join(path.split("/")[:2]) + "/" for path, _ in EXAMPLES)  # the crates with worked examples
 LONG = 12  # lines
 
 
@@ -62,12 +63,21 @@ def arguments():
 def examples_of(library):
     """For each item the example that leads to it by the fewest names, the first of several."""
     nearest = {}
-    for contract in (contract for path in EXAMPLES for contract in contracts_in(library.source(path))):
-        acts = acts_named(library, contract, "/".join(contract.path.split("/")[:2]) + "/")
+    for contract in example_contracts(library):
+        acts = acts_named(library, contract, HOMES)
         for key, distance in Reach(library, contract_names(library, contract), acts).distance.items():
             if key not in nearest or distance < nearest[key][0]:
                 nearest[key] = (distance, contract.root)
     return {key: name for key, (_, name) in nearest.items()}
+
+
+def example_contracts(library):
+    for folder, prefix in EXAMPLES:
+        for path in sorted(path for path in library.sources if path.startswith(folder)):
+            for contract in contracts_in(library.source(path)):
+                if contract.root.startswith(prefix):
+                    contract.root = f"{path.split('/')[-1].removesuffix('.rt')}::{contract.root}"
+                    yield contract
 
 
 def write(text, reach, left, not_needed):
@@ -100,11 +110,14 @@ def unreached(library, reach):
 
 
 def list_unreached(library, reach):
-    """Those that other clauses lead to come first: they belong in `specs/`. No clause leads to the others."""
-    others = Reach(library, cited(library)).items
+    """Those that other clauses, or the tactics of functions, lead to come first: they belong in `specs/`."""
     left = unreached(library, reach)
-    list_items("definitions that clauses of other functions lead to", [x for x in left if x.key() in others])
-    list_items("definitions that no clause leads to", [x for x in left if x.key() not in others])
+    for title, named in (("clauses of other functions lead to", cited(library)),
+                         ("are laws for the tactics of functions, or named by these", used_by_tactics(library))):
+        there = Reach(library, named).items
+        list_items(f"definitions that {title}", [item for item in left if item.key() in there])
+        left = [item for item in left if item.key() not in there]
+    list_items("definitions that only proofs name, or nothing", left)
     return 0
 
 

@@ -8,17 +8,22 @@ OPERATORS = set("∷ ++ && || → × ⊎ ↔ ≡ ≢ ≤ < + * : | if then else 
 
 
 def laid_out(item, lines, model=None):
-    """An item with its comment. The comment follows a definition of one line, if both fit. The lines are its own, with
-    other names for variants; the model is the value that clauses see of a type in its place."""
+    """An item with its comment. The comment follows its head, if both fit on a line. The lines are its own, with other
+    names for variants; the model is the value that clauses see of a type in its place."""
     return with_comment(item_lines(item, lines, model), " ".join(item.comment))
 
 
 def with_comment(lines, told):
     if not told:
         return lines
-    if len(lines) == 1 and len(lines[0]) + len(told) + 5 <= WIDTH:
-        return [f"{lines[0]}  -- {told}"]
+    if (len(lines) == 1 or is_head(*lines[:2])) and len(lines[0]) + len(told) + 5 <= WIDTH:
+        return [f"{lines[0]}  -- {told}", *lines[1:]]
     return comment(told, lines[0][:len(lines[0]) - len(lines[0].lstrip())]) + lines
+
+
+def is_head(line, below):
+    """Whether a line is all of a head, and not the beginning of something that was cut."""
+    return line.endswith((" =", " where", " {")) or below.startswith("  | ")
 
 
 def comment(text, indent=""):
@@ -139,10 +144,10 @@ def fitting(words, room):
 
 
 def best_cut(words, most, room):
-    """The number of words on a line that is cut at the best place in its last third."""
+    """The number of words on a line that is cut at the best place in its second half."""
     best, length = most, sum(len(word) + 1 for word, _ in words[:most])
     for at in range(most, 0, -1):
-        if length < room * 2 // 3:
+        if length < room // 2:
             break
         if cost(words, at) < cost(words, best):
             best = at

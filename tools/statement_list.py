@@ -13,8 +13,12 @@ CONTRACTS = [
     ("kcr_verify", "verification", "rebuild"),
 ]
 
-# The files with worked examples.
-EXAMPLES = ["crates/kcr_laws/src/worked.rt"]
+# The worked examples: a file or a folder, and how the names of its functions begin that are examples.
+EXAMPLES = [
+    ("crates/kcr_laws/src/worked.rt", ""),
+    ("crates/kcr_script/src/laws.rt", "worked_"),
+    ("crates/kcr_worked/src/", ""),
+]
 
 # A sentence for each clause that has no comment of its own in the sources. A comment there goes before a sentence here.
 SENTENCES = {
@@ -114,7 +118,8 @@ PARTS = [
     ("The run",
      "The machine's steps over the messages of a stream, and all that is written. The messages and the texts that it "
      "names stand in the parts below.",
-     """kcr_desk/src/fault kcr_desk/src/stream kcr_desk/src/connection kcr_rows/Refusals kcr_store/Commands kcr_store/Rows kcr_print/Written
+     """kcr_desk/src/fault kcr_desk/src/stream kcr_desk/src/connection kcr_rows/Refusals kcr_store/Commands kcr_store/Rows
+     kcr_print/Written
      kcr_desk/Run kcr_desk/Answers kcr_desk/Connections kcr_machine/RowDecision kcr_rules/Refusals"""),
     ("The cut of the stream",
      "Which bytes are which messages, and how a stream ends.",
@@ -179,10 +184,10 @@ that it holds of some `x`. A record of facts holds if each of its fields does. `
 `x.new` after it. `type A = B` is a type of the program that clauses see as `B`.
 
 The words are those of the files, on fewer lines: without `abbrev`, `unfoldable` and `pub`, a function of one case with
-its arguments before the colon, and a variant behind the name of its type. A comment stands over its definition or
-behind it. `[kcr_base/Same]` heads what stands in `crates/kcr_base/specs/Same.antt`, and `[kcr_base/src/day]` what
-stands in `crates/kcr_base/src/day.rt`. “here `f` of `M`” tells names that several files have, or that have another name
-in `M`.
+its arguments before the colon, a text as `"EAST"` for `codes "EAST"`, and a variant behind the name of its type. A
+comment stands over its definition or behind its head. `[kcr_base/Same]` heads what stands in
+`crates/kcr_base/specs/Same.antt`, and `[kcr_base/src/day]` what stands in `crates/kcr_base/src/day.rt`. “here `f` of
+`M`” tells names that several files have, or that have another name in `M`.
 """.strip().split("\n") + [""]
 
 # What the statement leaves out, and why.
@@ -213,8 +218,9 @@ KIT_ABOUT = (
 )
 
 EXAMPLES_ABOUT = (
-    "Definitions with a value: {shown} on an example, {none} on none. Each stands behind the example of "
-    "`kcr_laws::worked` that leads to its name by the fewest names between. Cases for a kind of command are followed "
-    "only if the example has such a command. The names do not show which of its other cases a definition takes. Facts "
-    "and types are not listed."
+    "Definitions with a value: {shown} on an example, {none} on none. Examples are functions that do nothing, in "
+    "`kcr_laws`, `kcr_script` and `kcr_worked`: the prover computes the definitions that their contracts name, and the "
+    "answers stand there in words of their own. Each definition stands behind the example that leads to its name by "
+    "the fewest names between. Cases for a kind of command are followed only if the example has such a command. The "
+    "names do not show which of its other cases a definition takes. Facts and types are not listed."
 )

@@ -238,13 +238,13 @@ class Names:
         return [x for x in found if x and x is not item and not isinstance(x, tuple)]
 
 
-def acts_named(library, contract, home):
-    """The kinds of act that a contract names, with the definitions of a crate that it names."""
+def acts_named(library, contract, homes):
+    """The kinds of act that a contract names, with the definitions of some crates that it names."""
     names = Names(library, contract.source, contract.imports)
     texts = [(names, "\n".join(clause.text for clause in contract.clauses))]
     texts += [(Names(library, library.sources[item.path]), item.text())
               for item in Reach(library, contract_names(library, contract), set()).items.values()
-              if item.path.startswith(home)]
+              if item.path.startswith(homes)]
     return {names.act(word) for names, text in texts for word in words_of(text)} - {None}
 
 
@@ -297,4 +297,15 @@ def cited(library):
                 imports = ghost_imports(use)
                 names = Names(library, source, imports)
                 found += [names.meaning(*word) for word in words if imports.keys() & {word[0], f"◌{word[0]}◌"}]
+    return [each for each in found if each]
+
+
+def used_by_tactics(library):
+    """The laws in `specs/` that functions name for the tactics of their proofs."""
+    found = []
+    for path, source in list(library.sources.items()):
+        for used in re.findall(r"\busing\(([^)]*)\)", source.text) if path.endswith(".rt") else []:
+            for module, law in re.findall(r"\bspecs::([\w:]+)::([\w-]+)", used):
+                there = library.sources.get("/".join(path.split("/")[:2] + ["specs"] + module.split("::")) + ".antt")
+                found.append(there and there.items.get(law))
     return [each for each in found if each]

@@ -115,7 +115,7 @@ def part_text(library, part, doubled):
 
 
 def headed_files(library, part):
-    """The files below one heading with their items: files of a crate's types that say nothing of themselves share it."""
+    """The files below one heading, with their items: files of types that say nothing of themselves share it."""
     out = []
     for path, items in part.files:
         joins = path.endswith(".rt") and not library.sources[path].about
@@ -189,7 +189,8 @@ def front_text(library, contracts, parts, texts, first):
     core = [part.title for part in parts].index(CORE_ENDS) + 2
     needed = [line for part in parts for item in part.items() if item.key() in first for line in shown(library, item)]
     rows += [("**All**", "", sum(row[2] or 0 for row in rows), sized(sum(texts, []))),
-             (f"of that up to “{CORE_ENDS}”", "", sum(row[2] or 0 for row in rows[:core]), sized(sum(texts[:core], []))),
+             (f"of that up to “{CORE_ENDS}”", "", sum(row[2] or 0 for row in rows[:core]),
+              sized(sum(texts[:core], []))),
              (f"of that the definitions for `{FIRST}`", "", len(first), sized(needed))]
     out = [f"| Part | What is in it | Of these for `{FIRST}` | Lines | Words |", "|---|---|---|---|---|"]
     return out + [f"| {title} | {what} | {count} | {size} |" for title, what, count, size in rows] + [""]
@@ -245,7 +246,7 @@ def page(library, contracts, reach, first, unreached, examples):
     """The lines of the page. `first` has the keys of what the first contract leads to, and `unreached` is the number of
     definitions to which no contract leads."""
     parts = parts_of(library, reach)
-    names = [item.name for item in reach.items.values()]
+    names = [item.name for item in reach.items.values()] + [name for _, name in reach.kit]
     doubled = {name for name in names if names.count(name) > 1}
     texts = [["## The contracts", "", CONTRACTS_ABOUT, ""]]
     for contract in contracts:

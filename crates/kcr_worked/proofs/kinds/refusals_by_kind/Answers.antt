@@ -1,0 +1,12 @@
+use Rattle.std.proofs.Common.{refl}
+use Rattle.kcr_laws.proofs.WorkedRows.{rows_on_literals}
+use Rattle.kcr_worked.proofs.kinds.refusals_by_kind.Goals as goal
+
+pub returns : goal.returns
+unfolding rows_on_literals
+returns c = record {
+  own = refl;
+  taken = refl;
+  full = refl;
+  busy = refl;
+}

@@ -1,0 +1,4 @@
+pub mod Acts
+pub mod Layouts
+pub mod Requests
+pub mod Words

@@ -1,0 +1,43 @@
+//! What is no command, and what is asked.
+ghost use Rattle.std.specs.Prelude.{◌≡◌, codes, Some, None, Ok, Err};
+ghost use Rattle.kcr_base.specs.declared.refusal.Member.TheVariants as Members;
+ghost use Rattle.kcr_base.specs.declared.refusal.Refusal.TheVariants as Refusals;
+ghost use Rattle.kcr_history.specs.declared.questions.Question.TheVariants as Questions;
+ghost use Rattle.kcr_wire.specs.declared.allow.Allow.TheVariants as Allows;
+ghost use Rattle.kcr_wire.specs.declared.method.Method.TheVariants as Methods;
+ghost use Rattle.kcr_wire.specs.declared.question.Inquiry.TheVariants as Inquiries;
+ghost use Rattle.kcr_wire.specs.Commands.{command_of};
+ghost use Rattle.kcr_wire.specs.Endpoints.{allow_of, allow_text};
+ghost use Rattle.kcr_wire.specs.Questions.{question_of};
+ghost use Rattle.kcr_laws.specs.Examples.{AA, bag_7};
+ghost use Rattle.kcr_worked.specs.Acts.{first_day, ninth_second};
+
+/// The refusals 7 to 10 of what is no command.
+pub fn requests_that_are_none()
+    ensures path { command_of (codes "/nowhere") (codes "{}") ≡ Err Refusals.Path }
+    ensures method { command_of (codes "/custody") (codes "{}") ≡ Err Refusals.Method }
+    ensures json { command_of (codes "/people") (codes "{") ≡ Err Refusals.Json }
+    ensures no_key { command_of (codes "/people") (codes "{}") ≡ Err (Refusals.Form Members.Key) }
+    ensures no_name { command_of (codes "/people") (codes "{\"key\":\"k\",\"who\":\"AA\"}") ≡
+        Err (Refusals.Form Members.Name) }
+{}
+
+/// What a GET asks for. A path with a query is the path alone.
+pub fn inquiries()
+    ensures people { question_of Methods.Get (codes "/people") ≡ Ok (Inquiries.Question Questions.People) }
+    ensures query { question_of Methods.Get (codes "/people?all") ≡ Ok (Inquiries.Question Questions.People) }
+    ensures custodians { question_of Methods.Get (codes "/custodians/2000-01-01") ≡
+        Ok (Inquiries.Question (Questions.Custodians first_day)) }
+    ensures bag { question_of Methods.Get (codes "/bags/BB51184287") ≡ Ok (Inquiries.Question (Questions.Bag bag_7)) }
+    ensures room { question_of Methods.Head (codes "/ceremonies/61/room/2000-01-01T00:00:09Z") ≡
+        Ok (Inquiries.Question (Questions.Room 61 ninth_second)) }
+    ensures script { question_of Methods.Get (codes "/ceremonies/61/script") ≡ Ok (Inquiries.Script 61) }
+    ensures attendance { question_of Methods.Get (codes "/ceremonies/61/attendance.csv") ≡ Ok (Inquiries.Attendance 61) }
+    ensures custody { question_of Methods.Get (codes "/custody") ≡ Ok Inquiries.Custody }
+    ensures commands { question_of Methods.Get (codes "/commands/5") ≡ Ok (Inquiries.Commands 5) }
+    ensures method { question_of Methods.Other (codes "/custody") ≡ Err Refusals.Method }
+    ensures takes_both { allow_of (codes "/people") ≡ Some Allows.GetHeadPost }
+    ensures takes_commands { allow_of (codes "/boxes") ≡ Some Allows.Post }
+    ensures takes_nothing { allow_of (codes "/nowhere") ≡ None }
+    ensures both { allow_text Allows.GetHeadPost ≡ codes "GET, HEAD, POST" }
+{}
