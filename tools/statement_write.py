@@ -53,18 +53,26 @@ def home_of(path, parts):
 def shown(library, item):
     """The lines of an item with its comment, as they are printed: of a type whose clauses see another value, that."""
     if item.path.endswith(".antt"):
-        return laid_out(item, with_types(library.sources[item.path].imports, item.lines))
+        return laid_out(item, in_plain_names(library.sources[item.path].imports, item.lines))
     model = library.model_of(item)
     return laid_out(item, item.lines, model and value_of(item, " ".join(model.value.split())))
 
 
-def with_types(imports, lines):
-    """The lines with the name of its type before each variant: `Thing.Bag` for a `Bag` of the module `Things`."""
+def in_plain_names(imports, lines):
+    """The lines with plain texts, and with the name of its type before each variant: `Thing.Bag` for a `Bag` of the
+    module `Things`."""
     named = {name: module.split(".")[-2] for name, (module, inner) in imports.items() if is_of_variants(module, inner)}
+    lines = [quoted(line) for line in lines]
     if not named:
         return lines
     before_variant = re.compile(r"(?<![\w.])(" + "|".join(named) + r")\.(?=[A-Z])")
     return [before_variant.sub(lambda found: named[found[1]] + ".", line) for line in lines]
+
+
+def quoted(line):
+    """A line with texts as `"EAST"` in place of `codes "EAST"`."""
+    text = r'("(?:[^"\\]|\\.)*")'
+    return re.sub(r"\bcodes " + text, r"\1", re.sub(r"\(codes " + text + r"\)", r"\1", line))
 
 
 def is_of_variants(module, inner):

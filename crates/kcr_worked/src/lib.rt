@@ -5,6 +5,7 @@
 pub mod files;
 pub mod history;
 pub mod kinds;
+pub mod lines;
 pub mod program;
 pub mod questions;
 pub mod requests;

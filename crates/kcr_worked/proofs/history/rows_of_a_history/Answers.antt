@@ -13,5 +13,7 @@ returns c = record {
   apart = refl;
   earlier = refl;
   same_day = refl;
+  person = λ roles. refl;
+  table = λ view is. is;
   status = refl;
 }

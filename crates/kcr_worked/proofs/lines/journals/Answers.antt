@@ -1,0 +1,11 @@
+use Rattle.std.proofs.Common.{refl}
+use Rattle.kcr_laws.proofs.WorkedRows.{rows_on_literals}
+use Rattle.kcr_worked.proofs.lines.journals.Goals as goal
+
+pub returns : goal.returns
+unfolding rows_on_literals
+returns c = record {
+  people = refl;
+  steps = refl;
+  bags = refl;
+}
