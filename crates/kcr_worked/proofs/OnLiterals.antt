@@ -9,6 +9,7 @@ use Rattle.kcr_forms.specs.Forms.{is_initials, is_key, is_serial, is_line, initi
 use Rattle.kcr_forms.specs.Forms.{name_of, remark_of, number_by_text, day_of, ceremony_of, box_of, step_of}
 use Rattle.kcr_forms.specs.Forms.{role_of, facility_of, way_of, safe_of, place_of, destination_of, number_to, listed_to}
 use Rattle.kcr_export.specs.Bodies.{body_text}
+use Rattle.kcr_export.specs.Requests.{request_text}
 use Rattle.kcr_wire.specs.Commands.{command_of}
 use Rattle.kcr_wire.specs.Endpoints.{text_in, second_piece, fourth_piece, target_of, allow_of}
 use Rattle.kcr_wire.specs.Members.{json_of, texts_in, key_at, who_at, by_at, name_at, role_at, from_at, until_at}
@@ -16,6 +17,7 @@ use Rattle.kcr_wire.specs.Members.{day_at, place_at, facility_at, item_at, at_at
 use Rattle.kcr_wire.specs.Members.{box_at, ceremony_at, number_at, open_at, pass_at, people_at, items_at}
 use Rattle.kcr_wire.specs.Questions.{question_of}
 use Rattle.kcr_wire.specs.Routes.{add, add_all, table}
+use Rattle.kcr_wire.specs.ShownJson.{shown_text}
 use Rattle.kcr_words.specs.Commands.{tool_app}
 use Rattle.kcr_words.specs.Tasks.{faults_of, file_of, into_of, met_in, task_of}
 use Rattle.kcr_laws.proofs.WorkedRows.{rows_on_literals}
@@ -31,3 +33,7 @@ forms_on_literals = tt
 unfoldable pub requests_on_literals : ⊤
 unfolding forms_on_literals matchit_on_literals serde_json_on_literals body_text command_of text_in second_piece fourth_piece target_of allow_of json_of texts_in key_at who_at by_at name_at role_at from_at until_at day_at place_at facility_at item_at at_at script_at way_at remark_at to_at box_at ceremony_at number_at open_at pass_at people_at items_at question_of add add_all table
 requests_on_literals = tt
+
+unfoldable pub answers_on_literals : ⊤
+unfolding rows_on_literals serde_json_on_literals body_text request_text shown_text
+answers_on_literals = tt

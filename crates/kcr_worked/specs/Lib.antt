@@ -1,4 +1,5 @@
 pub mod Acts
+pub mod Heads
 pub mod Layouts
 pub mod Requests
 pub mod Words

@@ -9,3 +9,5 @@ pub mod lines;
 pub mod program;
 pub mod questions;
 pub mod requests;
+pub mod rows;
+pub mod shown;
