@@ -10,6 +10,7 @@ use Rattle.kcr_forms.specs.Forms.{name_of, remark_of, number_by_text, day_of, ce
 use Rattle.kcr_forms.specs.Forms.{role_of, facility_of, way_of, safe_of, place_of, destination_of, number_to, listed_to}
 use Rattle.kcr_export.specs.Bodies.{body_text}
 use Rattle.kcr_export.specs.Requests.{request_text}
+use Rattle.kcr_print.specs.Requests.{commands_between}
 use Rattle.kcr_wire.specs.Commands.{command_of}
 use Rattle.kcr_wire.specs.Endpoints.{text_in, second_piece, fourth_piece, target_of, allow_of}
 use Rattle.kcr_wire.specs.Members.{json_of, texts_in, key_at, who_at, by_at, name_at, role_at, from_at, until_at}
@@ -35,5 +36,5 @@ unfolding forms_on_literals matchit_on_literals serde_json_on_literals body_text
 requests_on_literals = tt
 
 unfoldable pub answers_on_literals : ⊤
-unfolding rows_on_literals serde_json_on_literals body_text request_text shown_text
+unfolding rows_on_literals serde_json_on_literals body_text request_text commands_between shown_text
 answers_on_literals = tt

@@ -11,16 +11,21 @@ ghost use Rattle.kcr_history.specs.declared.questions.PersonShown.{PersonShown};
 ghost use Rattle.kcr_history.specs.declared.questions.RoleShown.{RoleShown};
 ghost use Rattle.kcr_history.specs.declared.questions.Shown.TheVariants as Shown;
 ghost use Rattle.kcr_wire.specs.ShownJson.{shown_text};
-ghost use Rattle.kcr_laws.specs.Examples.{AA, BB, HSM4, bag_7};
+ghost use Rattle.kcr_laws.specs.Examples.{AA, BB, HSM4, bag_7, entered};
 ghost use Rattle.kcr_worked.specs.Acts.{first_day, ninth_second};
 ghost use Rattle.kcr_worked.specs.Heads.{message_text};
 ghost use Rattle.kcr_export.specs.Requests.{request_text};
+ghost use Rattle.kcr_print.specs.Requests.{requests_between};
 
 /// A command as a request.
 pub fn requests_as_bytes()
     ensures enter { request_text (record { key = codes "k1"; act = Enter AA (codes "Ann Abel") }) ≡ message_text
         (codes "POST /people HTTP/1.1" ∷ codes "Host: l" ∷ codes "Content-Length: 41" ∷ [])
         (codes "{\"key\":\"k1\",\"who\":\"AA\",\"name\":\"Ann Abel\"}") }
+    ensures all { requests_between 0 1000 entered ≡ message_text
+        (codes "POST /people HTTP/1.1" ∷ codes "Host: l" ∷ codes "Content-Length: 41" ∷ [])
+        (codes "{\"key\":\"k1\",\"who\":\"AA\",\"name\":\"Ann Abel\"}") }
+    ensures none { requests_between 1 1000 entered ≡ [] }
 {}
 
 /// The JSON of what is shown.

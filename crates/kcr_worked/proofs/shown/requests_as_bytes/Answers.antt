@@ -6,4 +6,6 @@ pub returns : goal.returns
 unfolding answers_on_literals
 returns c = record {
   enter = refl;
+  all = refl;
+  none = refl;
 }
