@@ -4,7 +4,8 @@ use Rattle.std.specs.Prelude.{SomeIndex}
 use Rattle.std.proofs.lemmas.Bool.{eqb-true}
 use Rattle.std.proofs.lemmas.List.{length-set}
 use Rattle.kcr_seats.specs.Seating.{can_take, count_below, IsSeating}
-use Rattle.kcr_seats.specs.Search.{IsReached, IsMarked, IsStuck, IsNotReassigned, IsLowered, IsFirstBelow}
+use Rattle.kcr_seats.specs.Search.{IsReached, IsMarked, IsStuck, IsNotReassigned, IsLowered}
+use Rattle.kcr_seats.proofs.Between.{IsFirstBelow}
 use Rattle.kcr_seats.specs.Placement.{IsHallViolator}
 use Rattle.kcr_seats.proofs.Counting.{later, length_under, length_over, same_or_not}
 use Rattle.kcr_seats.proofs.Moves.{set_at}

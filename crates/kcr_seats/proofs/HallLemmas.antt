@@ -6,7 +6,8 @@ use Rattle.std.proofs.lemmas.List.{length-set}
 use Rattle.std.proofs.Math.ListN.{get_or-append}
 use Rattle.kcr_seats.specs.Hall.{NotBoth, SeatingOrShort}
 use Rattle.kcr_seats.specs.Seating.{IsSeating, IsShort, can_take}
-use Rattle.kcr_seats.specs.Search.{IsClosed, IsListed, IsMarked, IsReached, IsRootAlone, IsSeatedBut, IsStuck, IsAlternatingPath}
+use Rattle.kcr_seats.specs.Search.{IsClosed, IsListed, IsMarked, IsReached, IsRootAlone, IsSeatedBut, IsStuck}
+use Rattle.kcr_seats.proofs.Between.{IsAlternatingPath}
 use Rattle.kcr_seats.proofs.Counting.{length_under, same_or_not, true_or_false}
 use Rattle.kcr_seats.proofs.Least.{first_below, rising_apart, short}
 use Rattle.kcr_seats.proofs.SearchLemmas.{can_take_at, can_take_some, last_or_not, marked_more, order_short, placed, reached_more}

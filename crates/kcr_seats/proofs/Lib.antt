@@ -1,4 +1,5 @@
 pub mod Agree
+pub mod Between
 pub mod Counting
 pub mod First
 pub mod HallLemmas

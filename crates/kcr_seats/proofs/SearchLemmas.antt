@@ -8,7 +8,8 @@ use Rattle.std.proofs.lemmas.List.Folds.{list_any_at, list_any_none}
 use Rattle.std.proofs.Math.ListN.{get_or-append}
 use Rattle.std.proofs.Math.Seq.{get_or-append_seam}
 use Rattle.kcr_seats.specs.Seating.{can_take}
-use Rattle.kcr_seats.specs.Search.{IsRootAlone, IsReached, IsMarked, IsClosed, IsAlternatingPath, IsRow}
+use Rattle.kcr_seats.specs.Search.{IsRootAlone, IsReached, IsMarked, IsClosed}
+use Rattle.kcr_seats.proofs.Between.{IsAlternatingPath, IsRow}
 use Rattle.kcr_seats.specs.Placement.{IsPlaced}
 use Rattle.kcr_seats.proofs.Counting.{pigeonhole, true_or_false, same_or_not}
 use Rattle.kcr_seats.proofs.Moves.{all_seated, given, set_at}

@@ -52,27 +52,10 @@ IsClosed fits fixed n high w order marked =
     (i j : ℕ) → i < n → fixed ≤ j → j < high → IsTrue (fits (slice_index order i) (slice_index w j))
     → slice_index_or marked j false ≡ true
 
--- how far the seats have been asked whose people fit the seat at the index `next` of the order
-pub record IsRow (fits : ℕ → ℕ → Bool) (root fixed next other seat : ℕ) (w order from : List ℕ)
-    (marked : List Bool) : Type 0 where
-  pub reached : IsReached fits root fixed w order from
-  pub marks : IsMarked w order marked
-  pub closed : IsClosed fits fixed next (length w) w order marked
-  pub row : (j : ℕ) → fixed ≤ j → j < other → IsTrue (fits seat (slice_index w j))
-      → slice_index_or marked j false ≡ true
-  pub inside : next < length order
-  pub here : slice_index order next ≡ seat
-
 -- the set has the people who have a seat of the list other than the root
 pub record IsBusy (root : ℕ) (w : List ℕ) (busy : People) : Type 0 where
   pub all : (k : ℕ) → k < length w → k ≢ root → contains busy (slice_index w k) ≡ true
   pub only : (p : ℕ) → contains busy p ≡ true → SomeIndex w (λ k. (k ≢ root) × (slice_index w k ≡ p))
-
--- the first n seats of the list have people who fit them, each another
-pub record IsGoodBelow (fits : ℕ → ℕ → Bool) (people n : ℕ) (w : List ℕ) : Type 0 where
-  pub in_range : (k : ℕ) → k < n → slice_index w k < people
-  pub fitting : (k : ℕ) → k < n → IsTrue (fits k (slice_index w k))
-  pub apart : (j k : ℕ) → j < k → k < n → slice_index w j ≢ slice_index w k
 
 -- a person who fits a reached seat sits on a marked seat, or before `fixed`
 pub record IsStuck (fits : ℕ → ℕ → Bool) (people root fixed : ℕ) (w order : List ℕ) (marked : List Bool) : Type 0 where
@@ -85,17 +68,6 @@ pub record IsListed (marked : List Bool) (n : ℕ) (s : List ℕ) : Type 0 where
   pub low : (i : ℕ) → i < length s → slice_index s i < n
   pub only : (i : ℕ) → i < length s → slice_index_or marked (slice_index s i) false ≡ true
   pub all : (j : ℕ) → j < n → slice_index_or marked j false ≡ true → SomeIndex s (λ i. slice_index s i ≡ j)
-
--- the way from the seat at an index of the order back to the root, open to a person who has no seat
-pub record IsAlternatingPath (fits : ℕ → ℕ → Bool) (people root index person : ℕ) (w order from : List ℕ) : Type 0 where
-  pub seated : IsSeatedBut fits people root w
-  pub known : person < people
-  pub free : (k : ℕ) → k < length w → k ≢ root → slice_index w k ≢ person
-  pub inside : index < length order
-  pub fitting : IsTrue (fits (slice_index order index) person)
-  pub before : (i : ℕ) → 0 < i → i ≤ index → slice_index from i < i
-  pub edge : (i : ℕ) → 0 < i → i ≤ index
-      → IsTrue (fits (slice_index order (slice_index from i)) (slice_index w (slice_index order i)))
 
 -- a new seating, like the old before the seat, where the person sits now
 pub record IsReassigned (fits : ℕ → ℕ → Bool) (seats people seat person : ℕ) (old new : List ℕ) : Type 0 where
@@ -115,12 +87,6 @@ pub record IsLowered (fits : ℕ → ℕ → Bool) (seats people seat : ℕ) (ol
   pub same : (k : ℕ) → k < seat → slice_index new k ≡ slice_index old k
   pub lowest : (v : List ℕ) → IsSeating fits seats people v
       → ((k : ℕ) → k < seat → slice_index v k ≡ slice_index old k) → slice_index new seat ≤ slice_index v seat
-
--- a seating, and no seating that is like it before a seat below n has a lower person there
-pub record IsFirstBelow (fits : ℕ → ℕ → Bool) (seats people n : ℕ) (w : List ℕ) : Type 0 where
-  pub seating : IsSeating fits seats people w
-  pub first : (v : List ℕ) (k : ℕ) → IsSeating fits seats people v → k < n
-      → ((j : ℕ) → j < k → slice_index v j ≡ slice_index w j) → slice_index w k ≤ slice_index v k
 
 -- a bound on the steps of a try to seat one more, and of a try to give a seat to a person
 unfoldable pub search_steps : ℕ → ℕ → ℕ

@@ -1,4 +1,4 @@
-use Rattle.kcr_seats.specs.Search.{IsGoodBelow}
+use Rattle.kcr_seats.proofs.Between.{IsGoodBelow}
 use Rattle.kcr_seats.proofs.check.is_seating.Given as goal
 
 abbrev pub invariant-loop-seat : goal.invariant-loop-seat

@@ -1,5 +1,5 @@
 use Rattle.std.proofs.Common.{◌≡◌, ℕ, ◌+◌, ◌<◌, ◌≤◌, length, get_or}
-use Rattle.kcr_seats.specs.Search.{IsAlternatingPath}
+use Rattle.kcr_seats.proofs.Between.{IsAlternatingPath}
 use Rattle.kcr_seats.specs.Matrix.{fits_of, people_of}
 use Rattle.kcr_seats.proofs.search.reseat.Given as goal
 
