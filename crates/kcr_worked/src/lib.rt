@@ -1,5 +1,5 @@
-//! Worked examples of what stands above the history: requests and answers as bytes, the journal, the tables of a file,
-//! verifications, and the program's words and lines. Functions that do nothing, whose contracts say it.
+//! Worked examples of what stands above the history: requests as bytes, what is shown as JSON, the journal, the rows
+//! and the schema of a file, and the program's arguments. Functions that do nothing, whose contracts say it.
 #![tactic(auto)]
 
 pub mod files;
