@@ -146,7 +146,7 @@ none_found view (Some finding) clean found = absurd (clean finding found.0)
 
 -- rows of one table as a database has them are the machine's, in the order of their keys
 pub in_table : {X : Type 0} (table : TableSpec X) {m : Tables} {db : Trees} {t : held.StoredTables} {rows : List X} → held.TreesHold db t → rows ≡ table.rows_in t
-    → IsPermutation (machine_rows table m) rows → AreRows table m rows
+    → IsPermutation (machine_rows table m) rows → AreRows table.rows_in m rows
 in_table table kept is same = record { same = same; db = _; t = _; kept = kept; lists = is }
 
 -- rows as a database has them are the machine's, in the order of their keys

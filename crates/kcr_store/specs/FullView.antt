@@ -6,8 +6,8 @@ use Rattle.kcr_history.specs.Audit.{IsAudit}
 use Rattle.kcr_history.specs.Tables.{Tables, SameTables}
 use Rattle.kcr_history.specs.declared.views.Finding.{Finding}
 use Rattle.kcr_history.specs.declared.views.FullView.{FullView}
+use Rattle.kcr_tables.specs.NewTables.{as_held}
 use Rattle.kcr_tables.specs.StoredTables as held
-use Rattle.kcr_tables.specs.Table.{TableSpec, machine_rows}
 
 -- the view has the rows of each table, in the order of their keys
 abbrev pub Lists : held.StoredTables → FullView → Type 0
@@ -21,13 +21,13 @@ pub record IsListed (m : Tables) (view : FullView) : Type 0 where
   pub kept : held.TreesHold db t
   pub lists : Lists t view
 
--- these are the machine's rows of one table, in the order in which a database keeps them
-pub record AreRows {X : Type 0} (table : TableSpec X) (m : Tables) (rows : List X) : Type 0 where
-  pub same : IsPermutation (machine_rows table m) rows
+-- these are the machine's rows of one table, in the order in which a database keeps them; `rows_in` picks its rows
+pub record AreRows {X : Type 0} (rows_in : held.StoredTables → List X) (m : Tables) (rows : List X) : Type 0 where
+  pub same : IsPermutation (rows_in (as_held m)) rows
   pub db : Trees
   pub t : held.StoredTables
   pub kept : held.TreesHold db t
-  pub lists : rows ≡ table.rows_in t
+  pub lists : rows ≡ rows_in t
 
 -- what an audit of these tables finds, whatever the order of their rows
 abbrev pub FindsIn : Tables → Option Finding → Type 0

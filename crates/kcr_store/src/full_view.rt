@@ -114,9 +114,9 @@ pub(crate) fn read_table<S: Alter, R: TableRow>(
 ) -> Result<Vec<R>, Refusal>
     requires autocommit { conn.old.in_transaction ≡ false }
     ensures rows { HasCleanDisk (state S.Store conn.new) → (m : Tables)
-        → HoldsTables m (state S.Store conn.old).now → IfOk result (λ rows. AreRows R.table m rows.items) }
+        → HoldsTables m (state S.Store conn.old).now → IfOk result (λ rows. AreRows R.table.rows_in m rows.items) }
     ensures register { (A : History) → IsDurable A (state S.Store conn.old) → HasCleanDisk (state S.Store conn.new)
-        → IfOk result (λ rows. IsRegister A × AreRows R.table (tables A) rows.items) }
+        → IfOk result (λ rows. IsRegister A × AreRows R.table.rows_in (tables A) rows.items) }
     ensures frame { OnlyReads S.Store IsFault conn.old conn.new result }
 {
     let mut tx = conn.transaction();

@@ -281,9 +281,9 @@ impl<S: Alter> Register<S> {
         // Whatever rows the table holds, these are they; of a history they are those of its table.
         ensures rows { self.old.in_doubt ≡ None → HasCleanDisk (state S.Store self.new.conn) → (m : Tables)
             → HoldsTables m (state S.Store self.old.conn).now
-            → IfOk result (λ rows. AreRows R.table m rows.items) }
+            → IfOk result (λ rows. AreRows R.table.rows_in m rows.items) }
         ensures shown { OfHistory S.Store self.old self.new
-            (λ A. IfOk result (λ rows. IsRegister A × AreRows R.table (tables A) rows.items)) }
+            (λ A. IfOk result (λ rows. IsRegister A × AreRows R.table.rows_in (tables A) rows.items)) }
         ensures looks { ReadsHistory S.Store IsFault self.old self.new result }
     {
         if self.broken {

@@ -14,10 +14,10 @@ use Rattle.kcr_verify.proofs.OrderLemmas.{one_table}
 
 -- what the comparison of two lists says of a table
 pub compared_rows : {X : Type 0} (table : TableSpec X) (row_of : X → Row) (is_read : X → Type 0) → IsTable table row_of is_read → (m : Tables)
-    (own rows : List X) → AreRows table m own → (found : Option RowDifference)
+    (own rows : List X) → AreRows table.rows_in m own → (found : Option RowDifference)
     → MatchOption found (own ≡ rows) (λ row. (own ≢ rows) × DiffersAt row_of own rows row)
-    → MatchOption found (AreRows table m rows) (λ row. (¬ AreRows table m rows) × IsFirstRow table row_of m rows row)
-compared_rows table row_of is_read laws m own rows are None same = subst (AreRows table m) same are
+    → MatchOption found (AreRows table.rows_in m rows) (λ row. (¬ AreRows table.rows_in m rows) × IsFirstRow table.rows_in row_of m rows row)
+compared_rows table row_of is_read laws m own rows are None same = subst (AreRows table.rows_in m) same are
 compared_rows table row_of is_read laws m own rows are (Some row) differs = (
   λ these. differs.0 (sym (one_table table row_of is_read laws m own rows are these)),
   record { own = own; are = are; differs = differs.1 },

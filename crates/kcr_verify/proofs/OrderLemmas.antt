@@ -46,7 +46,7 @@ module _ {X : Type 0} (keys : ℕ) (row_of : X → Row) where
 
 -- the machine's rows of one table are kept in one order
 pub one_table : {X : Type 0} (table : TableSpec X) (row_of : X → Row) (is_read : X → Type 0) → IsTable table row_of is_read
-    → (m : Tables) (xs ys : List X) → AreRows table m xs → AreRows table m ys → ys ≡ xs
+    → (m : Tables) (xs ys : List X) → AreRows table.rows_in m xs → AreRows table.rows_in m ys → ys ≡ xs
 one_table {X} table row_of is_read laws m xs ys a b =
     one_order table.place.keys row_of (machine_rows table m) xs ys
     (subst (λ (l : List X). IsAscending (λ x y. by_key table.place.keys x y ≡ Less) (map row_of l)) (sym a.lists) (laws.keeps a.db a.t a.kept).rising)

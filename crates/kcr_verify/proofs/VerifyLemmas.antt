@@ -170,7 +170,7 @@ stopped_of view sorted A difference order stops = by difference stops
     by (Differences.Rows table row) h = absurd h
 
 in_view : {X : Type 0} (table : held.TableSpec X) (m : Tables) (view : FullView) (v : IsListed m view) (rows : List X)
-    → IsPermutation (held.machine_rows table m) rows → rows ≡ table.rows_in v.t → AreRows table m rows
+    → IsPermutation (held.machine_rows table m) rows → rows ≡ table.rows_in v.t → AreRows table.rows_in m rows
 in_view table m view v rows same is = record { same = same; db = v.db; t = v.t; kept = v.kept; lists = is }
 
 listed_table : (A : History) (view : FullView) → IsListed (tables A) view → (rows : FullView) → IsPermutation view.keys.items rows.keys.items

@@ -4,7 +4,7 @@ use Rattle.std.specs.List.{slice_get}
 use Rattle.sqlite.specs.Order.{Row}
 use Rattle.kcr_history.specs.Tables.{Tables}
 use Rattle.kcr_store.specs.FullView.{AreRows}
-use Rattle.kcr_tables.specs.Table.{TableSpec}
+use Rattle.kcr_tables.specs.StoredTables.{StoredTables}
 use Rattle.kcr_verify.specs.Quoted.{row_text}
 use Rattle.kcr_verify.specs.declared.compare.RowDifference.{RowDifference}
 
@@ -24,7 +24,8 @@ pub record DiffersAt {X : Type 0} (row_of : X → Row) (own rows : List X) (row 
   pub found : row.found ≡ text_at row_of rows row.position
 
 -- so it is with the machine's rows of a table and these
-pub record IsFirstRow {X : Type 0} (table : TableSpec X) (row_of : X → Row) (m : Tables) (rows : List X) (row : RowDifference) : Type 0 where
+pub record IsFirstRow {X : Type 0} (rows_in : StoredTables → List X) (row_of : X → Row) (m : Tables) (rows : List X)
+    (row : RowDifference) : Type 0 where
   pub own : List X
-  pub are : AreRows table m own
+  pub are : AreRows rows_in m own
   pub differs : DiffersAt row_of own rows row

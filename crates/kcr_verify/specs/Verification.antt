@@ -26,21 +26,6 @@ use Rattle.kcr_history.specs.declared.views.FullView.{FullView}
 use Rattle.kcr_store.specs.Register.{RegisterState, IsConsistent}
 use Rattle.kcr_store.specs.FullView.{AreRows}
 use Rattle.kcr_tables.specs.Refusals.{IsFault}
-use Rattle.kcr_tables.specs.PeopleLaws as people
-use Rattle.kcr_tables.specs.TrainingsLaws as trainings
-use Rattle.kcr_tables.specs.WithdrawalsLaws as withdrawals
-use Rattle.kcr_tables.specs.AppointmentsLaws as appointments
-use Rattle.kcr_tables.specs.BoxesLaws as boxes
-use Rattle.kcr_tables.specs.SafesLaws as safes
-use Rattle.kcr_tables.specs.BagsLaws as bags
-use Rattle.kcr_tables.specs.ItemsLaws as items
-use Rattle.kcr_tables.specs.CeremoniesLaws as ceremonies
-use Rattle.kcr_tables.specs.MarksLaws as marks
-use Rattle.kcr_tables.specs.StepsLaws as steps
-use Rattle.kcr_tables.specs.SeatingsLaws as seatings
-use Rattle.kcr_tables.specs.SheetLaws as sheet
-use Rattle.kcr_tables.specs.StaysLaws as stays
-use Rattle.kcr_tables.specs.ExceptionsLaws as exceptions
 use Rattle.kcr_rows.specs.Rows as stored
 use Rattle.kcr_verify.specs.FirstRow.{DiffersAt, IsFirstRow}
 use Rattle.kcr_verify.specs.declared.compare.RowDifference.{RowDifference}
@@ -75,21 +60,21 @@ name_of Keys = codes "keys"
 -- the view has the machine's rows of this table, in the order in which a database keeps them; the accepted commands in
 -- any order
 abbrev pub HasRows : TableName → Tables → FullView → Type 0
-HasRows People m view = AreRows people.table m view.view.people.items
-HasRows Trainings m view = AreRows trainings.table m view.view.trainings.items
-HasRows Withdrawals m view = AreRows withdrawals.table m view.view.withdrawals.items
-HasRows Appointments m view = AreRows appointments.table m view.view.appointments.items
-HasRows Boxes m view = AreRows boxes.table m view.view.boxes.items
-HasRows Safes m view = AreRows safes.table m view.view.safes.items
-HasRows Bags m view = AreRows bags.table m view.view.bags.items
-HasRows Items m view = AreRows items.table m view.view.items.items
-HasRows Ceremonies m view = AreRows ceremonies.table m view.view.ceremonies.items
-HasRows Marks m view = AreRows marks.table m view.view.marks.items
-HasRows Steps m view = AreRows steps.table m view.view.steps.items
-HasRows Seatings m view = AreRows seatings.table m view.view.seatings.items
-HasRows Sheet m view = AreRows sheet.table m view.sheet.items
-HasRows Stays m view = AreRows stays.table m view.view.stays.items
-HasRows Exceptions m view = AreRows exceptions.table m view.view.exceptions.items
+HasRows People m view = AreRows (λ t. t.rows.people) m view.view.people.items
+HasRows Trainings m view = AreRows (λ t. t.rows.trainings) m view.view.trainings.items
+HasRows Withdrawals m view = AreRows (λ t. t.rows.withdrawals) m view.view.withdrawals.items
+HasRows Appointments m view = AreRows (λ t. t.rows.appointments) m view.view.appointments.items
+HasRows Boxes m view = AreRows (λ t. t.rows.boxes) m view.view.boxes.items
+HasRows Safes m view = AreRows (λ t. t.rows.safes) m view.view.safes.items
+HasRows Bags m view = AreRows (λ t. t.rows.bags) m view.view.bags.items
+HasRows Items m view = AreRows (λ t. t.rows.items) m view.view.items.items
+HasRows Ceremonies m view = AreRows (λ t. t.rows.ceremonies) m view.view.ceremonies.items
+HasRows Marks m view = AreRows (λ t. t.rows.marks) m view.view.marks.items
+HasRows Steps m view = AreRows (λ t. t.rows.steps) m view.view.steps.items
+HasRows Seatings m view = AreRows (λ t. t.rows.seatings) m view.view.seatings.items
+HasRows Sheet m view = AreRows (λ t. t.rows.sheet) m view.sheet.items
+HasRows Stays m view = AreRows (λ t. t.rows.stays) m view.view.stays.items
+HasRows Exceptions m view = AreRows (λ t. t.rows.exceptions) m view.view.exceptions.items
 HasRows Keys m view = IsPermutation m.keys view.keys.items
 
 -- a register whose history is known, and that no fault has broken
@@ -211,22 +196,22 @@ pub record IsFirstTable (tables_in : List TableName) (A : History) (view : FullV
 
 -- of this table, this is the first row in which the view differs from the machine
 abbrev pub DiffersIn : TableName → Tables → FullView → RowDifference → Type 0
-DiffersIn People m view row = IsFirstRow people.table stored.person_row m view.view.people.items row
-DiffersIn Trainings m view row = IsFirstRow trainings.table stored.training_row m view.view.trainings.items row
-DiffersIn Withdrawals m view row = IsFirstRow withdrawals.table stored.withdrawal_row m view.view.withdrawals.items row
+DiffersIn People m view row = IsFirstRow (λ t. t.rows.people) stored.person_row m view.view.people.items row
+DiffersIn Trainings m view row = IsFirstRow (λ t. t.rows.trainings) stored.training_row m view.view.trainings.items row
+DiffersIn Withdrawals m view row = IsFirstRow (λ t. t.rows.withdrawals) stored.withdrawal_row m view.view.withdrawals.items row
 DiffersIn Appointments m view row =
-    IsFirstRow appointments.table stored.appointment_row m view.view.appointments.items row
-DiffersIn Boxes m view row = IsFirstRow boxes.table stored.box_row m view.view.boxes.items row
-DiffersIn Safes m view row = IsFirstRow safes.table stored.safe_row m view.view.safes.items row
-DiffersIn Bags m view row = IsFirstRow bags.table stored.bag_row m view.view.bags.items row
-DiffersIn Items m view row = IsFirstRow items.table stored.item_row m view.view.items.items row
-DiffersIn Ceremonies m view row = IsFirstRow ceremonies.table stored.ceremony_row m view.view.ceremonies.items row
-DiffersIn Marks m view row = IsFirstRow marks.table stored.mark_row m view.view.marks.items row
-DiffersIn Steps m view row = IsFirstRow steps.table stored.step_row m view.view.steps.items row
-DiffersIn Seatings m view row = IsFirstRow seatings.table stored.seating_row m view.view.seatings.items row
-DiffersIn Sheet m view row = IsFirstRow sheet.table stored.sheet_row m view.sheet.items row
-DiffersIn Stays m view row = IsFirstRow stays.table stored.stay_row m view.view.stays.items row
-DiffersIn Exceptions m view row = IsFirstRow exceptions.table stored.exception_row m view.view.exceptions.items row
+    IsFirstRow (λ t. t.rows.appointments) stored.appointment_row m view.view.appointments.items row
+DiffersIn Boxes m view row = IsFirstRow (λ t. t.rows.boxes) stored.box_row m view.view.boxes.items row
+DiffersIn Safes m view row = IsFirstRow (λ t. t.rows.safes) stored.safe_row m view.view.safes.items row
+DiffersIn Bags m view row = IsFirstRow (λ t. t.rows.bags) stored.bag_row m view.view.bags.items row
+DiffersIn Items m view row = IsFirstRow (λ t. t.rows.items) stored.item_row m view.view.items.items row
+DiffersIn Ceremonies m view row = IsFirstRow (λ t. t.rows.ceremonies) stored.ceremony_row m view.view.ceremonies.items row
+DiffersIn Marks m view row = IsFirstRow (λ t. t.rows.marks) stored.mark_row m view.view.marks.items row
+DiffersIn Steps m view row = IsFirstRow (λ t. t.rows.steps) stored.step_row m view.view.steps.items row
+DiffersIn Seatings m view row = IsFirstRow (λ t. t.rows.seatings) stored.seating_row m view.view.seatings.items row
+DiffersIn Sheet m view row = IsFirstRow (λ t. t.rows.sheet) stored.sheet_row m view.sheet.items row
+DiffersIn Stays m view row = IsFirstRow (λ t. t.rows.stays) stored.stay_row m view.view.stays.items row
+DiffersIn Exceptions m view row = IsFirstRow (λ t. t.rows.exceptions) stored.exception_row m view.view.exceptions.items row
 DiffersIn Keys m view row = IsFirstCommand m.keys view.keys.items row
 
 -- the view has the machine's rows of this table; or it has not, and this is the first row that differs

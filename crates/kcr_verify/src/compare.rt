@@ -330,9 +330,9 @@ fn compare_rows<S: Alter, R: TableRow + Compared + Quoted>(
 ) -> Result<Option<RowDifference>, Refusal>
     requires { IsIntact S.Store register.old }
     ensures rows { HasCleanDisk (state S.Store register.new.conn)
-        → IfOk result (λ found. MatchOption found (AreRows R.table (machine.tables register.new.accepted) rows.now)
-        (λ row. (¬ AreRows R.table (machine.tables register.new.accepted) rows.now)
-        × IsFirstRow R.table R.row_of (machine.tables register.new.accepted) rows.now row)) }
+        → IfOk result (λ found. MatchOption found (AreRows R.table.rows_in (machine.tables register.new.accepted) rows.now)
+        (λ row. (¬ AreRows R.table.rows_in (machine.tables register.new.accepted) rows.now)
+        × IsFirstRow R.table.rows_in R.row_of (machine.tables register.new.accepted) rows.now row)) }
     ensures register { HasCleanDisk (state S.Store register.new.conn)
         → IfOk result (λ _. IsRegister register.new.accepted) }
     ensures frame { OnlyLooks S.Store register.old register.new result }
