@@ -23,11 +23,11 @@ use Rattle.kcr_history.specs.Ceremonies.{Planned, planned_as, plan_of, is_ceremo
 use Rattle.kcr_history.specs.Seating.{is_seating}
 use Rattle.kcr_history.specs.Tables.{step_done, step_result, seats_at, seatings, seat_rows, seating_rows, ceremony_of_step, ceremony_row, step_row, step_keys}
 use Rattle.kcr_history.specs.Tables.{steps, tables, SameTables}
-use Rattle.kcr_history.specs.Conditions.{conditions, fault, no_ceremony}
+use Rattle.kcr_history.specs.Conditions.{conditions, fault}
 use Rattle.kcr_history.specs.Laws.{is_seated}
 use Rattle.kcr_history.specs.Machine.{reply_to, seat_request, IsRegister}
 use Rattle.kcr_history.specs.declared.commands.Entry.{Entry}
-use Rattle.kcr_history.proofs.Steps.{Took, took}
+use Rattle.kcr_history.proofs.Steps.{Took, took, no_ceremony}
 use Rattle.kcr_history.proofs.Piled.{filter-stacked, stacked-alone}
 use Rattle.kcr_laws.proofs.Done.{next_signed, next-undone}
 use Rattle.std.specs.List.Sorted.{IsPermutation}

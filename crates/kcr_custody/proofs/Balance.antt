@@ -60,14 +60,13 @@ pub take_keeps : (facility : Facility) (boxes : List BoxRow) (bags : List Bag) (
     → IsBalanced boxes bags items → IsBalanced boxes (put same_bag (record { serial = serial; spot = Table facility }) bags) items
 take_keeps facility boxes bags items serial h = moved boxes bags items (record { serial = serial; spot = Table facility }) refl refl h
 
-pub put_keeps : (scene : CeremonyStatus) (safes : List SafeRow) (boxes : List BoxRow) (bags : List Bag) (items : List Item) (serial : List ℕ) (to : Destination)
-    (has_holder : Bool)
-    → IsBalanced boxes bags items → put_refusal scene safes boxes bags serial to has_holder ≡ None
-    → IsBalanced boxes (put same_bag (record { serial = serial; spot = spot_of_destination scene.facility to }) bags) items
-put_keeps scene safes boxes bags items serial SafeOne has_holder h n = moved boxes bags items _ refl refl h
-put_keeps scene safes boxes bags items serial (DepositBox number) has_holder h n =
-    let known : is_none (place_of_box_by boxes scene.facility number) ≡ false = grind arith in
-    moved boxes bags items _ refl (there (place_of_box_by boxes scene.facility number) known) h
+pub put_keeps : (status : CeremonyStatus) (safes : List SafeRow) (boxes : List BoxRow) (bags : List Bag) (items : List Item) (serial : List ℕ) (to : Destination)
+    → IsBalanced boxes bags items → put_refusal status safes boxes bags serial to ≡ None
+    → IsBalanced boxes (put same_bag (record { serial = serial; spot = spot_of_destination status.facility to }) bags) items
+put_keeps status safes boxes bags items serial SafeOne h n = moved boxes bags items _ refl refl h
+put_keeps status safes boxes bags items serial (DepositBox number) h n =
+    let known : is_none (place_of_box_by boxes status.facility number) ≡ false = grind arith in
+    moved boxes bags items _ refl (there (place_of_box_by boxes status.facility number) known) h
 
 -- BOXES
 
@@ -173,10 +172,10 @@ packed_there items serial (code ∷ codes) h =
     grind (arith, nat_tests, h, found, packed_there items serial codes)
 
 -- the items of a seal are the items that there were
-pub seal_stays : (scene : CeremonyStatus) (bags : List Bag) (items : List Item) (serial : List ℕ) (codes : List (List ℕ))
-    → seal_refusal scene bags items serial codes ≡ None
+pub seal_stays : (status : CeremonyStatus) (bags : List Bag) (items : List Item) (serial : List ℕ) (codes : List (List ℕ))
+    → seal_refusal status bags items serial codes ≡ None
     → map (λ row. row.code) (put_all same_item (sealed_items serial codes) items) ≡ map (λ row. row.code) items
-seal_stays scene bags items serial codes n =
+seal_stays status bags items serial codes n =
     keys_stay_all (λ row. row.code) (sealed_items serial codes) items
     (packed_there items serial codes (grind arith))
 

@@ -127,15 +127,16 @@ sealed_items serial codes = map (sealed_item serial) codes
 
 -- the ceremony is not open, the moment is before its mark, or the register is full
 abbrev pub not_ready_refusal : CeremonyStatus → Option Refusal
-not_ready_refusal scene =
+not_ready_refusal status =
     first_of
-    (when (not scene.is_open) State
-    ∷ before_mark_refusal scene.at scene.mark
-    ∷ when scene.is_full Full
+    (when (not status.is_open) State
+    ∷ before_mark_refusal status.at status.mark
+    ∷ when status.is_full Full
     ∷ [])
 
-abbrev pub no_ca_refusal : CeremonyStatus → Option Refusal
-no_ca_refusal scene = when (not scene.has_ca) (Absent (Absentees.Role Ca))
+-- nobody in the room is trained as CA
+abbrev pub no_ca_refusal : Bool → Option Refusal
+no_ca_refusal has_ca = when (not has_ca) (Absent (Absentees.Role Ca))
 
 abbrev pub unknown_bag_refusal : Option Spot → List ℕ → Option Refusal
 unknown_bag_refusal spot serial = when (is_none spot) (Unknown (Things.Bag serial))
@@ -159,8 +160,9 @@ abbrev pub no_holder_refusal : (Place → Bool) → Option Place → Option Refu
 no_holder_refusal has_holder None = None
 no_holder_refusal has_holder (Some place) = when (not (has_holder place)) (Absent (Absentees.Place place))
 
--- THE CONDITIONS OF EACH ACT in the order of the refusals, over what is asked: the scene; the place of a box and
--- whether a safe is open at its facility; where a bag or an item is; whether a place has its holder in the room
+-- THE CONDITIONS OF EACH ACT in the order of the refusals, over what is asked: its ceremony; the place of a box and whether
+-- a safe is open at its facility; where a bag or an item is. First those that hold or not whoever is in the room (early),
+-- then those on who is in it: whether a CA is, and whether a place has its holder there
 
 abbrev pub add_box_conditions : Bool → Bool → Bool → BoxRow → List (Option Refusal)
 add_box_conditions has_box has_place is_full row =
@@ -169,77 +171,75 @@ add_box_conditions has_box has_place is_full row =
     ∷ when is_full Full
     ∷ []
 
-abbrev pub add_item_conditions : CeremonyStatus → Option Rest → List (Option Refusal)
-add_item_conditions scene rest =
-    unknown_ceremony_refusal scene.is_known scene.ceremony
+abbrev pub add_item_early : CeremonyStatus → Option Rest → List (Option Refusal)
+add_item_early status rest =
+    unknown_ceremony_refusal status.is_known status.ceremony
     ∷ when (is_some rest) Taken
-    ∷ not_ready_refusal scene
-    ∷ no_ca_refusal scene
+    ∷ not_ready_refusal status
     ∷ []
 
 abbrev pub same_truth : Bool → Bool → Bool
 same_truth true b = b
 same_truth false b = not b
 
+abbrev pub safe_early : CeremonyStatus → (SafeNumber → Bool) → SafeNumber → Bool → Bool → List ℕ → List (Option Refusal)
+safe_early status is_open safe state is_known who =
+    unknown_ceremony_refusal status.is_known status.ceremony
+    ∷ unknown_person_refusal is_known who
+    ∷ not_ready_refusal status
+    ∷ when (same_truth (is_open safe) state) Refusals.Safe
+    ∷ []
+
 -- in the room, and trained as SSC1 for safe 1 or as SSC2 for safe 2
 abbrev pub may_operate : SafeNumber → SafeOperator → Bool
 may_operate One by = by.is_present && by.has_ssc1
 may_operate Two by = by.is_present && by.has_ssc2
 
-abbrev pub safe_conditions : CeremonyStatus → (SafeNumber → Bool) → SafeNumber → Bool → SafeOperator → List (Option Refusal)
-safe_conditions scene is_open safe state by =
-    unknown_ceremony_refusal scene.is_known scene.ceremony
-    ∷ unknown_person_refusal by.is_known by.who
-    ∷ not_ready_refusal scene
-    ∷ when (same_truth (is_open safe) state) Refusals.Safe
-    ∷ when (not (may_operate safe by)) (Absent (Absentees.Person by.who))
-    ∷ []
+abbrev pub no_operator_refusal : SafeNumber → SafeOperator → Option Refusal
+no_operator_refusal safe by = when (not (may_operate safe by)) (Absent (Absentees.Person by.who))
 
-abbrev pub seal_conditions : CeremonyStatus → Option Spot → (List ℕ → Option Rest) → List (List ℕ) → List (Option Refusal)
-seal_conditions scene spot rest codes =
-    unknown_ceremony_refusal scene.is_known scene.ceremony
+abbrev pub seal_early : CeremonyStatus → Option Spot → (List ℕ → Option Rest) → List (List ℕ) → List (Option Refusal)
+seal_early status spot rest codes =
+    unknown_ceremony_refusal status.is_known status.ceremony
     ∷ unknown_item_refusal rest codes
     ∷ when (is_some spot) Taken
-    ∷ not_ready_refusal scene
-    ∷ when (not (list_all (λ code. is_loose_at scene.facility (rest code)) codes)) Elsewhere
-    ∷ no_ca_refusal scene
+    ∷ not_ready_refusal status
+    ∷ when (not (list_all (λ code. is_loose_at status.facility (rest code)) codes)) Elsewhere
     ∷ []
 
-abbrev pub take_conditions : CeremonyStatus → (SafeNumber → Bool) → (ℕ → Option Place) → (Place → Bool) → Option Spot → List ℕ
-    → List (Option Refusal)
-take_conditions scene is_open place has_holder spot serial =
-    unknown_ceremony_refusal scene.is_known scene.ceremony
+abbrev pub take_early : CeremonyStatus → (SafeNumber → Bool) → Option Spot → List ℕ → List (Option Refusal)
+take_early status is_open spot serial =
+    unknown_ceremony_refusal status.is_known status.ceremony
     ∷ unknown_bag_refusal spot serial
-    ∷ not_ready_refusal scene
-    ∷ shut_refusal is_open (safe_of scene.facility spot)
-    ∷ when (is_none (safe_of scene.facility spot)) Elsewhere
-    ∷ no_ca_refusal scene
-    ∷ no_holder_refusal has_holder (option_and_then place (box_of spot))
+    ∷ not_ready_refusal status
+    ∷ shut_refusal is_open (safe_of status.facility spot)
+    ∷ when (is_none (safe_of status.facility spot)) Elsewhere
     ∷ []
 
-abbrev pub put_conditions : CeremonyStatus → (SafeNumber → Bool) → (ℕ → Option Place) → (Place → Bool) → Option Spot → List ℕ
-    → Destination → List (Option Refusal)
-put_conditions scene is_open place has_holder spot serial to =
-    unknown_ceremony_refusal scene.is_known scene.ceremony
+abbrev pub put_early : CeremonyStatus → (SafeNumber → Bool) → (ℕ → Option Place) → Option Spot → List ℕ → Destination
+    → List (Option Refusal)
+put_early status is_open place spot serial to =
+    unknown_ceremony_refusal status.is_known status.ceremony
     ∷ unknown_bag_refusal spot serial
     ∷ unknown_box_refusal place (box_of_destination to)
-    ∷ not_ready_refusal scene
+    ∷ not_ready_refusal status
     ∷ shut_refusal is_open (Some (safe_of_destination to))
-    ∷ when (not (is_on_table scene.facility spot)) Elsewhere
-    ∷ no_ca_refusal scene
-    ∷ no_holder_refusal has_holder (option_and_then place (box_of_destination to))
+    ∷ when (not (is_on_table status.facility spot)) Elsewhere
     ∷ []
 
-abbrev pub cut_conditions : CeremonyStatus → Option Spot → List ℕ → List (Option Refusal)
-cut_conditions scene spot serial =
-    unknown_ceremony_refusal scene.is_known scene.ceremony
+abbrev pub cut_early : CeremonyStatus → Option Spot → List ℕ → List (Option Refusal)
+cut_early status spot serial =
+    unknown_ceremony_refusal status.is_known status.ceremony
     ∷ unknown_bag_refusal spot serial
-    ∷ not_ready_refusal scene
-    ∷ when (not (is_on_table scene.facility spot)) Elsewhere
-    ∷ no_ca_refusal scene
+    ∷ not_ready_refusal status
+    ∷ when (not (is_on_table status.facility spot)) Elsewhere
     ∷ []
 
--- THE FIRST REFUSAL OF EACH ACT, by rows
+-- who has to be in the room for a bag to leave a safe or go into one: a CA, and the holder of the place of its box
+abbrev pub keepers_conditions : Bool → (Place → Bool) → Option Place → List (Option Refusal)
+keepers_conditions has_ca has_holder place = no_ca_refusal has_ca ∷ no_holder_refusal has_holder place ∷ []
+
+-- THE FIRST REFUSAL, by rows
 
 abbrev pub add_box_refusal : List BoxRow → Bool → BoxRow → Option Refusal
 add_box_refusal boxes is_full row =
@@ -247,28 +247,24 @@ add_box_refusal boxes is_full row =
     (add_box_conditions (list_any (is_box row.facility row.number) boxes)
     (list_any (λ old. same_place old.place row.place) boxes) is_full row)
 
-abbrev pub add_item_refusal : CeremonyStatus → List Item → List ℕ → Option Refusal
-add_item_refusal scene items code = first_of (add_item_conditions scene (rest_by items code))
+-- whoever is in the room
 
-abbrev pub safe_refusal : CeremonyStatus → List SafeRow → SafeNumber → Bool → SafeOperator → Option Refusal
-safe_refusal scene safes safe state by =
-    first_of (safe_conditions scene (is_open_by safes scene.facility) safe state by)
+abbrev pub add_item_refusal : CeremonyStatus → List Item → List ℕ → Option Refusal
+add_item_refusal status items code = first_of (add_item_early status (rest_by items code))
+
+abbrev pub safe_refusal : CeremonyStatus → List SafeRow → SafeNumber → Bool → Bool → List ℕ → Option Refusal
+safe_refusal status safes safe state is_known who = first_of (safe_early status (is_open_by safes status.facility) safe state is_known who)
 
 abbrev pub seal_refusal : CeremonyStatus → List Bag → List Item → List ℕ → List (List ℕ) → Option Refusal
-seal_refusal scene bags items serial codes =
-    first_of (seal_conditions scene (spot_by bags serial) (rest_by items) codes)
+seal_refusal status bags items serial codes = first_of (seal_early status (spot_by bags serial) (rest_by items) codes)
 
-abbrev pub take_refusal : CeremonyStatus → List SafeRow → List BoxRow → List Bag → List ℕ → Bool → Option Refusal
-take_refusal scene safes boxes bags serial has_holder =
-    first_of
-    (take_conditions scene (is_open_by safes scene.facility) (place_of_box_by boxes scene.facility)
-    (λ place. has_holder) (spot_by bags serial) serial)
+abbrev pub take_refusal : CeremonyStatus → List SafeRow → List Bag → List ℕ → Option Refusal
+take_refusal status safes bags serial = first_of (take_early status (is_open_by safes status.facility) (spot_by bags serial) serial)
 
-abbrev pub put_refusal : CeremonyStatus → List SafeRow → List BoxRow → List Bag → List ℕ → Destination → Bool → Option Refusal
-put_refusal scene safes boxes bags serial to has_holder =
+abbrev pub put_refusal : CeremonyStatus → List SafeRow → List BoxRow → List Bag → List ℕ → Destination → Option Refusal
+put_refusal status safes boxes bags serial to =
     first_of
-    (put_conditions scene (is_open_by safes scene.facility) (place_of_box_by boxes scene.facility)
-    (λ place. has_holder) (spot_by bags serial) serial to)
+    (put_early status (is_open_by safes status.facility) (place_of_box_by boxes status.facility) (spot_by bags serial) serial to)
 
 abbrev pub cut_refusal : CeremonyStatus → List Bag → List ℕ → Option Refusal
-cut_refusal scene bags serial = first_of (cut_conditions scene (spot_by bags serial) serial)
+cut_refusal status bags serial = first_of (cut_early status (spot_by bags serial) serial)

@@ -1,48 +1,37 @@
 //! What several acts test: nothing, or the refusal.
-ghost use Rattle.kcr_base.specs.Refuse.{IsTestResult, unknown_ceremony_refusal};
+ghost use Rattle.std.specs.Prelude.{◌≡◌};
+ghost use Rattle.kcr_base.specs.Refuse.{first_of, IsTestResult, unknown_ceremony_refusal};
 ghost use Rattle.kcr_custody.specs.Custody;
 
-use crate::{Bag, BoxRow, CeremonyStatus, SafeNumber, SafeRow, queries};
+use crate::{Bag, BoxRow, CeremonyStatus, SafeNumber, SafeOperator, SafeRow, queries};
 use kcr_base::{Absentee, Facility, Place, Refusal, Role, Serial, Thing};
 
 /// The ceremony is there.
-pub(crate) fn check_ceremony(scene: &CeremonyStatus) -> Result<(), Refusal>
-    ensures { IsTestResult (unknown_ceremony_refusal scene.now.is_known scene.now.ceremony) result }
+pub(crate) fn check_ceremony(status: &CeremonyStatus) -> Result<(), Refusal>
+    ensures { IsTestResult (unknown_ceremony_refusal status.now.is_known status.now.ceremony) result }
 {
-    if !scene.is_known {
+    if !status.is_known {
         return Err(Refusal::Unknown {
-            thing: Thing::Ceremony(scene.ceremony),
+            thing: Thing::Ceremony(status.ceremony),
         });
     }
     Ok(())
 }
 
 /// The ceremony is open, the moment is not before its mark, and the register takes more commands.
-pub(crate) fn check_ready(scene: &CeremonyStatus) -> Result<(), Refusal>
-    ensures { IsTestResult (Custody.not_ready_refusal scene.now) result }
+pub(crate) fn check_ready(status: &CeremonyStatus) -> Result<(), Refusal>
+    ensures { IsTestResult (Custody.not_ready_refusal status.now) result }
 {
-    if !scene.is_open {
+    if !status.is_open {
         return Err(Refusal::State);
     }
-    if let Some(mark) = scene.mark
-        && scene.at < mark
+    if let Some(mark) = status.mark
+        && status.at < mark
     {
         return Err(Refusal::Late { mark });
     }
-    if scene.is_full {
+    if status.is_full {
         return Err(Refusal::Full);
-    }
-    Ok(())
-}
-
-/// Somebody trained as CA is in the room.
-pub(crate) fn check_ca(scene: &CeremonyStatus) -> Result<(), Refusal>
-    ensures { IsTestResult (Custody.no_ca_refusal scene.now) result }
-{
-    if !scene.has_ca {
-        return Err(Refusal::Absent {
-            who: Absentee::Role(Role::Ca),
-        });
     }
     Ok(())
 }
@@ -78,7 +67,7 @@ pub(crate) fn check_box(
 }
 
 /// The facility's safe is open, if one is meant.
-pub(crate) fn check_safe(
+pub(crate) fn check_open(
     safes: &[SafeRow],
     facility: Facility,
     safe: Option<SafeNumber>,
@@ -93,15 +82,55 @@ pub(crate) fn check_safe(
     Ok(())
 }
 
-/// The holder of the box's place is in the room, if a box is meant.
-pub(crate) fn check_holder(place: Option<Place>, has_holder: bool) -> Result<(), Refusal>
-    ensures { IsTestResult (Custody.no_holder_refusal (λ _. has_holder) place) result }
+/// Somebody in the room is trained as CA. Refused: 30.
+pub fn check_ca(has_ca: bool) -> Result<(), Refusal>
+    ensures { IsTestResult (Custody.no_ca_refusal has_ca) result }
 {
+    if !has_ca {
+        return Err(Refusal::Absent {
+            who: Absentee::Role(Role::Ca),
+        });
+    }
+    Ok(())
+}
+
+/// Who has to be in the room for a bag to leave a safe or go into one: a CA, and of a bag in a box the holder of the
+/// box's place (`place_for_take` and `place_for_put` name the place). Refused: 30.
+pub fn check_keepers(has_ca: bool, place: Option<Place>, has_holder: bool) -> Result<(), Refusal>
+    ensures { IsTestResult (first_of (Custody.keepers_conditions has_ca (λ _. has_holder) place)) result }
+{
+    if !has_ca {
+        return Err(Refusal::Absent {
+            who: Absentee::Role(Role::Ca),
+        });
+    }
     if let Some(place) = place
         && !has_holder
     {
         return Err(Refusal::Absent {
             who: Absentee::Place(place),
+        });
+    }
+    Ok(())
+}
+
+/// Whether the person may turn the safe: in the room, and trained as SSC1 for safe 1 or as SSC2 for safe 2.
+fn may_operate(by: &SafeOperator, safe: SafeNumber) -> bool
+    ensures { result ≡ Custody.may_operate safe by.now }
+{
+    match safe {
+        SafeNumber::One => by.is_present && by.has_ssc1,
+        SafeNumber::Two => by.is_present && by.has_ssc2,
+    }
+}
+
+/// The person is in the room, and trained for this safe. Refused: 30.
+pub fn check_operator(safe: SafeNumber, by: &SafeOperator) -> Result<(), Refusal>
+    ensures { IsTestResult (Custody.no_operator_refusal safe by.now) result }
+{
+    if !may_operate(by, safe) {
+        return Err(Refusal::Absent {
+            who: Absentee::Person(by.who),
         });
     }
     Ok(())

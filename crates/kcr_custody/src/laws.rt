@@ -36,11 +36,11 @@ pub fn take_keeps_balance()
 
 /// A bag put away keeps balance.
 pub fn put_keeps_balance()
-    ensures { (scene : CeremonyStatus) (safes : List SafeRow) (boxes : List BoxRow) (bags : List Bag) (items : List Item)
-        (serial : List ℕ) (to : Destination) (has_holder : Bool) →
-        IsBalanced boxes bags items → Custody.put_refusal scene safes boxes bags serial to has_holder ≡ None →
+    ensures { (status : CeremonyStatus) (safes : List SafeRow) (boxes : List BoxRow) (bags : List Bag) (items : List Item)
+        (serial : List ℕ) (to : Destination) →
+        IsBalanced boxes bags items → Custody.put_refusal status safes boxes bags serial to ≡ None →
         IsBalanced boxes
-        (put same_bag (record { serial = serial; spot = Custody.spot_of_destination scene.facility to }) bags) items }
+        (put same_bag (record { serial = serial; spot = Custody.spot_of_destination status.facility to }) bags) items }
 {}
 
 /// A seal keeps balance.
@@ -62,8 +62,8 @@ pub fn cut_keeps_balance()
 
 /// A seal neither loses nor makes an item.
 pub fn seal_leaves_items()
-    ensures { (scene : CeremonyStatus) (bags : List Bag) (items : List Item) (serial : List ℕ) (codes : List (List ℕ)) →
-        Custody.seal_refusal scene bags items serial codes ≡ None →
+    ensures { (status : CeremonyStatus) (bags : List Bag) (items : List Item) (serial : List ℕ) (codes : List (List ℕ)) →
+        Custody.seal_refusal status bags items serial codes ≡ None →
         map (λ row. row.code) (put_all same_item (Custody.sealed_items serial codes) items) ≡ map (λ row. row.code) items }
 {}
 

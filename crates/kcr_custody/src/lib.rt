@@ -2,8 +2,9 @@
 //!
 //! Each facility has safe 1 (equipment) and safe 2 (credentials), shut at first. A box lies in safe 2 and belongs to
 //! one Crypto Officer's place of its facility. An item is loose at a facility or within a bag; a bag is on the
-//! facility's table, in safe 1, in a box, or spent. Each act answers the changed rows, or the first refusal in the
-//! order of the refusals' numbers; nothing is changed in place.
+//! facility's table, in safe 1, in a box, or spent. The `check_` of an act answers the first refusal that it has whoever is
+//! in the room, in the order of the refusals' numbers; `check_ca`, `check_keepers` and `check_operator` answer who is
+//! missing there. Nothing is changed in place.
 #![tactic(auto)]
 
 use kcr_base::{BoxNumber, Facility, Initials, ItemCode, Moment, Place, Serial};
@@ -15,7 +16,11 @@ pub mod laws;
 pub mod queries;
 pub mod spots;
 
-pub use acts::{add_box, add_item, cut, open_safe, put, seal, set_safe, shut_safe, take};
+pub use acts::{
+    add_box, check_add_item, check_cut, check_put, check_seal, check_set_safe, check_take, cut,
+    seal,
+};
+pub use checks::{check_ca, check_keepers, check_operator};
 pub use queries::{place_for_put, place_for_take};
 
 /// Which safe of a facility: safe 1 holds equipment, safe 2 credentials in deposit boxes.
@@ -86,7 +91,7 @@ pub enum Destination {
     DepositBox(BoxNumber),
 }
 
-/// What an act takes from elsewhere: its ceremony at its moment.
+/// What an act takes from elsewhere, whoever is in the room: its ceremony at its moment.
 #[derive(Clone, Copy)]
 pub struct CeremonyStatus {
     /// The number of the ceremony.
@@ -103,16 +108,12 @@ pub struct CeremonyStatus {
     pub at: Moment,
     /// Whether the register has as many commands as it may have.
     pub is_full: bool,
-    /// Whether somebody in the room is trained as CA on the day.
-    pub has_ca: bool,
 }
 
 /// Who opens or shuts a safe.
 #[derive(Clone, Copy)]
 pub struct SafeOperator {
     pub who: Initials,
-    /// Whether the register has the person.
-    pub is_known: bool,
     /// Whether the person is in the room at the moment.
     pub is_present: bool,
     /// Whether the person is trained as SSC1 on the day: for safe 1.

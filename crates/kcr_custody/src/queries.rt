@@ -116,7 +116,7 @@ pub(crate) fn safe_of_destination(to: &Destination) -> SafeNumber
     }
 }
 
-pub(crate) fn spot_of_destination(facility: Facility, to: &Destination) -> Spot
+pub fn spot_of_destination(facility: Facility, to: &Destination) -> Spot
     ensures { result ≡ Custody.spot_of_destination facility to.now }
 {
     match to {

@@ -1,7 +1,8 @@
 -- What an accepted entry tells of the history before it.
 use Rattle.std.proofs.Common.{◌≡◌, ℕ, ◌+◌, List, [], ◌∷◌, length, Option, Some, None, refl, ap, arith, inl, inr, MatchOption}
-use Rattle.kcr_base.specs.Refuse.{NoneHolds}
+use Rattle.kcr_base.specs.Refuse.{when, NoneHolds, before_mark_refusal, not_after_mark_refusal}
 use Rattle.kcr_base.specs.declared.refusal.Refusal.{Refusal}
+use Rattle.kcr_base.specs.declared.refusal.Refusal.TheVariants.{Full}
 use Rattle.kcr_base.proofs.RefuseLemmas.{none_holds}
 use Rattle.kcr_custody.specs.Custody.{not_ready_refusal}
 use Rattle.kcr_history.specs.declared.commands.Act.{Act}
@@ -9,11 +10,29 @@ use Rattle.kcr_history.specs.declared.commands.ReplyData.{ReplyData}
 use Rattle.kcr_history.specs.declared.commands.Command.{Command}
 use Rattle.kcr_history.specs.declared.commands.Entry.{Entry}
 use Rattle.kcr_history.specs.History.{History, entry_of}
-use Rattle.kcr_history.specs.Conditions.{fault, not_open_refusal, late_refusal, full_refusal, ceremony_status_at}
+use Rattle.kcr_history.specs.Ceremonies.{mark}
+use Rattle.kcr_history.specs.Conditions.{fault, is_full, by_history, ceremony_status_at, no_ceremony_refusal, not_open_refusal}
 use Rattle.kcr_history.specs.Tables.{keys}
 use Rattle.kcr_history.specs.Views.{greatest_number}
 use Rattle.kcr_history.specs.Machine.{Accepts, SeatRequest, seat_request, reply_to, with_command, DecidesNew, DecidesRepeat, seats, IsAcceptedWith, machine}
 use Rattle.kcr_history.specs.Machine.{IsOfMachine, IsReplyTo, CanFollow, IsRegister}
+
+-- CONDITIONS OF A HISTORY that several kinds of acts have
+
+abbrev pub no_ceremony : History → ℕ → Option Refusal
+no_ceremony A ceremony = no_ceremony_refusal (by_history A) ceremony
+
+abbrev pub not_open : History → ℕ → Option Refusal
+not_open A ceremony = not_open_refusal (by_history A) ceremony
+
+abbrev pub late : History → ℕ → ℕ → Option Refusal
+late A ceremony at = before_mark_refusal at (mark A ceremony)
+
+abbrev pub not_later : History → ℕ → ℕ → Option Refusal
+not_later A ceremony at = not_after_mark_refusal at (mark A ceremony)
+
+abbrev pub full : History → Option Refusal
+full A = when (is_full A) Full
 
 -- the key was new, no condition held, and the reply is the machine's, with the people who were seated if seats were needed
 pub record Took (A : History) (entry : Entry) : Type 0 where
@@ -23,8 +42,8 @@ pub record Took (A : History) (entry : Entry) : Type 0 where
   pub reply : entry.reply ≡ reply_to A entry.command.act people
 
 -- if an act of custody finds its ceremony ready, it is open, the moment is not before its mark, and the register is not full
-pub none_ready : (A : History) (c at : ℕ) → not_ready_refusal (ceremony_status_at A c at) ≡ None → NoneHolds (not_open_refusal A c ∷ late_refusal A c at ∷ full_refusal A ∷ [])
-none_ready A c at = none_holds (not_open_refusal A c ∷ late_refusal A c at ∷ full_refusal A ∷ [])
+pub none_ready : (A : History) (c at : ℕ) → not_ready_refusal (ceremony_status_at A c at) ≡ None → NoneHolds (not_open A c ∷ late A c at ∷ full A ∷ [])
+none_ready A c at = none_holds (not_open A c ∷ late A c at ∷ full A ∷ [])
 
 -- WHAT A REGISTER'S ENTRY TELLS
 

@@ -1,13 +1,16 @@
--- When a command is refused: the conditions of each kind in the order of the refusals' numbers.
-use Rattle.std.specs.Prelude.{ℕ, ◌==◌, Bool, true, false, not, ◌&&◌, ◌||◌, nat_lt, nat_le, List, [], ◌∷◌, length}
-use Rattle.std.specs.Prelude.{find, Option, Some, None, option_map, is_some, is_none, unwrap_or, Result, Ok}
+-- When a command is refused: the conditions of each kind in the order of the refusals' numbers, said once over what they
+-- ask of the register. A history answers that (`by_history`), and so do the rows of a view (`by_rows` of kcr_rules).
+use Rattle.std.specs.Prelude.{ℕ, ◌==◌, Bool, true, false, not, ◌&&◌, ◌||◌, nat_lt, nat_le, List, [], ◌∷◌, ◌++◌, length}
+use Rattle.std.specs.Prelude.{find, Option, Some, None, option_map, option_and_then, is_some, is_none, unwrap_or, Result, Ok}
 use Rattle.std.specs.Prelude.{Err, if◌then◌else◌}
 use Rattle.std.specs.List.{list_any}
 use Rattle.kcr_base.specs.Days.{day_of}
-use Rattle.kcr_base.specs.Refuse
-use Rattle.kcr_base.specs.Refuse.{when, first_of, unknown_people_refusal, before_mark_refusal, not_after_mark_refusal}
+use Rattle.kcr_base.specs.Refuse.{when, first_of, unknown_people_refusal, unknown_ceremony_refusal, before_mark_refusal}
+use Rattle.kcr_base.specs.Refuse.{not_after_mark_refusal}
 use Rattle.kcr_base.specs.Same.{same_facility, same_text}
+use Rattle.kcr_base.specs.declared.place.Facility.{Facility}
 use Rattle.kcr_base.specs.declared.place.Place.{Place}
+use Rattle.kcr_base.specs.declared.place.Role.{Role}
 use Rattle.kcr_base.specs.declared.place.Role.TheVariants.{Ca, Ssc1, Ssc2}
 use Rattle.kcr_base.specs.declared.refusal.Part.TheVariants as Parts
 use Rattle.kcr_base.specs.declared.refusal.Refusal.{Refusal}
@@ -15,13 +18,19 @@ use Rattle.kcr_base.specs.declared.refusal.Refusal.TheVariants as Refusals
 use Rattle.kcr_base.specs.declared.refusal.Refusal.TheVariants.{Unknown, Taken, Range, Script, Busy, Order, Crowd}
 use Rattle.kcr_base.specs.declared.refusal.Refusal.TheVariants.{Full, Unfinished}
 use Rattle.kcr_base.specs.declared.refusal.Thing.TheVariants as Things
+use Rattle.kcr_people.specs.declared.Appointment.{Appointment}
+use Rattle.kcr_people.specs.declared.Training.{Training}
 use Rattle.kcr_people.specs.People.{trained_from_by, enter_conditions, train_conditions, withdraw_conditions}
 use Rattle.kcr_people.specs.People.{appoint_conditions, replace_conditions, release_conditions}
-use Rattle.kcr_custody.specs.declared.SafeOperator.{SafeOperator}
-use Rattle.kcr_custody.specs.declared.SafeNumber.TheVariants.{One, Two}
 use Rattle.kcr_custody.specs.declared.CeremonyStatus.{CeremonyStatus}
-use Rattle.kcr_custody.specs.Custody.{is_on_table, add_box_conditions, add_item_conditions, safe_conditions}
-use Rattle.kcr_custody.specs.Custody.{seal_conditions, take_conditions, put_conditions, cut_conditions}
+use Rattle.kcr_custody.specs.declared.Rest.{Rest}
+use Rattle.kcr_custody.specs.declared.SafeOperator.{SafeOperator}
+use Rattle.kcr_custody.specs.declared.SafeNumber.{SafeNumber}
+use Rattle.kcr_custody.specs.declared.SafeNumber.TheVariants.{One, Two}
+use Rattle.kcr_custody.specs.declared.Spot.{Spot}
+use Rattle.kcr_custody.specs.Custody.{is_on_table, box_of, box_of_destination, add_box_conditions, add_item_early, safe_early}
+use Rattle.kcr_custody.specs.Custody.{seal_early, take_early, put_early, cut_early, no_ca_refusal, no_operator_refusal}
+use Rattle.kcr_custody.specs.Custody.{keepers_conditions}
 use Rattle.kcr_room.specs.declared.SheetRow.{SheetRow}
 use Rattle.kcr_room.specs.declared.Way.{Way}
 use Rattle.kcr_room.specs.declared.Way.TheVariants as Ways
@@ -42,78 +51,66 @@ use Rattle.kcr_history.specs.Room.{sheet, sheet_after, is_in, present, has_train
 use Rattle.kcr_history.specs.Custody.{spot, rest, is_open, place_of_box, boxes_place}
 use Rattle.kcr_history.specs.Tables.{trainings, withdrawals, appointments, planned_number, sealed_serial}
 
+-- WHAT THE CONDITIONS ASK
+
+pub record Facts : Type 0 where
+  pub is_full : Bool
+  pub is_person : List ℕ → Bool
+  pub has_training : Training → Bool
+  pub ever_trained : List ℕ → Bool
+  pub trained_from : List ℕ → Role → ℕ → Bool
+  pub was_custodian : List ℕ → Bool
+  pub appointments : List Appointment
+  pub settled : Option ℕ
+  pub is_ceremony : ℕ → Bool
+  pub facility : ℕ → Facility
+  pub day : ℕ → ℕ
+  pub was_opened : ℕ → Bool
+  pub is_ceremony_open : ℕ → Bool
+  pub is_busy : ℕ → Bool
+  pub mark : ℕ → Option ℕ
+  pub lacks_step : ℕ → ℕ → Bool
+  pub next_step : ℕ → ℕ
+  pub has_step_left : ℕ → Bool
+  pub exception_count : ℕ → ℕ
+  pub has_box : Facility → ℕ → Bool
+  pub has_box_of : Place → Bool
+  pub place_of_box : Facility → ℕ → Option Place
+  pub is_safe_open : Facility → SafeNumber → Bool
+  pub spot : List ℕ → Option Spot
+  pub rest : List ℕ → Option Rest
+  pub has_bag_on_table : Facility → Bool
+  pub is_room_used : ℕ → ℕ → Bool
+  pub has_ca : ℕ → ℕ → Bool
+  pub has_holder : Place → ℕ → ℕ → Bool
+  pub operator : List ℕ → ℕ → ℕ → SafeOperator
+  pub room_conditions : ℕ → Way → List (List ℕ) → ℕ → List (Option Refusal)
+
+-- the ceremony at the moment
+abbrev pub status : Facts → ℕ → ℕ → CeremonyStatus
+status facts ceremony at =
+    record {
+      ceremony = ceremony;
+      is_known = facts.is_ceremony ceremony;
+      facility = facts.facility ceremony;
+      is_open = facts.is_ceremony_open ceremony;
+      mark = facts.mark ceremony;
+      at = at;
+      is_full = facts.is_full;
+    }
+
 -- WHAT SEVERAL KINDS TEST
 
--- the register has as many accepted commands as it may have
-abbrev pub is_full : History → Bool
-is_full A = nat_le 4000000000 (length A)
+abbrev pub no_ceremony_refusal : Facts → ℕ → Option Refusal
+no_ceremony_refusal facts ceremony = unknown_ceremony_refusal (facts.is_ceremony ceremony) ceremony
 
-abbrev pub full_refusal : History → Option Refusal
-full_refusal A = when (is_full A) Full
-
-abbrev pub no_ceremony : History → ℕ → Option Refusal
-no_ceremony A ceremony = Refuse.unknown_ceremony_refusal (is_ceremony A ceremony) ceremony
-
-abbrev pub unknown_step_refusal : History → ℕ → ℕ → Option Refusal
-unknown_step_refusal A ceremony step = when (is_none (step_at (steps_of A ceremony) step)) (Unknown (Things.Step step))
-
--- the ceremony is not open
-abbrev pub not_open_refusal : History → ℕ → Option Refusal
-not_open_refusal A ceremony = when (not (is_ceremony_open A ceremony)) Refusals.State
-
--- the moment is before the mark
-abbrev pub late_refusal : History → ℕ → ℕ → Option Refusal
-late_refusal A ceremony at = before_mark_refusal at (mark A ceremony)
-
--- the moment is not later than the mark
-abbrev pub not_later_refusal : History → ℕ → ℕ → Option Refusal
-not_later_refusal A ceremony at = not_after_mark_refusal at (mark A ceremony)
-
--- CEREMONIES
+abbrev pub not_open_refusal : Facts → ℕ → Option Refusal
+not_open_refusal facts ceremony = when (not (facts.is_ceremony_open ceremony)) Refusals.State
 
 -- the text is no script: with the number of the first row that breaks a rule
 abbrev pub script_refusal : Result (List Step) ℕ → Option Refusal
 script_refusal (Ok steps) = None
 script_refusal (Err row) = Some (Script row)
-
--- the day of the moment is before the ceremony's day
-abbrev pub opening_day_refusal : History → ℕ → ℕ → Option Refusal
-opening_day_refusal A ceremony at = when (nat_lt (day_of at) (day_planned A ceremony)) Range
-
--- another ceremony is open in the facility
-abbrev pub busy_refusal : History → ℕ → Option Refusal
-busy_refusal A ceremony =
-    when (list_any (λ other. not (other == ceremony) && same_facility (facility_of A other) (facility_of A ceremony)
-    && is_ceremony_open A other) (values_of_acts planned_number A)) Busy
-
-abbrev pub is_empty : {X : Type 0} → List X → Bool
-is_empty [] = true
-is_empty (x ∷ xs) = false
-
--- somebody is in the room at the moment, or a sheet row of the ceremony is later
-abbrev pub is_room_used : History → ℕ → ℕ → Bool
-is_room_used A ceremony at =
-    not (is_empty (present A ceremony at)) || list_any (λ row. row.ceremony == ceremony && nat_lt at row.at) (sheet A)
-
--- what keeps the ceremony from closing, the first of: a step that is neither signed nor passed, its room, an open safe,
--- a bag on the table
-abbrev pub unfinished_refusal : History → ℕ → ℕ → Option Refusal
-unfinished_refusal A ceremony at =
-    first_of
-    (when (nat_lt (steps_done A ceremony) (length (steps_of A ceremony))) (Unfinished Parts.Steps)
-    ∷ when (is_room_used A ceremony at) (Unfinished Parts.Room)
-    ∷ when (is_open A (facility_of A ceremony) One || is_open A (facility_of A ceremony) Two)
-    (Unfinished Parts.Safes)
-    ∷ when (list_any (λ serial. is_on_table (facility_of A ceremony) (spot A serial)) (values_of_acts sealed_serial A))
-    (Unfinished Parts.Table)
-    ∷ [])
-
--- THE ROOM
-
--- it is not the person's turn: the last row is not earlier than the moment, or it is no `in` after which an `out` may
--- come, or no `out` after which an `in` may come
-abbrev pub out_of_turn_refusal : History → ℕ → Way → ℕ → List (List ℕ) → Option Refusal
-out_of_turn_refusal A ceremony way at people = turn_refusal (find (is_out_of_turn_by (sheet A) ceremony way at) people)
 
 -- the first of the people who is named again
 abbrev pub first_twice : List (List ℕ) → Option (List ℕ)
@@ -124,6 +121,136 @@ first_twice (who ∷ people) = if list_any (same_text who) people then Some who 
 -- before any register sees it)
 abbrev pub named_twice_refusal : List (List ℕ) → Option Refusal
 named_twice_refusal people = turn_refusal (first_twice people)
+
+-- THE CONDITIONS OF EACH KIND, after that of its key. First those of an act in a ceremony that ask nothing of who is in
+-- the room, trained or appointed: they are tested before the rows of people are read
+
+abbrev pub early_conditions : Facts → Act → List (Option Refusal)
+early_conditions facts (Close ceremony at) =
+    no_ceremony_refusal facts ceremony
+    ∷ not_open_refusal facts ceremony
+    ∷ before_mark_refusal at (facts.mark ceremony)
+    ∷ when facts.is_full Full
+    ∷ []
+early_conditions facts (RecordSheet ceremony way people at) =
+    no_ceremony_refusal facts ceremony
+    ∷ unknown_people_refusal facts.is_person people
+    ∷ not_open_refusal facts ceremony
+    ∷ not_after_mark_refusal at (facts.mark ceremony)
+    ∷ []
+early_conditions facts (Sign ceremony step at) =
+    no_ceremony_refusal facts ceremony
+    ∷ when (facts.lacks_step ceremony step) (Unknown (Things.Step step))
+    ∷ not_open_refusal facts ceremony
+    ∷ before_mark_refusal at (facts.mark ceremony)
+    ∷ when (not (step == facts.next_step ceremony)) (Order (facts.next_step ceremony))
+    ∷ when facts.is_full Full
+    ∷ []
+early_conditions facts (RecordException ceremony text pass at) =
+    no_ceremony_refusal facts ceremony
+    ∷ not_open_refusal facts ceremony
+    ∷ before_mark_refusal at (facts.mark ceremony)
+    ∷ when (pass && facts.lacks_step ceremony (facts.next_step ceremony)) (Order (facts.next_step ceremony))
+    ∷ when (nat_le 200 (facts.exception_count ceremony)) Full
+    ∷ when facts.is_full Full
+    ∷ []
+early_conditions facts (AddItem ceremony item at) = add_item_early (status facts ceremony at) (facts.rest item)
+early_conditions facts (SetSafe ceremony safe state by at) =
+    safe_early (status facts ceremony at) (facts.is_safe_open (facts.facility ceremony)) safe state (facts.is_person by) by
+early_conditions facts (Seal ceremony serial items at) =
+    seal_early (status facts ceremony at) (facts.spot serial) facts.rest items
+early_conditions facts (Take ceremony serial at) =
+    take_early (status facts ceremony at) (facts.is_safe_open (facts.facility ceremony)) (facts.spot serial) serial
+early_conditions facts (Put ceremony serial to at) =
+    put_early (status facts ceremony at) (facts.is_safe_open (facts.facility ceremony))
+    (facts.place_of_box (facts.facility ceremony)) (facts.spot serial) serial to
+early_conditions facts (Cut ceremony serial at) = cut_early (status facts ceremony at) (facts.spot serial) serial
+early_conditions facts act = []
+
+-- and then the others
+abbrev pub late_conditions : Facts → Act → List (Option Refusal)
+late_conditions facts (Enter who name) = enter_conditions (facts.is_person who) facts.is_full
+late_conditions facts (Train who role since until) =
+    let row : Training = record { who = who; role = role; since = since; until = until } in
+    train_conditions (facts.is_person who) (facts.has_training row) (facts.was_custodian who) facts.is_full row
+late_conditions facts (Withdraw who role day) =
+    withdraw_conditions (facts.is_person who) (facts.trained_from who role day) facts.settled facts.is_full who day
+late_conditions facts (Appoint place who day) =
+    appoint_conditions (facts.is_person who) (facts.ever_trained who) facts.appointments facts.settled facts.is_full place
+    who day
+late_conditions facts (Replace place who day) =
+    replace_conditions (facts.is_person who) (facts.ever_trained who) facts.appointments facts.settled facts.is_full place
+    who day
+late_conditions facts (Release place day) = release_conditions facts.appointments facts.settled facts.is_full place day
+late_conditions facts (AddBox facility number place) =
+    add_box_conditions (facts.has_box facility number) (facts.has_box_of place) facts.is_full
+    (record { facility = facility; number = number; place = place })
+late_conditions facts (Plan number facility day script) =
+    when (facts.is_ceremony number) Taken
+    ∷ script_refusal (script_of script)
+    ∷ when facts.is_full Full
+    ∷ []
+late_conditions facts (Open ceremony at) =
+    no_ceremony_refusal facts ceremony
+    ∷ when (nat_lt (day_of at) (facts.day ceremony)) Range
+    ∷ when (facts.was_opened ceremony) Refusals.State
+    ∷ when (facts.is_busy ceremony) Busy
+    ∷ when facts.is_full Full
+    ∷ []
+late_conditions facts (Close ceremony at) =
+    let here = facts.facility ceremony in
+    when (facts.has_step_left ceremony) (Unfinished Parts.Steps)
+    ∷ when (facts.is_room_used ceremony at) (Unfinished Parts.Room)
+    ∷ when (facts.is_safe_open here One || facts.is_safe_open here Two) (Unfinished Parts.Safes)
+    ∷ when (facts.has_bag_on_table here) (Unfinished Parts.Table)
+    ∷ []
+late_conditions facts (RecordSheet ceremony way people at) =
+    named_twice_refusal people ∷ facts.room_conditions ceremony way people at
+late_conditions facts (AddItem ceremony item at) = no_ca_refusal (facts.has_ca ceremony at) ∷ []
+late_conditions facts (SetSafe ceremony safe state by at) = no_operator_refusal safe (facts.operator by ceremony at) ∷ []
+late_conditions facts (Seal ceremony serial items at) = no_ca_refusal (facts.has_ca ceremony at) ∷ []
+late_conditions facts (Take ceremony serial at) =
+    keepers_conditions (facts.has_ca ceremony at) (λ place. facts.has_holder place ceremony at)
+    (option_and_then (facts.place_of_box (facts.facility ceremony)) (box_of (facts.spot serial)))
+late_conditions facts (Put ceremony serial to at) =
+    keepers_conditions (facts.has_ca ceremony at) (λ place. facts.has_holder place ceremony at)
+    (option_and_then (facts.place_of_box (facts.facility ceremony)) (box_of_destination to))
+late_conditions facts (Cut ceremony serial at) = no_ca_refusal (facts.has_ca ceremony at) ∷ []
+late_conditions facts act = []
+
+abbrev pub conditions_over : Facts → Act → List (Option Refusal)
+conditions_over facts act = early_conditions facts act ++ late_conditions facts act
+
+-- WHAT A HISTORY ANSWERS
+
+-- the register has as many accepted commands as it may have
+abbrev pub is_full : History → Bool
+is_full A = nat_le 4000000000 (length A)
+
+-- another ceremony is open in the facility
+abbrev pub is_busy : History → ℕ → Bool
+is_busy A ceremony =
+    list_any (λ other. not (other == ceremony) && same_facility (facility_of A other) (facility_of A ceremony)
+    && is_ceremony_open A other) (values_of_acts planned_number A)
+
+abbrev pub is_empty : {X : Type 0} → List X → Bool
+is_empty [] = true
+is_empty (x ∷ xs) = false
+
+-- somebody is in the room at the moment, or a sheet row of the ceremony is later
+abbrev pub is_room_used : History → ℕ → ℕ → Bool
+is_room_used A ceremony at =
+    not (is_empty (present A ceremony at)) || list_any (λ row. row.ceremony == ceremony && nat_lt at row.at) (sheet A)
+
+-- a bag is on the facility's table
+abbrev pub has_bag_on_table : History → Facility → Bool
+has_bag_on_table A facility =
+    list_any (λ serial. is_on_table facility (spot A serial)) (values_of_acts sealed_serial A)
+
+-- it is not the person's turn: the last row is not earlier than the moment, or it is no `in` after which an `out` may
+-- come, or no `out` after which an `in` may come
+abbrev pub out_of_turn_refusal : History → ℕ → Way → ℕ → List (List ℕ) → Option Refusal
+out_of_turn_refusal A ceremony way at people = turn_refusal (find (is_out_of_turn_by (sheet A) ceremony way at) people)
 
 -- at some moment more than 128 people would be in the room
 abbrev pub crowd_refusal : List SheetRow → ℕ → Option Refusal
@@ -138,28 +265,22 @@ abbrev pub is_overfull : Way → List SheetRow → ℕ → Bool
 is_overfull Ways.Enter rows ceremony = nat_lt 1000 (in_row_count_by rows ceremony)
 is_overfull Ways.Leave rows ceremony = false
 
--- CUSTODY
-
--- the ceremony at the moment
-abbrev pub ceremony_status_at : History → ℕ → ℕ → CeremonyStatus
-ceremony_status_at A ceremony at =
-    record {
-      ceremony = ceremony;
-      is_known = is_ceremony A ceremony;
-      facility = facility_of A ceremony;
-      is_open = is_ceremony_open A ceremony;
-      mark = mark A ceremony;
-      at = at;
-      is_full = is_full A;
-      has_ca = has_trained_present A Ca ceremony at;
-    }
+-- what the sheet with the rows of a request tells
+abbrev pub sheet_conditions : History → ℕ → Way → List (List ℕ) → ℕ → List (Option Refusal)
+sheet_conditions A ceremony way people at =
+    let rows = sheet_after (RecordSheet ceremony way people at) (sheet A) in
+    out_of_turn_refusal A ceremony way at people
+    ∷ crowd_refusal rows ceremony
+    ∷ lone_room_refusal rows ceremony
+    ∷ when (is_overfull way rows ceremony) Full
+    ∷ when (is_full A) Full
+    ∷ []
 
 -- who opens or shuts a safe in the room of the ceremony at the moment
-abbrev pub safe_operator_at : History → ℕ → List ℕ → ℕ → SafeOperator
-safe_operator_at A ceremony by at =
+abbrev pub safe_operator_at : History → List ℕ → ℕ → ℕ → SafeOperator
+safe_operator_at A by ceremony at =
     record {
       who = by;
-      is_known = is_person A by;
       is_present = is_in A by ceremony at;
       has_ssc1 = trained A by Ssc1 (day_of at);
       has_ssc2 = trained A by Ssc2 (day_of at);
@@ -170,87 +291,49 @@ abbrev pub is_holder_present : History → Place → ℕ → ℕ → Bool
 is_holder_present A place ceremony at =
     unwrap_or (option_map (λ who. is_in A who ceremony at) (holder A place (day_of at))) false
 
--- THE CONDITIONS OF EACH KIND, behind that of its key; the list of an act on people or in custody stands in its crate,
--- over what is asked, which is here what the history says
+abbrev pub by_history : History → Facts
+by_history A =
+    record {
+      is_full = is_full A;
+      is_person = is_person A;
+      has_training = λ row. has_command (is_training row.who row.role row.since row.until) A;
+      ever_trained = ever_trained A;
+      trained_from = trained_from_by (trainings A) (withdrawals A);
+      was_custodian = was_custodian A;
+      appointments = appointments A;
+      settled = settled A;
+      is_ceremony = is_ceremony A;
+      facility = facility_of A;
+      day = day_planned A;
+      was_opened = λ ceremony. is_some (opened_at A ceremony);
+      is_ceremony_open = is_ceremony_open A;
+      is_busy = is_busy A;
+      mark = mark A;
+      lacks_step = λ ceremony step. is_none (step_at (steps_of A ceremony) step);
+      next_step = next_step A;
+      has_step_left = λ ceremony. nat_lt (steps_done A ceremony) (length (steps_of A ceremony));
+      exception_count = exceptions_of A;
+      has_box = λ facility number. is_some (place_of_box A facility number);
+      has_box_of = λ place. has_command (boxes_place place) A;
+      place_of_box = place_of_box A;
+      is_safe_open = is_open A;
+      spot = spot A;
+      rest = rest A;
+      has_bag_on_table = has_bag_on_table A;
+      is_room_used = is_room_used A;
+      has_ca = has_trained_present A Ca;
+      has_holder = is_holder_present A;
+      operator = safe_operator_at A;
+      room_conditions = sheet_conditions A;
+    }
 
+-- the ceremony at the moment
+abbrev pub ceremony_status_at : History → ℕ → ℕ → CeremonyStatus
+ceremony_status_at A ceremony at = status (by_history A) ceremony at
+
+-- the conditions of an act whose key is new, and the first refusal, or none
 abbrev pub conditions : History → Act → List (Option Refusal)
-conditions A (Enter who name) = enter_conditions (is_person A who) (is_full A)
-conditions A (Train who role since until) =
-    train_conditions (is_person A who) (has_command (is_training who role since until) A) (was_custodian A who) (is_full A)
-    (record { who = who; role = role; since = since; until = until })
-conditions A (Withdraw who role day) =
-    withdraw_conditions (is_person A who) (trained_from_by (trainings A) (withdrawals A) who role day) (settled A)
-    (is_full A) who day
-conditions A (Appoint place who day) =
-    appoint_conditions (is_person A who) (ever_trained A who) (appointments A) (settled A) (is_full A) place who day
-conditions A (Replace place who day) =
-    replace_conditions (is_person A who) (ever_trained A who) (appointments A) (settled A) (is_full A) place who day
-conditions A (Release place day) = release_conditions (appointments A) (settled A) (is_full A) place day
-conditions A (AddBox facility number place) =
-    add_box_conditions (is_some (place_of_box A facility number)) (has_command (boxes_place place) A) (is_full A)
-    (record { facility = facility; number = number; place = place })
-conditions A (AddItem ceremony item at) = add_item_conditions (ceremony_status_at A ceremony at) (rest A item)
-conditions A (Plan number facility day script) =
-    when (is_ceremony A number) Taken
-    ∷ script_refusal (script_of script)
-    ∷ full_refusal A
-    ∷ []
-conditions A (Open ceremony at) =
-    no_ceremony A ceremony
-    ∷ opening_day_refusal A ceremony at
-    ∷ when (is_some (opened_at A ceremony)) Refusals.State
-    ∷ busy_refusal A ceremony
-    ∷ full_refusal A
-    ∷ []
-conditions A (Close ceremony at) =
-    no_ceremony A ceremony
-    ∷ not_open_refusal A ceremony
-    ∷ late_refusal A ceremony at
-    ∷ full_refusal A
-    ∷ unfinished_refusal A ceremony at
-    ∷ []
-conditions A (RecordSheet ceremony way people at) =
-    no_ceremony A ceremony
-    ∷ unknown_people_refusal (is_person A) people
-    ∷ not_open_refusal A ceremony
-    ∷ not_later_refusal A ceremony at
-    ∷ named_twice_refusal people
-    ∷ out_of_turn_refusal A ceremony way at people
-    ∷ crowd_refusal (sheet_after (RecordSheet ceremony way people at) (sheet A)) ceremony
-    ∷ lone_room_refusal (sheet_after (RecordSheet ceremony way people at) (sheet A)) ceremony
-    ∷ when (is_overfull way (sheet_after (RecordSheet ceremony way people at) (sheet A)) ceremony) Full
-    ∷ full_refusal A
-    ∷ []
-conditions A (Sign ceremony step at) =
-    no_ceremony A ceremony
-    ∷ unknown_step_refusal A ceremony step
-    ∷ not_open_refusal A ceremony
-    ∷ late_refusal A ceremony at
-    ∷ when (not (step == next_step A ceremony)) (Order (next_step A ceremony))
-    ∷ full_refusal A
-    ∷ []
-conditions A (RecordException ceremony text pass at) =
-    no_ceremony A ceremony
-    ∷ not_open_refusal A ceremony
-    ∷ late_refusal A ceremony at
-    ∷ when (pass && is_none (step_at (steps_of A ceremony) (next_step A ceremony))) (Order (next_step A ceremony))
-    ∷ when (nat_le 200 (exceptions_of A ceremony)) Full
-    ∷ full_refusal A
-    ∷ []
-conditions A (SetSafe ceremony safe state by at) =
-    safe_conditions (ceremony_status_at A ceremony at) (is_open A (facility_of A ceremony)) safe state
-    (safe_operator_at A ceremony by at)
-conditions A (Seal ceremony serial items at) = seal_conditions (ceremony_status_at A ceremony at) (spot A serial) (rest A) items
-conditions A (Take ceremony serial at) =
-    let here = facility_of A ceremony in
-    take_conditions (ceremony_status_at A ceremony at) (is_open A here) (place_of_box A here)
-    (λ place. is_holder_present A place ceremony at) (spot A serial) serial
-conditions A (Put ceremony serial to at) =
-    let here = facility_of A ceremony in
-    put_conditions (ceremony_status_at A ceremony at) (is_open A here) (place_of_box A here)
-    (λ place. is_holder_present A place ceremony at) (spot A serial) serial to
-conditions A (Cut ceremony serial at) = cut_conditions (ceremony_status_at A ceremony at) (spot A serial) serial
+conditions A act = conditions_over (by_history A) act
 
--- the first refusal of an act whose key is new, or none
 abbrev pub fault : History → Act → Option Refusal
 fault A act = first_of (conditions A act)

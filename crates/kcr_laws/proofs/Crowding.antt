@@ -18,7 +18,8 @@ use Rattle.kcr_history.specs.History.{History}
 use Rattle.kcr_history.specs.Training.{is_person}
 use Rattle.kcr_history.specs.Ceremonies.{mark}
 use Rattle.kcr_history.specs.Room.{sheet, sheet_after}
-use Rattle.kcr_history.specs.Conditions.{fault, is_full, no_ceremony, not_open_refusal, not_later_refusal, named_twice_refusal, first_twice, out_of_turn_refusal, crowd_refusal, lone_room_refusal, is_overfull}
+use Rattle.kcr_history.specs.Conditions.{fault, is_full, named_twice_refusal, first_twice, out_of_turn_refusal, crowd_refusal, lone_room_refusal, is_overfull}
+use Rattle.kcr_history.proofs.Steps.{no_ceremony, not_open, not_later}
 use Rattle.kcr_laws.specs.Conditions.{IsEverCrowded, IsFirstAlone, IsNeverAlone}
 use Rattle.kcr_laws.proofs.Refused.{kind, IsOther, AreOther, other_when, other_of_some, of_the_one}
 
@@ -84,7 +85,7 @@ never_holds rows c none = by_moment (first_lone_in_by (stays_by rows) c) (first 
 -- the conditions of a sheet command before those of the room, and those behind them
 abbrev before_room : History → ℕ → Way → List (List ℕ) → ℕ → List (Option Refusal) → List (Option Refusal)
 before_room A c way people at rest =
-    no_ceremony A c ∷ unknown_people_refusal (is_person A) people ∷ not_open_refusal A c ∷ not_later_refusal A c at ∷ named_twice_refusal people ∷ out_of_turn_refusal A c way at people ∷ rest
+    no_ceremony A c ∷ unknown_people_refusal (is_person A) people ∷ not_open A c ∷ not_later A c at ∷ named_twice_refusal people ∷ out_of_turn_refusal A c way at people ∷ rest
 
 abbrev behind_room : History → ℕ → Way → List SheetRow → List (Option Refusal)
 behind_room A c way rows = when (is_overfull way rows c) Full ∷ when (is_full A) Full ∷ []

@@ -29,9 +29,9 @@ use Rattle.kcr_history.specs.Tables.{planned_number, ceremony_row, ceremonies, m
 use Rattle.kcr_history.specs.Tables.{step_row, steps, step_result, Tables, step_done}
 use Rattle.kcr_history.specs.Changes.{same_ceremony, same_mark, changed_by, same_step}
 use Rattle.kcr_history.specs.Views.{is_of_number}
-use Rattle.kcr_history.specs.Conditions.{conditions, fault, no_ceremony}
+use Rattle.kcr_history.specs.Conditions.{conditions, fault}
 use Rattle.kcr_history.specs.Machine.{IsRegister, with_command}
-use Rattle.kcr_history.proofs.Steps.{took}
+use Rattle.kcr_history.proofs.Steps.{took, no_ceremony}
 use Rattle.kcr_history.proofs.Piled.{map-stacked}
 use Rattle.kcr_history.proofs.Words.{planned-number}
 use Rattle.kcr_rules.specs.CeremonyStatus.{ceremony_by}
@@ -52,9 +52,9 @@ use Rattle.kcr_script.specs.Reading.{script_of}
 use Rattle.kcr_history.specs.declared.views.Change.{Change}
 use Rattle.kcr_machine.proofs.BagsWords.{open-shown}
 use Rattle.kcr_machine.proofs.Keyed.{Shown, put-at, put-first, put-new}
-use Rattle.kcr_machine.proofs.Leads.{FaultShown, Leads, command_of, entry_as, new_key}
+use Rattle.kcr_machine.proofs.Leads.{EarlyShown, LateShown, Leads, command_of, entry_as, new_key}
 use Rattle.kcr_base.proofs.Members.{IsIn, map-same-in, none-in, none-passes}
-use Rattle.kcr_machine.proofs.Scenes.{ceremony-shown, known-shown, mark-after, mark-shown, marked-opened, open-opened, open-state, opened-number}
+use Rattle.kcr_machine.proofs.Scenes.{ceremony-shown, facility-shown, is_open-shown, known-shown, mark-after, mark-shown, marked-opened, open-opened, open-state, opened-number}
 use Rattle.kcr_machine.proofs.Scenes.{opened-planned, said-then, some-where, turned}
 use Rattle.kcr_machine.proofs.LastSeated.{left-shown}
 use Rattle.kcr_machine.proofs.StepRows.{keys-planned}
@@ -78,8 +78,8 @@ busy-shown A c rows p =
     (λ other. not (eqb other c) && same_facility (facility_of A other) (facility_of A c) && is_ceremony_open A other)
     (values_of_acts planned_number A) (λ other. ap (λ b. not (eqb other c) && same_facility (facility_of A other) (facility_of A c) && b) (open-state A other))
 
-pub open-fault : (A : History) (c at : ℕ) → FaultShown A (Open c at)
-open-fault A c at view v =
+pub open-late : (A : History) (c at : ℕ) → LateShown A (Open c at)
+open-late A c at view v =
     rw (row-shown A c view.ceremonies.items v.ceremonies) (grind (arith, busy-shown A c view.ceremonies.items v.ceremonies))
 
 -- only a ceremony that was opened is closed
@@ -158,19 +158,24 @@ table-shown A facility rows p =
 
 -- THE KIND
 
-pub close-fault : (A : History) → IsRegister A → (c at : ℕ) → FaultShown A (Close c at)
-close-fault A h c at view v =
-    rw (ceremony-shown A c view.ceremonies.items v.ceremonies)
-    (grind (
-      arith,
-      open-state A c,
+pub close-early : (A : History) → IsRegister A → (c at : ℕ) → EarlyShown A (Close c at)
+close-early A h c at view v =
+    rw (
+      known-shown A c view.ceremonies.items v.ceremonies,
+      is_open-shown A c view.ceremonies.items v.ceremonies h,
       mark-shown A h c view.marks.items v.marks,
+    ) refl
+
+pub close-late : (A : History) → IsRegister A → (c at : ℕ) → LateShown A (Close c at)
+close-late A h c at view v =
+    rw (
+      facility-shown A c view.ceremonies.items v.ceremonies,
       left-shown A h c view v.steps,
       used-shown A h c at view.stays.items v.stays.room v.stays.within,
       open-shown A view.safes.items v.safes (facility_of A c) One,
       open-shown A view.safes.items v.safes (facility_of A c) Two,
       table-shown A (facility_of A c) view.bags.items v.bags,
-    ))
+    ) refl
 
 -- the tables with one that is closed
 module _ (A : History) (key : List ℕ) (answer : ReplyData) (c at : ℕ) (f : fault A (Close c at) ≡ None) where
@@ -193,8 +198,8 @@ module _ (A : History) (key : List ℕ) (answer : ReplyData) (c at : ℕ) (f : f
 
 -- PLANNING
 
-pub plan-fault : (A : History) (number : ℕ) (facility : Facility) (day : ℕ) (script : List ℕ) → FaultShown A (Plan number facility day script)
-plan-fault A number facility day script view v = rw (known-shown A number view.ceremonies.items v.ceremonies) refl
+pub plan-late : (A : History) (number : ℕ) (facility : Facility) (day : ℕ) (script : List ℕ) → LateShown A (Plan number facility day script)
+plan-late A number facility day script view v = rw (known-shown A number view.ceremonies.items v.ceremonies) refl
 
 -- ROWS OF A CEREMONY THAT WAS NOT PLANNED
 

@@ -1,7 +1,8 @@
 -- A decision by the rows of a view is a step of the machine.
-use Rattle.std.proofs.Common.{◌≡◌, ◌≢◌, ℕ, suc, true, false, nat_le, List, map, length, Option, Some, None, option_map, refl, sym, ap, ◌∙◌, subst}
+use Rattle.std.proofs.Common.{◌≡◌, ◌≢◌, ℕ, suc, true, false, nat_le, List, [], ◌∷◌, ◌++◌, map, length, Option, Some, None, option_map, refl, sym, ap, ◌∙◌, subst}
 use Rattle.std.proofs.Common.{◌⊎◌, inl, inr, Result, Ok, Err, MatchOption}
-use Rattle.std.specs.Prelude.{IfErr, IfSome, IsSome}
+use Rattle.std.specs.Prelude.{IfErr, IsSome}
+use Rattle.kcr_base.specs.Refuse.{first_of}
 use Rattle.kcr_base.specs.Same.{same_text}
 use Rattle.kcr_base.specs.declared.refusal.Refusal.{Refusal}
 use Rattle.kcr_base.specs.declared.refusal.Refusal.TheVariants.{Key, Short, Memory, Disk}
@@ -21,72 +22,101 @@ use Rattle.kcr_history.specs.declared.row_types.KeyRow.{KeyRow}
 use Rattle.kcr_history.specs.Views.{row_of_key, greatest_number, IsViewOf}
 use Rattle.kcr_history.specs.AsksByKind.{asks_by, asks_of}
 use Rattle.kcr_history.specs.Early.{early_asks}
-use Rattle.kcr_history.specs.Conditions.{fault, is_full, conditions}
+use Rattle.kcr_history.specs.Conditions.{fault, is_full, conditions, by_history, early_conditions, late_conditions}
 use Rattle.kcr_history.specs.Machine.{Accepts, Refuses, SeatRequest, seat_request, reply_to, with_command, IsAcceptedWith, seats, DecidesNew, IsRegister, IsAcceptance}
 use Rattle.kcr_history.specs.Machine.{IsRepeat, IsDecision}
 use Rattle.kcr_history.proofs.Steps.{greatest-keys}
 use Rattle.kcr_history.proofs.Words.{row_of_key-keys}
 use Rattle.std.proofs.lemmas.Option.{same_Some, none-some}
-use Rattle.kcr_rules.specs.Early.{early_refusal_by, IsEarlyRefusal}
-use Rattle.kcr_rules.specs.ByRows.{refusal_by, has_too_many_steps, seat_request_by, IsSeatedFor, IsUnseatedFor, all_changes_by}
+use Rattle.kcr_rules.specs.ByRows.{early_refusal_by, late_refusal_by, IsCleared, IsCheckResult, has_too_many_steps, seat_request_by, IsSeatedFor, IsUnseatedFor, all_changes_by}
 use Rattle.kcr_machine.specs.RowDecision.{IsReplyDataOf, IsReplyOf, IsOfKind, IsOwnRefusal, MayBeRefused}
 use Rattle.kcr_machine.specs.RowDecision.{is_full_by, reply_by, AcceptsNew, RepeatsRow, IsRowDecision, IsRowRepeat}
 use Rattle.kcr_rules.specs.Signing.{IsSeatedBy, IsUnseatedBy}
 use Rattle.kcr_base.proofs.RefuseLemmas.{none_holds}
-use Rattle.kcr_machine.proofs.Ahead.{ahead-shown}
-use Rattle.kcr_machine.proofs.Ceremonies.{close-fault, close-leads, open-fault, open-leads, plan-fault, plan-leads}
-use Rattle.kcr_machine.proofs.CustodyFaults.{add_box-fault, add_item-fault, cut-fault, put-fault, seal-fault, take-fault, turn-fault}
+use Rattle.kcr_machine.proofs.Ceremonies.{close-early, close-late, close-leads, open-late, open-leads, plan-late, plan-leads}
+use Rattle.kcr_machine.proofs.CustodyFaults.{add_box-late, add_item-early, ca-late, cut-early, put-early, put-late, seal-early, take-early, take-late}
+use Rattle.kcr_machine.proofs.CustodyFaults.{turn-early, turn-late}
 use Rattle.kcr_machine.proofs.CustodyLeads.{add_box-leads, add_item-leads, cut-leads, put-leads, seal-leads, take-leads, turn-leads}
-use Rattle.kcr_machine.proofs.Leads.{changed_with, command_of, front-of, same-tables}
-use Rattle.kcr_machine.proofs.People.{appoint-fault, appoint-leads, enter-fault, enter-leads, release-fault, release-leads, replace-fault, replace-leads}
-use Rattle.kcr_machine.proofs.People.{train-fault, train-leads, withdraw-fault, withdraw-leads}
-use Rattle.kcr_machine.proofs.SheetFaults.{named_once, sheet-fault, sheet-made}
+use Rattle.kcr_machine.proofs.Leads.{EarlyShown, changed_with, command_of, front-of, same-tables}
+use Rattle.kcr_machine.proofs.People.{appoint-late, appoint-leads, enter-late, enter-leads, release-late, release-leads, replace-late, replace-leads}
+use Rattle.kcr_machine.proofs.People.{train-late, train-leads, withdraw-late, withdraw-leads}
+use Rattle.kcr_machine.proofs.SheetFaults.{named_once, sheet-early, sheet-late, sheet-made}
 use Rattle.kcr_machine.proofs.SheetLeads.{sheet-leads}
-use Rattle.kcr_machine.proofs.Signed.{except-fault, pass-leads, seated-first, seats-shown, sign-fault, sign-leads, sitting-is, state-leads, the_next}
+use Rattle.kcr_machine.proofs.Signed.{except-early, pass-leads, seated-first, seats-shown, sign-early, sign-leads, sitting-is, state-leads, the_next}
 use Rattle.kcr_machine.proofs.Signed.{unseated-least}
 use Rattle.kcr_machine.proofs.LastSeated.{done-shown, not_overdone}
 use Rattle.kcr_machine.proofs.StepRows.{sign-there, stated-shown}
 
--- the first refusal by the rows is the fault
-fault-shown : (A : History) → IsRegister A → (act : Act) (view : View) → IsViewOf (asks_by act) (tables A) view
-    → refusal_by view (is_full A) act ≡ fault A act
-fault-shown A h (Enter who name) view v = enter-fault A who name view v
-fault-shown A h (Train who role since until) view v = train-fault A h who role since until view v
-fault-shown A h (Withdraw who role day) view v = withdraw-fault A who role day view v
-fault-shown A h (Appoint place who day) view v = appoint-fault A h place who day view v
-fault-shown A h (Replace place who day) view v = replace-fault A h place who day view v
-fault-shown A h (Release place day) view v = release-fault A h place day view v
-fault-shown A h (AddBox facility number place) view v = add_box-fault A facility number place view v
-fault-shown A h (Plan number facility day script) view v = plan-fault A number facility day script view v
-fault-shown A h (Open ceremony at) view v = open-fault A ceremony at view v
-fault-shown A h (Close ceremony at) view v = close-fault A h ceremony at view v
-fault-shown A h (Seal ceremony serial items at) view v = seal-fault A h ceremony serial items at view v
-fault-shown A h (Take ceremony serial at) view v = take-fault A h ceremony serial at view v
-fault-shown A h (Put ceremony serial to at) view v = put-fault A h ceremony serial to at view v
-fault-shown A h (Cut ceremony serial at) view v = cut-fault A h ceremony serial at view v
-fault-shown A h (AddItem c item at) view v = add_item-fault A h c item at view v
-fault-shown A h (RecordSheet c way all at) view v =
-    sheet-fault A h (sheet-made A h) c way all at view v
-fault-shown A h (SetSafe c safe state by at) view v = turn-fault A h c safe state by at view v
-fault-shown A h (Sign ceremony step at) view v = sign-fault A h ceremony step at view (front-of _ _ view v)
-fault-shown A h (RecordException ceremony text pass at) view v = except-fault A h ceremony text pass at view (front-of _ _ view v)
+-- THE REFUSALS OF BOTH STAGES by the rows are the history's
 
-full-shown : (A : History) (x : Command) (view : View) (last : ℕ) → last ≡ length A
-    → refusal_by view (is_full_by last) x.act ≡ refusal_by view (is_full A) x.act
-full-shown A x view last e = ap (λ n. refusal_by view (nat_le 4000000000 n) x.act) e
+early-shown : (A : History) → IsRegister A → (act : Act) → EarlyShown A act
+early-shown A h (Close ceremony at) view v = close-early A h ceremony at view v
+early-shown A h (AddItem c item at) view v = add_item-early A h c item at view v
+early-shown A h (RecordSheet c way all at) view v = sheet-early A h c way all at view v
+early-shown A h (SetSafe c safe state by at) view v = turn-early A h c safe state by at view v
+early-shown A h (Sign ceremony step at) view v = sign-early A h ceremony step at view v
+early-shown A h (RecordException ceremony text pass at) view v = except-early A h ceremony text pass at view v
+early-shown A h (Seal ceremony serial items at) view v = seal-early A h ceremony serial items at view v
+early-shown A h (Take ceremony serial at) view v = take-early A h ceremony serial at view v
+early-shown A h (Put ceremony serial to at) view v = put-early A h ceremony serial to at view v
+early-shown A h (Cut ceremony serial at) view v = cut-early A h ceremony serial at view v
+early-shown A h act view v = refl
+
+-- of an act that is cleared
+late-shown : (A : History) → IsRegister A → (act : Act) (view : View) → IsViewOf (asks_by act) (tables A) view → first_of (early_conditions (by_history A) act) ≡ None
+    → late_refusal_by view (is_full A) act ≡ first_of (late_conditions (by_history A) act)
+late-shown A h (Enter who name) view v e = enter-late A who name view v
+late-shown A h (Train who role since until) view v e = train-late A h who role since until view v
+late-shown A h (Withdraw who role day) view v e = withdraw-late A who role day view v
+late-shown A h (Appoint place who day) view v e = appoint-late A h place who day view v
+late-shown A h (Replace place who day) view v e = replace-late A h place who day view v
+late-shown A h (Release place day) view v e = release-late A h place day view v
+late-shown A h (AddBox facility number place) view v e = add_box-late A facility number place view v
+late-shown A h (Plan number facility day script) view v e = plan-late A number facility day script view v
+late-shown A h (Open ceremony at) view v e = open-late A ceremony at view v
+late-shown A h (Close ceremony at) view v e = close-late A h ceremony at view v
+late-shown A h (Seal ceremony serial items at) view v e = ca-late A h ceremony at view v.stays.room v.trainings v.withdrawals
+late-shown A h (Take ceremony serial at) view v e = take-late A h ceremony serial at view v
+late-shown A h (Put ceremony serial to at) view v e = put-late A h ceremony serial to at view v
+late-shown A h (Cut ceremony serial at) view v e = ca-late A h ceremony at view v.stays.room v.trainings v.withdrawals
+late-shown A h (AddItem c item at) view v e = ca-late A h c at view v.stays.room v.trainings v.withdrawals
+late-shown A h (RecordSheet c way all at) view v e = sheet-late A h (sheet-made A h) c way all at e view v
+late-shown A h (SetSafe c safe state by at) view v e = turn-late A h c safe state by at view v
+late-shown A h (Sign ceremony step at) view v e = refl
+late-shown A h (RecordException ceremony text pass at) view v e = refl
+
+-- a first refusal among the early ones is the first of all; behind those, if none holds, it is the first of the others
+early_first : (os xs : List (Option Refusal)) (r : Refusal) → first_of os ≡ Some r → first_of (os ++ xs) ≡ Some r
+early_first [] xs r h = absurd (none-some r h)
+early_first (None ∷ os) xs r h = early_first os xs r h
+early_first (Some s ∷ os) xs r h = h
+
+late_first : (os xs : List (Option Refusal)) → first_of os ≡ None → first_of (os ++ xs) ≡ first_of xs
+late_first [] xs h = refl
+late_first (None ∷ os) xs h = late_first os xs h
+late_first (Some s ∷ os) xs h = absurd (none-some s (sym h))
+
+-- an act that is cleared by the rows after the command of this number is so by the history
+cleared-shown : (A : History) → IsRegister A → (act : Act) (view : View) (last : ℕ) → last ≡ length A → IsViewOf (early_asks (asks_by act)) (tables A) view
+    → IsCleared view (is_full_by last) act → first_of (early_conditions (by_history A) act) ≡ None
+cleared-shown A h act view last e v cleared =
+    sym (early-shown A h act view v) ∙ sym (ap (λ n. early_refusal_by view (nat_le 4000000000 n) act) e) ∙ cleared.0
+
+-- and the first of its other refusals is its fault
+fault-shown : (A : History) → IsRegister A → (act : Act) (view : View) (last : ℕ) → last ≡ length A → IsViewOf (asks_by act) (tables A) view
+    → first_of (early_conditions (by_history A) act) ≡ None → late_refusal_by view (is_full_by last) act ≡ fault A act
+fault-shown A h act view last e v none =
+    ap (λ n. late_refusal_by view (nat_le 4000000000 n) act) e ∙ late-shown A h act view v none
+    ∙ sym (late_first (early_conditions (by_history A) act) (late_conditions (by_history A) act) none)
 
 -- SEATS
 
-sign-fine : (A : History) → IsRegister A → (c k at : ℕ) (view : View) → IsViewOf (asks_by (Sign c k at)) (tables A) view
-    → refusal_by view (is_full A) (Sign c k at) ≡ None → fault A (Sign c k at) ≡ None
-sign-fine A h c k at view v none = sym (sign-fault A h c k at view (front-of _ _ view v)) ∙ none
-
 -- the seats that an act needs by the rows are those by the history
 sitting-shown : (A : History) → IsRegister A → (act : Act) (view : View) → IsViewOf (asks_by act) (tables A) view
-    → refusal_by view (is_full A) act ≡ None → seat_request_by view act ≡ seat_request A act
+    → fault A act ≡ None → seat_request_by view act ≡ seat_request A act
 sitting-shown A h (Sign c k at) view v none =
     ap (λ seats. Some (record { ceremony = c; at = at; seats = seats }))
-    (seats-shown A h c k view v.steps.step (sign-there A c k at (sign-fine A h c k at view v none)))
+    (seats-shown A h c k view v.steps.step (sign-there A c k at none))
 sitting-shown A h (RecordException c text true at) view v none = refl
 sitting-shown A h (RecordException c text false at) view v none = refl
 sitting-shown A h act view v none = refl
@@ -167,14 +197,13 @@ module _ (A : History) (x : Command) (view : View) (answer : ReplyData) where
   by_sitting (Some s) g first e = by_people s answer.seating g (λ ps q. first s ps refl q) e
 
 accepted : (A : History) (x : Command) (view : View) (last : ℕ) (verdict : Verdict) (answer : ReplyData) → IsRegister A
-    → IsViewOf (asks_of x) (tables A) view → last ≡ length A
+    → IsViewOf (asks_of x) (tables A) view → last ≡ length A → first_of (early_conditions (by_history A) x.act) ≡ None
     → entry_of A x.key ≡ None → AcceptsNew view last x verdict answer → IsAcceptance A x verdict answer
-accepted A x view last verdict answer h v e k g =
-    let none : refusal_by view (is_full A) x.act ≡ None = sym (full-shown A x view last e) ∙ g.fine in
-    let fine : fault A x.act ≡ None = sym (fault-shown A h x.act view v) ∙ none in
+accepted A x view last verdict answer h v e c k g =
+    let fine : fault A x.act ≡ None = sym (fault-shown A h x.act view last e v c) ∙ g.fine in
     let next : answer ≡ reply_to A x.act answer.seating = g.next ∙ answer-shown A h x.act view v last e answer.seating g.seated in
     let seated : IsSeatedFor view (seat_request A x.act) answer.seating = subst (λ o. IsSeatedFor view o answer.seating)
-    (sitting-shown A h x.act view v none) g.seated in
+    (sitting-shown A h x.act view v fine) g.seated in
     let step = by_sitting A x view answer (seat_request A x.act) seated (λ s ps e. seated-first A h view s (sitting-is A h x.act view v s e) ps) next in
     record {
       step = rw (k, fine) step;
@@ -190,14 +219,13 @@ unseated : (A : History) (x : Command) (view : View) (refusal : Refusal) → (o 
 unseated A x view refusal None g least = absurd g
 unseated A x view refusal (Some s) g least = let w = least s refl g in inr (w.0, w.1, (ap Refuses w.2, refl))
 
-refused_new : (A : History) → IsRegister A → (x : Command) (view : View) (refusal : Refusal) → refusal ≢ Memory → IsViewOf (asks_of x) (tables A) view
-    → refusal_by view (is_full A) x.act ≡ fault A x.act → (o : Option Refusal) → refusal_by view (is_full A) x.act ≡ o
+refused_new : (A : History) → IsRegister A → (x : Command) (view : View) (refusal : Refusal) → IsViewOf (asks_of x) (tables A) view
+    → (o : Option Refusal) → o ≡ fault A x.act
     → MatchOption o (IsUnseatedFor view (seat_request_by view x.act) refusal) (λ first. refusal ≡ first) → DecidesNew A x (fault A x.act) (Refuses refusal) A
-refused_new A h x view refusal ne v e (Some first) f g = rw (sym e ∙ f) (ap Refuses g, refl)
-refused_new A h x view refusal ne v e None f g =
-    let fine : fault A x.act ≡ None = sym e ∙ f in
-    let w : IsUnseatedFor view (seat_request A x.act) refusal = subst (λ o. IsUnseatedFor view o refusal) (sitting-shown A h x.act view v f) g in
-    rw fine (unseated A x view refusal (seat_request A x.act) w (λ s e. unseated-least A h view s (sitting-is A h x.act view v s e) refusal))
+refused_new A h x view refusal v (Some first) f g = rw (sym f) (ap Refuses g, refl)
+refused_new A h x view refusal v None f g =
+    let w : IsUnseatedFor view (seat_request A x.act) refusal = subst (λ o. IsUnseatedFor view o refusal) (sitting-shown A h x.act view v (sym f)) g in
+    rw (sym f) (unseated A x view refusal (seat_request A x.act) w (λ s e. unseated-least A h view s (sitting-is A h x.act view v s e) refusal))
 
 -- A KEY WITH A ROW
 
@@ -243,34 +271,39 @@ repetition A x row (Err refusal) there g = λ ne.
 
 -- A NEW KEY
 
--- a decision by the rows of a view and the number of the last command is a step of the machine
+-- a decision by the rows of a view and the number of the last command, of a command that is cleared, is a step of the machine
 pub decision : (A : History) (x : Command) (view : View) (last : ℕ) (result : Result Verdict Refusal) → IsRegister A
     → row_of_key x.key (keys A) ≡ None → IsViewOf (asks_of x) (tables A) view → last ≡ greatest_number (keys A)
-    → IsRowDecision view last x result → IsDecision A x result
-decision A x view last (Ok verdict) h new v e g = by_reply verdict.new_reply g
+    → IsCleared view (is_full_by last) x.act → IsRowDecision view last x result → IsDecision A x result
+decision A x view last result h new v e cleared = by_result result
   where
-    by_reply : (o : Option ReplyData) → MatchOption o ⊥ (AcceptsNew view last x verdict)
+    count : last ≡ length A
+    count = e ∙ greatest-keys A h
+
+    none : first_of (early_conditions (by_history A) x.act) ≡ None
+    none = cleared-shown A h x.act view last count (front-of _ _ view v) cleared
+
+    by_reply : (verdict : Verdict) (o : Option ReplyData) → MatchOption o ⊥ (AcceptsNew view last x verdict)
         → MatchOption o ((kept : Entry) × IsRepeat A x verdict kept) (IsAcceptance A x verdict)
-    by_reply None none = absurd none
-    by_reply (Some answer) a = accepted A x view last verdict answer h v (e ∙ greatest-keys A h) (no_entry A x.key new) a
-decision A x view last (Err refusal) h new v e g = λ ne.
-    let shown = (g ne).first (not_overdone-shown A h x.act view (front-of _ _ view v)) in
-    rw (no_entry A x.key new)
-    (refused_new A h x view refusal ne v (fault-shown A h x.act view v) (refusal_by view (is_full A) x.act) refl
-    (rw (full-shown A x view last (e ∙ greatest-keys A h)) at shown))
+    by_reply verdict None g = absurd g
+    by_reply verdict (Some answer) g = accepted A x view last verdict answer h v count none (no_entry A x.key new) g
 
--- TOLD AHEAD
+    by_result : (result : Result Verdict Refusal) → IsRowDecision view last x result → IsDecision A x result
+    by_result (Ok verdict) g = by_reply verdict verdict.new_reply g
+    by_result (Err refusal) g = λ ne.
+        rw (no_entry A x.key new)
+        (refused_new A h x view refusal v (late_refusal_by view (is_full_by last) x.act) (fault-shown A h x.act view last count v none) (g ne))
 
--- what is told ahead, by the part of the rows that is read first, is a step of the machine
-pub ahead : (A : History) (x : Command) (view : View) (last : ℕ) (told : Option Refusal) → IsRegister A → row_of_key x.key (keys A) ≡ None
-    → IsViewOf (early_asks (asks_of x)) (tables A) view → last ≡ greatest_number (keys A) → IsEarlyRefusal view (is_full_by last) x.act told
-    → IfSome told (λ refusal. IsDecision A x (Err refusal))
-ahead A x view last None h new v e g = tt
-ahead A x view last (Some refusal) h new v e g = λ ne.
-    let here : early_refusal_by view (is_full_by last) x.act ≡ Some refusal =
-    g (λ m. ne (let i : Some refusal ≡ Some Memory = m in cc)) (not_overdone-shown A h x.act view v) in
-    let known = ap (λ n. early_refusal_by view (nat_le 4000000000 n) x.act) (e ∙ greatest-keys A h) in
-    rw (no_entry A x.key new) (rw (ahead-shown A h x.act view v refusal (sym known ∙ here)) (refl, refl))
+-- a refusal by the part of the rows that is read first is a step of the machine
+pub refused-early : {X : Type 0} (A : History) (x : Command) (view : View) (last : ℕ) (result : Result X Refusal) → IsRegister A → row_of_key x.key (keys A) ≡ None
+    → IsViewOf (early_asks (asks_of x)) (tables A) view → last ≡ greatest_number (keys A) → IsCheckResult view (is_full_by last) x.act result
+    → IfErr result (λ refusal. IsDecision A x (Err refusal))
+refused-early A x view last (Ok y) h new v e g = tt
+refused-early A x view last (Err refusal) h new v e g = λ ne.
+    let here = sym (early-shown A h x.act view v) ∙ sym (ap (λ n. early_refusal_by view (nat_le 4000000000 n) x.act) (e ∙ greatest-keys A h))
+    ∙ g (not_overdone-shown A h x.act view v) in
+    let first = early_first (early_conditions (by_history A) x.act) (late_conditions (by_history A) x.act) refusal here in
+    rw (no_entry A x.key new) (rw first (refl, refl))
 
 -- WHATEVER THE ROWS ARE
 

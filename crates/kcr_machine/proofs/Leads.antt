@@ -3,6 +3,7 @@ use Rattle.std.proofs.Common.{◌≡◌, ℕ, List, [], ◌∷◌, ◌++◌, map
 use Rattle.std.specs.List.Sorted.{IsPermutation}
 use Rattle.std.proofs.lemmas.List.Sorted.{IsPermutation-refl}
 use Rattle.std.specs.Prelude.{Bool}
+use Rattle.kcr_base.specs.Refuse.{first_of}
 use Rattle.kcr_base.specs.Rows.{put, put_all}
 use Rattle.kcr_base.proofs.ListLemmas.{none-find}
 use Rattle.kcr_people.specs.declared.Withdrawal.{Withdrawal}
@@ -23,9 +24,9 @@ use Rattle.kcr_history.specs.Machine.{with_command, reply_to}
 use Rattle.kcr_history.specs.Views.{is_of_key, IsViewOf}
 use Rattle.kcr_history.specs.AsksByKind.{asks_by}
 use Rattle.kcr_history.specs.Early.{early_asks}
-use Rattle.kcr_history.specs.Conditions.{fault, is_full}
+use Rattle.kcr_history.specs.Conditions.{fault, is_full, by_history, early_conditions, late_conditions}
 use Rattle.kcr_history.proofs.Words.{row_of_key-keys}
-use Rattle.kcr_rules.specs.ByRows.{changes_by, refusal_by, all_changes_by}
+use Rattle.kcr_rules.specs.ByRows.{changes_by, early_refusal_by, late_refusal_by, all_changes_by}
 use Rattle.kcr_machine.specs.RowDecision.{new_key_row}
 use Rattle.kcr_machine.proofs.Keyed.{put-new}
 
@@ -65,13 +66,14 @@ front-of asks t view v =
       entries = tt;
     }
 
--- by the rows of that part alone the act's first refusal is its fault
-abbrev pub FrontShown : History → Act → Type 0
-FrontShown A act = (view : View) → IsViewOf (early_asks (asks_by act)) (tables A) view → refusal_by view (is_full A) act ≡ fault A act
+-- by the rows of that part alone the first of the act's early refusals is the history's
+abbrev pub EarlyShown : History → Act → Type 0
+EarlyShown A act =
+    (view : View) → IsViewOf (early_asks (asks_by act)) (tables A) view → early_refusal_by view (is_full A) act ≡ first_of (early_conditions (by_history A) act)
 
--- by the rows of any view of what the act asks for its first refusal is its fault
-abbrev pub FaultShown : History → Act → Type 0
-FaultShown A act = (view : View) → IsViewOf (asks_by act) (tables A) view → refusal_by view (is_full A) act ≡ fault A act
+-- by the rows of any view of what the act asks for so is the first of the others
+abbrev pub LateShown : History → Act → Type 0
+LateShown A act = (view : View) → IsViewOf (asks_by act) (tables A) view → late_refusal_by view (is_full A) act ≡ first_of (late_conditions (by_history A) act)
 
 -- and if it has none, its changes lead on
 abbrev pub LeadsOn : History → Act → Type 0

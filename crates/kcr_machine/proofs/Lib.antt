@@ -16,7 +16,7 @@ pub mod CustodyLeads
 pub mod SheetStays
 pub mod SheetFaults
 pub mod SheetLeads
-pub mod Ahead
 pub mod Decided
 pub mod Alike
 pub mod KeyRows
+pub mod Completed

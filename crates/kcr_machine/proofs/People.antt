@@ -44,7 +44,7 @@ use Rattle.kcr_history.proofs.Distinct.{trainings-apart}
 use Rattle.kcr_machine.specs.RowDecision.{new_key_row}
 use Rattle.kcr_machine.proofs.LastAppointments.{open-last, person-last, place-last, put-last}
 use Rattle.kcr_machine.proofs.Keyed.{Shown, any-shown, filter-shown, put-new}
-use Rattle.kcr_machine.proofs.Leads.{FaultShown, LeadsOn, changed_by-rows, changed_with, command_of, new_key, other-order}
+use Rattle.kcr_machine.proofs.Leads.{LateShown, LeadsOn, changed_by-rows, changed_with, command_of, new_key, other-order}
 use Rattle.kcr_base.proofs.Members.{in-filter, map-same-in}
 
 -- WITHDRAWALS
@@ -142,11 +142,11 @@ training-shown A new rows p = any-shown (same_training new) (is_training_of new.
 
 -- THE FIRST REFUSAL OF AN ACT
 
-pub enter-fault : (A : History) (who name : List ℕ) → FaultShown A (Enter who name)
-enter-fault A who name view v = rw (person-shown A who view.people.items v.people)
+pub enter-late : (A : History) (who name : List ℕ) → LateShown A (Enter who name)
+enter-late A who name view v = rw (person-shown A who view.people.items v.people)
 
-pub train-fault : (A : History) → IsRegister A → (who : List ℕ) (role : Role) (since until : ℕ) → FaultShown A (Train who role since until)
-train-fault A h who role since until view v =
+pub train-late : (A : History) → IsRegister A → (who : List ℕ) (role : Role) (since until : ℕ) → LateShown A (Train who role since until)
+train-late A h who role since until view v =
     let new : Training = record { who = who; role = role; since = since; until = until } in
     rw (
       person-shown A who view.people.items v.people,
@@ -154,16 +154,16 @@ train-fault A h who role since until view v =
       put-last A h who view.appointments.items v.appointments.0 v.appointments.1 ∙ ever_put-appointments A who,
     )
 
-pub withdraw-fault : (A : History) (who : List ℕ) (role : Role) (day : ℕ) → FaultShown A (Withdraw who role day)
-withdraw-fault A who role day view v =
+pub withdraw-late : (A : History) (who : List ℕ) (role : Role) (day : ℕ) → LateShown A (Withdraw who role day)
+withdraw-late A who role day view v =
     rw (
       person-shown A who view.people.items v.people,
       trained_from-shown who (trainings A) view.trainings.items (withdrawals A) view.withdrawals.items v.trainings v.withdrawals role day,
       settled-rows A view.marks.items v.marks,
     )
 
-pub appoint-fault : (A : History) → IsRegister A → (place : Place) (who : List ℕ) (day : ℕ) → FaultShown A (Appoint place who day)
-appoint-fault A h place who day view v =
+pub appoint-late : (A : History) → IsRegister A → (place : Place) (who : List ℕ) (day : ℕ) → LateShown A (Appoint place who day)
+appoint-late A h place who day view v =
     rw (
       person-shown A who view.people.items v.people,
       ever_trained-shown A who view.trainings.items v.trainings,
@@ -172,8 +172,8 @@ appoint-fault A h place who day view v =
       settled-rows A view.marks.items v.marks,
     )
 
-pub replace-fault : (A : History) → IsRegister A → (place : Place) (who : List ℕ) (day : ℕ) → FaultShown A (Replace place who day)
-replace-fault A h place who day view v =
+pub replace-late : (A : History) → IsRegister A → (place : Place) (who : List ℕ) (day : ℕ) → LateShown A (Replace place who day)
+replace-late A h place who day view v =
     rw (
       person-shown A who view.people.items v.people,
       ever_trained-shown A who view.trainings.items v.trainings,
@@ -182,8 +182,8 @@ replace-fault A h place who day view v =
       settled-rows A view.marks.items v.marks,
     )
 
-pub release-fault : (A : History) → IsRegister A → (place : Place) (day : ℕ) → FaultShown A (Release place day)
-release-fault A h place day view v =
+pub release-late : (A : History) → IsRegister A → (place : Place) (day : ℕ) → LateShown A (Release place day)
+release-late A h place day view v =
     rw (open-last A h place view.appointments.items v.appointments.0 v.appointments.1, settled-rows A view.marks.items v.marks)
 
 -- WHERE ITS CHANGES LEAD

@@ -22,11 +22,12 @@ use Rattle.kcr_history.specs.Ceremonies.{planned_as, plan_of, is_ceremony, facil
 use Rattle.kcr_history.specs.Tables.{planned_number, ceremony_row, ceremonies, mark_row, marks}
 use Rattle.kcr_history.specs.Changes.{same_mark}
 use Rattle.kcr_history.specs.Views.{is_of_number, is_mark_of}
-use Rattle.kcr_history.specs.Conditions.{conditions, fault, is_full, late_refusal, ceremony_status_at}
+use Rattle.kcr_history.specs.Conditions.{conditions, fault, is_full, ceremony_status_at}
 use Rattle.kcr_history.specs.Machine.{IsRegister}
-use Rattle.kcr_history.proofs.Steps.{took, none_ready}
+use Rattle.kcr_history.proofs.Steps.{took, none_ready, late}
 use Rattle.kcr_history.proofs.Words.{planned-number}
-use Rattle.kcr_rules.specs.CeremonyStatus.{ceremony_by, facility_of_row, is_open_row, mark_by, ceremony_status_by}
+use Rattle.kcr_rules.specs.ByRows.{ceremony_status_by}
+use Rattle.kcr_rules.specs.CeremonyStatus.{ceremony_by, facility_of_row, is_open_row, mark_by}
 use Rattle.kcr_machine.proofs.Keyed.{Shown, find-view, put-at, said-view}
 
 pub turned : (a b : ℕ) → eqb b a ≡ false → eqb a b ≡ false
@@ -105,7 +106,7 @@ mark-after A entry c = greatest_with (marked_moment entry.command.act) c (values
 
 -- an act that is marked, but for an opening, is in an open ceremony and not before its mark
 abbrev pub IsReady : History → Option (ℕ × ℕ) → Option ℕ → Type 0
-IsReady A (Some new) None = (is_ceremony_open A new.0 ≡ true) × (late_refusal A new.0 new.1 ≡ None)
+IsReady A (Some new) None = (is_ceremony_open A new.0 ≡ true) × (late A new.0 new.1 ≡ None)
 IsReady A m o = Unit {0}
 
 -- so is an act of custody that found its ceremony ready
@@ -185,12 +186,12 @@ marks-put A entry c at f m o =
     elsewhere : (k : ℕ) → eqb k c ≡ false → mark_row A k ≡ mark_row (entry ∷ A) k
     elsewhere k e = rw (mark-after A entry k, m, turned c k e) refl
 
--- THE SCENE
+-- THE STATUS
 
--- the scene by the history, but for whether a CA is there
-pub scene-shown : (A : History) → IsRegister A → (c at : ℕ) (has_ca : Bool) (view : View) → Shown (is_of_number c) (ceremonies A) view.ceremonies.items
+-- the ceremony at the moment
+pub status-shown : (A : History) → IsRegister A → (c at : ℕ) (view : View) → Shown (is_of_number c) (ceremonies A) view.ceremonies.items
     → Shown (is_mark_of c) (marks A) view.marks.items
-    → ceremony_status_by view c at (is_full A) has_ca ≡ record (ceremony_status_at A c at) { has_ca = has_ca }
-scene-shown A h c at has_ca view p q =
+    → ceremony_status_by view (is_full A) c at ≡ ceremony_status_at A c at
+status-shown A h c at view p q =
     let rows = view.ceremonies.items in
     rw (known-shown A c rows p, facility-shown A c rows p, is_open-shown A c rows p h, mark-shown A h c view.marks.items q) refl

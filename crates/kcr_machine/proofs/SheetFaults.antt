@@ -5,8 +5,8 @@ use Rattle.std.specs.Prelude.{is_some, count_by}
 use Rattle.std.specs.List.Sorted.{IsPermutation}
 use Rattle.std.proofs.lemmas.Bool.{true≢false, eqb-true, ltb-true}
 use Rattle.std.proofs.lemmas.List.Sorted.{IsPermutation-reverse, sum_by-IsPermutation}
-use Rattle.kcr_base.specs.Refuse.{when, first_of, unknown_people_refusal, not_after_mark_refusal}
-use Rattle.kcr_base.proofs.RefuseLemmas.{none_holds, met, behind, nested, no_first}
+use Rattle.kcr_base.specs.Refuse.{when, first_of, NoneHolds, not_after_mark_refusal}
+use Rattle.kcr_base.proofs.RefuseLemmas.{none_holds, met, no_first}
 use Rattle.kcr_base.specs.Same.{same_text}
 use Rattle.kcr_base.specs.declared.refusal.Refusal.{Refusal}
 use Rattle.kcr_base.specs.declared.refusal.Refusal.TheVariants.{State, Late, Full}
@@ -35,17 +35,19 @@ use Rattle.kcr_history.specs.History.{History}
 use Rattle.kcr_history.specs.Training.{is_person}
 use Rattle.kcr_history.specs.Ceremonies.{closed_at as closed_at, is_ceremony_open, mark}
 use Rattle.kcr_history.specs.Room.{sheet, sheet_after}
-use Rattle.kcr_history.specs.Tables.{people}
-use Rattle.kcr_history.specs.Views.{is_of_people, HasStayCount, ShowsLast, ShowsStaysOf}
-use Rattle.kcr_history.specs.AsksByKind.{stay_count_asked}
-use Rattle.kcr_history.specs.Conditions.{conditions, fault, is_full, no_ceremony, not_open_refusal, not_later_refusal, out_of_turn_refusal}
-use Rattle.kcr_history.specs.Conditions.{crowd_refusal, lone_room_refusal, is_overfull, full_refusal}
+use Rattle.kcr_history.specs.Tables.{people, tables}
+use Rattle.kcr_history.specs.declared.views.View.{View}
+use Rattle.kcr_history.specs.Views.{IsViewOf, is_of_people, HasStayCount, ShowsLast, ShowsStaysOf}
+use Rattle.kcr_history.specs.AsksByKind.{asks_by, stay_count_asked}
+use Rattle.kcr_history.specs.Conditions.{by_history, early_conditions, late_conditions, conditions, fault, is_full, out_of_turn_refusal}
+use Rattle.kcr_history.specs.Conditions.{crowd_refusal, lone_room_refusal, is_overfull, sheet_conditions, named_twice_refusal}
 use Rattle.kcr_history.specs.Machine.{IsRegister}
-use Rattle.kcr_history.proofs.Steps.{took}
+use Rattle.kcr_history.proofs.Steps.{took, not_later}
 use Rattle.kcr_history.proofs.Words.{is_person-people}
-use Rattle.kcr_rules.specs.SheetRows.{named_twice_refusal, room_refusal}
+use Rattle.kcr_rules.specs.ByRows.{late_refusal_by}
+use Rattle.kcr_rules.specs.SheetRows.{room_refusal}
 use Rattle.kcr_machine.proofs.Keyed.{Shown, any-shown}
-use Rattle.kcr_machine.proofs.Leads.{FaultShown}
+use Rattle.kcr_machine.proofs.Leads.{EarlyShown}
 use Rattle.kcr_base.proofs.Members.{IsIn, find-same-in, in-any}
 use Rattle.kcr_laws.proofs.Alone.{rooms}
 use Rattle.kcr_laws.proofs.Crowding.{first, ever}
@@ -148,76 +150,68 @@ pub named_once : (people : List (List ℕ)) → named_twice_refusal people ≡ N
 named_once [] h = refl
 named_once (who ∷ people) h = grind (arith, named_once people)
 
--- what a request is refused for behind its mark, but for somebody named twice
-abbrev room_conditions : History → ℕ → Way → List (List ℕ) → ℕ → List (Option Refusal)
-room_conditions A c way all at =
-    out_of_turn_refusal A c way at all
-    ∷ crowd_refusal (sheet A ++ map (new_row c way at) all) c
-    ∷ lone_room_refusal (sheet A ++ map (new_row c way at) all) c
-    ∷ when (is_overfull way (sheet A ++ map (new_row c way at) all) c) Full
-    ∷ full_refusal A
-    ∷ []
-
 -- by the sheet's rows the conditions are the history's
 rows-conditions : (A : History) (c m : ℕ) (way : Way) (all : List (List ℕ)) (at : ℕ)
-    → first_of (rows_refusal (sheet A) c m (is_full A) way all at ∷ []) ≡ first_of (when (nat_le at m) (Late m) ∷ room_conditions A c way all at)
+    → first_of (rows_refusal (sheet A) c m (is_full A) way all at ∷ []) ≡ first_of (when (nat_le at m) (Late m) ∷ sheet_conditions A c way all at)
 rows-conditions A c m way all at =
     let more : List SheetRow = sheet A ++ map (new_row c way at) all in
     rw (overfull-stays more c way)
     (flat (when (nat_le at m) (Late m)) (out_of_turn_refusal A c way at all) (crowd_refusal more c) (lone_room_refusal more c) (is_full A) (is_overfull way more c))
 
--- the same if nobody is named twice, and if somebody is
-twice-first : (l n r : Option Refusal) (xs : List (Option Refusal)) → (n ≡ None → first_of (r ∷ []) ≡ first_of (l ∷ xs))
-    → first_of (first_of (l ∷ n ∷ r ∷ []) ∷ []) ≡ first_of (l ∷ n ∷ xs)
-twice-first l n r xs h = grind arith
+-- the same behind a mark that the request is later than, if nobody is named twice, and if somebody is
+twice-first : (l n r : Option Refusal) (xs : List (Option Refusal)) → l ≡ None → (n ≡ None → first_of (r ∷ []) ≡ first_of (l ∷ xs))
+    → first_of (n ∷ r ∷ []) ≡ first_of (n ∷ xs)
+twice-first l n r xs later h = grind arith
 
--- by the rows of a view a request is refused for its fault
-pub sheet-fault : (A : History) → IsRegister A → IsSheet (sheet A) → (c : ℕ) (way : Way) (all : List (List ℕ)) (at : ℕ) → FaultShown A (RecordSheet c way all at)
-sheet-fault A h s c way all at view v =
+pub sheet-early : (A : History) → IsRegister A → (c : ℕ) (way : Way) (all : List (List ℕ)) (at : ℕ) → EarlyShown A (RecordSheet c way all at)
+sheet-early A h c way all at view v =
     rw (
       known-shown A c view.ceremonies.items v.ceremonies,
       find-same-in (λ who. not (is_person_by view.people.items who)) (λ who. not (is_person A who)) all
           (λ who i. ap not (people-shown A view.people.items all v.people who i)),
       is_open-shown A c view.ceremonies.items v.ceremonies h,
       mark-shown A h c view.marks.items v.marks,
-    )
-    (nested (no_ceremony A c ∷ unknown_people_refusal (is_person A) all ∷ not_open_refusal A c ∷ [])
-    (room_refusal view.stays.items view.stay_count c (mark A c) (is_full A) way all at ∷ [])
-    ∙ behind (no_ceremony A c ∷ unknown_people_refusal (is_person A) all ∷ []) _ _ (by_mark (mark A c) refl))
+    ) refl
+
+-- by the rows of a view a request is refused by its room as by the history, if it may be looked at
+pub sheet-late : (A : History) → IsRegister A → IsSheet (sheet A) → (c : ℕ) (way : Way) (all : List (List ℕ)) (at : ℕ)
+    → first_of (early_conditions (by_history A) (RecordSheet c way all at)) ≡ None
+    → (view : View) → IsViewOf (asks_by (RecordSheet c way all at)) (tables A) view
+    → late_refusal_by view (is_full A) (RecordSheet c way all at) ≡ first_of (late_conditions (by_history A) (RecordSheet c way all at))
+sheet-late A h s c way all at cleared view v = rw (mark-shown A h c view.marks.items v.marks) (by_mark (mark A c) refl)
   where
-    never : mark A c ≡ None → is_ceremony_open A c ≡ false
-    never e = ap (λ b. b && is_none (closed_at A c)) (sym (marked-opened A h c) ∙ ap is_some e)
+    n : NoneHolds (early_conditions (by_history A) (RecordSheet c way all at))
+    n = none_holds (early_conditions (by_history A) (RecordSheet c way all at)) cleared
 
     by_mark : (o : Option ℕ) → mark A c ≡ o
-        → first_of (not_open_refusal A c ∷ room_refusal view.stays.items view.stay_count c o (is_full A) way all at ∷ [])
-        ≡ first_of (not_open_refusal A c ∷ not_after_mark_refusal at o ∷ named_twice_refusal all ∷ room_conditions A c way all at)
-    by_mark None e = rw (never e) refl
+        → first_of (named_twice_refusal all ∷ room_refusal view.stays.items view.stay_count (is_full A) o c way all at ∷ []) ≡ first_of (named_twice_refusal all ∷ sheet_conditions A c way all at)
+    by_mark None e =
+        absurd (true≢false (sym (met (is_ceremony_open A c) State n.1.1.0) ∙ ap (λ b. b && is_none (closed_at A c)) (sym (marked-opened A h c) ∙ ap is_some e)))
     by_mark (Some m) e =
-        behind (not_open_refusal A c ∷ []) _ _
-        (twice-first (when (nat_le at m) (Late m)) (named_twice_refusal all) (stays_refusal view.stays.items view.stay_count c m (is_full A) way all at)
-        (room_conditions A c way all at)
-        (λ n. ap (λ r. first_of (r ∷ [])) (request-refusal (sheet A) s view.stays.items c m view.stay_count (is_full A) way all at v.stays v.entries
-        (named_once all n) (settled A h c)) ∙ rows-conditions A c m way all at))
+        twice-first (when (nat_le at m) (Late m)) (named_twice_refusal all) (stays_refusal view.stays.items view.stay_count c m (is_full A) way all at)
+        (sheet_conditions A c way all at) (ap (not_after_mark_refusal at) (sym e) ∙ n.1.1.1.0)
+        (λ once. ap (λ r. first_of (r ∷ [])) (request-refusal (sheet A) s view.stays.items c m view.stay_count (is_full A) way all at v.stays v.entries
+        (named_once all once) (settled A h c)) ∙ rows-conditions A c m way all at)
 
 -- SHEETS ARE MADE IN TURN
 
 -- a request in an open ceremony, behind whose mark no condition holds, keeps the sheet in turn
 made-by : (A : History) → IsRegister A → (c : ℕ) (way : Way) (all : List (List ℕ)) (at : ℕ) → are_apart all ≡ true → is_ceremony_open A c ≡ true
-    → first_of (not_later_refusal A c at ∷ room_conditions A c way all at) ≡ None
+    → first_of (not_later A c at ∷ sheet_conditions A c way all at) ≡ None
     → IsSheet (sheet A) → IsSheet (sheet A ++ map (new_row c way at) all)
 made-by A h c way all at a is f s = by_mark (mark A c) refl
   where
     by_mark : (o : Option ℕ) → mark A c ≡ o → IsSheet (sheet A ++ map (new_row c way at) all)
     by_mark None e = absurd (true≢false (sym is ∙ ap (λ b. b && is_none (closed_at A c)) (sym (marked-opened A h c) ∙ ap is_some e)))
     by_mark (Some m) e =
-        let none = rows-conditions A c m way all at ∙ ap (λ o. first_of (not_after_mark_refusal at o ∷ room_conditions A c way all at)) (sym e) ∙ f in
+        let none = rows-conditions A c m way all at ∙ ap (λ o. first_of (not_after_mark_refusal at o ∷ sheet_conditions A c way all at)) (sym e) ∙ f in
         turns_keep (sheet A) c m (is_full A) way all at a (none_holds (rows_refusal (sheet A) c m (is_full A) way all at ∷ []) none).0 s
 
 made_after : (A : History) (act : Act) → IsRegister A → fault A act ≡ None → IsSheet (sheet A) → IsSheet (sheet_after act (sheet A))
 made_after A (RecordSheet c way all at) h f s =
     let n = none_holds (conditions A (RecordSheet c way all at)) f in
     made-by A h c way all at (named_once all (assumption n)) (met (is_ceremony_open A c) State (assumption n))
-    (no_first (not_later_refusal A c at ∷ room_conditions A c way all at) (assumption n)) s
+    (no_first (not_later A c at ∷ sheet_conditions A c way all at) (assumption n)) s
 made_after A act h f s = s
 
 -- the sheet of a register was made in turn

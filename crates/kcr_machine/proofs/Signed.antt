@@ -43,7 +43,7 @@ use Rattle.kcr_laws.proofs.Staffed.{fits-on}
 use Rattle.std.proofs.lemmas.Option.{same_Some, none-some}
 use Rattle.kcr_machine.proofs.InRoom.{present-shown, trained-lasting, holder-lasting}
 use Rattle.kcr_machine.proofs.Keyed.{Shown, put-new}
-use Rattle.kcr_machine.proofs.Leads.{FrontShown, SeatsLeadOn, changed-append, command_of, entry_as, new_key}
+use Rattle.kcr_machine.proofs.Leads.{EarlyShown, SeatsLeadOn, changed-append, command_of, entry_as, new_key}
 use Rattle.kcr_machine.proofs.Scenes.{facility-shown, is_open-shown, known-shown, mark-shown, marks-put}
 use Rattle.kcr_machine.proofs.Seatings.{first-of, least-of}
 use Rattle.kcr_machine.proofs.LastSeated.{done-shown}
@@ -63,8 +63,8 @@ named c k = record { ceremony = c; step = Some k }
 abbrev pub the_next : ℕ → StepFilter
 the_next c = record { ceremony = c; step = None }
 
-pub sign-fault : (A : History) → IsRegister A → (c k at : ℕ) → FrontShown A (Sign c k at)
-sign-fault A h c k at view v =
+pub sign-early : (A : History) → IsRegister A → (c k at : ℕ) → EarlyShown A (Sign c k at)
+sign-early A h c k at view v =
     rw (
       known-shown A c view.ceremonies.items v.ceremonies,
       no_step-shown A h c k view v.steps.step,
@@ -73,8 +73,8 @@ sign-fault A h c k at view v =
       done-shown A h (named c k) view v.steps,
     )
 
-pub except-fault : (A : History) → IsRegister A → (c : ℕ) (text : List ℕ) (pass : Bool) (at : ℕ) → FrontShown A (RecordException c text pass at)
-except-fault A h c text pass at view v =
+pub except-early : (A : History) → IsRegister A → (c : ℕ) (text : List ℕ) (pass : Bool) (at : ℕ) → EarlyShown A (RecordException c text pass at)
+except-early A h c text pass at view v =
     rw (
       known-shown A c view.ceremonies.items v.ceremonies,
       no_step-shown A h c (next_step_by view.seatings.items c) view v.steps.step,

@@ -13,7 +13,7 @@ use Rattle.kcr_history.specs.declared.views.Change.TheVariants.{PutKey}
 use Rattle.kcr_history.specs.declared.views.Verdict.{Verdict}
 use Rattle.kcr_history.specs.declared.views.View.{View}
 use Rattle.kcr_history.specs.Texts.{command_text, reply_text}
-use Rattle.kcr_rules.specs.ByRows.{refusal_by, seat_request_by, IsSeatedFor, all_changes_by, exception_by, reply_step_by}
+use Rattle.kcr_rules.specs.ByRows.{late_refusal_by, seat_request_by, IsSeatedFor, all_changes_by, exception_by, reply_step_by}
 use Rattle.kcr_rules.specs.ByRows.{IsRefusalOf}
 use Rattle.kcr_rules.specs.Refusals.{may_refuse}
 
@@ -39,13 +39,13 @@ reply_by view last act people =
 
 -- the key is new: the act's changes and the row of the command, and the next number's reply
 pub record AcceptsNew (view : View) (last : ℕ) (x : Command) (verdict : Verdict) (new_reply : ReplyData) : Type 0 where
-  pub fine : refusal_by view (is_full_by last) x.act ≡ None
+  pub fine : late_refusal_by view (is_full_by last) x.act ≡ None
   pub seated : IsSeatedFor view (seat_request_by view x.act) new_reply.seating
   pub next : new_reply ≡ reply_by view last x.act new_reply.seating
   pub changes : verdict.changes.items ≡ all_changes_by view x.act new_reply.seating ++ PutKey (new_key_row x new_reply) ∷ []
   pub reply : verdict.reply.text ≡ reply_text new_reply
 
--- a decision of a command whose key is new, after the command of this number
+-- a decision of a command that is cleared and whose key is new, after the command of this number
 abbrev pub IsRowDecision : View → ℕ → Command → Result Verdict Refusal → Type 0
 IsRowDecision view last x result =
     MatchResult result

@@ -1,12 +1,12 @@
 //! How a command is decided: one whose key has a row, and one whose key is new.
-ghost use Rattle.std.specs.Prelude.{◌≡◌, Some, None, Err, IfErr, IfSome};
+ghost use Rattle.std.specs.Prelude.{◌≡◌, Some, None, Err, IfErr};
 ghost use Rattle.kcr_history.specs.History.{History};
 ghost use Rattle.kcr_history.specs.AsksByKind.{asks_of};
 ghost use Rattle.kcr_history.specs.Early.{early_asks};
 ghost use Rattle.kcr_history.specs.Tables.{tables};
 ghost use Rattle.kcr_history.specs.Views.{IsViewOf, greatest_number, row_of_key};
 ghost use Rattle.kcr_history.specs.Machine.{IsRegister, IsDecision};
-ghost use Rattle.kcr_rules.specs.Early.{IsEarlyRefusal};
+ghost use Rattle.kcr_rules.specs.ByRows.{IsCheckResult, IsCleared};
 ghost use Rattle.kcr_machine.specs.RowDecision.{IsRowDecision, IsRowRepeat, is_full_by};
 ghost use Rattle.kcr_machine.specs.RowDecision.{IsOfKind, IsOwnRefusal};
 
@@ -14,7 +14,7 @@ use kcr_base::Refusal;
 use kcr_history::{
     Change, Command, KeyRow, Reply, ReplyData, Verdict, View, command_text, reply_text,
 };
-use kcr_rules::{Effect, early_refusal, evaluate};
+use kcr_rules::{Effect, check, evaluate};
 use std::alloc::Global;
 
 /// At most this many commands are accepted.
@@ -52,13 +52,14 @@ pub fn decide_repeat(alloc: Global, row: &KeyRow, command: &Command) -> Result<V
     repeat_by_row(alloc, row, command)
 }
 
-/// The decision of a command whose key is new, by the rows and the number of the last command.
+/// The decision of a command that is cleared and whose key is new, by the rows and the number of the last command.
 fn decide_by_rows(
     alloc: Global,
     view: &View,
     accepted: u32,
     command: &Command,
 ) -> Result<Verdict, Refusal>
+    requires cleared { IsCleared view.now (is_full_by accepted) command.now.act }
     ensures rows { IsRowDecision view.now accepted command.now result }
     ensures kind { IfErr result (IsOwnRefusal command.now) }
 {
@@ -91,28 +92,34 @@ fn decide_by_rows(
     })
 }
 
-/// The refusal of a command whose key is new that is told by the part of its rows that is read first, `None` if that
-/// part does not tell one.
+/// Clears a command whose key is new, by the part of its rows that is read first: the error is its first refusal, which it
+/// has whoever is in the room.
 ///
 /// For every history A that the machine leads to, and in whose tables the key has no row: if the view holds the rows
 /// of the tables of A that the command asks for, trainings, withdrawals, appointments and stays aside, and `accepted`
-/// is the number of the last command of A, a refusal is the machine's step from A. Out of memory (33) may be answered
-/// in its place. An act that has no ceremony is not refused early.
+/// is the number of the last command of A, a refusal is the machine's step from A. An opening, and an act that has no
+/// ceremony, are not refused here.
 ///
-/// And the other way round, over any view and number: a refusal that this part of the rows tells is told, out of memory
-/// aside, unless the rows tell of more steps done than a script has, which no register's rows do.
-pub fn refuse_early(alloc: Global, view: &View, accepted: u32, command: &Command) -> Option<Refusal>
+/// And the other way round, over any view and number: a refusal that this part of the rows tells is told, unless the
+/// rows tell of more steps done than a script has (34), which no register's rows do.
+pub fn check_early(
+    alloc: Global,
+    view: &View,
+    accepted: u32,
+    command: &Command,
+) -> Result<(), Refusal>
     ensures step { (A : History) → IsRegister A → row_of_key command.now.key (tables A).keys ≡ None
         → IsViewOf (early_asks (asks_of command.now)) (tables A) view.now → accepted ≡ greatest_number (tables A).keys
-        → IfSome result (λ refusal. IsDecision A command.now (Err refusal)) }
-    ensures told { IsEarlyRefusal view.now (is_full_by accepted) command.now.act result }
-    ensures kind { IfSome result (IsOwnRefusal command.now) }
+        → IfErr result (λ refusal. IsDecision A command.now (Err refusal)) }
+    ensures told { IsCheckResult view.now (is_full_by accepted) command.now.act result }
+    ensures kind { IfErr result (IsOwnRefusal command.now) }
 {
     let full = MAX_COMMANDS <= accepted;
-    early_refusal(alloc, view, full, &command.act)
+    check(alloc, view, full, &command.act)
 }
 
-/// Decides a command whose key is new over the rows that it asks for and `accepted`, the number of the last command.
+/// Decides a command that is cleared (`check_early`) and whose key is new, over the rows that it asks for and `accepted`,
+/// the number of the last command. What clears it is not tested again.
 ///
 /// For every history A that the machine leads to, and in whose tables the key has no row: if the view holds the rows
 /// of the tables of A that the command asks for, in any order, and `accepted` is the number of the last command of A, 0
@@ -127,6 +134,7 @@ pub fn decide_new(
     accepted: u32,
     command: &Command,
 ) -> Result<Verdict, Refusal>
+    requires cleared { IsCleared view.now (is_full_by accepted) command.now.act }
     ensures step { (A : History) → IsRegister A → row_of_key command.now.key (tables A).keys ≡ None
         → IsViewOf (asks_of command.now) (tables A) view.now → accepted ≡ greatest_number (tables A).keys
         → IsDecision A command.now result }

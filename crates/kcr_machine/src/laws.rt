@@ -16,7 +16,7 @@ ghost use Rattle.kcr_machine.specs.Whole.{DecideAlike};
 /// Two decisions of one command agree: two acceptances have one reply and one answer, and their changes lead
 /// to the tables of one history; a command is not accepted and refused; two refusals are one, or both tell of a least
 /// shortage. Out of memory (33) aside. So `decide` and the parts in which the register decides, `decide_repeat`,
-/// `refuse_early` and `decide_new`, agree.
+/// `check_early` and `decide_new`, agree.
 pub fn decisions_are_fixed()
     ensures { (A : History) (x : Command) (r s : Result Verdict Refusal) → IsDecision A x r → IsDecision A x s
         → DecideAlike A r s }

@@ -3,7 +3,7 @@
 //!
 //! All 19 kinds are decided; `kcr_rules` decides each by the rows. `decide` is the machine's step over
 //! every history that the machine leads to. The register takes this step in parts, so that it reads fewer rows:
-//! `decide_repeat` for a key that has a row, `refuse_early` and `decide_new` for a new one. The proofs here join rows and
+//! `decide_repeat` for a key that has a row, `check_early` and `decide_new` for a new one. The proofs here join rows and
 //! histories.
 #![tactic(auto)]
 
@@ -11,7 +11,7 @@ mod decision;
 mod laws;
 mod whole;
 
-pub use decision::{decide_new, decide_repeat, refuse_early};
+pub use decision::{check_early, decide_new, decide_repeat};
 pub use kcr_audit::audit;
 // All rows, as `decide` and `audit` take them. What `kcr_history` calls a view is the part of them in `asked`.
 pub use kcr_history::{

@@ -6,7 +6,7 @@ ghost use Rattle.kcr_history.specs.Views as Views;
 ghost use Rattle.kcr_machine.specs.RowDecision.{MayBeRefused};
 ghost use Rattle.kcr_machine.specs.Whole.{IsAsked};
 
-use crate::decision::{decide_new, decide_repeat};
+use crate::decision::{check_early, decide_new, decide_repeat};
 use kcr_base::{Key, Refusal};
 use kcr_history::{Command, FullView, KeyRow, Verdict};
 use std::alloc::Global;
@@ -50,5 +50,6 @@ pub fn decide(alloc: Global, view: &FullView, command: &Command) -> Result<Verdi
         }
     }
     let last = greatest_number(&view.keys);
+    check_early(alloc, &view.view, last, command)?;
     decide_new(alloc, &view.view, last, command)
 }

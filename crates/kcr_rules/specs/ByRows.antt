@@ -1,16 +1,21 @@
 -- The decision of an act, by the rows of a view.
 use Rattle.std.specs.Prelude.{◌≡◌, ◌≢◌, suc, ℕ, Bool, true, false, nat_lt, List, [], ◌∷◌, ◌++◌, map, Option, Some}
-use Rattle.std.specs.Prelude.{None, option_map, MatchOption, MatchResult, Result, Vec}
+use Rattle.std.specs.Prelude.{None, option_map, is_some, is_none, MatchOption, MatchResult, Result, Vec}
+use Rattle.std.specs.List.{list_any}
 use Rattle.std.specs.Global.{Global}
 use Rattle.kcr_base.specs.Days.{day_of}
+use Rattle.kcr_base.specs.Refuse.{first_of}
+use Rattle.kcr_base.specs.Same.{same_place}
 use Rattle.kcr_base.specs.declared.place.Place.{Place}
+use Rattle.kcr_base.specs.declared.place.Role.TheVariants.{Ca}
 use Rattle.kcr_base.specs.declared.refusal.Refusal.{Refusal}
 use Rattle.kcr_base.specs.declared.refusal.Refusal.TheVariants.{Memory}
 use Rattle.kcr_people.specs.declared.Appointment.{Appointment}
 use Rattle.kcr_people.specs.declared.Roster.{Roster}
-use Rattle.kcr_people.specs.People.{enter_refusal, train_refusal, withdraw_refusal, appoint_refusal, replace_refusal}
-use Rattle.kcr_people.specs.People.{release_refusal, withdrawn_rows, open_row_by, end_of, nobody}
-use Rattle.kcr_custody.specs.Custody.{add_box_refusal}
+use Rattle.kcr_people.specs.People.{is_person_by, same_training, ever_trained_by, trained_from_by, ever_put_by}
+use Rattle.kcr_people.specs.People.{withdrawn_rows, open_row_by, end_of, nobody}
+use Rattle.kcr_custody.specs.declared.CeremonyStatus.{CeremonyStatus}
+use Rattle.kcr_custody.specs.Custody.{is_box, place_of_box_by, is_open_by, spot_by, rest_by}
 use Rattle.kcr_history.specs.declared.commands.Act.{Act}
 use Rattle.kcr_history.specs.declared.commands.Act.TheVariants.{Enter, Train, Withdraw, Appoint, Replace, Release}
 use Rattle.kcr_history.specs.declared.commands.Act.TheVariants.{AddBox, AddItem, Plan, Open, Close, RecordSheet, SetSafe}
@@ -21,19 +26,20 @@ use Rattle.kcr_history.specs.declared.views.Change.{Change}
 use Rattle.kcr_history.specs.declared.views.Change.TheVariants.{PutPerson, PutTraining, PutWithdrawal, PutAppointment}
 use Rattle.kcr_history.specs.declared.views.Change.TheVariants.{PutBox}
 use Rattle.kcr_history.specs.declared.views.View.{View}
+use Rattle.kcr_history.specs.Conditions.{Facts, status, early_conditions, late_conditions}
 use Rattle.kcr_history.specs.History.{greatest}
 use Rattle.kcr_history.specs.Machine.{SeatRequest}
-use Rattle.kcr_history.specs.Views.{last_seated}
+use Rattle.kcr_history.specs.Views.{is_step_at, last_seated}
 use Rattle.kcr_rules.specs.declared.effects.Effect.{Effect}
 use Rattle.kcr_rules.specs.declared.context.DecisionContext.{DecisionContext}
-use Rattle.kcr_rules.specs.CeremonyStatus.{ceremony_by}
-use Rattle.kcr_rules.specs.CeremonyRows.{closing_refusal, closing_changes, opening_refusal, opening_changes}
-use Rattle.kcr_rules.specs.CeremonyRows.{plan_refusal, plan_changes}
-use Rattle.kcr_rules.specs.CustodyRows.{seal_refusal_by, take_refusal_by, put_refusal_by, cut_refusal_by}
+use Rattle.kcr_rules.specs.CeremonyStatus.{ceremony_by, facility_by, day_by, is_open_row, mark_by, has_trained_present_by}
+use Rattle.kcr_rules.specs.CeremonyStatus.{is_holder_present_by}
+use Rattle.kcr_rules.specs.CeremonyRows.{was_opened_by, is_busy_by, is_unended, lies_on_table, closing_changes, opening_changes}
+use Rattle.kcr_rules.specs.CeremonyRows.{plan_changes}
 use Rattle.kcr_rules.specs.CustodyRows.{seal_changes_by, take_changes_by, put_changes_by, cut_changes_by}
-use Rattle.kcr_rules.specs.RoomRows.{turn_refusal_by, turn_changes_by, add_item_refusal_by, add_item_changes_by}
-use Rattle.kcr_rules.specs.SheetRows.{sheet_refusal_by, sheet_changes_by}
-use Rattle.kcr_rules.specs.Signing.{sign_refusal, except_refusal, next_step_by, step_by, seats_by, exception_count_by, staff}
+use Rattle.kcr_rules.specs.RoomRows.{safe_operator_by, turn_changes_by, add_item_changes_by}
+use Rattle.kcr_rules.specs.SheetRows.{room_refusal, sheet_changes_by}
+use Rattle.kcr_rules.specs.Signing.{next_step_by, step_by, seats_by, exception_count_by, staff}
 use Rattle.kcr_rules.specs.Signing.{IsSeatedBy, IsUnseatedBy, mark_change, seat_changes, exception_change}
 
 -- the settled day: the day of the greatest mark
@@ -49,39 +55,57 @@ pub record IsRoster (premises : DecisionContext) (roster : Roster) : Type 0 wher
   pub settled : roster.settled ≡ settled_by premises.view.now.marks.items
   pub is_full : roster.is_full ≡ premises.is_full
 
--- the first refusal of an act, but for its key
-abbrev pub refusal_by : View → Bool → Act → Option Refusal
-refusal_by view full (Enter who name) = enter_refusal view.people.items full who
-refusal_by view full (Train who role since until) =
-    train_refusal view.people.items view.trainings.items view.appointments.items full
-    (record { who = who; role = role; since = since; until = until })
-refusal_by view full (Withdraw who role day) =
-    withdraw_refusal view.people.items view.trainings.items view.withdrawals.items
-    (settled_by view.marks.items) full who role day
-refusal_by view full (Appoint place who day) =
-    appoint_refusal view.people.items view.trainings.items view.appointments.items
-    (settled_by view.marks.items) full place who day
-refusal_by view full (Replace place who day) =
-    replace_refusal view.people.items view.trainings.items view.appointments.items
-    (settled_by view.marks.items) full place who day
-refusal_by view full (Release place day) =
-    release_refusal view.appointments.items (settled_by view.marks.items) full place day
-refusal_by view full (AddBox facility number place) =
-    add_box_refusal view.boxes.items full (record { facility = facility; number = number; place = place })
-refusal_by view full (Plan number facility day script) = plan_refusal view.ceremonies.items full number script
-refusal_by view full (Open ceremony at) =
-    opening_refusal view.ceremonies.items full ceremony at (ceremony_by view.ceremonies.items ceremony)
-refusal_by view full (Close ceremony at) =
-    closing_refusal view full ceremony at (ceremony_by view.ceremonies.items ceremony)
-refusal_by view full (AddItem ceremony item at) = add_item_refusal_by view full ceremony item at
-refusal_by view full (RecordSheet ceremony way people at) = sheet_refusal_by view full ceremony way people at
-refusal_by view full (SetSafe ceremony safe state by at) = turn_refusal_by view full ceremony safe state by at
-refusal_by view full (Sign ceremony step at) = sign_refusal view full ceremony step at
-refusal_by view full (RecordException ceremony text pass at) = except_refusal view full ceremony pass at
-refusal_by view full (Seal ceremony serial items at) = seal_refusal_by view full ceremony serial items at
-refusal_by view full (Take ceremony serial at) = take_refusal_by view full ceremony serial at
-refusal_by view full (Put ceremony serial to at) = put_refusal_by view full ceremony serial to at
-refusal_by view full (Cut ceremony serial at) = cut_refusal_by view full ceremony serial at
+-- THE CONDITIONS: the rows answer what they ask
+
+abbrev pub by_rows : View → Bool → Facts
+by_rows view full =
+    record {
+      is_full = full;
+      is_person = is_person_by view.people.items;
+      has_training = λ row. list_any (same_training row) view.trainings.items;
+      ever_trained = ever_trained_by view.trainings.items;
+      trained_from = trained_from_by view.trainings.items view.withdrawals.items;
+      was_custodian = ever_put_by view.appointments.items;
+      appointments = view.appointments.items;
+      settled = settled_by view.marks.items;
+      is_ceremony = λ ceremony. is_some (ceremony_by view.ceremonies.items ceremony);
+      facility = facility_by view;
+      day = λ ceremony. day_by (ceremony_by view.ceremonies.items ceremony);
+      was_opened = λ ceremony. was_opened_by (ceremony_by view.ceremonies.items ceremony);
+      is_ceremony_open = λ ceremony. is_open_row (ceremony_by view.ceremonies.items ceremony);
+      is_busy = λ ceremony. is_busy_by view.ceremonies.items (ceremony_by view.ceremonies.items ceremony);
+      mark = mark_by view.marks.items;
+      lacks_step = λ ceremony step. is_none (step_by view.steps.items ceremony step);
+      next_step = next_step_by view.seatings.items;
+      has_step_left = λ ceremony. list_any (is_step_at ceremony (next_step_by view.seatings.items ceremony)) view.steps.items;
+      exception_count = exception_count_by view.exceptions.items;
+      has_box = λ facility number. list_any (is_box facility number) view.boxes.items;
+      has_box_of = λ place. list_any (λ old. same_place old.place place) view.boxes.items;
+      place_of_box = place_of_box_by view.boxes.items;
+      is_safe_open = is_open_by view.safes.items;
+      spot = spot_by view.bags.items;
+      rest = rest_by view.items.items;
+      has_bag_on_table = λ facility. list_any (lies_on_table facility) view.bags.items;
+      is_room_used = λ ceremony at. list_any (is_unended ceremony at) view.stays.items;
+      has_ca = has_trained_present_by view Ca;
+      has_holder = is_holder_present_by view;
+      operator = safe_operator_by view;
+      room_conditions = λ ceremony way people at.
+          room_refusal view.stays.items view.stay_count full (mark_by view.marks.items ceremony) ceremony way people at ∷ [];
+    }
+
+-- the ceremony at the moment
+abbrev pub ceremony_status_by : View → Bool → ℕ → ℕ → CeremonyStatus
+ceremony_status_by view full ceremony at = status (by_rows view full) ceremony at
+
+-- the first refusal of an act by what is read first, and by what is read then
+abbrev pub early_refusal_by : View → Bool → Act → Option Refusal
+early_refusal_by view full act = first_of (early_conditions (by_rows view full) act)
+
+abbrev pub late_refusal_by : View → Bool → Act → Option Refusal
+late_refusal_by view full act = first_of (late_conditions (by_rows view full) act)
+
+-- CHANGES
 
 -- an appointment without an end
 abbrev pub new_appointment : Place → List ℕ → ℕ → Appointment
@@ -157,15 +181,7 @@ reply_step_by view (Sign ceremony step at) = Some step
 reply_step_by view (RecordException ceremony text true at) = Some (next_step_by view.seatings.items ceremony)
 reply_step_by view act = None
 
--- WHAT AN ACT COMES TO
-
--- the act has no refusal, these people are seated, and these are its changes and what it is answered beside its number
-pub record IsEffect (view : View) (full : Bool) (act : Act) (acted : Effect) : Type 0 where
-  pub fine : refusal_by view full act ≡ None
-  pub seated : IsSeatedFor view (seat_request_by view act) acted.seating
-  pub changes : acted.changes.items ≡ all_changes_by view act acted.seating
-  pub exception : acted.exception ≡ exception_by view act
-  pub step : acted.step ≡ reply_step_by view act
+-- THE FIRST STAGE
 
 -- the rows tell of more steps done than a script has, which no register's rows do
 abbrev pub has_too_many_steps : View → Act → Bool
@@ -173,19 +189,43 @@ has_too_many_steps view (Sign ceremony step at) = nat_lt 400 (last_seated view.s
 has_too_many_steps view (RecordException ceremony text pass at) = nat_lt 400 (last_seated view.seatings.items ceremony)
 has_too_many_steps view act = false
 
+-- nothing that is read first refuses the act
+abbrev pub IsCleared : View → Bool → Act → Type 0
+IsCleared view full act = (early_refusal_by view full act ≡ None) × (has_too_many_steps view act ≡ false)
+
+-- so the check of an act tells, or its first refusal
+abbrev pub IsCheckResult : {X : Type 0} → View → Bool → Act → Result X Refusal → Type 0
+IsCheckResult view full act result =
+    MatchResult result (λ _. IsCleared view full act)
+    (λ refusal. has_too_many_steps view act ≡ false → early_refusal_by view full act ≡ Some refusal)
+
+-- THE SECOND STAGE, of an act that is cleared
+
+-- a test passes or tells its refusal, or runs out of memory
+abbrev pub IsTested : {X : Type 0} → Option Refusal → Result X Refusal → Type 0
+IsTested refusal result = MatchResult result (λ _. refusal ≡ None) (λ told. told ≢ Memory → refusal ≡ Some told)
+
+-- the act has no refusal, these people are seated, and these are its changes and what it is answered beside its number
+pub record IsEffect (view : View) (full : Bool) (act : Act) (acted : Effect) : Type 0 where
+  pub fine : late_refusal_by view full act ≡ None
+  pub seated : IsSeatedFor view (seat_request_by view act) acted.seating
+  pub changes : acted.changes.items ≡ all_changes_by view act acted.seating
+  pub exception : acted.exception ≡ exception_by view act
+  pub step : acted.step ≡ reply_step_by view act
+
 -- the act's first refusal; or it has none, and its seats are not filled
-pub record IsRefusalOf (view : View) (full : Bool) (act : Act) (refusal : Refusal) : Type 0 where
-  pub first : has_too_many_steps view act ≡ false
-      → MatchOption (refusal_by view full act)
-      (IsUnseatedFor view (seat_request_by view act) refusal) (λ told. refusal ≡ told)
+abbrev pub IsRefusalOf : View → Bool → Act → Refusal → Type 0
+IsRefusalOf view full act refusal =
+    MatchOption (late_refusal_by view full act) (IsUnseatedFor view (seat_request_by view act) refusal)
+    (λ told. refusal ≡ told)
 
 -- the act has no refusal, and these are its changes
 abbrev pub HasChanges : View → Bool → Act → List Change → Type 0
-HasChanges view full act changes = (refusal_by view full act ≡ None) × (changes ≡ changes_by view act)
+HasChanges view full act changes = (late_refusal_by view full act ≡ None) × (changes ≡ changes_by view act)
 
 -- the act has this refusal, out of memory aside
 abbrev pub HasRefusal : View → Bool → Act → Refusal → Type 0
-HasRefusal view full act refusal = refusal ≢ Memory → refusal_by view full act ≡ Some refusal
+HasRefusal view full act refusal = refusal ≢ Memory → late_refusal_by view full act ≡ Some refusal
 
 -- the result of deciding the act: its changes if it has no refusal, or its refusal, or out of memory
 abbrev pub IsChangesResult : DecisionContext → Act → Result (Vec Change Global) Refusal → Type 0

@@ -1,5 +1,5 @@
 -- What the rows of a view say of a ceremony: its plan, its state, its mark, who is in its room.
-use Rattle.std.specs.Prelude.{ℕ, Bool, true, false, not, List, [], ◌∷◌, find, Option, Some, None, option_map, is_some}
+use Rattle.std.specs.Prelude.{ℕ, Bool, true, false, not, List, [], ◌∷◌, find, Option, Some, None, option_map}
 use Rattle.std.specs.Prelude.{unwrap_or}
 use Rattle.std.specs.List.{list_any}
 use Rattle.kcr_base.specs.Days.{day_of}
@@ -9,11 +9,9 @@ use Rattle.kcr_base.specs.declared.place.Facility.{Facility}
 use Rattle.kcr_base.specs.declared.place.Facility.TheVariants.{East}
 use Rattle.kcr_base.specs.declared.place.Place.{Place}
 use Rattle.kcr_base.specs.declared.place.Role.{Role}
-use Rattle.kcr_base.specs.declared.place.Role.TheVariants.{Ca}
 use Rattle.kcr_base.specs.declared.refusal.Refusal.{Refusal}
 use Rattle.kcr_base.specs.declared.refusal.Refusal.TheVariants as Refusals
 use Rattle.kcr_people.specs.People.{trained_by, holder_by}
-use Rattle.kcr_custody.specs.declared.CeremonyStatus.{CeremonyStatus}
 use Rattle.kcr_room.specs.declared.Stay.{Stay}
 use Rattle.kcr_room.specs.Stays.{present_in_by}
 use Rattle.kcr_history.specs.declared.row_types.CeremonyRow.{CeremonyRow}
@@ -82,23 +80,3 @@ abbrev pub is_holder_present_by : View → Place → ℕ → ℕ → Bool
 is_holder_present_by view place ceremony t =
     unwrap_or (option_map (λ who. is_in_by view.stays.items who ceremony t)
     (holder_by view.appointments.items place (day_of t))) false
-
--- THE SCENE
-
--- what an act of custody takes from its ceremony
-abbrev pub ceremony_status_by : View → ℕ → ℕ → Bool → Bool → CeremonyStatus
-ceremony_status_by view ceremony at full has_ca =
-    record {
-      ceremony = ceremony;
-      is_known = is_some (ceremony_by view.ceremonies.items ceremony);
-      facility = facility_by view ceremony;
-      is_open = is_open_row (ceremony_by view.ceremonies.items ceremony);
-      mark = mark_by view.marks.items ceremony;
-      at = at;
-      is_full = full;
-      has_ca = has_ca;
-    }
-
--- the same, with whether a CA is there
-abbrev pub ceremony_status_with_ca_by : View → Bool → ℕ → ℕ → CeremonyStatus
-ceremony_status_with_ca_by view full ceremony at = ceremony_status_by view ceremony at full (has_trained_present_by view Ca ceremony at)

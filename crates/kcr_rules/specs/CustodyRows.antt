@@ -1,20 +1,13 @@
 -- Bags sealed, taken, put away and cut, by the rows of a view.
 use Rattle.std.specs.Prelude.{ℕ, Bool, false, List, [], ◌∷◌, map, Option, Some, None}
 use Rattle.kcr_base.specs.declared.place.Place.{Place}
-use Rattle.kcr_base.specs.declared.refusal.Refusal.{Refusal}
 use Rattle.kcr_custody.specs.declared.Spot.TheVariants.{Table, Spent}
 use Rattle.kcr_custody.specs.declared.Destination.{Destination}
 use Rattle.kcr_custody.specs.Custody.{spot_by, box_of, box_of_destination, spot_of_destination, place_of, loose_items, sealed_items}
-use Rattle.kcr_custody.specs.Custody.{seal_refusal, take_refusal, put_refusal, cut_refusal}
 use Rattle.kcr_history.specs.declared.views.Change.{Change}
 use Rattle.kcr_history.specs.declared.views.Change.TheVariants.{PutBag, PutItem, PutMark}
 use Rattle.kcr_history.specs.declared.views.View.{View}
-use Rattle.kcr_rules.specs.CeremonyStatus.{is_holder_present_by, facility_by, ceremony_status_with_ca_by}
-
--- the holder of the place is in the room, if a place is meant
-abbrev pub is_box_holder_present_by : View → ℕ → ℕ → Option Place → Bool
-is_box_holder_present_by view ceremony at None = false
-is_box_holder_present_by view ceremony at (Some place) = is_holder_present_by view place ceremony at
+use Rattle.kcr_rules.specs.CeremonyStatus.{is_holder_present_by, facility_by}
 
 -- the place of the box in which the bag is
 abbrev pub place_to_take : View → ℕ → List ℕ → Option Place
@@ -25,24 +18,10 @@ place_to_take view ceremony serial =
 abbrev pub place_to_put : View → ℕ → Destination → Option Place
 place_to_put view ceremony to = place_of view.boxes.items (facility_by view ceremony) (box_of_destination to)
 
--- THE FIRST REFUSAL
-
-abbrev pub seal_refusal_by : View → Bool → ℕ → List ℕ → List (List ℕ) → ℕ → Option Refusal
-seal_refusal_by view full ceremony serial codes at =
-    seal_refusal (ceremony_status_with_ca_by view full ceremony at) view.bags.items view.items.items serial codes
-
-abbrev pub take_refusal_by : View → Bool → ℕ → List ℕ → ℕ → Option Refusal
-take_refusal_by view full ceremony serial at =
-    take_refusal (ceremony_status_with_ca_by view full ceremony at) view.safes.items view.boxes.items view.bags.items serial
-    (is_box_holder_present_by view ceremony at (place_to_take view ceremony serial))
-
-abbrev pub put_refusal_by : View → Bool → ℕ → List ℕ → Destination → ℕ → Option Refusal
-put_refusal_by view full ceremony serial to at =
-    put_refusal (ceremony_status_with_ca_by view full ceremony at) view.safes.items view.boxes.items view.bags.items serial to
-    (is_box_holder_present_by view ceremony at (place_to_put view ceremony to))
-
-abbrev pub cut_refusal_by : View → Bool → ℕ → List ℕ → ℕ → Option Refusal
-cut_refusal_by view full ceremony serial at = cut_refusal (ceremony_status_with_ca_by view full ceremony at) view.bags.items serial
+-- the place has a holder, who is in the room, if a place is meant
+abbrev pub is_box_holder_present_by : View → ℕ → ℕ → Option Place → Bool
+is_box_holder_present_by view ceremony at None = false
+is_box_holder_present_by view ceremony at (Some place) = is_holder_present_by view place ceremony at
 
 -- THE ROWS THAT ARE PUT: the bag, the ceremony's mark, and each item that is moved
 

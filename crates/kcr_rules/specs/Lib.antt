@@ -7,5 +7,4 @@ pub mod RoomRows
 pub mod SheetRows
 pub mod Kinds
 pub mod ByRows
-pub mod Early
 pub mod Refusals

@@ -1,35 +1,26 @@
 -- What is decided of safes and of items, by the rows of a view.
-use Rattle.std.specs.Prelude.{ℕ, Bool, false, List, [], ◌∷◌, Option}
+use Rattle.std.specs.Prelude.{ℕ, Bool, List, [], ◌∷◌}
 use Rattle.kcr_base.specs.Days.{day_of}
 use Rattle.kcr_base.specs.declared.place.Role.TheVariants.{Ssc1, Ssc2}
-use Rattle.kcr_base.specs.declared.refusal.Refusal.{Refusal}
-use Rattle.kcr_people.specs.People.{is_person_by}
 use Rattle.kcr_custody.specs.declared.SafeOperator.{SafeOperator}
 use Rattle.kcr_custody.specs.declared.SafeNumber.{SafeNumber}
 use Rattle.kcr_custody.specs.declared.Rest.TheVariants.{Loose}
-use Rattle.kcr_custody.specs.Custody.{safe_refusal, add_item_refusal}
 use Rattle.kcr_history.specs.declared.views.Change.{Change}
 use Rattle.kcr_history.specs.declared.views.Change.TheVariants.{PutSafe, PutItem, PutMark}
 use Rattle.kcr_history.specs.declared.views.View.{View}
-use Rattle.kcr_rules.specs.CeremonyStatus.{is_in_by, is_trained_by, facility_by, ceremony_status_by, ceremony_status_with_ca_by}
+use Rattle.kcr_rules.specs.CeremonyStatus.{is_in_by, is_trained_by, facility_by}
 
 -- SAFES
 
 -- who opens or shuts a safe, in the room of the ceremony at the moment
-abbrev pub safe_operator_by : View → ℕ → List ℕ → ℕ → SafeOperator
-safe_operator_by view ceremony by at =
+abbrev pub safe_operator_by : View → List ℕ → ℕ → ℕ → SafeOperator
+safe_operator_by view by ceremony at =
     record {
       who = by;
-      is_known = is_person_by view.people.items by;
       is_present = is_in_by view.stays.items by ceremony at;
       has_ssc1 = is_trained_by view by Ssc1 (day_of at);
       has_ssc2 = is_trained_by view by Ssc2 (day_of at);
     }
-
--- the first refusal of opening or shutting a safe
-abbrev pub turn_refusal_by : View → Bool → ℕ → SafeNumber → Bool → List ℕ → ℕ → Option Refusal
-turn_refusal_by view full ceremony safe state by at =
-    safe_refusal (ceremony_status_by view ceremony at full false) view.safes.items safe state (safe_operator_by view ceremony by at)
 
 -- the rows that it puts: the safe's and the mark's
 abbrev pub turn_changes_by : View → ℕ → SafeNumber → Bool → ℕ → List Change
@@ -38,11 +29,6 @@ turn_changes_by view ceremony safe state at =
     ∷ PutMark (record { ceremony = ceremony; at = at }) ∷ []
 
 -- ITEMS
-
--- the first refusal of an item added
-abbrev pub add_item_refusal_by : View → Bool → ℕ → List ℕ → ℕ → Option Refusal
-add_item_refusal_by view full ceremony item at =
-    add_item_refusal (ceremony_status_with_ca_by view full ceremony at) view.items.items item
 
 -- the rows that it puts: the item's and the mark's
 abbrev pub add_item_changes_by : View → ℕ → List ℕ → ℕ → List Change

@@ -1,13 +1,10 @@
 -- Signatures and exceptions, by the rows of a view: the steps of a ceremony, who fits a seat, and who is seated.
-use Rattle.std.specs.Prelude.{◌≡◌, ℕ, suc, ◌==◌, Bool, true, false, not, ◌&&◌, nat_lt, nat_le, List, [], ◌∷◌, ◌++◌, map}
-use Rattle.std.specs.Prelude.{filter, length, find, get_or, slice_get, Option, Some, None, is_some, is_none, ◌⊎◌}
+use Rattle.std.specs.Prelude.{◌≡◌, ℕ, suc, Bool, true, false, nat_lt, List, [], ◌∷◌, ◌++◌, map}
+use Rattle.std.specs.Prelude.{filter, length, find, get_or, slice_get, Option, Some, None, ◌⊎◌}
 use Rattle.kcr_base.specs.Days.{day_of}
-use Rattle.kcr_base.specs.Refuse.{when, first_of, unknown_ceremony_refusal, before_mark_refusal}
 use Rattle.kcr_base.specs.declared.place.Role.TheVariants.{Ca, Iw}
 use Rattle.kcr_base.specs.declared.refusal.Refusal.{Refusal}
-use Rattle.kcr_base.specs.declared.refusal.Refusal.TheVariants as Refusals
-use Rattle.kcr_base.specs.declared.refusal.Refusal.TheVariants.{Unknown, Order, Full, Short, Disk}
-use Rattle.kcr_base.specs.declared.refusal.Thing.TheVariants as Things
+use Rattle.kcr_base.specs.declared.refusal.Refusal.TheVariants.{Short, Disk}
 use Rattle.kcr_room.specs.Stays.{present_in_by}
 use Rattle.kcr_script.specs.declared.seat.Seat.{Seat}
 use Rattle.kcr_script.specs.declared.seat.Seat.TheVariants.{Staff}
@@ -23,7 +20,7 @@ use Rattle.kcr_history.specs.Fitting.{fits_by}
 use Rattle.kcr_history.specs.Machine.{SeatRequest}
 use Rattle.kcr_history.specs.Tables.{seat_rows}
 use Rattle.kcr_history.specs.Views.{is_step_at, is_exception_of, last_seated}
-use Rattle.kcr_rules.specs.CeremonyStatus.{ceremony_by, facility_of_row, is_open_row, mark_by}
+use Rattle.kcr_rules.specs.CeremonyStatus.{ceremony_by, facility_of_row}
 
 -- THE STEPS AND EXCEPTIONS OF A CEREMONY
 
@@ -43,31 +40,6 @@ next_step_by rows ceremony = suc (last_seated rows ceremony)
 -- how many exceptions the ceremony has
 abbrev pub exception_count_by : List ExceptionRow → ℕ → ℕ
 exception_count_by rows ceremony = length (filter (is_exception_of ceremony) rows)
-
--- THE FIRST REFUSAL, but for seats that lack people
-
-abbrev pub sign_refusal : View → Bool → ℕ → ℕ → ℕ → Option Refusal
-sign_refusal view full ceremony step at =
-    first_of
-    (unknown_ceremony_refusal (is_some (ceremony_by view.ceremonies.items ceremony)) ceremony
-    ∷ when (is_none (step_by view.steps.items ceremony step)) (Unknown (Things.Step step))
-    ∷ when (not (is_open_row (ceremony_by view.ceremonies.items ceremony))) Refusals.State
-    ∷ before_mark_refusal at (mark_by view.marks.items ceremony)
-    ∷ when (not (step == next_step_by view.seatings.items ceremony)) (Order (next_step_by view.seatings.items ceremony))
-    ∷ when full Full
-    ∷ [])
-
-abbrev pub except_refusal : View → Bool → ℕ → Bool → ℕ → Option Refusal
-except_refusal view full ceremony pass at =
-    first_of
-    (unknown_ceremony_refusal (is_some (ceremony_by view.ceremonies.items ceremony)) ceremony
-    ∷ when (not (is_open_row (ceremony_by view.ceremonies.items ceremony))) Refusals.State
-    ∷ before_mark_refusal at (mark_by view.marks.items ceremony)
-    ∷ when (pass && is_none (step_by view.steps.items ceremony (next_step_by view.seatings.items ceremony)))
-    (Order (next_step_by view.seatings.items ceremony))
-    ∷ when (nat_le 200 (exception_count_by view.exceptions.items ceremony)) Full
-    ∷ when full Full
-    ∷ [])
 
 -- WHO FITS A SEAT
 

@@ -1,7 +1,7 @@
 //! Boxes added, and ceremonies planned and opened, over the rows of a view.
 ghost use Rattle.std.specs.Prelude.{◌≡◌, ◌≤◌, ◌++◌, length, map, Ok, Err, IfOk};
 ghost use Rattle.std.specs.List.{list_any};
-ghost use Rattle.kcr_base.specs.Refuse.{IsTestResult, unless};
+ghost use Rattle.kcr_base.specs.Refuse.{unless};
 ghost use Rattle.kcr_custody.specs.Custody;
 ghost use Rattle.kcr_script.specs.Fault.{IfRow};
 ghost use Rattle.kcr_script.specs.Reading.{script_of};
@@ -85,10 +85,11 @@ impl DecisionContext<'_> {
         Ok(only(self.alloc, Change::PutBox(row))?)
     }
 
-    /// The ceremony of the row may be opened: its day is there, it was never opened, and no other is open beside it.
-    fn check_opening(&self, at: Moment, row: CeremonyRow) -> Result<(), Refusal>
-        ensures { IsTestResult (CeremonyRows.open_refusal self.now.view.now.ceremonies.items self.now.is_full at row) result }
+    /// Opens a planned ceremony.
+    pub fn open(&self, ceremony: u32, at: Moment) -> Result<Vec<Change>, Refusal>
+        ensures { IsChangesResult self.now (Kinds.Open ceremony at) result }
     {
+        let row = known_ceremony(self.view, ceremony)?;
         if at.day() < row.day {
             return Err(Refusal::Range);
         }
@@ -101,15 +102,6 @@ impl DecisionContext<'_> {
         if self.is_full {
             return Err(Refusal::Full);
         }
-        Ok(())
-    }
-
-    /// Opens a planned ceremony.
-    pub fn open(&self, ceremony: u32, at: Moment) -> Result<Vec<Change>, Refusal>
-        ensures { IsChangesResult self.now (Kinds.Open ceremony at) result }
-    {
-        let row = known_ceremony(self.view, ceremony)?;
-        self.check_opening(at, row)?;
         let opened = CeremonyRow {
             state: CeremonyState::Open,
             opened: Some(at),

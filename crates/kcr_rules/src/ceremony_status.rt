@@ -4,11 +4,12 @@ ghost use Rattle.kcr_base.specs.declared.refusal.Refusal.TheVariants.{Unknown};
 ghost use Rattle.kcr_base.specs.declared.refusal.Thing.TheVariants as Things;
 ghost use Rattle.kcr_base.specs.Refuse.{IsTestResult};
 ghost use Rattle.kcr_room.specs.Stays.{present_in_by};
+ghost use Rattle.kcr_rules.specs.ByRows;
 ghost use Rattle.kcr_rules.specs.CeremonyStatus;
 
 use crate::context::DecisionContext;
 use kcr_base::{Day, Facility, Initials, Moment, Refusal, Role, Thing, is_among};
-use kcr_custody::CeremonyStatus as CustodyScene;
+use kcr_custody::CeremonyStatus as CustodyStatus;
 use kcr_history::{CeremonyRow, CeremonyState, View};
 use std::alloc::AllocError;
 
@@ -105,12 +106,19 @@ pub fn is_trained(view: &View, who: Initials, role: Role, day: Day) -> bool
 }
 
 impl DecisionContext<'_> {
-    /// What an act of custody takes from its ceremony.
-    pub fn ceremony_status(&self, ceremony: u32, at: Moment, has_ca: bool) -> CustodyScene
-        ensures { result ≡ CeremonyStatus.ceremony_status_by self.now.view.now ceremony at self.now.is_full has_ca }
+    /// Where a ceremony takes place.
+    pub fn facility(&self, ceremony: u32) -> Facility
+        ensures { result ≡ CeremonyStatus.facility_by self.now.view.now ceremony }
+    {
+        facility(&ceremony_row(self.view, ceremony))
+    }
+
+    /// What the check of an act of custody takes from its ceremony.
+    pub fn ceremony_status(&self, ceremony: u32, at: Moment) -> CustodyStatus
+        ensures { result ≡ ByRows.ceremony_status_by self.now.view.now self.now.is_full ceremony at }
     {
         let row = ceremony_row(self.view, ceremony);
-        CustodyScene {
+        CustodyStatus {
             ceremony,
             is_known: row.is_some(),
             facility: facility(&row),
@@ -118,7 +126,6 @@ impl DecisionContext<'_> {
             mark: mark(self.view, ceremony),
             at,
             is_full: self.is_full,
-            has_ca,
         }
     }
 
@@ -153,17 +160,5 @@ impl DecisionContext<'_> {
                 .iter()
                 .any(|who| is_trained(self.view, *who, role, day)),
         )
-    }
-
-    /// What an act of custody takes from its ceremony, with whether a CA is in the room.
-    pub fn ceremony_status_with_ca(
-        &self,
-        ceremony: u32,
-        at: Moment,
-    ) -> Result<CustodyScene, AllocError>
-        ensures { IfOk result (λ scene. scene ≡ CeremonyStatus.ceremony_status_with_ca_by self.now.view.now self.now.is_full ceremony at) }
-    {
-        let has_ca = self.has_trained_present(Role::Ca, ceremony, at)?;
-        Ok(self.ceremony_status(ceremony, at, has_ca))
     }
 }

@@ -1,18 +1,18 @@
 //! Ceremonies closed, over the rows of a view.
-ghost use Rattle.std.specs.Prelude.{◌≡◌, suc, IfOk, Some};
+ghost use Rattle.std.specs.Prelude.{◌≡◌, suc};
 ghost use Rattle.std.specs.List.{list_any};
 ghost use Rattle.kcr_base.specs.Refuse.{IsTestResult};
 ghost use Rattle.kcr_history.specs.declared.commands.Act.TheVariants as Kinds;
-ghost use Rattle.kcr_rules.specs.ByRows.{IsChangesResult};
+ghost use Rattle.kcr_rules.specs.ByRows;
+ghost use Rattle.kcr_rules.specs.ByRows.{IsChangesResult, IsCheckResult};
 ghost use Rattle.kcr_history.specs.Views.{is_step_at};
 ghost use Rattle.kcr_rules.specs.CeremonyRows;
-ghost use Rattle.kcr_rules.specs.CeremonyStatus;
 ghost use Rattle.kcr_rules.specs.Signing.{next_step_by};
 
-use crate::ceremony_status::{check_running, known_ceremony};
+use crate::ceremony_status::{ceremony_row, check_running};
 use crate::changes::only;
 use crate::context::DecisionContext;
-use kcr_base::{Facility, Moment, Part, Refusal};
+use kcr_base::{Facility, Moment, Part, Refusal, Thing};
 use kcr_custody::queries::is_open;
 use kcr_custody::{Bag, SafeNumber, Spot};
 use kcr_history::{CeremonyRow, CeremonyState, Change, StepRow, View, last_seated};
@@ -68,48 +68,54 @@ fn has_bag_on_table(view: &View, facility: Facility) -> bool
     view.bags.iter().any(|bag| lies_on_table(facility, *bag))
 }
 
-/// The ceremony of the row is finished: its steps, its room, the safes and the table, in this order.
-fn check_finished(view: &View, ceremony: u32, at: Moment, row: CeremonyRow) -> Result<(), Refusal>
-    ensures { IsTestResult (CeremonyRows.unfinished_by view.now ceremony at row) result }
-{
-    if has_next_step(view, ceremony) {
-        return Err(Refusal::Unfinished { part: Part::Steps });
-    }
-    if is_room_used(view, ceremony, at) {
-        return Err(Refusal::Unfinished { part: Part::Room });
-    }
-    if is_open(&view.safes, row.facility, SafeNumber::One)
-        || is_open(&view.safes, row.facility, SafeNumber::Two)
-    {
-        return Err(Refusal::Unfinished { part: Part::Safes });
-    }
-    if has_bag_on_table(view, row.facility) {
-        return Err(Refusal::Unfinished { part: Part::Table });
-    }
-    Ok(())
-}
-
 impl DecisionContext<'_> {
-    /// The row of a ceremony that may be closed once it is finished. Refused: 12 without the ceremony, 20 where it is
-    /// not open, 22 before its mark, 27 full.
-    pub fn check_closing(&self, ceremony: u32, at: Moment) -> Result<CeremonyRow, Refusal>
-        ensures row { IfOk result (λ row. CeremonyStatus.ceremony_by self.now.view.now.ceremonies.items ceremony ≡ Some row) }
-        ensures tests { IsTestResult (CeremonyRows.early_closing_refusal self.now.view.now self.now.is_full ceremony at) result }
+    /// A ceremony may be closed once it is finished. Refused: 12 without the ceremony, 20 if it is not open, 22 before
+    /// its mark, 27 full.
+    pub fn check_close(&self, ceremony: u32, at: Moment) -> Result<(), Refusal>
+        ensures { IsCheckResult self.now.view.now self.now.is_full (Kinds.Close ceremony at) result }
     {
-        let row = known_ceremony(self.view, ceremony)?;
+        let Some(row) = ceremony_row(self.view, ceremony) else {
+            return Err(Refusal::Unknown {
+                thing: Thing::Ceremony(ceremony),
+            });
+        };
         check_running(self.view, ceremony, row.state, at)?;
         if self.is_full {
             return Err(Refusal::Full);
         }
-        Ok(row)
+        Ok(())
+    }
+
+    /// The ceremony is finished: its steps, its room, the safes and the table, in this order.
+    fn check_finished(&self, ceremony: u32, at: Moment) -> Result<(), Refusal>
+        ensures { IsTestResult (ByRows.late_refusal_by self.now.view.now self.now.is_full (Kinds.Close ceremony at)) result }
+    {
+        let here = self.facility(ceremony);
+        if has_next_step(self.view, ceremony) {
+            return Err(Refusal::Unfinished { part: Part::Steps });
+        }
+        if is_room_used(self.view, ceremony, at) {
+            return Err(Refusal::Unfinished { part: Part::Room });
+        }
+        if is_open(&self.view.safes, here, SafeNumber::One)
+            || is_open(&self.view.safes, here, SafeNumber::Two)
+        {
+            return Err(Refusal::Unfinished { part: Part::Safes });
+        }
+        if has_bag_on_table(self.view, here) {
+            return Err(Refusal::Unfinished { part: Part::Table });
+        }
+        Ok(())
     }
 
     /// Closes an open ceremony.
     pub fn close(&self, ceremony: u32, at: Moment) -> Result<Vec<Change>, Refusal>
         ensures { IsChangesResult self.now (Kinds.Close ceremony at) result }
     {
-        let row = self.check_closing(ceremony, at)?;
-        check_finished(self.view, ceremony, at, row)?;
+        self.check_finished(ceremony, at)?;
+        let Some(row) = ceremony_row(self.view, ceremony) else {
+            return Ok(Vec::new(self.alloc));
+        };
         let closed = CeremonyRow {
             state: CeremonyState::Closed,
             closed: Some(at),

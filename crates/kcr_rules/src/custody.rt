@@ -1,19 +1,20 @@
 //! Acts on bags, over the rows of a view.
-#![tactic(auto, using(crate::proofs::Unless::refused, crate::proofs::Unless::accepted))]
-
 ghost use Rattle.std.specs.Prelude.{◌≡◌, ◌∷◌, IfOk, map};
-ghost use Rattle.kcr_base.specs.Refuse.{unless, IsValueOrRefusal};
-ghost use Rattle.kcr_custody.specs.declared.Spot.TheVariants.{Table, Spent};
+ghost use Rattle.kcr_base.specs.Refuse.{first_of};
+ghost use Rattle.kcr_base.specs.declared.place.Role.TheVariants.{Ca};
 ghost use Rattle.kcr_custody.specs.Custody;
 ghost use Rattle.kcr_history.specs.declared.commands.Act.TheVariants as Kinds;
 ghost use Rattle.kcr_history.specs.declared.views.Change.TheVariants.{PutBag, PutItem, PutMark};
-ghost use Rattle.kcr_rules.specs.ByRows.{IsChangesResult};
+ghost use Rattle.kcr_history.specs.declared.views.View.{View};
+ghost use Rattle.kcr_rules.specs.ByRows.{IsChangesResult, IsCheckResult, IsTested};
+ghost use Rattle.kcr_rules.specs.CeremonyStatus.{has_trained_present_by, is_holder_present_by};
 ghost use Rattle.kcr_rules.specs.CustodyRows;
 
 use crate::changes::with_mark;
 use crate::context::DecisionContext;
 use kcr_base::{Items, Moment, Place, Refusal, Role, Serial};
-use kcr_custody::{BagChange, Destination};
+use kcr_custody::queries::spot_of_destination;
+use kcr_custody::{Bag, BagChange, Destination, Spot};
 use kcr_history::Change;
 use std::alloc::{AllocError, Global};
 
@@ -35,22 +36,55 @@ fn moved_changes(
 }
 
 impl DecisionContext<'_> {
+    /// Somebody in the room is trained as CA.
+    pub fn check_ca(&self, ceremony: u32, at: Moment) -> Result<(), Refusal>
+        ensures { IsTested (Custody.no_ca_refusal (has_trained_present_by self.now.view.now Ca ceremony at)) result }
+    {
+        let has_ca = self.has_trained_present(Role::Ca, ceremony, at)?;
+        kcr_custody::check_ca(has_ca)
+    }
+
     /// Whether the holder of a place is in the room; false if no place is meant.
     fn is_box_holder_present(
         &self,
         ceremony: u32,
         at: Moment,
-        place: Option<Place>,
+        place: &Option<Place>,
     ) -> Result<bool, AllocError>
-        ensures { IfOk result (λ answer. answer ≡ CustodyRows.is_box_holder_present_by self.now.view.now ceremony at place) }
+        ensures { IfOk result (λ answer. answer ≡ CustodyRows.is_box_holder_present_by self.now.view.now ceremony at place.now) }
     {
         let Some(place) = place else {
             return Ok(false);
         };
-        match kcr_people::holder(&self.view.appointments, place, at.day()) {
+        match kcr_people::holder(&self.view.appointments, *place, at.day()) {
             Some(who) => self.is_in(who, ceremony, at),
             None => Ok(false),
         }
+    }
+
+    /// Somebody in the room is trained as CA, and the holder of the place is there, if one is meant.
+    fn check_keepers(&self, ceremony: u32, at: Moment, place: Option<Place>) -> Result<(), Refusal>
+        ensures { let view : View = self.now.view.now in IsTested (first_of (Custody.keepers_conditions
+            (has_trained_present_by view Ca ceremony at) (λ p. is_holder_present_by view p ceremony at) place)) result }
+    {
+        let has_ca = self.has_trained_present(Role::Ca, ceremony, at)?;
+        let has_holder = self.is_box_holder_present(ceremony, at, &place)?;
+        kcr_custody::check_keepers(has_ca, place, has_holder)
+    }
+
+    /// Items may be sealed into a new bag. Refused: 12 without the ceremony or an item, 13, 20, 22, 27, 29.
+    pub fn check_seal(
+        &self,
+        ceremony: u32,
+        serial: Serial,
+        items: &Items,
+        at: Moment,
+    ) -> Result<(), Refusal>
+        ensures { IsCheckResult self.now.view.now self.now.is_full (Kinds.Seal ceremony serial items.now at) result }
+    {
+        let status = self.ceremony_status(ceremony, at);
+        let view = self.view;
+        kcr_custody::check_seal(&status, &view.bags, &view.items, serial, items.as_slice())
     }
 
     /// Seals items into a new bag.
@@ -63,40 +97,48 @@ impl DecisionContext<'_> {
     ) -> Result<Vec<Change>, Refusal>
         ensures { IsChangesResult self.now (Kinds.Seal ceremony serial items.now at) result }
     {
-        let has_ca = self.has_trained_present(Role::Ca, ceremony, at)?;
-        let scene = self.ceremony_status(ceremony, at, has_ca);
-        let moved = kcr_custody::seal(
-            self.alloc,
-            &scene,
-            &self.view.bags,
-            &self.view.items,
-            serial,
-            items.as_slice(),
-        )?;
+        self.check_ca(ceremony, at)?;
+        let here = self.facility(ceremony);
+        let moved = kcr_custody::seal(self.alloc, here, serial, items.as_slice())?;
         Ok(moved_changes(self.alloc, &moved, ceremony, at)?)
+    }
+
+    /// A bag may be taken out of a safe. Refused: 12 without the ceremony or the bag, 20, 22, 27, 28, 29.
+    pub fn check_take(&self, ceremony: u32, serial: Serial, at: Moment) -> Result<(), Refusal>
+        ensures { IsCheckResult self.now.view.now self.now.is_full (Kinds.Take ceremony serial at) result }
+    {
+        let status = self.ceremony_status(ceremony, at);
+        kcr_custody::check_take(&status, &self.view.safes, &self.view.bags, serial)
     }
 
     /// Takes a bag out of a safe.
     pub fn take(&self, ceremony: u32, serial: Serial, at: Moment) -> Result<Vec<Change>, Refusal>
         ensures { IsChangesResult self.now (Kinds.Take ceremony serial at) result }
     {
-        let scene = self.ceremony_status_with_ca(ceremony, at)?;
-        let place = kcr_custody::place_for_take(
-            &self.view.boxes,
-            &self.view.bags,
-            scene.facility,
+        let here = self.facility(ceremony);
+        let place = kcr_custody::place_for_take(&self.view.boxes, &self.view.bags, here, serial);
+        self.check_keepers(ceremony, at, place)?;
+        let bag = Bag {
             serial,
-        );
-        let has_holder = self.is_box_holder_present(ceremony, at, place)?;
-        let bag = kcr_custody::take(
-            &scene,
-            &self.view.safes,
-            &self.view.boxes,
-            &self.view.bags,
-            serial,
-            has_holder,
-        )?;
+            spot: Spot::Table(here),
+        };
         Ok(with_mark(self.alloc, Change::PutBag(bag), ceremony, at)?)
+    }
+
+    /// A bag may be put into safe 1 or into a box. Refused: 12 without the ceremony, the bag or the box, 20, 22, 27, 28,
+    /// 29.
+    pub fn check_put(
+        &self,
+        ceremony: u32,
+        serial: Serial,
+        to: Destination,
+        at: Moment,
+    ) -> Result<(), Refusal>
+        ensures { IsCheckResult self.now.view.now self.now.is_full (Kinds.Put ceremony serial to at) result }
+    {
+        let status = self.ceremony_status(ceremony, at);
+        let view = self.view;
+        kcr_custody::check_put(&status, &view.safes, &view.boxes, &view.bags, serial, to)
     }
 
     /// Puts a bag into safe 1 or into a box.
@@ -109,34 +151,31 @@ impl DecisionContext<'_> {
     ) -> Result<Vec<Change>, Refusal>
         ensures { IsChangesResult self.now (Kinds.Put ceremony serial to at) result }
     {
-        let scene = self.ceremony_status_with_ca(ceremony, at)?;
-        let place = kcr_custody::place_for_put(&self.view.boxes, scene.facility, &to);
-        let has_holder = self.is_box_holder_present(ceremony, at, place)?;
-        let bag = kcr_custody::put(
-            &scene,
-            &self.view.safes,
-            &self.view.boxes,
-            &self.view.bags,
+        let here = self.facility(ceremony);
+        let place = kcr_custody::place_for_put(&self.view.boxes, here, &to);
+        self.check_keepers(ceremony, at, place)?;
+        let bag = Bag {
             serial,
-            to,
-            has_holder,
-        )?;
+            spot: spot_of_destination(here, &to),
+        };
         Ok(with_mark(self.alloc, Change::PutBag(bag), ceremony, at)?)
+    }
+
+    /// A bag may be cut open. Refused: 12 without the ceremony or the bag, 20, 22, 27, 29.
+    pub fn check_cut(&self, ceremony: u32, serial: Serial, at: Moment) -> Result<(), Refusal>
+        ensures { IsCheckResult self.now.view.now self.now.is_full (Kinds.Cut ceremony serial at) result }
+    {
+        let status = self.ceremony_status(ceremony, at);
+        kcr_custody::check_cut(&status, &self.view.bags, serial)
     }
 
     /// Cuts a bag open.
     pub fn cut(&self, ceremony: u32, serial: Serial, at: Moment) -> Result<Vec<Change>, Refusal>
         ensures { IsChangesResult self.now (Kinds.Cut ceremony serial at) result }
     {
-        let has_ca = self.has_trained_present(Role::Ca, ceremony, at)?;
-        let scene = self.ceremony_status(ceremony, at, has_ca);
-        let moved = kcr_custody::cut(
-            self.alloc,
-            &scene,
-            &self.view.bags,
-            &self.view.items,
-            serial,
-        )?;
+        self.check_ca(ceremony, at)?;
+        let here = self.facility(ceremony);
+        let moved = kcr_custody::cut(self.alloc, here, &self.view.items, serial)?;
         Ok(moved_changes(self.alloc, &moved, ceremony, at)?)
     }
 }

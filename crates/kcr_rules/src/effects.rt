@@ -1,6 +1,6 @@
 //! Deciding an act by its premises: one method for each kind of act, and the choice among them.
 ghost use Rattle.std.specs.Prelude.{◌≡◌, true, false, IfErr, IsTrue, OnOk};
-ghost use Rattle.kcr_rules.specs.ByRows.{IsChangesResult, IsEffectResult};
+ghost use Rattle.kcr_rules.specs.ByRows.{IsChangesResult, IsCleared, IsEffectResult};
 ghost use Rattle.kcr_rules.specs.Kinds.{is_on_bag, is_in_room, is_on_ceremony, is_plain};
 ghost use Rattle.kcr_rules.specs.Refusals.{may_refuse};
 
@@ -133,13 +133,14 @@ impl DecisionContext<'_> {
     }
 }
 
-/// Decides an act by the rows of a view. Errors: its first refusal.
+/// Decides an act that is cleared (`check`) by the rows of a view. Errors: its first refusal.
 ///
 /// The refusals come in the order of their numbers; `full` tells that 4,000,000,000 commands have been accepted (27),
 /// and then no act is accepted. A signature, and an exception that passes a step, come with the first seating of the
 /// people in the room, or are refused (32) with a least shortage. Out of memory (33) may be answered in place of all
 /// of these.
 pub fn evaluate(alloc: Global, view: &View, full: bool, act: &Act) -> Result<Effect, Refusal>
+    requires cleared { IsCleared view.now full act.now }
     ensures by_rows { IsEffectResult view.now full act.now result }
     ensures not_full { OnOk result (full ≡ false) }
 

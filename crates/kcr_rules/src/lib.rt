@@ -1,8 +1,9 @@
 //! Decides each of the 19 kinds of act by the rows of a view: which rows it puts, who is seated, and what it is
 //! answered beside its number, or its first refusal.
 //!
-//! `evaluate` chooses among the kinds; each kind is a method of `DecisionContext`, in `people`, `ceremonies`, `closing`,
-//! `room`, `sheet`, `custody` and `signing`. The premises have the view of the rows that a command asks for, in any
+//! An act is decided in two stages. `check` tells what refuses it whoever is in the room; `evaluate` then looks at the
+//! people, and tests nothing twice. Both choose among the kinds; each kind has its methods of `DecisionContext`, in
+//! `people`, `ceremonies`, `closing`, `room`, `sheet`, `custody` and `signing`. The premises have the view of the rows that a command asks for, in any
 //! order: `ceremony_status` reads the ceremony and its room, `steps` its steps and exceptions, and `seating` joins the people in
 //! the room and the seats of a step to the search of `kcr_seats`. Nothing here speaks of histories: `kcr_machine` joins
 //! the rows to them.
@@ -11,10 +12,10 @@
 mod ceremonies;
 mod ceremony_status;
 mod changes;
+mod checks;
 mod closing;
 mod context;
 mod custody;
-mod early;
 mod effects;
 mod people;
 mod room;
@@ -23,5 +24,5 @@ mod sheet;
 mod signing;
 mod steps;
 
-pub use early::early_refusal;
+pub use checks::check;
 pub use effects::{Effect, evaluate};

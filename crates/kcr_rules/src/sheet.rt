@@ -2,19 +2,19 @@
 ghost use Rattle.std.specs.Prelude.{◌≡◌, ◌≢◌, ◌++◌, IfOk, MatchResult, Option, Some, None, map};
 ghost use Rattle.kcr_base.specs.declared.refusal.Refusal.{Refusal};
 ghost use Rattle.kcr_base.specs.declared.refusal.Refusal.TheVariants.{Memory};
-ghost use Rattle.kcr_base.specs.Refuse.{IsTestResult, not_after_mark_refusal};
 ghost use Rattle.kcr_room.specs.Requests;
 ghost use Rattle.kcr_room.specs.declared.SheetRequest.{SheetRequest};
 ghost use Rattle.kcr_history.specs.declared.views.View.{View};
 ghost use Rattle.kcr_history.specs.declared.commands.Act.TheVariants as Kinds;
 ghost use Rattle.kcr_history.specs.declared.views.Change.TheVariants.{PutSheet, PutStay};
-ghost use Rattle.kcr_rules.specs.ByRows.{IsChangesResult};
+ghost use Rattle.kcr_rules.specs.ByRows.{IsChangesResult, IsCheckResult};
+ghost use Rattle.kcr_rules.specs.CeremonyStatus.{mark_by};
 ghost use Rattle.kcr_rules.specs.SheetRows;
 
 use crate::ceremony_status::{is_open_state, known_ceremony, mark};
 use crate::context::DecisionContext;
-use kcr_base::{Initials, Moment, Refusal, Thing, is_among};
-use kcr_history::{Change, View};
+use kcr_base::{Initials, Refusal, Thing, is_among};
+use kcr_history::Change;
 use kcr_people::Person;
 use kcr_room::{SheetRequest, SheetRow, Stay};
 use std::alloc::{AllocError, Global};
@@ -72,53 +72,35 @@ fn with_stays(changes: Vec<Change>, stays: &[Stay]) -> Result<Vec<Change>, Alloc
     Ok(all)
 }
 
-/// The ceremony and the people are there, and the ceremony is open.
-fn check_known(view: &View, ceremony: u32, people: &[Initials]) -> Result<(), Refusal>
-    ensures { IsTestResult (SheetRows.unknown_or_state_refusal view.now ceremony people.now) result }
-{
-    let row = known_ceremony(view, ceremony)?;
-    if let Some(who) = first_unknown(&view.people, people) {
-        return Err(Refusal::Unknown {
-            thing: Thing::Person(who),
-        });
-    }
-    if !is_open_state(row.state) {
-        return Err(Refusal::State);
-    }
-    Ok(())
-}
-
-/// The moment is later than the mark.
-fn check_later(at: Moment, mark: Moment) -> Result<(), Refusal>
-    ensures { IsTestResult (not_after_mark_refusal at (Some mark)) result }
-{
-    if at <= mark {
-        return Err(Refusal::Late { mark });
-    }
-    Ok(())
-}
-
-/// The first refusal of a request before the stays are looked at: the ceremony and the people are there, the ceremony
-/// is open, and the moment is later than its mark.
-pub fn early_request_refusal(view: &View, request: &SheetRequest<'_>) -> Option<Refusal>
-    ensures { let asked : SheetRequest = request.now in
-        result ≡ SheetRows.early_request_refusal view.now asked.ceremony asked.people.now asked.at }
-{
-    match check_known(view, request.ceremony, request.people) {
-        Err(refusal) => Some(refusal),
-        Ok(()) => {
-            let mark = mark(view, request.ceremony)?;
-            check_later(request.at, mark).err()
-        }
-    }
-}
-
 impl DecisionContext<'_> {
-    /// The stays that a request changes, or the first refusal by the mark and the room.
+    /// A request may be looked at by its room. Refused: 12 without the ceremony or one of the people, 20 if the ceremony
+    /// is not open, 22 if the moment is not later than its mark.
+    pub fn check_request(&self, request: &SheetRequest<'_>) -> Result<(), Refusal>
+        ensures { let asked : SheetRequest = request.now in IsCheckResult self.now.view.now self.now.is_full
+            (Kinds.RecordSheet asked.ceremony asked.way asked.people.now asked.at) result }
+    {
+        let row = known_ceremony(self.view, request.ceremony)?;
+        if let Some(who) = first_unknown(&self.view.people, request.people) {
+            return Err(Refusal::Unknown {
+                thing: Thing::Person(who),
+            });
+        }
+        if !is_open_state(row.state) {
+            return Err(Refusal::State);
+        }
+        if let Some(mark) = mark(self.view, request.ceremony)
+            && request.at <= mark
+        {
+            return Err(Refusal::Late { mark });
+        }
+        Ok(())
+    }
+
+    /// The stays that a request changes, or the first refusal by the stays.
     fn changed_stays(&self, request: &SheetRequest<'_>) -> Result<Vec<Stay>, Refusal>
         ensures { let asked : SheetRequest = request.now in let view : View = self.now.view.now in
-            let first : Option Refusal = SheetRows.room_part_refusal
-            view self.now.is_full asked.ceremony asked.way asked.people.now asked.at in
+            let first : Option Refusal = SheetRows.room_refusal view.stays.items view.stay_count self.now.is_full
+            (mark_by view.marks.items asked.ceremony) asked.ceremony asked.way asked.people.now asked.at in
             MatchResult result
             (λ changed. (first ≡ None) × (changed.items ≡ Requests.changed_stays
             view.stays.items asked.ceremony asked.way asked.people.now asked.at))
@@ -127,10 +109,6 @@ impl DecisionContext<'_> {
         let Some(mark) = mark(self.view, request.ceremony) else {
             return Err(Refusal::State);
         };
-        check_later(request.at, mark)?;
-        if let Some(who) = first_twice(request.people) {
-            return Err(Refusal::Turn { who });
-        }
         kcr_room::add_stays(
             self.alloc,
             &self.view.stays,
@@ -146,7 +124,9 @@ impl DecisionContext<'_> {
         ensures { let asked : SheetRequest = request.now in
             IsChangesResult self.now (Kinds.RecordSheet asked.ceremony asked.way asked.people.now asked.at) result }
     {
-        check_known(self.view, request.ceremony, request.people)?;
+        if let Some(who) = first_twice(request.people) {
+            return Err(Refusal::Turn { who });
+        }
         let changed = self.changed_stays(request)?;
         let rows = row_changes(self.alloc, request)?;
         Ok(with_stays(rows, &changed)?)

@@ -1,7 +1,7 @@
 //! Signatures of steps and script exceptions, over the rows of a view.
 ghost use Rattle.kcr_history.specs.declared.commands.Act.TheVariants as Kinds;
 ghost use Rattle.std.specs.Prelude.{IfErr, IsTrue};
-ghost use Rattle.kcr_rules.specs.ByRows.{IsEffectResult};
+ghost use Rattle.kcr_rules.specs.ByRows.{IsCleared, IsEffectResult};
 ghost use Rattle.kcr_rules.specs.Refusals.{may_refuse};
 
 use crate::changes::only;
@@ -21,7 +21,6 @@ impl DecisionContext<'_> {
         ensures acts { IsEffectResult self.now.view.now self.now.is_full (Kinds.Sign ceremony step at) result }
         ensures kind { IfErr result (λ refusal. IsTrue (may_refuse (Kinds.Sign ceremony step at) refusal)) }
     {
-        self.check_signature(ceremony, step, at)?;
         let seats = seats_of(step_row(&self.view.steps, ceremony, step));
         let people = self.seat(ceremony, at, seats)?;
         let changes = self.seat_changes(StepState::Signed, ceremony, step, at, &people)?;
@@ -41,11 +40,12 @@ impl DecisionContext<'_> {
         pass: bool,
         at: Moment,
     ) -> Result<Effect, Refusal>
+        requires cleared { IsCleared self.now.view.now self.now.is_full (Kinds.RecordException ceremony text.now pass at) }
         ensures acts { IsEffectResult self.now.view.now self.now.is_full (Kinds.RecordException ceremony text.now pass at) result }
         ensures kind { IfErr result
             (λ refusal. IsTrue (may_refuse (Kinds.RecordException ceremony text.now pass at) refusal)) }
     {
-        let exception = self.next_exception_number(ceremony, pass, at)?;
+        let exception = self.exception_number(ceremony);
         if !pass {
             let mut changes = only(self.alloc, Change::PutMark(MarkRow { ceremony, at }))?;
             add_exception(&mut changes, self.view, ceremony, exception, text, at, None)?;

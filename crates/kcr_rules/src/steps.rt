@@ -1,12 +1,13 @@
 //! Steps and exceptions of a ceremony, over the rows of a view: which step is next, why a step may not be signed or an
 //! exception not be stated, their seats aside, and the rows that both put.
-ghost use Rattle.std.specs.Prelude.{◌≡◌, ◌≤◌, ℕ, ◌++◌, ◌∷◌, [], None, Some, suc, length, map, option_copied, true, false};
-ghost use Rattle.std.specs.Prelude.{nat_lt, MatchResult, IfErr, IfOk, IsTrue, List, OnOk};
+ghost use Rattle.std.specs.Prelude.{◌≡◌, ◌<◌, ◌≤◌, ℕ, ◌++◌, ◌∷◌, [], suc, length, map, option_copied, true, false};
+ghost use Rattle.std.specs.Prelude.{None, Some, nat_lt, MatchResult, IfErr, IfOk, IsTrue, List, OnOk};
 ghost use Rattle.kcr_base.specs.declared.refusal.Refusal.TheVariants.{Disk};
 ghost use Rattle.kcr_history.specs.declared.commands.Act.TheVariants as Kinds;
 ghost use Rattle.kcr_history.specs.Tables.{seat_rows};
 ghost use Rattle.kcr_history.specs.Views;
 ghost use Rattle.kcr_history.specs.declared.views.Change.TheVariants as Changes;
+ghost use Rattle.kcr_rules.specs.ByRows.{early_refusal_by};
 ghost use Rattle.kcr_rules.specs.Refusals.{may_refuse};
 ghost use Rattle.kcr_rules.specs.Signing;
 
@@ -43,9 +44,10 @@ pub fn step_row(rows: &[StepRow], ceremony: u32, step: u32) -> Option<&StepRow>
 /// The number, counted from 1, of the step that is next: the one after the last that has a seating. The refusal is 34,
 /// if that one is past what a script has: no register has such rows.
 pub fn next_step(view: &View, ceremony: u32) -> Result<u32, Refusal>
-    ensures { MatchResult result
+    ensures next { MatchResult result
         (λ step. step ≡ Signing.next_step_by view.now.seatings.items ceremony)
         (λ refusal. (nat_lt 400 (Views.last_seated view.now.seatings.items ceremony) ≡ true) × (refusal ≡ Disk)) }
+    ensures few { OnOk result (nat_lt 400 (Views.last_seated view.now.seatings.items ceremony) ≡ false) }
 {
     let last = last_seated(&view.seatings, ceremony);
     if last > MAX_STEPS {
@@ -135,14 +137,14 @@ pub fn add_exception(
 }
 
 impl DecisionContext<'_> {
-    /// Whether the step may be signed, but for its seats, or the first refusal: there is no such ceremony or step (12),
-    /// the ceremony is not open (20), the moment is before its mark (22), another step is next (23), or the register is
-    /// full (27). It is 34 if `next_step` is.
-    pub fn check_signature(&self, ceremony: u32, step: u32, at: Moment) -> Result<(), Refusal>
+    /// A step may be signed, if its seats can be filled. Refused: 12 without the ceremony or the step, 20 if the ceremony
+    /// is not open, 22 before its mark, 23 if another step is next, 27 full; 34 if `next_step` is.
+    pub fn check_sign(&self, ceremony: u32, step: u32, at: Moment) -> Result<(), Refusal>
         ensures first { MatchResult result
-            (λ _. Signing.sign_refusal self.now.view.now self.now.is_full ceremony step at ≡ None)
+            (λ _. early_refusal_by self.now.view.now self.now.is_full (Kinds.Sign ceremony step at) ≡ None)
             (λ refusal. nat_lt 400 (Views.last_seated self.now.view.now.seatings.items ceremony) ≡ false
-            → Signing.sign_refusal self.now.view.now self.now.is_full ceremony step at ≡ Some refusal) }
+            → early_refusal_by self.now.view.now self.now.is_full (Kinds.Sign ceremony step at) ≡ Some refusal) }
+        ensures few { OnOk result (nat_lt 400 (Views.last_seated self.now.view.now.seatings.items ceremony) ≡ false) }
         ensures kind { IfErr result (λ refusal. IsTrue (may_refuse (Kinds.Sign ceremony step at) refusal)) }
     {
         let row = known_ceremony(self.view, ceremony)?;
@@ -162,21 +164,15 @@ impl DecisionContext<'_> {
         Ok(())
     }
 
-    /// The number of the exception, counted from 1, if it may be stated, but for the seats of one that passes a
-    /// step, or the first refusal: there is no such ceremony (12), it is not open (20), the moment is before its mark
-    /// (22), no step is left to pass (23), or the ceremony has 200 exceptions or the register is full (27). It is 34
-    /// if `next_step` is.
-    pub fn next_exception_number(
-        &self,
-        ceremony: u32,
-        pass: bool,
-        at: Moment,
-    ) -> Result<u32, Refusal>
-        ensures first { MatchResult result
-            (λ number. (Signing.except_refusal self.now.view.now self.now.is_full ceremony pass at ≡ None)
-            × (number ≡ suc (Signing.exception_count_by self.now.view.now.exceptions.items ceremony)))
+    /// An exception may be stated, if the seats of one that passes a step can be filled. Refused: 12 without the ceremony,
+    /// 20 if it is not open, 22 before its mark, 23 if no step is left to pass, 27 if the ceremony has 200 exceptions or
+    /// the register is full; 34 if `next_step` is.
+    pub fn check_exception(&self, ceremony: u32, pass: bool, at: Moment) -> Result<(), Refusal>
+        ensures first { (text : List ℕ) → MatchResult result
+            (λ _. early_refusal_by self.now.view.now self.now.is_full (Kinds.RecordException ceremony text pass at) ≡ None)
             (λ refusal. nat_lt 400 (Views.last_seated self.now.view.now.seatings.items ceremony) ≡ false
-            → Signing.except_refusal self.now.view.now self.now.is_full ceremony pass at ≡ Some refusal) }
+            → early_refusal_by self.now.view.now self.now.is_full (Kinds.RecordException ceremony text pass at) ≡ Some refusal) }
+        ensures few { OnOk result (nat_lt 400 (Views.last_seated self.now.view.now.seatings.items ceremony) ≡ false) }
         ensures kind { (text : List ℕ)
             → IfErr result (λ refusal. IsTrue (may_refuse (Kinds.RecordException ceremony text pass at) refusal)) }
     {
@@ -186,11 +182,18 @@ impl DecisionContext<'_> {
         if pass && step_row(&self.view.steps, ceremony, next).is_none() {
             return Err(Refusal::Order { next });
         }
-        let stated = exception_count(&self.view.exceptions, ceremony);
-        if self.is_full || stated >= MAX_EXCEPTIONS {
+        if self.is_full || exception_count(&self.view.exceptions, ceremony) >= MAX_EXCEPTIONS {
             return Err(Refusal::Full);
         }
-        Ok(stated as u32 + 1)
+        Ok(())
+    }
+
+    /// The number, counted from 1, of the exception that is stated next.
+    pub fn exception_number(&self, ceremony: u32) -> u32
+        requires { Signing.exception_count_by self.now.view.now.exceptions.items ceremony < 200 }
+        ensures { result ≡ suc (Signing.exception_count_by self.now.view.now.exceptions.items ceremony) }
+    {
+        exception_count(&self.view.exceptions, ceremony) as u32 + 1
     }
 
     /// The changes of a step that is signed or passed: its row, those of its seats in order, and the mark.

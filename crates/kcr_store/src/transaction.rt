@@ -33,7 +33,7 @@ use kcr_history::{
     BagShown, CeremonyRow, Command, CustodiansShown, KeyRow, PersonShown, Question, ReplyData,
     RoomShown, Shown, Verdict, asks,
 };
-use kcr_machine::{decide_new, decide_repeat, refuse_early};
+use kcr_machine::{check_early, decide_new, decide_repeat};
 use kcr_people::{Person, Training, Withdrawal};
 use kcr_reading::Cursor;
 use kcr_room::present_in;
@@ -91,9 +91,7 @@ fn decide_command<S: Alter>(
         None => {
             let asked = asks(alloc, command)?;
             let front = read_early_rows(alloc, tx, &asked)?;
-            if let Some(refusal) = refuse_early(alloc, &front, count, command) {
-                return Err(refusal);
-            }
+            check_early(alloc, &front, count, command)?;
             let view = read_remaining_rows(alloc, tx, &asked, front)?;
             decide_new(alloc, &view, count, command)
         }

@@ -1,8 +1,8 @@
 //! The rows that a decision reads, in two parts.
 
-ghost use Rattle.std.specs.Prelude.{◌≡◌};
+ghost use Rattle.std.specs.Prelude.{◌≡◌, IfOk};
 ghost use Rattle.sqlite.specs.Held.{state};
-ghost use Rattle.kcr_history.specs.Early.{early_asks};
+ghost use Rattle.kcr_history.specs.Early.{early_asks, Completes};
 ghost use Rattle.kcr_history.specs.Views.{IsViewOf, Includes, is_training_asked, is_withdrawal_of};
 ghost use Rattle.kcr_history.specs.Views.{IncludesAppointments, is_of_serial, is_item_of, is_of_number, is_mark_of};
 ghost use Rattle.kcr_history.specs.Views.{IncludesStep, is_exception_of};
@@ -190,6 +190,7 @@ pub fn read_remaining_rows<S: Alter>(
     ensures same_reference { tx.new.conn.ghost_name ≡ tx.old.conn.ghost_name }
     ensures view { OfMachineTables (state S.Store tx.old.conn.now) (state S.Store tx.new.conn.now) result
         (λ m view. IsViewOf (early_asks asks.now) m front → IsViewOf asks.now m view) }
+    ensures completes { IfOk result (Completes front) }
     ensures exact { OfTrees (state S.Store tx.old.conn.now) (state S.Store tx.new.conn.now) result
         (λ db view. HasNoInvalidRow (early_asks asks.now) front db → HasNoInvalidRow asks.now view db) }
     ensures frame { Reads (state S.Store tx.old.conn.now) (state S.Store tx.new.conn.now) result }

@@ -5,7 +5,7 @@ pub returns : goal.returns
 returns c =
     record {
       step = λ A h new v e.
-          decision A c.args.command.now c.args.view.now c.args.accepted c.decide_by_rows.result h new v e c.decide_by_rows.ensures.rows;
+          decision A c.args.command.now c.args.view.now c.args.accepted c.decide_by_rows.result h new v e c.requires.cleared c.decide_by_rows.ensures.rows;
       kind = decision-kind c.args.command.now c.args.view.now c.args.accepted c.decide_by_rows.result c.decide_by_rows.ensures.rows
           c.decide_by_rows.ensures.kind;
     }

@@ -11,7 +11,7 @@ returns-in_ok-changes_of-in_default c =
       by_rows =
           plain-acted c.args.view.now c.args.full c.args.act.now _ c.in_default.not-Sign c.in_default.not-RecordException
           c.in_ok-changes_of-in_default.ensures refl refl refl;
-      not_full = not-full c.args.view.now c.args.full c.args.act.now c.in_ok-changes_of-in_default.ensures.0;
+      not_full = not-full c.args.view.now c.args.full c.args.act.now c.requires.cleared.0 c.in_ok-changes_of-in_default.ensures.0;
       kind = tt;
     }
 

@@ -1,12 +1,15 @@
-use Rattle.std.proofs.Common.{◌∙◌, inr, sym, ap, subst, rules, List, Option, Some, None, Err, slice_get}
-use Rattle.std.specs.Prelude.{IfSome}
+use Rattle.std.proofs.Common.{◌≡◌, ◌∙◌, inr, sym, ap, subst, rules, List, Some, None, Result, Ok, Err, slice_get}
+use Rattle.std.specs.Prelude.{IsErrAnd}
 use Rattle.kcr_base.specs.declared.refusal.Refusal.{Refusal}
 use Rattle.sqlite.specs.Held.{state}
 use Rattle.kcr_history.specs.declared.row_types.KeyRow.{KeyRow}
-use Rattle.kcr_history.specs.Machine.{IsDecision}
+use Rattle.kcr_history.specs.declared.views.Verdict.{Verdict}
 use Rattle.kcr_history.specs.Tables.{tables}
 use Rattle.kcr_history.proofs.Steps.{greatest-keys}
-use Rattle.kcr_machine.specs.RowDecision.{IsOwnRefusal}
+use Rattle.kcr_machine.specs.RowDecision.{is_full_by}
+use Rattle.kcr_machine.proofs.Completed.{still-cleared}
+use Rattle.kcr_store.specs.Commands.{MayBeReplied, GoesByRow}
+use Rattle.kcr_store.specs.TransactionResult.{ends_with, RefusesAsMachine}
 use Rattle.kcr_rows.proofs.FailLemmas.{on_ok}
 use Rattle.kcr_rows.proofs.InsideLemmas.{was_clean}
 use Rattle.kcr_rows.proofs.FrameLemmas.{within_then, within_to, within_fails}
@@ -114,34 +117,46 @@ returns-in_err-view-in-None-clause-by_row g c =
     let fault = fault_goes _ _ c.args.turn.now.command.now _ c.in_err-view-in-None.ensures.frame.within.cause in
     handed_goes _ _ c.args.turn.now.command.now _ made.result fault made.ensures.1
 
--- the first rows that are read tell its refusal
+-- the first rows that are read tell its refusal, which is handed on
 
-pub returns-in-Some-refuse_early-clause-kind : goal.returns-in-Some-refuse_early-clause-kind
-returns-in-Some-refuse_early-clause-kind g c =
-    inr (subst (λ (o : Option Refusal). IfSome o (IsOwnRefusal c.args.turn.now.command.now)) c.in-Some-refuse_early.is c.refuse_early.ensures.kind)
+handed : (P : Result Verdict Refusal → Type 0) (e : Refusal) (result : Result Verdict Refusal) → IsErrAnd result (λ r. r ≡ e) → P (Err e) → P result
+handed P e (Ok verdict) is p = absurd is
+handed P e (Err r) is p = subst (λ (q : Refusal). P (Err q)) (sym is) p
 
-pub returns-in-Some-refuse_early-clause-by_row : goal.returns-in-Some-refuse_early-clause-by_row
-returns-in-Some-refuse_early-clause-by_row g c =
+-- the refusal that is handed on
+abbrev refusal_of : (result : Result Verdict Refusal) (e : Refusal) → IsErrAnd result (λ r. r ≡ e) → Refusal
+refusal_of result e is = e
+
+pub returns-in_err-check_early-in-None-clause-kind : goal.returns-in_err-check_early-in-None-clause-kind
+returns-in_err-check_early-in-None-clause-kind g c =
+    let made = c.from_residual-in_err-check_early-in-None in
+    handed (λ r. MayBeReplied c.args.turn.now.command.now (ends_with r)) _ made.result made.ensures.1 (inr c.in_err-check_early-in-None.ensures.kind)
+
+pub returns-in_err-check_early-in-None-clause-by_row : goal.returns-in_err-check_early-in-None-clause-by_row
+returns-in_err-check_early-in-None-clause-by_row g c =
     let old = state g.S.Store c.args.tx.now.conn.now in
     let new = state g.S.Store c.read_early_rows.new.tx.conn.now in
     let x = c.args.turn.now.command.now in
+    let made = c.from_residual-in_err-check_early-in-None in
     let none : HasRow old new x.key None =
     λ clean m held.
     let before = was_clean _ _ _ c.in_ok-front-in-None.ensures.frame.within.survives clean in
     let rows = c.in_ok-kept.ensures.rows before held.tables.t (held_of m _ held) in
     sym (row_under m _ held x.key c.in_ok-kept.kept.items rows)
     ∙ ap (λ (l : List KeyRow). slice_get l 0) (sym c.deref.ensures.value) ∙ sym c.in-None.ensures.value in
-    new_goes old new x (Err c.in-Some-refuse_early.refusal) none
-    (subst (λ (o : Option Refusal). IfSome o (IsOwnRefusal x)) c.in-Some-refuse_early.is c.refuse_early.ensures.kind)
+    handed (λ r. GoesByRow old new x (ends_with r)) _ made.result made.ensures.1
+    (new_goes old new x (Err (refusal_of made.result _ made.ensures.1)) none c.in_err-check_early-in-None.ensures.kind)
 
-pub returns-in-Some-refuse_early-clause-frame : goal.returns-in-Some-refuse_early-clause-frame
-returns-in-Some-refuse_early-clause-frame g c =
+pub returns-in_err-check_early-in-None-clause-frame : goal.returns-in_err-check_early-in-None-clause-frame
+returns-in_err-check_early-in-None-clause-frame g c =
     let old = state g.S.Store c.args.tx.now.conn.now in
     let new = state g.S.Store c.read_early_rows.new.tx.conn.now in
     let x = c.args.turn.now.command.now in
+    let made = c.from_residual-in_err-check_early-in-None in
     let kept = c.in_ok-kept.ensures in
     let front = c.in_ok-front-in-None.ensures in
-    let decision : IsDecided old new c.args.turn.now.last_number x (Err c.in-Some-refuse_early.refusal) =
+    let told = refusal_of made.result _ made.ensures.1 in
+    let decision : IsDecided old new c.args.turn.now.last_number x (Err told) =
     λ clean A had number.
     let before = was_clean _ _ _ front.frame.within.survives clean in
     let was = had (kept.opened before) in
@@ -151,10 +166,13 @@ returns-in-Some-refuse_early-clause-frame g c =
     ∙ ap (λ (l : List KeyRow). slice_get l 0) (sym c.deref.ensures.value) ∙ sym c.in-None.ensures.value in
     let held1 = kept.frame.tables before (tables A) held in
     let shown = front.view clean (tables A) held1 in
-    let last = number ∙ sym (greatest-keys A was.tables.register) in
-    let told = c.refuse_early.ensures.step A was.tables.register none (rw c.in_ok-asked-in-None.ensures at shown) last in
-    (subst (λ (o : Option Refusal). IfSome o (λ r. IsDecision A x (Err r))) c.in-Some-refuse_early.is told, front.frame.tables clean (tables A) held1) in
-    within_to _ (refused old new c.args.turn.now.last_number x (Err c.in-Some-refuse_early.refusal) decision) (within_then kept.frame.within front.frame.within)
+    let last = number ∙ sym (greatest-keys A was.tables.register) in (
+      c.in_err-check_early-in-None.ensures.step A was.tables.register none (rw c.in_ok-asked-in-None.ensures at shown) last,
+      front.frame.tables clean (tables A) held1,
+    ) in
+    handed (λ r. RefusesAsMachine c.args.turn.now.last_number x old new r) _ made.result made.ensures.1
+    (within_to _ (refused old new c.args.turn.now.last_number x (Err told) decision)
+    (within_then kept.frame.within front.frame.within))
 
 pub returns : goal.returns
 returns g c =
@@ -193,4 +211,12 @@ returns g c =
       unchanging = λ clean m held some. absurd (no_row (none clean m held) some);
       frame = within_to c.decide_new.result (refused old new c.args.turn.now.last_number c.args.turn.now.command.now c.decide_new.result decision)
           (within_then (within_then kept.frame.within front.frame.within) seen.frame.within);
+    }
+
+-- what the first rows clear is cleared by all of them
+pub decide_new-requires : goal.decide_new-requires
+decide_new-requires g c =
+    record {
+      cleared = still-cleared c.in_ok-front-in-None.front c.in_ok-view-in-None.view (is_full_by c.args.turn.now.last_number) c.args.turn.now.command.now.act
+          c.in_ok-view-in-None.ensures.completes c.in_ok-check_early-in-None.ensures.told;
     }

@@ -1,4 +1,4 @@
-use Rattle.std.proofs.Common.{rules}
+use Rattle.std.proofs.Common.{rules, refl}
 use Rattle.sqlite.specs.Held.{state}
 use Rattle.sqlite.specs.State.{HasCleanDisk}
 use Rattle.kcr_history.specs.Views.{is_training_asked, is_withdrawal_of}
@@ -60,6 +60,7 @@ returns g c =
             entries = entries_shown asks.stay_count m.stays t.rows.stays _ s.stays
                 (c.in_ok-entries.ensures.rows clean t (to2.holds (clean2 clean) t held));
           };
+      completes = refl;
       exact = λ clean has front.
           let asks = c.args.asks.now in record {
             people = front.people;

@@ -1,5 +1,5 @@
 use Rattle.std.proofs.Common.{rules}
-use Rattle.kcr_rules.proofs.context.DecisionContext.check_signature.Goals as goal
+use Rattle.kcr_rules.proofs.context.DecisionContext.check_sign.Goals as goal
 
 pub returns-then-step-next : goal.returns-then-step-next
 returns-then-step-next c = search rules

@@ -1,0 +1,20 @@
+-- What the check of an act tells, by its test.
+use Rattle.std.proofs.Common.{◌≡◌, Bool, false, Some, None, Result, Ok, Err}
+use Rattle.std.specs.Prelude.{MatchResult, OnOk}
+use Rattle.kcr_base.specs.Refuse.{IsTestResult}
+use Rattle.kcr_base.specs.declared.refusal.Refusal.{Refusal}
+use Rattle.kcr_history.specs.declared.commands.Act.{Act}
+use Rattle.kcr_history.specs.declared.views.View.{View}
+use Rattle.kcr_rules.specs.ByRows.{IsCheckResult, early_refusal_by, has_too_many_steps}
+
+pub checked : {X : Type 0} (view : View) (full : Bool) (act : Act) (result : Result X Refusal) → has_too_many_steps view act ≡ false
+    → IsTestResult (early_refusal_by view full act) result → IsCheckResult view full act result
+checked view full act (Ok x) few told = (told, few)
+checked view full act (Err r) few told = λ _. told
+
+-- so of an act on steps, which tells also that there are no more done than a script has
+pub checked-steps : {X : Type 0} (view : View) (full : Bool) (act : Act) (result : Result X Refusal)
+    → MatchResult result (λ _. early_refusal_by view full act ≡ None) (λ r. has_too_many_steps view act ≡ false → early_refusal_by view full act ≡ Some r)
+    → OnOk result (has_too_many_steps view act ≡ false) → IsCheckResult view full act result
+checked-steps view full act (Ok x) told few = (told, few)
+checked-steps view full act (Err r) told few = told
