@@ -17,8 +17,8 @@ pub mod queries;
 pub mod spots;
 
 pub use acts::{
-    add_box, check_add_item, check_cut, check_put, check_seal, check_set_safe, check_take, cut,
-    seal,
+    add_box, add_item, check_add_item, check_cut, check_put, check_seal, check_set_safe,
+    check_take, cut, cut_rows, open_safe, put, seal, sealed_rows, shut_safe, take,
 };
 pub use checks::{check_ca, check_keepers, check_operator};
 pub use queries::{place_for_put, place_for_take};

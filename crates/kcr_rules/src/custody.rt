@@ -99,7 +99,7 @@ impl DecisionContext<'_> {
     {
         self.check_ca(ceremony, at)?;
         let here = self.facility(ceremony);
-        let moved = kcr_custody::seal(self.alloc, here, serial, items.as_slice())?;
+        let moved = kcr_custody::sealed_rows(self.alloc, here, serial, items.as_slice())?;
         Ok(moved_changes(self.alloc, &moved, ceremony, at)?)
     }
 
@@ -175,7 +175,7 @@ impl DecisionContext<'_> {
     {
         self.check_ca(ceremony, at)?;
         let here = self.facility(ceremony);
-        let moved = kcr_custody::cut(self.alloc, here, &self.view.items, serial)?;
+        let moved = kcr_custody::cut_rows(self.alloc, here, &self.view.items, serial)?;
         Ok(moved_changes(self.alloc, &moved, ceremony, at)?)
     }
 }
