@@ -181,7 +181,7 @@ fn report_response(
 }
 
 /// Prints the annotated script of a ceremony into memory, and tells it.
-fn take_script<S: Alter>(
+fn answer_script<S: Alter>(
     alloc: Global,
     register: &mut Register<S>,
     paths: &RouteTable,
@@ -198,7 +198,7 @@ fn take_script<S: Alter>(
 }
 
 /// Prints the attendance of a ceremony into memory, and tells it.
-fn take_attendance<S: Alter>(
+fn answer_attendance<S: Alter>(
     alloc: Global,
     register: &mut Register<S>,
     paths: &RouteTable,
@@ -215,7 +215,7 @@ fn take_attendance<S: Alter>(
 }
 
 /// Prints custody into memory, and tells it.
-fn take_custody<S: Alter>(
+fn answer_custody<S: Alter>(
     alloc: Global,
     register: &mut Register<S>,
     paths: &RouteTable,
@@ -234,7 +234,7 @@ fn take_custody<S: Alter>(
 const MAX_FEED_COMMANDS: u32 = 1_000;
 
 /// Writes the requests of the commands behind those that the client has into memory, and tells them.
-fn take_commands<S: Alter>(
+fn answer_commands<S: Alter>(
     alloc: Global,
     register: &mut Register<S>,
     paths: &RouteTable,
@@ -263,10 +263,12 @@ fn answer_get<S: Alter>(
 {
     match inquiry {
         Inquiry::Question(question) => answer_question(alloc, register, paths, target, &question),
-        Inquiry::Script(ceremony) => take_script(alloc, register, paths, target, ceremony),
-        Inquiry::Attendance(ceremony) => take_attendance(alloc, register, paths, target, ceremony),
-        Inquiry::Custody => take_custody(alloc, register, paths, target),
-        Inquiry::Commands(after) => take_commands(alloc, register, paths, target, after),
+        Inquiry::Script(ceremony) => answer_script(alloc, register, paths, target, ceremony),
+        Inquiry::Attendance(ceremony) => answer_attendance(
+            alloc, register, paths, target, ceremony,
+        ),
+        Inquiry::Custody => answer_custody(alloc, register, paths, target),
+        Inquiry::Commands(after) => answer_commands(alloc, register, paths, target, after),
     }
 }
 

@@ -2,7 +2,7 @@ use Rattle.std.proofs.Common.{rules}
 use Rattle.kcr_history.specs.Prints.{custody}
 use Rattle.kcr_desk.specs.declared.response.MediaType.TheVariants.{Text}
 use Rattle.kcr_desk.proofs.ReportLemmas.{text_answered}
-use Rattle.kcr_desk.proofs.answer.take_custody.Goals as goal
+use Rattle.kcr_desk.proofs.answer.answer_custody.Goals as goal
 
 pub returns : goal.returns
 returns g c =

@@ -1,7 +1,7 @@
 use Rattle.std.proofs.Common.{rules}
 use Rattle.kcr_desk.specs.declared.response.MediaType.TheVariants.{Text}
 use Rattle.kcr_desk.proofs.ReportLemmas.{feed_answered}
-use Rattle.kcr_desk.proofs.answer.take_commands.Goals as goal
+use Rattle.kcr_desk.proofs.answer.answer_commands.Goals as goal
 
 pub returns : goal.returns
 returns g c =

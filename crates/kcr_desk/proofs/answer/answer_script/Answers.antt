@@ -2,7 +2,7 @@ use Rattle.std.proofs.Common.{rules}
 use Rattle.kcr_history.specs.Prints.{annotated}
 use Rattle.kcr_desk.specs.declared.response.MediaType.TheVariants.{Text}
 use Rattle.kcr_desk.proofs.ReportLemmas.{report_answered}
-use Rattle.kcr_desk.proofs.answer.take_script.Goals as goal
+use Rattle.kcr_desk.proofs.answer.answer_script.Goals as goal
 
 pub returns : goal.returns
 returns g c =

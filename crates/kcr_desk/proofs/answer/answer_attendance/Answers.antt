@@ -2,7 +2,7 @@ use Rattle.std.proofs.Common.{rules}
 use Rattle.kcr_history.specs.Prints.{attendance}
 use Rattle.kcr_desk.specs.declared.response.MediaType.TheVariants.{Csv}
 use Rattle.kcr_desk.proofs.ReportLemmas.{report_answered}
-use Rattle.kcr_desk.proofs.answer.take_attendance.Goals as goal
+use Rattle.kcr_desk.proofs.answer.answer_attendance.Goals as goal
 
 pub returns : goal.returns
 returns g c =
