@@ -3,20 +3,11 @@ use Rattle.std.specs.Prelude.{ℕ, Bool, false, List, [], ◌∷◌, map, Option
 use Rattle.kcr_base.specs.declared.place.Place.{Place}
 use Rattle.kcr_custody.specs.declared.Spot.TheVariants.{Table, Spent}
 use Rattle.kcr_custody.specs.declared.Destination.{Destination}
-use Rattle.kcr_custody.specs.Custody.{spot_by, box_of, box_of_destination, spot_of_destination, place_of, loose_items, sealed_items}
+use Rattle.kcr_custody.specs.Custody.{spot_of_destination, loose_items, sealed_items}
 use Rattle.kcr_history.specs.declared.views.Change.{Change}
 use Rattle.kcr_history.specs.declared.views.Change.TheVariants.{PutBag, PutItem, PutMark}
 use Rattle.kcr_history.specs.declared.views.View.{View}
 use Rattle.kcr_rules.specs.CeremonyStatus.{is_holder_present_by, facility_by}
-
--- the place of the box in which the bag is
-abbrev pub place_to_take : View → ℕ → List ℕ → Option Place
-place_to_take view ceremony serial =
-    place_of view.boxes.items (facility_by view ceremony) (box_of (spot_by view.bags.items serial))
-
--- the place of the box into which a bag is put
-abbrev pub place_to_put : View → ℕ → Destination → Option Place
-place_to_put view ceremony to = place_of view.boxes.items (facility_by view ceremony) (box_of_destination to)
 
 -- the place has a holder, who is in the room, if a place is meant
 abbrev pub is_box_holder_present_by : View → ℕ → ℕ → Option Place → Bool

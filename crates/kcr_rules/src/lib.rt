@@ -3,10 +3,10 @@
 //!
 //! An act is decided in two stages. `check` tells what refuses it whoever is in the room; `evaluate` then looks at the
 //! people, and tests nothing twice. Both choose among the kinds; each kind has its methods of `DecisionContext`, in
-//! `people`, `ceremonies`, `closing`, `room`, `sheet`, `custody` and `signing`. The premises have the view of the rows that a command asks for, in any
-//! order: `ceremony_status` reads the ceremony and its room, `steps` its steps and exceptions, and `seating` joins the people in
-//! the room and the seats of a step to the search of `kcr_seats`. Nothing here speaks of histories: `kcr_machine` joins
-//! the rows to them.
+//! `people`, `ceremonies`, `closing`, `room`, `sheet`, `custody` and `signing`. The premises have the view of the rows
+//! that a command asks for, in any order: `ceremony_status` reads the ceremony and its room, `steps` its steps and
+//! exceptions, and `seating` joins the people in the room and the seats of a step to the search of `kcr_seats`. Nothing
+//! here speaks of histories: `kcr_machine` joins the rows to them.
 #![tactic(auto)]
 
 mod ceremonies;
