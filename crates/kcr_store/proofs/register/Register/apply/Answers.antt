@@ -45,3 +45,7 @@ returns-in-Accepted-clause-by_row g c _ = rw (← c.self.view_is) c.in-Accepted.
 
 pub returns-in-Refused-clause-by_row : goal.returns-in-Refused-clause-by_row
 returns-in-Refused-clause-by_row g c _ = rw (← c.self.view_is) c.in-Refused.ensures.by_row
+
+pub returns-in-InDoubt-clause-tried : goal.returns-in-InDoubt-clause-tried
+returns-in-InDoubt-clause-tried g c founded _ clean =
+    rw (← c.self.view_is) (c.in-InDoubt.ensures.candidate (c.self.invariant.counted (search rules) (rw c.if-self.false refl)) clean)
