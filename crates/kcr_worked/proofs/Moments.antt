@@ -19,6 +19,8 @@ use Rattle.kcr_base.specs.declared.refusal.Member.TheVariants.{At}
 use Rattle.kcr_base.specs.declared.refusal.Refusal.{Refusal}
 use Rattle.kcr_base.specs.declared.refusal.Refusal.TheVariants.{Form}
 use Rattle.kcr_forms.specs.Forms.{moment_of}
+use Rattle.kcr_forms.specs.OrMemory.{and_then}
+use Rattle.kcr_forms.specs.declared.post.Post.TheVariants as Posts
 use Rattle.kcr_forms.proofs.Formed.{moments}
 use Rattle.kcr_forms.proofs.TextLemmas.{number-read}
 use Rattle.kcr_history.specs.declared.commands.Act.{Act}
@@ -26,7 +28,6 @@ use Rattle.kcr_history.specs.declared.commands.Command.{Command}
 use Rattle.kcr_laws.proofs.WorkedRows.{rows_on_literals}
 use Rattle.kcr_wire.specs.Commands.{command_of, posted}
 use Rattle.kcr_wire.specs.Endpoints.{after_of, target_of}
-use Rattle.kcr_wire.specs.OrMemory.{and_then}
 use Rattle.kcr_wire.specs.declared.endpoint.Endpoint.{Endpoint}
 use Rattle.kcr_worked.specs.Acts.{ninth_second}
 use Rattle.kcr_worked.specs.Requests.{under_k}
@@ -126,18 +127,18 @@ are_items = record {
   each = All-from_recursion IsSerial (HSM4 ∷ []) (is_item, tt);
 }
 
-pub seal_path : target_of (codes "/ceremonies/61/bags/BB51184287/seal") ≡ Ok (Paths.Seal 61 bag_7)
+pub seal_path : target_of (codes "/ceremonies/61/bags/BB51184287/seal") ≡ Ok (Paths.Post (Posts.Seal 61 bag_7))
 unfolding rows_on_literals
 seal_path = act-target (Seal 61 bag_7 (HSM4 ∷ []) ninth_second) (is_61, is_bag, are_items, is_moment)
 
-pub take_path : target_of (codes "/ceremonies/61/bags/BB51184287/take") ≡ Ok (Paths.Take 61 bag_7)
+pub take_path : target_of (codes "/ceremonies/61/bags/BB51184287/take") ≡ Ok (Paths.Post (Posts.Take 61 bag_7))
 unfolding rows_on_literals
 take_path = act-target (Take 61 bag_7 ninth_second) (is_61, is_bag, is_moment)
 
-pub put_path : target_of (codes "/ceremonies/61/bags/BB51184287/put") ≡ Ok (Paths.Put 61 bag_7)
+pub put_path : target_of (codes "/ceremonies/61/bags/BB51184287/put") ≡ Ok (Paths.Post (Posts.Put 61 bag_7))
 unfolding rows_on_literals
 put_path = act-target (Put 61 bag_7 SafeOne ninth_second) (is_61, is_bag, tt, is_moment)
 
-pub cut_path : target_of (codes "/ceremonies/61/bags/BB51184287/cut") ≡ Ok (Paths.Cut 61 bag_7)
+pub cut_path : target_of (codes "/ceremonies/61/bags/BB51184287/cut") ≡ Ok (Paths.Post (Posts.Cut 61 bag_7))
 unfolding rows_on_literals
 cut_path = act-target (Cut 61 bag_7 ninth_second) (is_61, is_bag, is_moment)

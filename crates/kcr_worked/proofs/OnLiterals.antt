@@ -6,16 +6,14 @@ use Rattle.clap.proofs.OnLiterals.{clap_on_literals}
 use Rattle.matchit.proofs.OnLiterals.{matchit_on_literals}
 use Rattle.serde_json.proofs.OnLiterals.{serde_json_on_literals}
 use Rattle.kcr_forms.specs.Forms.{is_initials, is_key, is_serial, is_line, initials_of, key_of, serial_of, item_of}
-use Rattle.kcr_forms.specs.Forms.{name_of, remark_of, number_by_text, day_of, ceremony_of, box_of, step_of}
-use Rattle.kcr_forms.specs.Forms.{role_of, facility_of, way_of, safe_of, place_of, destination_of, number_to, listed_to}
+use Rattle.kcr_forms.specs.Forms.{name_of, remark_of, script_of, number_by_text, day_of, ceremony_of, box_of, step_of}
+use Rattle.kcr_forms.specs.Forms.{role_of, facility_of, way_of, safe_of, place_of, destination_of, number_to, number_of, truth_of, listed_of}
 use Rattle.kcr_export.specs.Bodies.{body_text}
 use Rattle.kcr_export.specs.Requests.{request_text}
 use Rattle.kcr_print.specs.Requests.{commands_between}
 use Rattle.kcr_wire.specs.Commands.{command_of}
 use Rattle.kcr_wire.specs.Endpoints.{text_in, second_piece, fourth_piece, target_of, allow_of}
-use Rattle.kcr_wire.specs.Members.{json_of, texts_in, key_at, who_at, by_at, name_at, role_at, from_at, until_at}
-use Rattle.kcr_wire.specs.Members.{day_at, place_at, facility_at, item_at, at_at, script_at, way_at, remark_at, to_at}
-use Rattle.kcr_wire.specs.Members.{box_at, ceremony_at, number_at, open_at, pass_at, people_at, items_at}
+use Rattle.kcr_wire.specs.Members.{json_of, each_in}
 use Rattle.kcr_wire.specs.Questions.{question_of}
 use Rattle.kcr_wire.specs.Routes.{add, add_all, table}
 use Rattle.kcr_wire.specs.ShownJson.{shown_text}
@@ -28,11 +26,11 @@ unfolding clap_on_literals tool_app faults_of file_of into_of met_in task_of
 program_on_literals = tt
 
 unfoldable pub forms_on_literals : ⊤
-unfolding rows_on_literals chars encode_utf8 is_utf8 is_initials is_key is_serial is_line initials_of key_of serial_of item_of name_of remark_of number_by_text day_of ceremony_of box_of step_of role_of facility_of way_of safe_of place_of destination_of number_to listed_to
+unfolding rows_on_literals chars encode_utf8 is_utf8 is_initials is_key is_serial is_line initials_of key_of serial_of item_of name_of remark_of script_of number_by_text day_of ceremony_of box_of step_of role_of facility_of way_of safe_of place_of destination_of number_to number_of truth_of listed_of
 forms_on_literals = tt
 
 unfoldable pub requests_on_literals : ⊤
-unfolding forms_on_literals matchit_on_literals serde_json_on_literals body_text command_of text_in second_piece fourth_piece target_of allow_of json_of texts_in key_at who_at by_at name_at role_at from_at until_at day_at place_at facility_at item_at at_at script_at way_at remark_at to_at box_at ceremony_at number_at open_at pass_at people_at items_at question_of add add_all table
+unfolding forms_on_literals matchit_on_literals serde_json_on_literals body_text command_of text_in second_piece fourth_piece target_of allow_of json_of each_in question_of add add_all table
 requests_on_literals = tt
 
 unfoldable pub answers_on_literals : ⊤

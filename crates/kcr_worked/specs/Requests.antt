@@ -1,10 +1,10 @@
 -- A request of a command, written out.
 use Rattle.std.specs.Prelude.{◌≡◌, ℕ, List, codes, Ok}
+use Rattle.kcr_history.specs.Texts.{path_text}
 use Rattle.kcr_history.specs.declared.commands.Act.{Act}
 use Rattle.kcr_history.specs.declared.commands.Command.{Command}
 use Rattle.kcr_wire.specs.Commands.{command_of}
 use Rattle.kcr_export.specs.Bodies.{body_text}
-use Rattle.kcr_export.specs.Requests.{path_text}
 
 -- the act under the key `k`
 abbrev pub under_k : Act → Command
