@@ -18,9 +18,10 @@ sys.dont_write_bytecode = True  # no files beside these
 import random
 
 import kcr
-from feed import feed, filled, kept, registers, told_again
+from feed import feed, filled, kept, told_again
 from kcr import call, expect
-from printed import tests_of
+from printed import files as filled_files
+from printed import printed, tests_of
 from program import made_older
 
 GREATEST = 4_000_000_000
@@ -28,18 +29,13 @@ GREATEST = 4_000_000_000
 
 def exported(program, file, *words):
     """The export of a file that has a command."""
-    output, faults, status = call(program, "export", "--file", file, *words)
-    expect(f"export {' '.join(map(str, words))}", (b"", 0), (faults, status))
-    return output
+    return printed(program, "export", file, *words)
 
 
 def files(program, room):
     """Each register with a command: its file, the requests that it has to export, and the answers to them."""
-    for name, stream, commands in registers():
-        if commands:
-            file = room / f"{name}.db"
-            filled(program, file, stream)
-            yield name, file, [told_again(message) for message, _ in commands], [kept(answer) for _, answer in commands]
+    for name, file, commands in filled_files(program, room):
+        yield name, file, [told_again(message) for message, _ in commands], [kept(answer) for _, answer in commands]
 
 
 # The tests

@@ -19,9 +19,10 @@ import json
 import re
 
 import kcr
-from feed import filled, registers
+from feed import filled
 from kcr import call, expect
-from printed import tests_of
+from printed import files as filled_files
+from printed import printed, tests_of
 from program import made_older
 
 DASH = "-"
@@ -99,18 +100,13 @@ def journal_of(commands):
 
 def told(program, file, *words):
     """The journal of a file that has a command."""
-    output, faults, status = call(program, "journal", "--file", file, *words)
-    expect(f"journal {' '.join(map(str, words))}", (b"", 0), (faults, status))
-    return output
+    return printed(program, "journal", file, *words)
 
 
 def files(program, room):
     """Each register with a command: its file, and the lines of its journal with their ceremonies."""
-    for name, stream, commands in registers():
-        if commands:
-            file = room / f"{name}.db"
-            filled(program, file, stream)
-            yield name, file, journal_of(commands)
+    for name, file, commands in filled_files(program, room):
+        yield name, file, journal_of(commands)
 
 
 # The tests

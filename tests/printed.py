@@ -1,8 +1,24 @@
 """Tests that each subcommand which prints all accepted commands of a file has to pass: `export` and `journal`."""
 import kcr
-from feed import filled
+from feed import filled, registers
 from kcr import call, expect
 from program import disk, noted
+
+
+def printed(program, word, file, *words):
+    """What a subcommand prints of a file that has a command."""
+    output, faults, status = call(program, word, "--file", file, *words)
+    expect(f"{word} {' '.join(map(str, words))}", (b"", 0), (faults, status))
+    return output
+
+
+def files(program, room):
+    """Each register with a command: its file, and its commands with their answers."""
+    for name, stream, commands in registers():
+        if commands:
+            file = room / f"{name}.db"
+            filled(program, file, stream)
+            yield name, file, commands
 
 
 def tests_of(word):
