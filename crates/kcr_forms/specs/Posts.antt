@@ -50,7 +50,7 @@ number r name s go = next r name (r.number 9999 name s) s go
 abbrev pub truth : {S B : Type 0} → Reading S → Member → S → (Bool → S → Result B Refusal) → Result B Refusal
 truth r name s go = next r name (r.truth name s) s go
 
--- codes, at most so many and each of them once
+-- a list of codes, at most `most` of them and no two the same
 abbrev pub list : {S B : Type 0} → Reading S → Member → ℕ → (List ℕ → Option (List ℕ)) → S
     → (List (List ℕ) → S → Result B Refusal) → Result B Refusal
 list r name most form s go = next r name (r.list form (listed_of most (λ texts. texts)) name s) s go

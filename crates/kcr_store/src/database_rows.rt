@@ -146,8 +146,8 @@ fn rows_then_rollback<S: Alter>(
 }
 
 /// All rows of the register that a database holds, each table's in the order of their keys; their memory grows with
-/// their number. Nothing is committed, so the database stays as it is: a register of version 1 or 2 is brought to this
-/// version in a transaction that is rolled back, and of a database with nothing the rows are those of a new register.
+/// their number. Nothing is committed, so the database stays as it is: a register of version 1 or 2 is migrated
+/// in a transaction that is rolled back, and of a database with nothing the rows are those of a new register.
 /// The faults are those of `Register::adopt`; `Disk` comes also for an invalid row.
 pub fn read_tables<S: Alter>(alloc: Global, conn: &mut Connection<S>) -> Result<FullView, OpenFault>
     requires autocommit { conn.old.in_transaction ≡ false }

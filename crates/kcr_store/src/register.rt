@@ -28,7 +28,7 @@ pub struct Register<S: Alter> {
     pub(crate) alloc: Global,
 }
 
-/// A register in a file, of which no clause knows what it held.
+/// A register in a file, whatever the file held before.
 pub type FileRegister = Register<FileStore<FileFrom<Unknown>>>;
 
 impl<S: Alter + Drop> Drop for Register<S> {
