@@ -8,16 +8,17 @@ room=$(mktemp -d)
 trap 'rm -rf "$room"' EXIT
 mkdir "$room/crates"
 cp -r tools crates.txt "$room"
-for crate in kcr_rows kcr_tables; do
+crates="kcr_history kcr_audit kcr_rows kcr_tables kcr_verify"
+for crate in $crates; do
   cp -r "crates/$crate" "$room/crates"
   rm -rf "$room/crates/$crate/out"
 done
 (
   cd "$room"
   python3 tools/tables.py
-  for crate in kcr_rows kcr_tables; do (cd "crates/$crate" && rt fmt > /dev/null); done
+  for crate in $crates; do (cd "crates/$crate" && rt fmt > /dev/null); done
 )
-for crate in kcr_rows kcr_tables; do
+for crate in $crates; do
   diff -r -x out "crates/$crate" "$room/crates/$crate"
 done
 echo "tools/tables.py writes the files that stand in the repository"

@@ -20,8 +20,10 @@ import threading
 HERE = pathlib.Path(__file__).resolve().parent
 SECONDS = 300  # nothing that is started lives longer
 SHOWN_BYTES = 200
-TABLES = ("people trainings appointments boxes safes bags items ceremonies marks steps seatings sheet exceptions keys "
-          "stays versions withdrawals").split()
+sys.path.append(str(HERE.parent / "tools"))
+from table_list import TABLES as LISTED  # noqa: E402
+
+TABLES = [table.name for table in LISTED]
 EMPTY_CUSTODY = b"safe 1 EAST shut\nsafe 2 EAST shut\nsafe 1 WEST shut\nsafe 2 WEST shut\n"
 GO_ON = b"HTTP/1.1 100 Continue\r\n\r\n"
 NOTHING_FOUND = (b"audit: nothing found\n", b"", 0)

@@ -1,6 +1,8 @@
 """Reads the sources of the statement: the definitions in `specs/` and `proofs/`, and the types in `src/`."""
 import re
 
+# what `tools/tables.py` says of itself
+NOTE = re.compile(r"(//|--) (Written by|begin: written by|end: written by) tools/tables\.py")
 MODIFIERS = ("abbrev", "unfoldable", "pub", "record", "data")
 
 
@@ -76,6 +78,8 @@ def read_antt(path, text):
     source = Source(path)
     comment, current, section = [], None, []
     for line in text.split("\n"):
+        if NOTE.match(line):
+            continue
         if not line.strip():
             section, comment = comment or section, []  # a comment over no definition is that of a section
         elif line.startswith(("use ", "pub use ")):

@@ -21,14 +21,19 @@ def impl(trait, t, body):
     return f"impl {trait} for {t.type} {{\n{body.rstrip()}\n}}\n\n"
 
 
+def put_cells(t):
+    """What stands before the cells of a row's columns, and the cells."""
+    made = [(c.kind, {"f": c.field, "x": f"self.{c.field}"}) for c in t.columns]
+    prelude = "".join("        " + kind.prelude.format(**names) + "\n" for kind, names in made if kind.prelude)
+    return prelude, ", ".join(kind.write.format(**names) for kind, names in made)
+
+
 def put_source(t):
     """How a row is put: the cells of its columns, as the parameters of the text."""
     lead = "alloc: Global, " if t.needs_alloc else ""
     out = f"    fn {t.put}<S: Alter>(&self, {lead}tx: &mut Transaction<'_, S>) -> Result<(), Refusal> {{\n"
-    for c in t.columns:
-        if c.kind.prelude:
-            out += "        " + c.kind.prelude.format(f=c.field, x=f"self.{c.field}") + "\n"
-    cells = ", ".join(c.kind.write.format(f=c.field, x=f"self.{c.field}") for c in t.columns)
+    prelude, cells = put_cells(t)
+    out += prelude
     update, insert = rust_text(t.update_text()), rust_text(t.insert_text())
     if not t.may_change:
         return out + f"        insert_row(tx, self, {insert}, &[{cells}])\n    }}\n"

@@ -36,8 +36,10 @@ def without_unused(text):
 
 
 def write(path, text, crate=TABLES_CRATE):
+    """Writes a file that nobody edits, and says so in its first line."""
     path = os.path.join("crates", crate, path)
-    text = without_unused(text)
+    sign = "//" if path.endswith(".rt") else "--"
+    text = f"{sign} Written by tools/tables.py from tools/table_list.py: do not edit.\n" + without_unused(text)
     if path.endswith(".antt"):
         text = laid_out(text, DEFINITIONS if "/specs/" in path else PROOFS)
     os.makedirs(os.path.dirname(path), exist_ok=True)

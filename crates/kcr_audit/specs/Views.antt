@@ -2,6 +2,8 @@
 use Rattle.kcr_history.specs.declared.views.FullView.{FullView}
 use Rattle.kcr_history.specs.Tables.{Tables}
 
+-- begin: written by tools/tables.py
+
 -- the rows of each table
 abbrev pub tables_of : FullView → Tables
 tables_of view =
@@ -23,3 +25,5 @@ tables_of view =
       exceptions = view.view.exceptions.items;
       keys = view.keys.items;
     }
+
+-- end: written by tools/tables.py

@@ -61,6 +61,8 @@ same_key_row new old = same_text old.key new.key
 
 -- CHANGES
 
+-- begin: written by tools/tables.py
+
 -- the row under its key, new or in place of the old; all other rows and tables stay
 abbrev pub changed : Change → Tables → Tables
 changed (PutPerson row) t = record t { people = put same_person row t.people }
@@ -79,6 +81,8 @@ changed (PutSheet row) t = record t { sheet = put same_sheet_row row t.sheet }
 changed (PutStay row) t = record t { stays = put same_stay row t.stays }
 changed (PutException row) t = record t { exceptions = put same_exception row t.exceptions }
 changed (PutKey row) t = record t { keys = put same_key_row row t.keys }
+
+-- end: written by tools/tables.py
 
 -- the changes one after the other
 abbrev pub changed_by : List Change → Tables → Tables

@@ -122,23 +122,51 @@ first_twice (who ∷ people) = if list_any (same_text who) people then Some who 
 abbrev pub named_twice_refusal : List (List ℕ) → Option Refusal
 named_twice_refusal people = turn_refusal (first_twice people)
 
--- THE CONDITIONS OF EACH KIND, after that of its key. First those of an act in a ceremony that ask nothing of who is in
--- the room, trained or appointed: they are tested before the rows of people are read
+-- CEREMONIES
 
-abbrev pub early_conditions : Facts → Act → List (Option Refusal)
-early_conditions facts (Close ceremony at) =
+abbrev pub plan_conditions : Facts → ℕ → List ℕ → List (Option Refusal)
+plan_conditions facts number script =
+    when (facts.is_ceremony number) Taken
+    ∷ script_refusal (script_of script)
+    ∷ when facts.is_full Full
+    ∷ []
+
+abbrev pub open_conditions : Facts → ℕ → ℕ → List (Option Refusal)
+open_conditions facts ceremony at =
+    no_ceremony_refusal facts ceremony
+    ∷ when (nat_lt (day_of at) (facts.day ceremony)) Range
+    ∷ when (facts.was_opened ceremony) Refusals.State
+    ∷ when (facts.is_busy ceremony) Busy
+    ∷ when facts.is_full Full
+    ∷ []
+
+abbrev pub close_early : Facts → ℕ → ℕ → List (Option Refusal)
+close_early facts ceremony at =
     no_ceremony_refusal facts ceremony
     ∷ not_open_refusal facts ceremony
     ∷ before_mark_refusal at (facts.mark ceremony)
     ∷ when facts.is_full Full
     ∷ []
-early_conditions facts (RecordSheet ceremony way people at) =
+
+abbrev pub close_late : Facts → ℕ → ℕ → List (Option Refusal)
+close_late facts ceremony at =
+    let is_safe_open = facts.is_safe_open (facts.facility ceremony) in
+    when (facts.has_step_left ceremony) (Unfinished Parts.Steps)
+    ∷ when (facts.is_room_used ceremony at) (Unfinished Parts.Room)
+    ∷ when (is_safe_open One || is_safe_open Two) (Unfinished Parts.Safes)
+    ∷ when (facts.has_bag_on_table (facts.facility ceremony)) (Unfinished Parts.Table)
+    ∷ []
+
+abbrev pub sheet_early : Facts → ℕ → List (List ℕ) → ℕ → List (Option Refusal)
+sheet_early facts ceremony people at =
     no_ceremony_refusal facts ceremony
     ∷ unknown_people_refusal facts.is_person people
     ∷ not_open_refusal facts ceremony
     ∷ not_after_mark_refusal at (facts.mark ceremony)
     ∷ []
-early_conditions facts (Sign ceremony step at) =
+
+abbrev pub sign_early : Facts → ℕ → ℕ → ℕ → List (Option Refusal)
+sign_early facts ceremony step at =
     no_ceremony_refusal facts ceremony
     ∷ when (facts.lacks_step ceremony step) (Unknown (Things.Step step))
     ∷ not_open_refusal facts ceremony
@@ -146,7 +174,9 @@ early_conditions facts (Sign ceremony step at) =
     ∷ when (not (step == facts.next_step ceremony)) (Order (facts.next_step ceremony))
     ∷ when facts.is_full Full
     ∷ []
-early_conditions facts (RecordException ceremony text pass at) =
+
+abbrev pub exception_early : Facts → ℕ → Bool → ℕ → List (Option Refusal)
+exception_early facts ceremony pass at =
     no_ceremony_refusal facts ceremony
     ∷ not_open_refusal facts ceremony
     ∷ before_mark_refusal at (facts.mark ceremony)
@@ -154,6 +184,15 @@ early_conditions facts (RecordException ceremony text pass at) =
     ∷ when (nat_le 200 (facts.exception_count ceremony)) Full
     ∷ when facts.is_full Full
     ∷ []
+
+-- THE CONDITIONS OF EACH KIND, after that of its key. First those of an act in a ceremony that ask nothing of who is in
+-- the room, trained or appointed: they are tested before the rows of people are read
+
+abbrev pub early_conditions : Facts → Act → List (Option Refusal)
+early_conditions facts (Close ceremony at) = close_early facts ceremony at
+early_conditions facts (RecordSheet ceremony way people at) = sheet_early facts ceremony people at
+early_conditions facts (Sign ceremony step at) = sign_early facts ceremony step at
+early_conditions facts (RecordException ceremony text pass at) = exception_early facts ceremony pass at
 early_conditions facts (AddItem ceremony item at) = add_item_early (status facts ceremony at) (facts.rest item)
 early_conditions facts (SetSafe ceremony safe state by at) =
     safe_early (status facts ceremony at) (facts.is_safe_open (facts.facility ceremony)) safe state (facts.is_person by) by
@@ -166,6 +205,12 @@ early_conditions facts (Put ceremony serial to at) =
     (facts.place_of_box (facts.facility ceremony)) (facts.spot serial) serial to
 early_conditions facts (Cut ceremony serial at) = cut_early (status facts ceremony at) (facts.spot serial) serial
 early_conditions facts act = []
+
+-- the people whom a bag needs that comes from a box or goes into one, or the CA alone
+abbrev pub keepers_late : Facts → ℕ → ℕ → Option ℕ → List (Option Refusal)
+keepers_late facts ceremony at box =
+    keepers_conditions (facts.has_ca ceremony at) (λ place. facts.has_holder place ceremony at)
+    (option_and_then (facts.place_of_box (facts.facility ceremony)) box)
 
 -- and then the others
 abbrev pub late_conditions : Facts → Act → List (Option Refusal)
@@ -185,36 +230,16 @@ late_conditions facts (Release place day) = release_conditions facts.appointment
 late_conditions facts (AddBox facility number place) =
     add_box_conditions (facts.has_box facility number) (facts.has_box_of place) facts.is_full
     (record { facility = facility; number = number; place = place })
-late_conditions facts (Plan number facility day script) =
-    when (facts.is_ceremony number) Taken
-    ∷ script_refusal (script_of script)
-    ∷ when facts.is_full Full
-    ∷ []
-late_conditions facts (Open ceremony at) =
-    no_ceremony_refusal facts ceremony
-    ∷ when (nat_lt (day_of at) (facts.day ceremony)) Range
-    ∷ when (facts.was_opened ceremony) Refusals.State
-    ∷ when (facts.is_busy ceremony) Busy
-    ∷ when facts.is_full Full
-    ∷ []
-late_conditions facts (Close ceremony at) =
-    let here = facts.facility ceremony in
-    when (facts.has_step_left ceremony) (Unfinished Parts.Steps)
-    ∷ when (facts.is_room_used ceremony at) (Unfinished Parts.Room)
-    ∷ when (facts.is_safe_open here One || facts.is_safe_open here Two) (Unfinished Parts.Safes)
-    ∷ when (facts.has_bag_on_table here) (Unfinished Parts.Table)
-    ∷ []
+late_conditions facts (Plan number facility day script) = plan_conditions facts number script
+late_conditions facts (Open ceremony at) = open_conditions facts ceremony at
+late_conditions facts (Close ceremony at) = close_late facts ceremony at
 late_conditions facts (RecordSheet ceremony way people at) =
     named_twice_refusal people ∷ facts.room_conditions ceremony way people at
 late_conditions facts (AddItem ceremony item at) = no_ca_refusal (facts.has_ca ceremony at) ∷ []
 late_conditions facts (SetSafe ceremony safe state by at) = no_operator_refusal safe (facts.operator by ceremony at) ∷ []
 late_conditions facts (Seal ceremony serial items at) = no_ca_refusal (facts.has_ca ceremony at) ∷ []
-late_conditions facts (Take ceremony serial at) =
-    keepers_conditions (facts.has_ca ceremony at) (λ place. facts.has_holder place ceremony at)
-    (option_and_then (facts.place_of_box (facts.facility ceremony)) (box_of (facts.spot serial)))
-late_conditions facts (Put ceremony serial to at) =
-    keepers_conditions (facts.has_ca ceremony at) (λ place. facts.has_holder place ceremony at)
-    (option_and_then (facts.place_of_box (facts.facility ceremony)) (box_of_destination to))
+late_conditions facts (Take ceremony serial at) = keepers_late facts ceremony at (box_of (facts.spot serial))
+late_conditions facts (Put ceremony serial to at) = keepers_late facts ceremony at (box_of_destination to)
 late_conditions facts (Cut ceremony serial at) = no_ca_refusal (facts.has_ca ceremony at) ∷ []
 late_conditions facts act = []
 

@@ -267,6 +267,8 @@ keys A = map key_row A
 
 -- ALL TABLES. Of the sheet: its rows; of the stays: one for each `in` row, until the person's next row
 
+-- begin: written by tools/tables.py
+
 pub record Tables : Type 0 where
   pub people : List Person
   pub trainings : List Training
@@ -324,3 +326,5 @@ pub record SameTables (t t' : Tables) : Type 0 where
   pub stays : IsPermutation t.stays t'.stays
   pub exceptions : IsPermutation t.exceptions t'.exceptions
   pub keys : IsPermutation t.keys t'.keys
+
+-- end: written by tools/tables.py

@@ -7,6 +7,8 @@ use kcr_custody::{Bag, BoxRow, Item, SafeRow};
 use kcr_people::{Appointment, Person, Training, Withdrawal};
 use kcr_room::{SheetRow, Stay};
 
+// begin: written by tools/tables.py
+
 /// Rows of the tables that decisions read, one list for each table, each in any order, and how many stays a ceremony
 /// has.
 #[derive(Drop)]
@@ -37,6 +39,8 @@ pub struct FullView {
     pub sheet: Vec<SheetRow>,
     pub keys: Vec<KeyRow>,
 }
+
+// end: written by tools/tables.py
 
 /// Which rows of a table are asked for: none, those under `K`, or all.
 #[derive(Drop)]
@@ -129,6 +133,8 @@ pub struct Asks {
     pub stay_count: Option<u32>,
 }
 
+// begin: written by tools/tables.py
+
 /// A whole row that is put into its table, new or in place of the row that has its key. No row is ever removed.
 #[derive(Drop)]
 pub enum Change {
@@ -149,6 +155,8 @@ pub enum Change {
     PutException(ExceptionRow),
     PutKey(KeyRow),
 }
+
+// end: written by tools/tables.py
 
 /// A command that is not refused: the rows to put, in this order, and the reply. `new_reply` is the reply as data if
 /// the command is accepted now, and none if it was accepted before and only its kept reply is given again.

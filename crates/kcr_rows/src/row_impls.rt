@@ -1,3 +1,4 @@
+// Written by tools/tables.py from tools/table_list.py: do not edit.
 //! The rows of the tables as values: how each is read back.
 
 ghost use Rattle.std.specs.Prelude.{⊤};

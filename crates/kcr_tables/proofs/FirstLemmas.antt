@@ -1,3 +1,4 @@
+-- Written by tools/tables.py from tools/table_list.py: do not edit.
 -- A new register.
 use Rattle.std.proofs.Common.{◌≡◌}
 use Rattle.sqlite.specs.Effect.{Database}

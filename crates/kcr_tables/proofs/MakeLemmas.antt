@@ -1,3 +1,4 @@
+-- Written by tools/tables.py from tools/table_list.py: do not edit.
 -- One CREATE TABLE after the other.
 use Rattle.std.proofs.Common.{◌≡◌, ℕ, zero, suc, ◌+◌, ◌<◌, [], ◌∷◌, ◌++◌, false, take, Ok, refl, sym, ap, ◌∙◌, arith}
 use Rattle.sqlite.specs.Table.{Table}

@@ -1,3 +1,4 @@
+-- Written by tools/tables.py from tools/table_list.py: do not edit.
 -- What a change makes of the tables.
 use Rattle.std.specs.Prelude.{List, fold}
 use Rattle.kcr_rows.specs.Keyed.{put_in}

@@ -1,3 +1,4 @@
+-- Written by tools/tables.py from tools/table_list.py: do not edit.
 -- How an empty database becomes one of a register.
 use Rattle.std.specs.Prelude.{ℕ, List, [], ◌∷◌, take, codes, slice_index_or}
 use Rattle.sqlite.specs.Schema.{Schema}

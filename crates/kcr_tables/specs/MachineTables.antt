@@ -1,3 +1,4 @@
+-- Written by tools/tables.py from tools/table_list.py: do not edit.
 -- The database holds the tables of the machine. The machine has the rows of a table in any order, the database in the
 -- order of their keys.
 use Rattle.std.specs.Prelude.{◌≡◌}

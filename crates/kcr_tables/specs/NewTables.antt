@@ -1,3 +1,4 @@
+-- Written by tools/tables.py from tools/table_list.py: do not edit.
 -- The tables of a new register.
 use Rattle.std.specs.Prelude.{[], ◌∷◌, false}
 use Rattle.kcr_base.specs.declared.place.Facility.{Facility}

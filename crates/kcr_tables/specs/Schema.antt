@@ -1,3 +1,4 @@
+-- Written by tools/tables.py from tools/table_list.py: do not edit.
 -- The schema: a table for each kind of row, with the index that its key gets.
 use Rattle.std.specs.Prelude.{List, [], ◌∷◌, codes}
 use Rattle.sqlite.specs.Table.{Table}

@@ -1,3 +1,4 @@
+-- Written by tools/tables.py from tools/table_list.py: do not edit.
 -- The database holds the tables of a register.
 use Rattle.std.specs.Prelude.{◌≡◌, List, [], ◌∷◌, map}
 use Rattle.std.specs.List.{AllByRecursion}

@@ -1,3 +1,4 @@
+-- Written by tools/tables.py from tools/table_list.py: do not edit.
 -- What the table versions proves of its texts, and of its place among the others.
 use Rattle.std.proofs.Common.{◌≡◌, IsPermutation, ℕ, pos, List, [], ◌∷◌, map, codes, true, refl, sym, subst}
 use Rattle.std.specs.Bool.{⊤}

@@ -1,3 +1,4 @@
+// Written by tools/tables.py from tools/table_list.py: do not edit.
 //! The table appointments: who holds a custodian's place, under the place and the first day.
 
 ghost use Rattle.kcr_tables.specs.AppointmentsLaws as laws;

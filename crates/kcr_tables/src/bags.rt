@@ -1,3 +1,4 @@
+// Written by tools/tables.py from tools/table_list.py: do not edit.
 //! The table bags: a bag under its serial.
 
 ghost use Rattle.kcr_tables.specs.BagsLaws as laws;

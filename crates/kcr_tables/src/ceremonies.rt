@@ -1,3 +1,4 @@
+// Written by tools/tables.py from tools/table_list.py: do not edit.
 //! The table ceremonies: a ceremony under its number.
 
 ghost use Rattle.kcr_tables.specs.CeremoniesLaws as laws;

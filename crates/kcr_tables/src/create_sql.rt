@@ -1,3 +1,4 @@
+// Written by tools/tables.py from tools/table_list.py: do not edit.
 //! The texts that make the tables.
 
 ghost use Rattle.std.specs.Prelude.{◌≡◌, ◌<◌};

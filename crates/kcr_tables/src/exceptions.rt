@@ -1,3 +1,4 @@
+// Written by tools/tables.py from tools/table_list.py: do not edit.
 //! The table exceptions: a script exception of a ceremony under both numbers.
 
 ghost use Rattle.kcr_tables.specs.ExceptionsLaws as laws;

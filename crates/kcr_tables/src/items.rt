@@ -1,3 +1,4 @@
+// Written by tools/tables.py from tools/table_list.py: do not edit.
 //! The table items: an item under its code.
 
 ghost use Rattle.kcr_tables.specs.ItemsLaws as laws;

@@ -1,3 +1,4 @@
+// Written by tools/tables.py from tools/table_list.py: do not edit.
 //! The table keys: a row for each accepted command, under its key; its number is the row id, and that of no other row.
 
 ghost use Rattle.kcr_tables.specs.KeysLaws as laws;

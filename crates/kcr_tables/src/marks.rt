@@ -1,3 +1,4 @@
+// Written by tools/tables.py from tools/table_list.py: do not edit.
 //! The table marks: the mark of a ceremony that was opened, under its number.
 
 ghost use Rattle.kcr_tables.specs.MarksLaws as laws;

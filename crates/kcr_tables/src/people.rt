@@ -1,3 +1,4 @@
+// Written by tools/tables.py from tools/table_list.py: do not edit.
 //! The table people: a person under their initials.
 
 ghost use Rattle.kcr_tables.specs.PeopleLaws as laws;

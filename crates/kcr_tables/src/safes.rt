@@ -1,3 +1,4 @@
+// Written by tools/tables.py from tools/table_list.py: do not edit.
 //! The table safes: a safe under its facility and number.
 
 ghost use Rattle.kcr_tables.specs.SafesLaws as laws;

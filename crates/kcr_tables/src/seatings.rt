@@ -1,3 +1,4 @@
+// Written by tools/tables.py from tools/table_list.py: do not edit.
 //! The table seatings: who filled a seat of a step, under the ceremony, the step and the seat.
 
 ghost use Rattle.kcr_tables.specs.SeatingsLaws as laws;

@@ -1,3 +1,4 @@
+// Written by tools/tables.py from tools/table_list.py: do not edit.
 //! The table sheet: a row of a ceremony's entry and exit sheet, under the person and the moment.
 
 ghost use Rattle.kcr_tables.specs.SheetLaws as laws;

@@ -1,3 +1,4 @@
+// Written by tools/tables.py from tools/table_list.py: do not edit.
 //! The table stays: a stay of a person in the room of a ceremony, under the person and its beginning.
 
 ghost use Rattle.kcr_tables.specs.StaysLaws as laws;

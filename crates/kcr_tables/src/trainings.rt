@@ -1,3 +1,4 @@
+// Written by tools/tables.py from tools/table_list.py: do not edit.
 //! The table trainings: a training of a person for a role, all of it its key.
 
 ghost use Rattle.kcr_tables.specs.TrainingsLaws as laws;

@@ -1,3 +1,4 @@
+// Written by tools/tables.py from tools/table_list.py: do not edit.
 //! The table versions: one row with the number of the schema.
 
 ghost use Rattle.kcr_tables.specs.VersionsLaws as laws;

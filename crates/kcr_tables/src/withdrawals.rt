@@ -1,3 +1,4 @@
+// Written by tools/tables.py from tools/table_list.py: do not edit.
 //! The table withdrawals: from which day a training is withdrawn, under the training's key.
 
 ghost use Rattle.kcr_tables.specs.WithdrawalsLaws as laws;

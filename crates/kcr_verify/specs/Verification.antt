@@ -38,6 +38,8 @@ use Rattle.kcr_verify.specs.declared.verification.Difference.TheVariants as Diff
 use Rattle.kcr_verify.specs.declared.verification.Verification.{Verification}
 use Rattle.kcr_verify.specs.declared.verification.Verification.TheVariants.{Verified, Differs}
 
+-- begin: written by tools/tables.py
+
 -- the table's name in the database
 abbrev pub name_of : TableName → List ℕ
 name_of People = codes "people"
@@ -76,6 +78,8 @@ HasRows Sheet m view = AreRows (λ t. t.rows.sheet) m view.sheet.items
 HasRows Stays m view = AreRows (λ t. t.rows.stays) m view.view.stays.items
 HasRows Exceptions m view = AreRows (λ t. t.rows.exceptions) m view.view.exceptions.items
 HasRows Keys m view = IsPermutation m.keys view.keys.items
+
+-- end: written by tools/tables.py
 
 -- a register whose history is known, and that no fault has broken
 pub record IsIntact {S : Type 0} (g : Ghosts S) (register : RegisterState S) : Type 0 where
@@ -180,11 +184,15 @@ StopsFor difference sorted B = HaveOwnKeys sorted → StopsIn difference sorted 
 
 -- WHAT IS SAID
 
+-- begin: written by tools/tables.py
+
 -- the order in which tables are compared
 abbrev pub compared : List TableName
 compared =
     Keys ∷ People ∷ Trainings ∷ Withdrawals ∷ Appointments ∷ Boxes ∷ Safes ∷ Bags ∷ Items ∷ Ceremonies ∷ Marks ∷ Steps
     ∷ Seatings ∷ Sheet ∷ Stays ∷ Exceptions ∷ []
+
+-- end: written by tools/tables.py
 
 -- in this list the table is the first whose rows are not those of the history
 pub record IsFirstTable (tables_in : List TableName) (A : History) (view : FullView) (table : TableName) : Type 0 where
@@ -194,25 +202,32 @@ pub record IsFirstTable (tables_in : List TableName) (A : History) (view : FullV
   pub same : AllByRecursion (λ one. HasRows one (tables A) view) before
   pub other : ¬ HasRows table (tables A) view
 
+-- begin: written by tools/tables.py
+
 -- of this table, this is the first row in which the view differs from the machine
 abbrev pub DiffersIn : TableName → Tables → FullView → RowDifference → Type 0
 DiffersIn People m view row = IsFirstRow (λ t. t.rows.people) stored.person_row m view.view.people.items row
 DiffersIn Trainings m view row = IsFirstRow (λ t. t.rows.trainings) stored.training_row m view.view.trainings.items row
-DiffersIn Withdrawals m view row = IsFirstRow (λ t. t.rows.withdrawals) stored.withdrawal_row m view.view.withdrawals.items row
+DiffersIn Withdrawals m view row =
+    IsFirstRow (λ t. t.rows.withdrawals) stored.withdrawal_row m view.view.withdrawals.items row
 DiffersIn Appointments m view row =
     IsFirstRow (λ t. t.rows.appointments) stored.appointment_row m view.view.appointments.items row
 DiffersIn Boxes m view row = IsFirstRow (λ t. t.rows.boxes) stored.box_row m view.view.boxes.items row
 DiffersIn Safes m view row = IsFirstRow (λ t. t.rows.safes) stored.safe_row m view.view.safes.items row
 DiffersIn Bags m view row = IsFirstRow (λ t. t.rows.bags) stored.bag_row m view.view.bags.items row
 DiffersIn Items m view row = IsFirstRow (λ t. t.rows.items) stored.item_row m view.view.items.items row
-DiffersIn Ceremonies m view row = IsFirstRow (λ t. t.rows.ceremonies) stored.ceremony_row m view.view.ceremonies.items row
+DiffersIn Ceremonies m view row =
+    IsFirstRow (λ t. t.rows.ceremonies) stored.ceremony_row m view.view.ceremonies.items row
 DiffersIn Marks m view row = IsFirstRow (λ t. t.rows.marks) stored.mark_row m view.view.marks.items row
 DiffersIn Steps m view row = IsFirstRow (λ t. t.rows.steps) stored.step_row m view.view.steps.items row
 DiffersIn Seatings m view row = IsFirstRow (λ t. t.rows.seatings) stored.seating_row m view.view.seatings.items row
 DiffersIn Sheet m view row = IsFirstRow (λ t. t.rows.sheet) stored.sheet_row m view.sheet.items row
 DiffersIn Stays m view row = IsFirstRow (λ t. t.rows.stays) stored.stay_row m view.view.stays.items row
-DiffersIn Exceptions m view row = IsFirstRow (λ t. t.rows.exceptions) stored.exception_row m view.view.exceptions.items row
+DiffersIn Exceptions m view row =
+    IsFirstRow (λ t. t.rows.exceptions) stored.exception_row m view.view.exceptions.items row
 DiffersIn Keys m view row = IsFirstCommand m.keys view.keys.items row
+
+-- end: written by tools/tables.py
 
 -- the view has the machine's rows of this table; or it has not, and this is the first row that differs
 abbrev pub IsCompared : TableName → Tables → FullView → Option RowDifference → Type 0

@@ -32,6 +32,8 @@ use kcr_tables::TableRow;
 use sqlite::Alter;
 use std::alloc::{AllocError, Global};
 
+// begin: written by tools/tables.py
+
 /// A table of the register.
 #[derive(Clone, Copy)]
 pub enum TableName {
@@ -98,6 +100,8 @@ impl TableName {
     }
 }
 
+// end: written by tools/tables.py
+
 /// The first row in which a table differs from what the commands lead to, in the order of its keys; that of the accepted
 /// commands in the order of their numbers. A row is told as sqlite3 prints it in its mode `quote`; it begins with its key.
 #[derive(Drop)]
@@ -140,6 +144,8 @@ trait Compared {
     fn is_same(&self, other: &Self) -> bool
         ensures { IsTrue result ↔ (self.now ≡ other.now) };
 }
+
+// begin: written by tools/tables.py
 
 impl Compared for Person {
     fn is_same(&self, other: &Self) -> bool {
@@ -201,23 +207,6 @@ impl Compared for MarkRow {
     }
 }
 
-impl Compared for StepRow {
-    fn is_same(&self, other: &Self) -> bool {
-        self.ceremony == other.ceremony
-            && self.step == other.step
-            && self.activity == other.activity
-            && same_rows(self.seats.as_slice(), other.seats.as_slice())
-            && self.state == other.state
-            && self.at == other.at
-    }
-}
-
-impl Compared for Seat {
-    fn is_same(&self, other: &Self) -> bool {
-        self == other
-    }
-}
-
 impl Compared for SeatingRow {
     fn is_same(&self, other: &Self) -> bool {
         self == other
@@ -231,6 +220,25 @@ impl Compared for SheetRow {
 }
 
 impl Compared for Stay {
+    fn is_same(&self, other: &Self) -> bool {
+        self == other
+    }
+}
+
+// end: written by tools/tables.py
+
+impl Compared for StepRow {
+    fn is_same(&self, other: &Self) -> bool {
+        self.ceremony == other.ceremony
+            && self.step == other.step
+            && self.activity == other.activity
+            && same_rows(self.seats.as_slice(), other.seats.as_slice())
+            && self.state == other.state
+            && self.at == other.at
+    }
+}
+
+impl Compared for Seat {
     fn is_same(&self, other: &Self) -> bool {
         self == other
     }
@@ -364,6 +372,8 @@ fn compare_commands<S: Alter>(
     first_row(alloc, &commands, rows)
 }
 
+// begin: written by tools/tables.py
+
 /// The first row in which this table differs from that of the register, or `None`.
 fn compare_table<S: Alter>(
     alloc: Global,
@@ -398,6 +408,8 @@ fn compare_table<S: Alter>(
         TableName::Keys => compare_commands(alloc, register, &rows.keys),
     }
 }
+
+// end: written by tools/tables.py
 
 /// The first of these tables whose rows are not the register's, and its first row that differs.
 fn first_differing<S: Alter>(

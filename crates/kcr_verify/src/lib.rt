@@ -12,6 +12,7 @@
 mod compare;
 mod new_register;
 mod quoted;
+mod quoted_rows;
 mod replay;
 mod sort;
 mod verification;
