@@ -237,7 +237,7 @@ TABLES = [
           "a row for each accepted command, under its key; its number is the row id, and that of no other row",
           "PutKey", "same_key_row", alias="accepted", always_new=True,
           readings=[Reading("key_row_of", "The row of this key, alone, or none", '"key"', "key", "&Key", KEY, "same_text {x}.key {v}", ask="is_of_key {v}"),
-                    Reading("last_key_row", "The row with the greatest number, alone, or none where there is no row", None, greatest="accepted")]),
+                    Reading("last_key_row", "The row with the greatest number, alone, or none if there is no row", None, greatest="accepted")]),
     Table("stays", "stay", "Stay", "kcr_room", "", [Column("who", INITIALS), Column("since", MOMENT), Column("ceremony", NUMBER), Column("until", MOMENT_OR_NULL)], 2,
           "a stay of a person in the room of a ceremony, under the person and its beginning", "PutStay", "same_stay", others=[[2, 1, 0]], new_where="self.until.is_none()",
           readings=[Reading("last_stay_of", "The row of the person's stay that began last, alone, or none", "who", "who", "&Initials", INITIALS, "same_text {x}.who {v}", ask="is_of {v}", greatest="since")]),

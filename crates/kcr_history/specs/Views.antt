@@ -111,8 +111,7 @@ step_asked asked rows = unwrap_or asked.step (suc (last_seated rows asked.ceremo
 -- the view tells the last step of the ceremony that has a seating, and has the row of the step that is asked for
 pub record ShowsStepOf (asked : StepFilter) (all seatings : List SeatingRow) (table rows : List StepRow) : Type 0 where
   pub last : last_seated seatings asked.ceremony ≡ last_seated all asked.ceremony
-  pub step : IsPermutation (filter (is_step_at asked.ceremony (step_asked asked seatings)) table)
-      (filter (is_step_at asked.ceremony (step_asked asked seatings)) rows)
+  pub step : Includes (is_step_at asked.ceremony) (Matching (step_asked asked seatings)) table rows
 
 abbrev pub IncludesStep : Option StepFilter → List SeatingRow → List SeatingRow → List StepRow → List StepRow → Type 0
 IncludesStep None all seatings table rows = Unit {0}

@@ -35,7 +35,7 @@ pub struct RoleShown {
     pub since: Day,
     pub role: Role,
     pub until: Day,
-    /// The day from which it is withdrawn, where it is.
+    /// The day from which it is withdrawn, if it is.
     pub withdrawn: Option<Day>,
 }
 

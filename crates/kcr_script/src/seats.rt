@@ -114,7 +114,7 @@ fn push_seats(seats: &mut Vec<Seat>, seat: Seat, count: u8) -> Result<(), AllocE
     Ok(())
 }
 
-/// The list of seats that the text stands for, or None where it stands for none: an empty text, an item that is no
+/// The list of seats that the text stands for, or `None` if it stands for none: an empty text, an item that is no
 /// seat, a star with a number other than 2 to 7 (`CO*1` is not in the form), a star behind a seat with a number, or
 /// more than 16 seats. The error is out of memory.
 pub fn read_seats(alloc: Global, text: &[u8]) -> Result<Option<Seats>, AllocError>

@@ -83,7 +83,7 @@ file_at rows = first_of (codes "file") rows
 unfoldable pub met_in : List Text → Option (Text × List Row)
 met_in words = subcommand_of tool_app words
 
--- the kinds of error for which the words are refused or ask for help: none where they are a task
+-- the kinds of error for which the words are refused or ask for help: none if they are a task
 unfoldable pub faults_of : List Text → Kinds
 faults_of words = fault_of tool_app words
 

@@ -105,7 +105,7 @@ fn parse<'a>(alloc: Global, words: &'a [String]) -> Result<ArgMatches<'a>, Words
     }
 }
 
-/// The number that an option was given, or None where it is not from `least` to `most`.
+/// The number that an option was given, or `None` if it is not from `least` to `most`.
 fn read_number(matches: &ArgMatches<'_>, name: &str, least: u32, most: u32) -> Option<u32>
     ensures number { result ≡ number_at least most name.now (rows_of (found_of matches.now)) }
     ensures range { IfSome result (λ number. (least ≤ number) × (number ≤ most)) }
