@@ -5,13 +5,14 @@ of the program's outermost functions to the definitions in `specs/` and the type
     python3 tools/statement.py              writes the page, and says how long it is
     python3 tools/statement.py --check      compares it with the page that is there: status 1 if they differ
     python3 tools/statement.py --unreached  lists the definitions in `specs/` that the statement does not reach
-    python3 tools/statement.py --long       lists the definitions of more than 12 lines that it reaches
+    python3 tools/statement.py --long       lists the definitions with more than 12 lines in one case, field or variant
 
 A clause without a sentence, a name that is not found, and a name of the kit without a line end it with status 2 and a
 line that names them. What the page is made of stands in `statement_list.py`, the lines of the kit's names in
 `statement_kit.py`.
 """
 import argparse
+import re
 import os
 import sys
 
@@ -56,7 +57,7 @@ def arguments():
     one = parser.add_mutually_exclusive_group()
     one.add_argument("--check", action="store_true", help="compare the page with the one that is there")
     one.add_argument("--unreached", action="store_true", help="list the definitions that it does not reach")
-    one.add_argument("--long", action="store_true", help=f"list the definitions of more than {LONG} lines")
+    one.add_argument("--long", action="store_true", help=f"list the definitions with more than {LONG} lines in one case")
     return parser.parse_args()
 
 
@@ -127,11 +128,22 @@ def list_items(title, items):
         print(f"  {path}: {', '.join(item.name for item in items if item.path == path)}")
 
 
+def longest_part(lines):
+    """How many lines a definition has, or its longest case, field or variant: a reader takes these one by one."""
+    lengths = [0]
+    for line in lines:
+        if re.match(r"  \S", line):
+            lengths.append(0)
+        lengths[-1] += 1
+    return max(lengths)
+
+
 def list_long(library, reach):
-    lengths = {item.key(): len(shown(library, item)) for item in reach.items.values()}
-    for (path, name), length in sorted(lengths.items(), key=lambda entry: (-entry[1], entry[0])):
-        if length > LONG:
-            print(f"{length:4} {path} {name}")
+    lengths = {item.key(): longest_part(shown(library, item)) for item in reach.items.values()}
+    long = {key: length for key, length in lengths.items() if length > LONG}
+    for (path, name), length in sorted(long.items(), key=lambda entry: (-entry[1], entry[0])):
+        print(f"{length:4} {path} {name}")
+    print(f"{len(long)} of {len(lengths)} definitions have more than {LONG} lines in one case, field or variant")
     return 0
 
 

@@ -258,6 +258,14 @@ is_busy A ceremony =
     list_any (λ other. not (other == ceremony) && same_facility (facility_of A other) (facility_of A ceremony)
     && is_ceremony_open A other) (values_of_acts planned_number A)
 
+-- the ceremony's script has no step of this number
+abbrev pub lacks_step : History → ℕ → ℕ → Bool
+lacks_step A ceremony step = is_none (step_at (steps_of A ceremony) step)
+
+-- not all steps of the script are done
+abbrev pub has_step_left : History → ℕ → Bool
+has_step_left A ceremony = nat_lt (steps_done A ceremony) (length (steps_of A ceremony))
+
 abbrev pub is_empty : {X : Type 0} → List X → Bool
 is_empty [] = true
 is_empty (x ∷ xs) = false
@@ -334,9 +342,9 @@ by_history A =
       is_ceremony_open = is_ceremony_open A;
       is_busy = is_busy A;
       mark = mark A;
-      lacks_step = λ ceremony step. is_none (step_at (steps_of A ceremony) step);
+      lacks_step = lacks_step A;
       next_step = next_step A;
-      has_step_left = λ ceremony. nat_lt (steps_done A ceremony) (length (steps_of A ceremony));
+      has_step_left = has_step_left A;
       exception_count = exceptions_of A;
       has_box = λ facility number. is_some (place_of_box A facility number);
       has_box_of = λ place. has_command (boxes_place place) A;
