@@ -1,16 +1,15 @@
 //! One statement, with what it gave as values: the one module that calls the database.
 
-ghost use Rattle.std.specs.Prelude.{◌≡◌, ◌≢◌, ℕ, map, Ok, IsTrue, IfOk, IfErr, OnOk};
+ghost use Rattle.std.specs.Prelude.{◌≡◌, ◌≢◌, ℕ, map, Ok, IfOk, IfErr, OnOk};
 ghost use Rattle.sqlite.specs.declared.error.Error.TheVariants.{SqliteFailure};
 ghost use Rattle.sqlite.specs.declared.error.ErrorCode.TheVariants.{OutOfMemory};
-ghost use Rattle.sqlite.specs.Held.{state};
 ghost use Rattle.sqlite.specs.Values.{bound};
 ghost use Rattle.sqlite.specs.Listing.{understood};
 ghost use Rattle.sqlite.specs.Given.{IsPlain};
-ghost use Rattle.sqlite.specs.State.{HasCleanDisk, IsUnchanged, Executes, Shown};
+ghost use Rattle.sqlite.specs.State.{IsUnchanged, Executes, Shown};
 ghost use Rattle.std.specs.List.{AllByRecursion};
 ghost use Rattle.kcr_rows.specs.Refusals.{IsFault};
-ghost use Rattle.kcr_rows.specs.Frame.{StaysInTransaction};
+ghost use Rattle.kcr_rows.specs.Frame.{IfClean, ImpliesOpen, StaysInTransaction};
 
 use crate::from_row::FromRow;
 use kcr_base::Refusal;
@@ -50,17 +49,13 @@ pub fn query_rows<S: Alter, T: FromRow>(
     sql: &str,
     params: &[ValueRef<'_>],
 ) -> Result<Vec<T>, Refusal>
-    ensures same_reference { tx.new.conn.ghost_name ≡ tx.old.conn.ghost_name }
-    ensures shown { HasCleanDisk (state S.Store tx.new.conn.now)
-        → IfOk result (λ all. Shown sql.now (bound params.now) (state S.Store tx.old.conn.now)
-        (state S.Store tx.new.conn.now) (map T.row_of all.items)) }
+    ensures shown { IfClean S.Store tx.old tx.new
+        (λ old new. IfOk result (λ all. Shown sql.now (bound params.now) old new (map T.row_of all.items))) }
     ensures read { IfOk result (λ all. AllByRecursion T.is_read all.items) }
-    ensures same { HasCleanDisk (state S.Store tx.new.conn.now)
-        → IsPlain (understood (state S.Store tx.old.conn.now).now.schema sql.now)
-        → OnOk result (IsUnchanged (state S.Store tx.old.conn.now) (state S.Store tx.new.conn.now)) }
-    ensures opened { HasCleanDisk (state S.Store tx.new.conn.now)
-        → OnOk result (IsTrue (state S.Store tx.old.conn.now).is_open) }
-    ensures frame { StaysInTransaction IsFault (state S.Store tx.old.conn.now) (state S.Store tx.new.conn.now) result }
+    ensures same { IfClean S.Store tx.old tx.new
+        (λ old new. IsPlain (understood old.now.schema sql.now) → OnOk result (IsUnchanged old new)) }
+    ensures opened { ImpliesOpen S.Store tx.old tx.new result }
+    ensures frame { StaysInTransaction S.Store IsFault tx.old tx.new result }
 {
     match tx.query_all(sql, params) {
         Ok(rows) => decode_all(alloc, rows.as_slice()),
@@ -75,11 +70,9 @@ pub fn execute<S: Alter>(
     sql: &str,
     params: &[ValueRef<'_>],
 ) -> Result<usize, Refusal>
-    ensures same_reference { tx.new.conn.ghost_name ≡ tx.old.conn.ghost_name }
-    ensures runs { HasCleanDisk (state S.Store tx.new.conn.now)
-        → IfOk result (λ count. Executes sql.now (bound params.now) (state S.Store tx.old.conn.now)
-        (state S.Store tx.new.conn.now) (Ok count)) }
-    ensures frame { StaysInTransaction IsFault (state S.Store tx.old.conn.now) (state S.Store tx.new.conn.now) result }
+    ensures runs { IfClean S.Store tx.old tx.new
+        (λ old new. IfOk result (λ count. Executes sql.now (bound params.now) old new (Ok count))) }
+    ensures frame { StaysInTransaction S.Store IsFault tx.old tx.new result }
 {
     match tx.execute(sql, params) {
         Ok(count) => Ok(count),
@@ -93,13 +86,9 @@ pub fn run_statement<S: Alter>(
     sql: &str,
     params: &[ValueRef<'_>],
 ) -> Result<(), Refusal>
-    ensures same_reference { tx.new.conn.ghost_name ≡ tx.old.conn.ghost_name }
-    ensures runs { HasCleanDisk (state S.Store tx.new.conn.now)
-        → OnOk result
-        ((count : ℕ)
-        × Executes sql.now (bound params.now) (state S.Store tx.old.conn.now) (state S.Store tx.new.conn.now)
-        (Ok count)) }
-    ensures frame { StaysInTransaction IsFault (state S.Store tx.old.conn.now) (state S.Store tx.new.conn.now) result }
+    ensures runs { IfClean S.Store tx.old tx.new
+        (λ old new. OnOk result ((count : ℕ) × Executes sql.now (bound params.now) old new (Ok count))) }
+    ensures frame { StaysInTransaction S.Store IsFault tx.old tx.new result }
 {
     execute(tx, sql, params)?;
     Ok(())

@@ -6,6 +6,7 @@ pub returns-in-Err-clause-frame : goal.returns-in-Err-clause-frame
 returns-in-Err-clause-frame g c =
     let old = state g.S.Store c.args.tx.now.conn.now in
     let new = state g.S.Store c.query_all.new.self.conn.now in record {
+      same_reference = c.query_all.ensures.same_reference;
       inside = λ clean inside. tt;
       kept = λ clean inside. failed_query_keeps _ _ old new _ (c.in-Err.ensures.err clean);
       survives = c.query_all.ensures.survives;
@@ -28,6 +29,7 @@ pub returns-in-Ok-clause-frame : goal.returns-in-Ok-clause-frame
 returns-in-Ok-clause-frame g c =
     let old = state g.S.Store c.args.tx.now.conn.now in
     let new = state g.S.Store c.query_all.new.self.conn.now in record {
+      same_reference = c.query_all.ensures.same_reference;
       inside = λ clean inside. on_ok _ c.decode_all.result (shown_inside _ _ old new _ inside (c.in-Ok.ensures.ok clean));
       kept = λ clean inside. shown_keeps _ _ old new _ inside (c.in-Ok.ensures.ok clean);
       survives = c.query_all.ensures.survives;
