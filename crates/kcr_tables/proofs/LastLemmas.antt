@@ -32,9 +32,8 @@ use Rattle.kcr_rows.specs.Rows.{stay_row, appointment_row, seating_row}
 use Rattle.kcr_room.specs.declared.Stay.{Stay}
 use Rattle.kcr_tables.specs.Schema.{register_schema}
 use Rattle.kcr_tables.specs.Exact.{rows_at, has_number, has_text, IsOneOf}
-use Rattle.kcr_tables.specs.Frame.{OfTables, OfTrees}
 use Rattle.kcr_tables.specs.Statements.{is_given, Choice, showing, showing_by}
-use Rattle.kcr_tables.specs.StoredTables.{StoredTables, TreesHold, keys_place, stays_place, appointments_place, seatings_place}
+use Rattle.kcr_tables.specs.StoredTables.{StoredTables, TreesHold, Holds, keys_place, stays_place, appointments_place, seatings_place}
 use Rattle.kcr_tables.specs.AppointmentsLaws as appointments
 use Rattle.kcr_tables.specs.KeysLaws as keys
 use Rattle.kcr_tables.specs.SeatingsLaws as seatings
@@ -79,13 +78,15 @@ module _ {place : TableLayout} {project : List Term} {names : List (List ℕ)} {
     shown : HasCleanDisk new → IfOk r (λ all. Shown sql params old new (map row_of (items all)))
     shown clean = subst (λ (v : Row). IfOk r (λ all. Shown sql v old new (map row_of (items all)))) same (ran clean)
 
-    pub tells_one : OfTrees old new r (λ db all. IsOneOf (filter passes (rows_at place db)) (map row_of (items all)))
+    pub tells_one : HasCleanDisk new → old.now.schema ≡ register_schema
+        → IfOk r (λ all. IsOneOf (filter passes (rows_at place old.now.trees)) (map row_of (items all)))
     tells_one clean has = if_ok _ _ (λ all h. shown_one old new (map row_of (items all)) has h) r (shown clean)
 
     -- of the rows that the tables have in this place, those that pass are these
     pub tells_last : ((x y : X) → row_of x ≡ row_of y → x ≡ y) → (number : X → ℕ) → ((x : X) → column (row_of x) at ≡ Int (pos (number x)))
         → (rows_in wanted : StoredTables → List X) → ((t : StoredTables) → TreesHold old.now.trees t → TreeHolds place old.now.trees (map row_of (rows_in t)))
-        → ((t : StoredTables) → filter (λ x. passes (row_of x)) (rows_in t) ≡ wanted t) → OfTables old new r (λ t all. IsGreatest number (wanted t) (items all))
+        → ((t : StoredTables) → filter (λ x. passes (row_of x)) (rows_in t) ≡ wanted t)
+        → HasCleanDisk new → (t : StoredTables) → Holds old.now t → IfOk r (λ all. IsGreatest number (wanted t) (items all))
     tells_last one number numbered rows_in wanted keeps are clean t held = if_ok _ _ (λ all h.
         subst (λ l. IsGreatest number l (items all)) (are t)
         (shown_greatest place register_schema sql params s.test project at names passes (λ i. (s.is i).command, λ i. (s.is i).reads_catalog) s.bare

@@ -26,7 +26,6 @@ use Rattle.kcr_rows.proofs.ReadLemmas.{asking, kept_from}
 use Rattle.kcr_rows.proofs.UpdateLemmas.{Updated, executes_update}
 use Rattle.kcr_tables.specs.Schema.{register_schema}
 use Rattle.kcr_tables.specs.Exact.{rows_at}
-use Rattle.kcr_tables.specs.Frame.{OfTables, OfTrees}
 use Rattle.kcr_tables.specs.StoredTables.{StoredTables, TreesHold, Holds}
 use Rattle.kcr_tables.specs.Statements.{SelectsRows, SelectsUnordered, InsertsRow, UpdatesRow}
 use Rattle.kcr_tables.specs.Table.{TableSpec, IsTable, with_put}
@@ -104,13 +103,14 @@ module _ {place : TableLayout} {sql : List ℕ} {params : Row} {passes : Row →
       (result : Result (Vec X Global) Refusal) (shown : HasCleanDisk new → IfOk result (λ all. Shown sql params old new (map row_of all.items))) where
     pub passing_told : (rows_in : StoredTables → List X) → ((t : StoredTables) → TreesHold old.now.trees t → TreeHolds place old.now.trees (map row_of (rows_in t)))
         → (test : X → Bool) → ((x : X) → passes (row_of x) ≡ test x)
-        → OfTables old new result (λ t all. IsPermutation (filter test (rows_in t)) all.items)
+        → HasCleanDisk new → (t : StoredTables) → Holds old.now t → IfOk result (λ all. IsPermutation (filter test (rows_in t)) all.items)
     passing_told rows_in keeps test is clean t held = if_ok _ _ (λ all h.
         subst (λ l. IsPermutation l all.items) (filter_as (λ x. passes (row_of x)) test is (rows_in t))
         (passing_values row_of one old new all.items (rows_in t) held.schema h (keeps t held.kept))) result (shown clean)
 
     pub passing_exact : (test : Row → Bool) → ((row : Row) → passes row ≡ test row)
-        → OfTrees old new result (λ db all. IsPermutation (filter test (rows_at place db)) (map row_of all.items))
+        → HasCleanDisk new → old.now.schema ≡ register_schema
+        → IfOk result (λ all. IsPermutation (filter test (rows_at place old.now.trees)) (map row_of all.items))
     passing_exact test is clean has = if_ok _ _ (λ all h.
         subst (λ l. IsPermutation l (map row_of all.items)) (filter_as passes test is (rows_at place old.now.trees))
         (passing_rows old new (map row_of all.items) has h)) result (shown clean)

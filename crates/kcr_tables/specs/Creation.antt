@@ -1,8 +1,9 @@
 -- Written by tools/tables.py from tools/table_list.py: do not edit.
 -- How an empty database becomes one of a register.
-use Rattle.std.specs.Prelude.{ℕ, List, [], ◌∷◌, take, codes, slice_index_or}
+use Rattle.std.specs.Prelude.{◌≡◌, ℕ, List, [], ◌∷◌, take, codes, slice_index_or}
+use Rattle.sqlite.specs.Effect.{Database}
 use Rattle.sqlite.specs.Schema.{Schema}
-use Rattle.kcr_rows.specs.Columns.{schema_of}
+use Rattle.kcr_rows.specs.Columns.{AreEmpty, schema_of}
 use Rattle.kcr_tables.specs.Schema.{all_tables}
 
 -- the texts that make the tables, in their order
@@ -32,3 +33,8 @@ text_at at = slice_index_or texts at []
 -- the schema of the first tables; of none, that of an empty database
 abbrev pub schema_prefix : ℕ → Schema
 schema_prefix count = schema_of (take count all_tables)
+
+-- the database has the first tables, and no row in them
+pub record HasEmptyTables (count : ℕ) (db : Database) : Type 0 where
+  pub schema : db.schema ≡ schema_prefix count
+  pub empty : AreEmpty (take count all_tables) db.trees

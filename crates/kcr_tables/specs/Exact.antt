@@ -11,18 +11,9 @@ use Rattle.sqlite.specs.declared.types.Value.TheVariants.{Int, Text}
 use Rattle.sqlite_rules.specs.Lists.{Has}
 use Rattle.kcr_base.specs.Place.{place_text}
 use Rattle.kcr_base.specs.declared.place.Place.{Place as Custodian}
-use Rattle.kcr_people.specs.declared.Training.{Training}
-use Rattle.kcr_people.specs.declared.Withdrawal.{Withdrawal}
 use Rattle.kcr_people.specs.declared.Appointment.{Appointment}
-use Rattle.kcr_custody.specs.declared.BoxRow.{BoxRow}
-use Rattle.kcr_custody.specs.declared.SafeRow.{SafeRow}
-use Rattle.kcr_custody.specs.declared.Bag.{Bag}
-use Rattle.kcr_custody.specs.declared.Item.{Item}
-use Rattle.kcr_history.specs.declared.row_types.CeremonyRow.{CeremonyRow}
-use Rattle.kcr_history.specs.declared.row_types.MarkRow.{MarkRow}
 use Rattle.kcr_history.specs.declared.row_types.StepRow.{StepRow}
 use Rattle.kcr_history.specs.declared.row_types.SeatingRow.{SeatingRow}
-use Rattle.kcr_history.specs.declared.row_types.ExceptionRow.{ExceptionRow}
 use Rattle.kcr_history.specs.declared.views.AppointmentFilter.{AppointmentFilter}
 use Rattle.kcr_history.specs.declared.views.AppointmentFilter.TheVariants as Appointments
 use Rattle.kcr_history.specs.declared.views.Asks.{Asks}
@@ -41,6 +32,9 @@ use Rattle.kcr_rows.proofs.FilterLemmas.{has_value}
 use Rattle.kcr_rows.specs.Rows.{person_row, training_row, appointment_row, box_row, safe_row, bag_row, item_row}
 use Rattle.kcr_rows.specs.Rows.{ceremony_row, mark_row, step_row, seating_row, exception_row, stay_row, withdrawal_row}
 use Rattle.kcr_tables.specs.Selected.{asked_of, asked_all}
+use Rattle.kcr_tables.specs.declared.view.StaffRows.{StaffRows}
+use Rattle.kcr_tables.specs.declared.view.CustodyRows.{CustodyRows}
+use Rattle.kcr_tables.specs.declared.view.CeremonyRows.{CeremonyRows}
 use Rattle.kcr_tables.specs.StoredTables.{people_place, trainings_place, appointments_place, boxes_place, safes_place}
 use Rattle.kcr_tables.specs.StoredTables.{bags_place, items_place, ceremonies_place, marks_place, steps_place, exceptions_place}
 use Rattle.kcr_tables.specs.StoredTables.{seatings_place, stays_place, withdrawals_place}
@@ -157,33 +151,45 @@ StepsAreShown (Some asked) seatings steps db =
     OneSeatingIsShown asked.ceremony seatings db × StepIsShown asked seatings steps db
 
 -- of people's offices
-pub record StaffIsShown (asks : Asks) (trainings : List Training)
-    (withdrawals : List Withdrawal) (appointments : List Appointment) (db : Trees) : Type 0 where
-  pub trainings_are : SelectedAreRead training_row trainings_place is_training_row asks.trainings trainings db
-  pub withdrawals_are : SelectedAreRead withdrawal_row withdrawals_place (has_text 0) asks.withdrawals withdrawals db
-  pub appointments_are : AppointmentsAreShown asks.appointments appointments db
+pub record StaffIsShown (asks : Asks) (db : Trees) (rows : StaffRows) : Type 0 where
+  pub trainings : SelectedAreRead training_row trainings_place is_training_row asks.trainings rows.trainings.items db
+  pub withdrawals : SelectedAreRead withdrawal_row withdrawals_place (has_text 0) asks.withdrawals rows.withdrawals.items db
+  pub appointments : AppointmentsAreShown asks.appointments rows.appointments.items db
 
 -- of what is kept in the safes
-pub record CustodyIsShown (asks : Asks) (boxes : List BoxRow) (safes : List SafeRow) (bags : List Bag)
-    (items : List Item) (db : Trees) : Type 0 where
-  pub boxes_are : AllAreRead box_row boxes_place asks.boxes boxes db
-  pub safes_are : AllAreRead safe_row safes_place asks.safes safes db
-  pub bags_are : SelectedAreRead bag_row bags_place (has_text 0) asks.bags bags db
-  pub items_are : SelectedAreRead item_row items_place is_item_row asks.items items db
+pub record CustodyIsShown (asks : Asks) (db : Trees) (rows : CustodyRows) : Type 0 where
+  pub boxes : AllAreRead box_row boxes_place asks.boxes rows.boxes.items db
+  pub safes : AllAreRead safe_row safes_place asks.safes rows.safes.items db
+  pub bags : SelectedAreRead bag_row bags_place (has_text 0) asks.bags rows.bags.items db
+  pub items : SelectedAreRead item_row items_place is_item_row asks.items rows.items.items db
 
 -- of ceremonies
-pub record CeremoniesAreShown (asks : Asks) (ceremonies : List CeremonyRow) (marks : List MarkRow)
-    (steps : List StepRow) (seatings : List SeatingRow) (exceptions : List ExceptionRow) (db : Trees) : Type 0 where
-  pub ceremonies_are : SelectedAreRead ceremony_row ceremonies_place (has_number 0) asks.ceremonies ceremonies db
-  pub marks_are : SelectedAreRead mark_row marks_place (has_number 0) asks.marks marks db
-  pub steps_are : StepsAreShown asks.steps seatings steps db
-  pub exceptions_are : SelectedAreRead exception_row exceptions_place (has_number 0) asks.exceptions exceptions db
+pub record CeremoniesAreShown (asks : Asks) (db : Trees) (rows : CeremonyRows) : Type 0 where
+  pub ceremonies : SelectedAreRead ceremony_row ceremonies_place (has_number 0) asks.ceremonies rows.ceremonies.items db
+  pub marks : SelectedAreRead mark_row marks_place (has_number 0) asks.marks rows.marks.items db
+  pub steps : StepsAreShown asks.steps rows.seatings.items rows.steps.items db
+  pub exceptions : SelectedAreRead exception_row exceptions_place (has_number 0) asks.exceptions rows.exceptions.items db
+
+-- the parts of a view that are read together
+abbrev pub staff_of : View → StaffRows
+staff_of view = record { trainings = view.trainings; withdrawals = view.withdrawals; appointments = view.appointments }
+
+abbrev pub custody_of : View → CustodyRows
+custody_of view = record { boxes = view.boxes; safes = view.safes; bags = view.bags; items = view.items }
+
+abbrev pub ceremonies_of : View → CeremonyRows
+ceremonies_of view = record {
+  ceremonies = view.ceremonies;
+  marks = view.marks;
+  steps = view.steps;
+  seatings = view.seatings;
+  exceptions = view.exceptions;
+}
 
 -- every row asked for, of each table, is the row of a value in the view; of the stays those of the ceremony
 pub record HasNoInvalidRow (asks : Asks) (view : View) (db : Trees) : Type 0 where
   pub people : SelectedAreRead person_row people_place (has_any 0) asks.people view.people.items db
-  pub staff : StaffIsShown asks view.trainings.items view.withdrawals.items view.appointments.items db
-  pub custody : CustodyIsShown asks view.boxes.items view.safes.items view.bags.items view.items.items db
-  pub ceremonies : CeremoniesAreShown asks view.ceremonies.items view.marks.items view.steps.items
-      view.seatings.items view.exceptions.items db
+  pub staff : StaffIsShown asks db (staff_of view)
+  pub custody : CustodyIsShown asks db (custody_of view)
+  pub ceremonies : CeremoniesAreShown asks db (ceremonies_of view)
   pub stays : SelectedAreRead stay_row stays_place is_stay_row asks.stays view.stays.items db

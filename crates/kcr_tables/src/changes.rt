@@ -1,16 +1,11 @@
 //! Changes of the tables.
 
-ghost use Rattle.std.specs.Prelude.{◌≡◌, OnOk};
-ghost use Rattle.sqlite.specs.Held.{state};
-ghost use Rattle.sqlite.specs.State.{HasCleanDisk};
-ghost use Rattle.kcr_history.specs.Tables as machine;
 ghost use Rattle.kcr_history.specs.Changes as Changes;
 ghost use Rattle.kcr_history.specs.Changes.{changed_by};
 ghost use Rattle.kcr_rows.specs.Refusals.{IsFault};
 ghost use Rattle.kcr_rows.specs.Frame.{StaysInTransaction};
 ghost use Rattle.kcr_tables.specs.Changed.{changed, changed_all};
-ghost use Rattle.kcr_tables.specs.MachineTables.{HoldsTables};
-ghost use Rattle.kcr_tables.specs.Frame.{ChangesTables};
+ghost use Rattle.kcr_tables.specs.Frame.{ChangesTables, ChangesMachineTables};
 
 use crate::table::{Put, PutAllocating};
 use kcr_base::Refusal;
@@ -24,10 +19,8 @@ fn make_change<S: Alter>(
     tx: &mut Transaction<'_, S>,
     change: &Change,
 ) -> Result<(), Refusal>
-    ensures same_reference { tx.new.conn.ghost_name ≡ tx.old.conn.ghost_name }
-    ensures holds { ChangesTables (state S.Store tx.old.conn.now) (state S.Store tx.new.conn.now) result
-        (λ t. changed change.now t) }
-    ensures frame { StaysInTransaction IsFault (state S.Store tx.old.conn.now) (state S.Store tx.new.conn.now) result }
+    ensures holds { ChangesTables S.Store tx.old tx.new result (changed change.now) }
+    ensures frame { StaysInTransaction S.Store IsFault tx.old tx.new result }
 {
     match change {
         Change::PutPerson(row) => row.put(tx),
@@ -57,13 +50,9 @@ pub fn change_all<S: Alter>(
     tx: &mut Transaction<'_, S>,
     changes: &[Change],
 ) -> Result<(), Refusal>
-    ensures same_reference { tx.new.conn.ghost_name ≡ tx.old.conn.ghost_name }
-    ensures holds { ChangesTables (state S.Store tx.old.conn.now) (state S.Store tx.new.conn.now) result
-        (λ t. changed_all changes.now t) }
-    ensures tables { HasCleanDisk (state S.Store tx.new.conn.now) → (m : machine.Tables)
-        → HoldsTables m (state S.Store tx.old.conn.now).now
-        → OnOk result (HoldsTables (changed_by changes.now m) (state S.Store tx.new.conn.now).now) }
-    ensures frame { StaysInTransaction IsFault (state S.Store tx.old.conn.now) (state S.Store tx.new.conn.now) result }
+    ensures holds { ChangesTables S.Store tx.old tx.new result (changed_all changes.now) }
+    ensures tables { ChangesMachineTables S.Store tx.old tx.new result (changed_by changes.now) }
+    ensures frame { StaysInTransaction S.Store IsFault tx.old tx.new result }
 {
     for change in changes {
         make_change(alloc, tx, change)?;
@@ -79,11 +68,8 @@ pub fn change<S: Alter>(
     tx: &mut Transaction<'_, S>,
     made: &Change,
 ) -> Result<(), Refusal>
-    ensures same_reference { tx.new.conn.ghost_name ≡ tx.old.conn.ghost_name }
-    ensures tables { HasCleanDisk (state S.Store tx.new.conn.now) → (m : machine.Tables)
-        → HoldsTables m (state S.Store tx.old.conn.now).now
-        → OnOk result (HoldsTables (Changes.changed made.now m) (state S.Store tx.new.conn.now).now) }
-    ensures frame { StaysInTransaction IsFault (state S.Store tx.old.conn.now) (state S.Store tx.new.conn.now) result }
+    ensures tables { ChangesMachineTables S.Store tx.old tx.new result (Changes.changed made.now) }
+    ensures frame { StaysInTransaction S.Store IsFault tx.old tx.new result }
 {
     make_change(alloc, tx, made)
 }

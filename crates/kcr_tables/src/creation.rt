@@ -1,20 +1,16 @@
 //! The tables of a new register.
 
-ghost use Rattle.std.specs.Prelude.{◌≡◌, ◌+◌, ◌<◌, [], take, OnOk};
-ghost use Rattle.sqlite.specs.Held.{state};
-ghost use Rattle.sqlite.specs.State.{HasCleanDisk};
+ghost use Rattle.std.specs.Prelude.{◌≡◌, ◌+◌, ◌<◌, [], OnOk};
 ghost use Rattle.sqlite_catalog.specs.Listing.{IsSound};
 ghost use Rattle.kcr_history.specs.Tables.{tables};
 ghost use Rattle.kcr_rows.specs.Refusals.{IsFault};
-ghost use Rattle.kcr_rows.specs.Columns.{AreEmpty};
 ghost use Rattle.kcr_rows.specs.Keyed.{put_in};
 ghost use Rattle.kcr_rows.specs.Rows.{safe_row};
-ghost use Rattle.kcr_rows.specs.Frame.{StaysInTransaction};
+ghost use Rattle.kcr_rows.specs.Frame.{IfClean, StaysInTransaction};
 ghost use Rattle.kcr_tables.specs.StoredTables.{Holds};
 ghost use Rattle.kcr_tables.specs.NewTables.{empty_tables, new_tables, shut};
 ghost use Rattle.kcr_tables.specs.MachineTables.{HoldsTables};
-ghost use Rattle.kcr_tables.specs.Creation.{schema_prefix};
-ghost use Rattle.kcr_tables.specs.Schema.{all_tables};
+ghost use Rattle.kcr_tables.specs.Creation.{schema_prefix, HasEmptyTables};
 ghost use Rattle.kcr_custody.specs.declared.SafeNumber.TheVariants.{One, Two};
 ghost use Rattle.kcr_tables.specs.Frame.{ChangesTables};
 
@@ -32,20 +28,11 @@ const SCHEMA_VERSION: u32 = 3;
 /// Makes the table of this position, counted from 0, after those before it.
 fn create_one<S: Alter>(tx: &mut Transaction<'_, S>, at: usize) -> Result<(), Refusal>
     requires { at < 17 }
-    ensures same_reference { tx.new.conn.ghost_name ≡ tx.old.conn.ghost_name }
-    ensures schema { HasCleanDisk (state S.Store tx.new.conn.now)
-        → (state S.Store tx.old.conn.now).now.schema ≡ schema_prefix at
-        → AreEmpty (take at all_tables) (state S.Store tx.old.conn.now).now.trees
-        → OnOk result ((state S.Store tx.new.conn.now).now.schema ≡ schema_prefix (at + 1)) }
-    ensures empty { HasCleanDisk (state S.Store tx.new.conn.now)
-        → (state S.Store tx.old.conn.now).now.schema ≡ schema_prefix at
-        → AreEmpty (take at all_tables) (state S.Store tx.old.conn.now).now.trees
-        → OnOk result (AreEmpty (take (at + 1) all_tables) (state S.Store tx.new.conn.now).now.trees) }
-    ensures sound { HasCleanDisk (state S.Store tx.new.conn.now)
-        → (state S.Store tx.old.conn.now).now.schema ≡ schema_prefix at
-        → AreEmpty (take at all_tables) (state S.Store tx.old.conn.now).now.trees
-        → OnOk result (IsSound (schema_prefix (at + 1)) (state S.Store tx.new.conn.now).now.trees) }
-    ensures frame { StaysInTransaction IsFault (state S.Store tx.old.conn.now) (state S.Store tx.new.conn.now) result }
+    ensures made { IfClean S.Store tx.old tx.new
+        (λ old new. HasEmptyTables at old.now → OnOk result (HasEmptyTables (at + 1) new.now)) }
+    ensures sound { IfClean S.Store tx.old tx.new
+        (λ old new. HasEmptyTables at old.now → OnOk result (IsSound (schema_prefix (at + 1)) new.now.trees)) }
+    ensures frame { StaysInTransaction S.Store IsFault tx.old tx.new result }
 {
     let text = create_table_sql(at);
     run_statement(tx, text, &[])
@@ -53,10 +40,9 @@ fn create_one<S: Alter>(tx: &mut Transaction<'_, S>, at: usize) -> Result<(), Re
 
 /// All tables, without rows.
 fn create_all<S: Alter>(tx: &mut Transaction<'_, S>) -> Result<(), Refusal>
-    ensures same_reference { tx.new.conn.ghost_name ≡ tx.old.conn.ghost_name }
-    ensures holds { HasCleanDisk (state S.Store tx.new.conn.now) → (state S.Store tx.old.conn.now).now.schema ≡ schema_prefix 0
-        → OnOk result (Holds (state S.Store tx.new.conn.now).now empty_tables) }
-    ensures frame { StaysInTransaction IsFault (state S.Store tx.old.conn.now) (state S.Store tx.new.conn.now) result }
+    ensures holds { IfClean S.Store tx.old tx.new
+        (λ old new. old.now.schema ≡ schema_prefix 0 → OnOk result (Holds new.now empty_tables)) }
+    ensures frame { StaysInTransaction S.Store IsFault tx.old tx.new result }
 {
     for at in 0..TABLE_COUNT {
         create_one(tx, at)?;
@@ -66,14 +52,13 @@ fn create_all<S: Alter>(tx: &mut Transaction<'_, S>) -> Result<(), Refusal>
 
 /// Puts the two safes of a facility, which are shut.
 fn put_pair<S: Alter>(tx: &mut Transaction<'_, S>, facility: Facility) -> Result<(), Refusal>
-    ensures same_reference { tx.new.conn.ghost_name ≡ tx.old.conn.ghost_name }
-    ensures holds { ChangesTables (state S.Store tx.old.conn.now) (state S.Store tx.new.conn.now) result
+    ensures holds { ChangesTables S.Store tx.old tx.new result
         (λ t. record t {
           rows = record t.rows {
             safes = put_in 2 safe_row (shut facility Two) (put_in 2 safe_row (shut facility One) t.rows.safes);
           };
         }) }
-    ensures frame { StaysInTransaction IsFault (state S.Store tx.old.conn.now) (state S.Store tx.new.conn.now) result }
+    ensures frame { StaysInTransaction S.Store IsFault tx.old tx.new result }
 {
     let equipment = SafeRow {
         facility,
@@ -91,10 +76,9 @@ fn put_pair<S: Alter>(tx: &mut Transaction<'_, S>, facility: Facility) -> Result
 
 /// The tables and rows of `make`.
 fn make_rows<S: Alter>(tx: &mut Transaction<'_, S>) -> Result<(), Refusal>
-    ensures same_reference { tx.new.conn.ghost_name ≡ tx.old.conn.ghost_name }
-    ensures holds { HasCleanDisk (state S.Store tx.new.conn.now) → (state S.Store tx.old.conn.now).now.schema ≡ schema_prefix 0
-        → OnOk result (Holds (state S.Store tx.new.conn.now).now new_tables) }
-    ensures frame { StaysInTransaction IsFault (state S.Store tx.old.conn.now) (state S.Store tx.new.conn.now) result }
+    ensures holds { IfClean S.Store tx.old tx.new
+        (λ old new. old.now.schema ≡ schema_prefix 0 → OnOk result (Holds new.now new_tables)) }
+    ensures frame { StaysInTransaction S.Store IsFault tx.old tx.new result }
 {
     create_all(tx)?;
     put_pair(tx, Facility::East)?;
@@ -109,12 +93,11 @@ fn make_rows<S: Alter>(tx: &mut Transaction<'_, S>) -> Result<(), Refusal>
 /// number of the schema, and no others. The error is `Memory` when out of memory, and else `Disk`. It leaves a part of
 /// the tables in the transaction, which the caller rolls back; what was committed before stays.
 pub fn make<S: Alter>(tx: &mut Transaction<'_, S>) -> Result<(), Refusal>
-    ensures same_reference { tx.new.conn.ghost_name ≡ tx.old.conn.ghost_name }
-    ensures holds { HasCleanDisk (state S.Store tx.new.conn.now) → (state S.Store tx.old.conn.now).now.schema ≡ schema_prefix 0
-        → OnOk result (Holds (state S.Store tx.new.conn.now).now new_tables) }
-    ensures made { HasCleanDisk (state S.Store tx.new.conn.now) → (state S.Store tx.old.conn.now).now.schema ≡ schema_prefix 0
-        → OnOk result (HoldsTables (tables []) (state S.Store tx.new.conn.now).now) }
-    ensures frame { StaysInTransaction IsFault (state S.Store tx.old.conn.now) (state S.Store tx.new.conn.now) result }
+    ensures holds { IfClean S.Store tx.old tx.new
+        (λ old new. old.now.schema ≡ schema_prefix 0 → OnOk result (Holds new.now new_tables)) }
+    ensures made { IfClean S.Store tx.old tx.new
+        (λ old new. old.now.schema ≡ schema_prefix 0 → OnOk result (HoldsTables (tables []) new.now)) }
+    ensures frame { StaysInTransaction S.Store IsFault tx.old tx.new result }
 {
     make_rows(tx)
 }

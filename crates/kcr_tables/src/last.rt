@@ -1,14 +1,14 @@
 //! The row with the greatest number.
 
-ghost use Rattle.std.specs.Prelude.{◌≡◌, map, filter};
-ghost use Rattle.sqlite.specs.Held.{state};
+ghost use Rattle.std.specs.Prelude.{map, filter};
 ghost use Rattle.kcr_base.specs.Same.{same_text};
 ghost use Rattle.kcr_history.specs.Views.{is_appointment_to, is_appointment_of, is_seating_of};
 ghost use Rattle.kcr_rows.specs.Greatest.{IsGreatest};
 ghost use Rattle.kcr_rows.specs.Rows.{key_row, stay_row, appointment_row, seating_row};
 ghost use Rattle.kcr_tables.specs.Exact.{rows_at, rows_to, rows_of_person, has_number, has_text, IsOneOf};
 ghost use Rattle.kcr_tables.specs.StoredTables.{keys_place, stays_place, seatings_place};
-ghost use Rattle.kcr_tables.specs.Frame.{ImpliesOpen, OfTables, OfTrees, Reads};
+ghost use Rattle.kcr_rows.specs.Frame.{ImpliesOpen};
+ghost use Rattle.kcr_tables.specs.Frame.{OfTables, OfTrees, Reads};
 
 use kcr_base::{Initials, Place, Refusal};
 use kcr_history::{KeyRow, SeatingRow};
@@ -26,13 +26,11 @@ pub fn last_key_row<S: Alter>(
     alloc: Global,
     tx: &mut Transaction<'_, S>,
 ) -> Result<Vec<KeyRow>, Refusal>
-    ensures same_reference { tx.new.conn.ghost_name ≡ tx.old.conn.ghost_name }
-    ensures rows { OfTables (state S.Store tx.old.conn.now) (state S.Store tx.new.conn.now) result
-        (λ t all. IsGreatest (λ x. x.accepted) t.rows.keys all.items) }
-    ensures exact { OfTrees (state S.Store tx.old.conn.now) (state S.Store tx.new.conn.now) result
+    ensures rows { OfTables S.Store tx.old tx.new result (λ t all. IsGreatest (λ x. x.accepted) t.rows.keys all.items) }
+    ensures exact { OfTrees S.Store tx.old tx.new result
         (λ db all. IsOneOf (rows_at keys_place db) (map key_row all.items)) }
-    ensures opened { ImpliesOpen (state S.Store tx.old.conn.now) (state S.Store tx.new.conn.now) result }
-    ensures frame { Reads (state S.Store tx.old.conn.now) (state S.Store tx.new.conn.now) result }
+    ensures opened { ImpliesOpen S.Store tx.old tx.new result }
+    ensures frame { Reads S.Store tx.old tx.new result }
 {
     query_rows(
         alloc,
@@ -48,12 +46,11 @@ pub fn last_stay_of<S: Alter>(
     tx: &mut Transaction<'_, S>,
     who: &Initials,
 ) -> Result<Vec<Stay>, Refusal>
-    ensures same_reference { tx.new.conn.ghost_name ≡ tx.old.conn.ghost_name }
-    ensures rows { OfTables (state S.Store tx.old.conn.now) (state S.Store tx.new.conn.now) result
+    ensures rows { OfTables S.Store tx.old tx.new result
         (λ t all. IsGreatest (λ x. x.since) (filter (λ x. same_text x.who who.now) t.rows.stays) all.items) }
-    ensures exact { OfTrees (state S.Store tx.old.conn.now) (state S.Store tx.new.conn.now) result
+    ensures exact { OfTrees S.Store tx.old tx.new result
         (λ db all. IsOneOf (filter (has_text 0 who.now) (rows_at stays_place db)) (map stay_row all.items)) }
-    ensures frame { Reads (state S.Store tx.old.conn.now) (state S.Store tx.new.conn.now) result }
+    ensures frame { Reads S.Store tx.old tx.new result }
 {
     let c0 = initials_cell(who);
     query_rows(
@@ -70,12 +67,11 @@ pub fn last_appointment_to<S: Alter>(
     tx: &mut Transaction<'_, S>,
     place: Place,
 ) -> Result<Vec<Appointment>, Refusal>
-    ensures same_reference { tx.new.conn.ghost_name ≡ tx.old.conn.ghost_name }
-    ensures rows { OfTables (state S.Store tx.old.conn.now) (state S.Store tx.new.conn.now) result
+    ensures rows { OfTables S.Store tx.old tx.new result
         (λ t all. IsGreatest (λ x. x.since) (filter (is_appointment_to place) t.rows.appointments) all.items) }
-    ensures exact { OfTrees (state S.Store tx.old.conn.now) (state S.Store tx.new.conn.now) result
+    ensures exact { OfTrees S.Store tx.old tx.new result
         (λ db all. IsOneOf (rows_to place db) (map appointment_row all.items)) }
-    ensures frame { Reads (state S.Store tx.old.conn.now) (state S.Store tx.new.conn.now) result }
+    ensures frame { Reads S.Store tx.old tx.new result }
 {
     let words = place.text();
     let c0 = code_cell(&words);
@@ -93,12 +89,11 @@ pub fn last_appointment_of<S: Alter>(
     tx: &mut Transaction<'_, S>,
     who: &Initials,
 ) -> Result<Vec<Appointment>, Refusal>
-    ensures same_reference { tx.new.conn.ghost_name ≡ tx.old.conn.ghost_name }
-    ensures rows { OfTables (state S.Store tx.old.conn.now) (state S.Store tx.new.conn.now) result
+    ensures rows { OfTables S.Store tx.old tx.new result
         (λ t all. IsGreatest (λ x. x.since) (filter (is_appointment_of who.now) t.rows.appointments) all.items) }
-    ensures exact { OfTrees (state S.Store tx.old.conn.now) (state S.Store tx.new.conn.now) result
+    ensures exact { OfTrees S.Store tx.old tx.new result
         (λ db all. IsOneOf (rows_of_person who.now db) (map appointment_row all.items)) }
-    ensures frame { Reads (state S.Store tx.old.conn.now) (state S.Store tx.new.conn.now) result }
+    ensures frame { Reads S.Store tx.old tx.new result }
 {
     let c0 = initials_cell(who);
     query_rows(
@@ -115,12 +110,11 @@ pub fn last_seating_of<S: Alter>(
     tx: &mut Transaction<'_, S>,
     ceremony: u32,
 ) -> Result<Vec<SeatingRow>, Refusal>
-    ensures same_reference { tx.new.conn.ghost_name ≡ tx.old.conn.ghost_name }
-    ensures rows { OfTables (state S.Store tx.old.conn.now) (state S.Store tx.new.conn.now) result
+    ensures rows { OfTables S.Store tx.old tx.new result
         (λ t all. IsGreatest (λ x. x.step) (filter (is_seating_of ceremony) t.rows.seatings) all.items) }
-    ensures exact { OfTrees (state S.Store tx.old.conn.now) (state S.Store tx.new.conn.now) result
+    ensures exact { OfTrees S.Store tx.old tx.new result
         (λ db all. IsOneOf (filter (has_number 0 ceremony) (rows_at seatings_place db)) (map seating_row all.items)) }
-    ensures frame { Reads (state S.Store tx.old.conn.now) (state S.Store tx.new.conn.now) result }
+    ensures frame { Reads S.Store tx.old tx.new result }
 {
     let c0 = number_cell(ceremony);
     query_rows(

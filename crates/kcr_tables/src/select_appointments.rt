@@ -1,8 +1,7 @@
 //! The appointments that are asked for: of a place and of a person the one that began last, or those that last beyond a
 //! day.
 
-ghost use Rattle.std.specs.Prelude.{◌≡◌, filter, map, IsPermutation};
-ghost use Rattle.sqlite.specs.Held.{state};
+ghost use Rattle.std.specs.Prelude.{filter, map, IsPermutation};
 ghost use Rattle.kcr_people.specs.People.{lasts_beyond};
 ghost use Rattle.kcr_history.specs.Views.{IncludesAppointments};
 ghost use Rattle.kcr_history.specs.declared.views.AppointmentFilter.TheVariants as Wanted;
@@ -10,7 +9,8 @@ ghost use Rattle.kcr_history.specs.declared.views.Selection.TheVariants as Selec
 ghost use Rattle.kcr_rows.specs.Rows.{appointment_row};
 ghost use Rattle.kcr_tables.specs.Exact.{rows_at, is_beyond_row, AppointmentsAreShown};
 ghost use Rattle.kcr_tables.specs.StoredTables.{appointments_place};
-ghost use Rattle.kcr_tables.specs.Frame.{ImpliesOpen, OfTables, OfTrees, Reads};
+ghost use Rattle.kcr_rows.specs.Frame.{ImpliesOpen};
+ghost use Rattle.kcr_tables.specs.Frame.{OfTables, OfTrees, Reads};
 
 use crate::last::{last_appointment_of, last_appointment_to};
 use crate::table::all_rows;
@@ -30,14 +30,13 @@ pub fn appointments_ending_after<S: Alter>(
     tx: &mut Transaction<'_, S>,
     day: Day,
 ) -> Result<Vec<Appointment>, Refusal>
-    ensures same_reference { tx.new.conn.ghost_name ≡ tx.old.conn.ghost_name }
-    ensures rows { OfTables (state S.Store tx.old.conn.now) (state S.Store tx.new.conn.now) result
+    ensures rows { OfTables S.Store tx.old tx.new result
         (λ t all. IsPermutation (filter (lasts_beyond day) t.rows.appointments) all.items) }
-    ensures exact { OfTrees (state S.Store tx.old.conn.now) (state S.Store tx.new.conn.now) result
+    ensures exact { OfTrees S.Store tx.old tx.new result
         (λ db all. IsPermutation (filter (is_beyond_row day) (rows_at appointments_place db))
         (map appointment_row all.items)) }
-    ensures opened { ImpliesOpen (state S.Store tx.old.conn.now) (state S.Store tx.new.conn.now) result }
-    ensures frame { Reads (state S.Store tx.old.conn.now) (state S.Store tx.new.conn.now) result }
+    ensures opened { ImpliesOpen S.Store tx.old tx.new result }
+    ensures frame { Reads S.Store tx.old tx.new result }
 {
     let c0 = day_cell(day);
     query_rows(
@@ -55,12 +54,11 @@ fn last_of_both<S: Alter>(
     place: Place,
     who: &Initials,
 ) -> Result<Vec<Appointment>, Refusal>
-    ensures same_reference { tx.new.conn.ghost_name ≡ tx.old.conn.ghost_name }
-    ensures rows { OfTables (state S.Store tx.old.conn.now) (state S.Store tx.new.conn.now) result
+    ensures rows { OfTables S.Store tx.old tx.new result
         (λ t all. IncludesAppointments (Selections.Matching (Wanted.LastToPlaceAndOfPerson place who.now)) t.rows.appointments all.items) }
-    ensures exact { OfTrees (state S.Store tx.old.conn.now) (state S.Store tx.new.conn.now) result
+    ensures exact { OfTrees S.Store tx.old tx.new result
         (λ db all. AppointmentsAreShown (Selections.Matching (Wanted.LastToPlaceAndOfPerson place who.now)) all.items db) }
-    ensures frame { Reads (state S.Store tx.old.conn.now) (state S.Store tx.new.conn.now) result }
+    ensures frame { Reads S.Store tx.old tx.new result }
 {
     let mut rows = last_appointment_to(alloc, tx, place)?;
     let mut behind = last_appointment_of(alloc, tx, who)?;
@@ -75,12 +73,10 @@ pub fn select_appointments<S: Alter>(
     tx: &mut Transaction<'_, S>,
     asked: &Selection<AppointmentFilter>,
 ) -> Result<Vec<Appointment>, Refusal>
-    ensures same_reference { tx.new.conn.ghost_name ≡ tx.old.conn.ghost_name }
-    ensures rows { OfTables (state S.Store tx.old.conn.now) (state S.Store tx.new.conn.now) result
+    ensures rows { OfTables S.Store tx.old tx.new result
         (λ t all. IncludesAppointments asked.now t.rows.appointments all.items) }
-    ensures exact { OfTrees (state S.Store tx.old.conn.now) (state S.Store tx.new.conn.now) result
-        (λ db all. AppointmentsAreShown asked.now all.items db) }
-    ensures frame { Reads (state S.Store tx.old.conn.now) (state S.Store tx.new.conn.now) result }
+    ensures exact { OfTrees S.Store tx.old tx.new result (λ db all. AppointmentsAreShown asked.now all.items db) }
+    ensures frame { Reads S.Store tx.old tx.new result }
 {
     match asked {
         Selection::Nothing => Ok(Vec::new(alloc)),

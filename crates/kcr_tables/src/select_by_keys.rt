@@ -4,7 +4,6 @@ ghost use Rattle.std.specs.Prelude.{◌≡◌, Bool, true, IsPermutation, filter
 ghost use Rattle.std.specs.List.{list_any};
 ghost use Rattle.std.proofs.Common.{ap};
 ghost use Rattle.std.proofs.lemmas.Slice.Eq.{bytes_eq-Decides};
-ghost use Rattle.sqlite.specs.Held.{state};
 ghost use Rattle.kcr_base.specs.Same.{same_text};
 ghost use Rattle.kcr_history.specs.Views.{Includes, is_of_people, is_item_of};
 ghost use Rattle.kcr_rows.specs.Rows.{person_row, item_row};
@@ -69,13 +68,12 @@ fn rows_once<S: Alter, K: AsCell, T: LookupByKeys<K>>(
     key: &K,
     before: &[K],
 ) -> Result<Vec<T>, Refusal>
-    ensures same_reference { tx.new.conn.ghost_name ≡ tx.old.conn.ghost_name }
-    ensures rows { OfTables (state S.Store tx.old.conn.now) (state S.Store tx.new.conn.now) result
+    ensures rows { OfTables S.Store tx.old tx.new result
         (λ t all. all.items ≡ asked_once T.same T.lookup_spec.is_under key.now before.now (T.table.rows_in t)) }
-    ensures exact { OfTrees (state S.Store tx.old.conn.now) (state S.Store tx.new.conn.now) result
+    ensures exact { OfTrees S.Store tx.old tx.new result
         (λ db all. AreShown T.row_of all.items (asked_once T.same (has_key T.lookup_spec.column K.value_of) key.now
         before.now (rows_at T.table.place db))) }
-    ensures frame { Reads (state S.Store tx.old.conn.now) (state S.Store tx.new.conn.now) result }
+    ensures frame { Reads S.Store tx.old tx.new result }
 {
     if T::is_named(key, before) {
         Ok(Vec::new(alloc))
@@ -90,13 +88,12 @@ fn rows_named<S: Alter, K: AsCell, T: LookupByKeys<K>>(
     tx: &mut Transaction<'_, S>,
     keys: &[K],
 ) -> Result<Vec<T>, Refusal>
-    ensures same_reference { tx.new.conn.ghost_name ≡ tx.old.conn.ghost_name }
-    ensures rows { OfTables (state S.Store tx.old.conn.now) (state S.Store tx.new.conn.now) result
+    ensures rows { OfTables S.Store tx.old tx.new result
         (λ t all. IsPermutation (filter (is_under_any T.lookup_spec.is_under keys.now) (T.table.rows_in t)) all.items) }
-    ensures exact { OfTrees (state S.Store tx.old.conn.now) (state S.Store tx.new.conn.now) result
+    ensures exact { OfTrees S.Store tx.old tx.new result
         (λ db all. AreShown T.row_of all.items (filter (is_under_any (has_key T.lookup_spec.column K.value_of) keys.now)
         (rows_at T.table.place db))) }
-    ensures frame { Reads (state S.Store tx.old.conn.now) (state S.Store tx.new.conn.now) result }
+    ensures frame { Reads S.Store tx.old tx.new result }
 {
     let mut rows = Vec::new(alloc);
     for at in 0..keys.len() {
@@ -112,12 +109,11 @@ pub fn select_people<S: Alter>(
     tx: &mut Transaction<'_, S>,
     asked: &Selection<InitialsList>,
 ) -> Result<Vec<Person>, Refusal>
-    ensures same_reference { tx.new.conn.ghost_name ≡ tx.old.conn.ghost_name }
-    ensures rows { OfTables (state S.Store tx.old.conn.now) (state S.Store tx.new.conn.now) result
+    ensures rows { OfTables S.Store tx.old tx.new result
         (λ t all. Includes is_of_people asked.now t.rows.people all.items) }
-    ensures exact { OfTrees (state S.Store tx.old.conn.now) (state S.Store tx.new.conn.now) result
+    ensures exact { OfTrees S.Store tx.old tx.new result
         (λ db all. SelectedAreRead person_row people_place (has_any 0) asked.now all.items db) }
-    ensures frame { Reads (state S.Store tx.old.conn.now) (state S.Store tx.new.conn.now) result }
+    ensures frame { Reads S.Store tx.old tx.new result }
 {
     match asked {
         Selection::Nothing => Ok(Vec::new(alloc)),
@@ -132,12 +128,11 @@ pub fn select_items<S: Alter>(
     tx: &mut Transaction<'_, S>,
     asked: &Selection<ItemFilter>,
 ) -> Result<Vec<Item>, Refusal>
-    ensures same_reference { tx.new.conn.ghost_name ≡ tx.old.conn.ghost_name }
-    ensures rows { OfTables (state S.Store tx.old.conn.now) (state S.Store tx.new.conn.now) result
+    ensures rows { OfTables S.Store tx.old tx.new result
         (λ t all. Includes is_item_of asked.now t.rows.items all.items) }
-    ensures exact { OfTrees (state S.Store tx.old.conn.now) (state S.Store tx.new.conn.now) result
+    ensures exact { OfTrees S.Store tx.old tx.new result
         (λ db all. SelectedAreRead item_row items_place is_item_row asked.now all.items db) }
-    ensures frame { Reads (state S.Store tx.old.conn.now) (state S.Store tx.new.conn.now) result }
+    ensures frame { Reads S.Store tx.old tx.new result }
 {
     match asked {
         Selection::Nothing => Ok(Vec::new(alloc)),

@@ -2,7 +2,6 @@
 //! and how many a ceremony has.
 
 ghost use Rattle.std.specs.Prelude.{◌≡◌, not, List, filter, map, IsPermutation};
-ghost use Rattle.sqlite.specs.Held.{state};
 ghost use Rattle.kcr_history.specs.Views.{HasStayCount, IncludesStays, ShowsStaysOf};
 ghost use Rattle.kcr_base.specs.Same.{same_text};
 ghost use Rattle.kcr_room.specs.declared.Stay.{Stay as AnyStay};
@@ -34,12 +33,11 @@ pub fn stays_ending_at_or_after<S: Alter>(
     ceremony: u32,
     at: Moment,
 ) -> Result<Vec<Stay>, Refusal>
-    ensures same_reference { tx.new.conn.ghost_name ≡ tx.old.conn.ghost_name }
-    ensures rows { OfTables (state S.Store tx.old.conn.now) (state S.Store tx.new.conn.now) result
+    ensures rows { OfTables S.Store tx.old tx.new result
         (λ t all. IsPermutation (filter (stay_reaches ceremony at) t.rows.stays) all.items) }
-    ensures exact { OfTrees (state S.Store tx.old.conn.now) (state S.Store tx.new.conn.now) result
+    ensures exact { OfTrees S.Store tx.old tx.new result
         (λ db all. IsPermutation (filter (is_lasting_row ceremony at) (rows_at stays_place db)) (map stay_row all.items)) }
-    ensures frame { Reads (state S.Store tx.old.conn.now) (state S.Store tx.new.conn.now) result }
+    ensures frame { Reads S.Store tx.old tx.new result }
 {
     let c0 = number_cell(ceremony);
     let c1 = moment_cell(at);
@@ -58,12 +56,11 @@ fn last_elsewhere<S: Alter>(
     asked: &StayFilter,
     who: &Initials,
 ) -> Result<Vec<Stay>, Refusal>
-    ensures same_reference { tx.new.conn.ghost_name ≡ tx.old.conn.ghost_name }
-    ensures rows { OfTables (state S.Store tx.old.conn.now) (state S.Store tx.new.conn.now) result
+    ensures rows { OfTables S.Store tx.old tx.new result
         (λ t all. (last : List AnyStay)
         × IsGreatest (λ x. x.since) (filter (λ x. same_text x.who who.now) t.rows.stays) last
         × (all.items ≡ filter (λ x. not (stay_reaches asked.now.ceremony asked.now.at x)) last)) }
-    ensures frame { Reads (state S.Store tx.old.conn.now) (state S.Store tx.new.conn.now) result }
+    ensures frame { Reads S.Store tx.old tx.new result }
 {
     let mut last = last_stay_of(alloc, tx, who)?;
     last.retain(|stay| !stay_reaches(asked.ceremony, asked.at, stay));
@@ -77,12 +74,10 @@ fn stays_and_last<S: Alter>(
     tx: &mut Transaction<'_, S>,
     asked: &StayFilter,
 ) -> Result<Vec<Stay>, Refusal>
-    ensures same_reference { tx.new.conn.ghost_name ≡ tx.old.conn.ghost_name }
-    ensures rows { OfTables (state S.Store tx.old.conn.now) (state S.Store tx.new.conn.now) result
-        (λ t all. ShowsStaysOf asked.now t.rows.stays all.items) }
-    ensures exact { OfTrees (state S.Store tx.old.conn.now) (state S.Store tx.new.conn.now) result
+    ensures rows { OfTables S.Store tx.old tx.new result (λ t all. ShowsStaysOf asked.now t.rows.stays all.items) }
+    ensures exact { OfTrees S.Store tx.old tx.new result
         (λ db all. AreShown stay_row all.items (filter (is_stay_row asked.now) (rows_at stays_place db))) }
-    ensures frame { Reads (state S.Store tx.old.conn.now) (state S.Store tx.new.conn.now) result }
+    ensures frame { Reads S.Store tx.old tx.new result }
 {
     let mut rows = stays_ending_at_or_after(alloc, tx, asked.ceremony, asked.at)?;
     let people = asked.people.as_slice();
@@ -99,12 +94,10 @@ pub fn select_stays<S: Alter>(
     tx: &mut Transaction<'_, S>,
     asked: &Selection<StayFilter>,
 ) -> Result<Vec<Stay>, Refusal>
-    ensures same_reference { tx.new.conn.ghost_name ≡ tx.old.conn.ghost_name }
-    ensures rows { OfTables (state S.Store tx.old.conn.now) (state S.Store tx.new.conn.now) result
-        (λ t all. IncludesStays asked.now t.rows.stays all.items) }
-    ensures exact { OfTrees (state S.Store tx.old.conn.now) (state S.Store tx.new.conn.now) result
+    ensures rows { OfTables S.Store tx.old tx.new result (λ t all. IncludesStays asked.now t.rows.stays all.items) }
+    ensures exact { OfTrees S.Store tx.old tx.new result
         (λ db all. SelectedAreRead stay_row stays_place is_stay_row asked.now all.items db) }
-    ensures frame { Reads (state S.Store tx.old.conn.now) (state S.Store tx.new.conn.now) result }
+    ensures frame { Reads S.Store tx.old tx.new result }
 {
     match asked {
         Selection::Nothing => Ok(Vec::new(alloc)),
@@ -120,10 +113,8 @@ fn entries_of<S: Alter>(
     tx: &mut Transaction<'_, S>,
     ceremony: u32,
 ) -> Result<usize, Refusal>
-    ensures same_reference { tx.new.conn.ghost_name ≡ tx.old.conn.ghost_name }
-    ensures rows { OfTables (state S.Store tx.old.conn.now) (state S.Store tx.new.conn.now) result
-        (λ t count. count ≡ stay_count t.rows.stays ceremony) }
-    ensures frame { Reads (state S.Store tx.old.conn.now) (state S.Store tx.new.conn.now) result }
+    ensures rows { OfTables S.Store tx.old tx.new result (λ t count. count ≡ stay_count t.rows.stays ceremony) }
+    ensures frame { Reads S.Store tx.old tx.new result }
 {
     let c0 = number_cell(ceremony);
     let counts: Vec<CountRow> = query_rows(
@@ -144,10 +135,8 @@ pub fn select_stay_count<S: Alter>(
     tx: &mut Transaction<'_, S>,
     asked: &Option<u32>,
 ) -> Result<usize, Refusal>
-    ensures same_reference { tx.new.conn.ghost_name ≡ tx.old.conn.ghost_name }
-    ensures rows { OfTables (state S.Store tx.old.conn.now) (state S.Store tx.new.conn.now) result
-        (λ t count. HasStayCount asked.now t.rows.stays count) }
-    ensures frame { Reads (state S.Store tx.old.conn.now) (state S.Store tx.new.conn.now) result }
+    ensures rows { OfTables S.Store tx.old tx.new result (λ t count. HasStayCount asked.now t.rows.stays count) }
+    ensures frame { Reads S.Store tx.old tx.new result }
 {
     match asked {
         None => Ok(0),

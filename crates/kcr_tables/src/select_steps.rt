@@ -33,13 +33,12 @@ fn step_at<S: Alter>(
     ceremony: u32,
     step: u32,
 ) -> Result<Vec<StepRow>, Refusal>
-    ensures same_reference { tx.new.conn.ghost_name ≡ tx.old.conn.ghost_name }
-    ensures rows { OfTables (state S.Store tx.old.conn.now) (state S.Store tx.new.conn.now) result
+    ensures rows { OfTables S.Store tx.old tx.new result
         (λ t all. all.items ≡ filter (is_step_at ceremony step) t.rows.steps) }
-    ensures exact { OfTrees (state S.Store tx.old.conn.now) (state S.Store tx.new.conn.now) result
+    ensures exact { OfTrees S.Store tx.old tx.new result
         (λ db all. IsPermutation (filter (is_row_of_step ceremony step) (rows_at steps_place db))
         (map step_row all.items)) }
-    ensures frame { Reads (state S.Store tx.old.conn.now) (state S.Store tx.new.conn.now) result }
+    ensures frame { Reads S.Store tx.old tx.new result }
 {
     let c0 = number_cell(ceremony);
     let c1 = number_cell(step);
@@ -70,14 +69,13 @@ fn step_of<S: Alter>(
     tx: &mut Transaction<'_, S>,
     asked: &StepFilter,
 ) -> Result<StepRows, Refusal>
-    ensures same_reference { tx.new.conn.ghost_name ≡ tx.old.conn.ghost_name }
-    ensures rows { OfTables (state S.Store tx.old.conn.now) (state S.Store tx.new.conn.now) result
+    ensures rows { OfTables S.Store tx.old tx.new result
         (λ t all. ShowsStepOf asked.now t.rows.seatings all.seatings.items t.rows.steps all.steps.items) }
-    ensures seating { OfTrees (state S.Store tx.old.conn.now) (state S.Store tx.new.conn.now) result
+    ensures seating { OfTrees S.Store tx.old tx.new result
         (λ db all. OneSeatingIsShown asked.now.ceremony all.seatings.items db) }
-    ensures step { OfTrees (state S.Store tx.old.conn.now) (state S.Store tx.new.conn.now) result
+    ensures step { OfTrees S.Store tx.old tx.new result
         (λ db all. StepIsShown asked.now all.seatings.items all.steps.items db) }
-    ensures frame { Reads (state S.Store tx.old.conn.now) (state S.Store tx.new.conn.now) result }
+    ensures frame { Reads S.Store tx.old tx.new result }
 {
     let seatings = last_seating_of(alloc, tx, asked.ceremony)?;
     let Some(number) = number_asked(*asked, seatings.as_slice()) else {
@@ -96,12 +94,11 @@ pub fn select_steps<S: Alter>(
     tx: &mut Transaction<'_, S>,
     asked: &Option<StepFilter>,
 ) -> Result<StepRows, Refusal>
-    ensures same_reference { tx.new.conn.ghost_name ≡ tx.old.conn.ghost_name }
-    ensures rows { OfTables (state S.Store tx.old.conn.now) (state S.Store tx.new.conn.now) result
+    ensures rows { OfTables S.Store tx.old tx.new result
         (λ t all. IncludesStep asked.now t.rows.seatings all.seatings.items t.rows.steps all.steps.items) }
-    ensures exact { OfTrees (state S.Store tx.old.conn.now) (state S.Store tx.new.conn.now) result
+    ensures exact { OfTrees S.Store tx.old tx.new result
         (λ db all. StepsAreShown asked.now all.seatings.items all.steps.items db) }
-    ensures frame { Reads (state S.Store tx.old.conn.now) (state S.Store tx.new.conn.now) result }
+    ensures frame { Reads S.Store tx.old tx.new result }
 {
     match asked {
         None => Ok(StepRows {

@@ -1,7 +1,6 @@
 //! The trainings that are asked for: those of a person, or those of anybody that last to a day.
 
-ghost use Rattle.std.specs.Prelude.{◌≡◌, filter, map, IsPermutation};
-ghost use Rattle.sqlite.specs.Held.{state};
+ghost use Rattle.std.specs.Prelude.{filter, map, IsPermutation};
 ghost use Rattle.kcr_history.specs.Views.{Includes, is_training_asked, training_reaches};
 ghost use Rattle.kcr_rows.specs.Rows.{training_row};
 ghost use Rattle.kcr_tables.specs.Exact.{rows_at, has_from, is_training_row, SelectedAreRead};
@@ -26,12 +25,11 @@ fn trainings_ending_on_or_after<S: Alter>(
     tx: &mut Transaction<'_, S>,
     day: Day,
 ) -> Result<Vec<Training>, Refusal>
-    ensures same_reference { tx.new.conn.ghost_name ≡ tx.old.conn.ghost_name }
-    ensures rows { OfTables (state S.Store tx.old.conn.now) (state S.Store tx.new.conn.now) result
+    ensures rows { OfTables S.Store tx.old tx.new result
         (λ t all. IsPermutation (filter (training_reaches day) t.rows.trainings) all.items) }
-    ensures exact { OfTrees (state S.Store tx.old.conn.now) (state S.Store tx.new.conn.now) result
+    ensures exact { OfTrees S.Store tx.old tx.new result
         (λ db all. IsPermutation (filter (has_from 3 day) (rows_at trainings_place db)) (map training_row all.items)) }
-    ensures frame { Reads (state S.Store tx.old.conn.now) (state S.Store tx.new.conn.now) result }
+    ensures frame { Reads S.Store tx.old tx.new result }
 {
     let c0 = day_cell(day);
     query_rows(
@@ -48,12 +46,11 @@ pub fn select_trainings<S: Alter>(
     tx: &mut Transaction<'_, S>,
     asked: &Selection<TrainingFilter>,
 ) -> Result<Vec<Training>, Refusal>
-    ensures same_reference { tx.new.conn.ghost_name ≡ tx.old.conn.ghost_name }
-    ensures rows { OfTables (state S.Store tx.old.conn.now) (state S.Store tx.new.conn.now) result
+    ensures rows { OfTables S.Store tx.old tx.new result
         (λ t all. Includes is_training_asked asked.now t.rows.trainings all.items) }
-    ensures exact { OfTrees (state S.Store tx.old.conn.now) (state S.Store tx.new.conn.now) result
+    ensures exact { OfTrees S.Store tx.old tx.new result
         (λ db all. SelectedAreRead training_row trainings_place is_training_row asked.now all.items db) }
-    ensures frame { Reads (state S.Store tx.old.conn.now) (state S.Store tx.new.conn.now) result }
+    ensures frame { Reads S.Store tx.old tx.new result }
 {
     match asked {
         Selection::Nothing => Ok(Vec::new(alloc)),

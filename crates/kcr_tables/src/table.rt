@@ -1,7 +1,6 @@
 //! What a table of the register is, and the calls that read and change any of them inside a transaction.
 
 ghost use Rattle.std.specs.Prelude.{◌≡◌, map, filter, IsPermutation};
-ghost use Rattle.sqlite.specs.Held.{state};
 ghost use Rattle.sqlite.specs.declared.types.Value.{Value as Cell};
 ghost use Rattle.sqlite.specs.declared.types.Value.TheVariants.{Int, Text};
 ghost use Rattle.std.specs.Prelude.{pos};
@@ -9,8 +8,8 @@ ghost use Rattle.sqlite.specs.Values.{bound, bound_value};
 ghost use Rattle.sqlite.specs.Value.{owned};
 ghost use Rattle.kcr_rows.specs.Refusals.{IsFault};
 ghost use Rattle.kcr_rows.proofs.FilterLemmas.{has_value};
-ghost use Rattle.kcr_rows.specs.Frame.{StaysInTransaction};
-ghost use Rattle.kcr_tables.specs.Frame.{ImpliesOpen, OfTables, OfMachineTables, OfTrees, ChangesTables, Reads};
+ghost use Rattle.kcr_rows.specs.Frame.{ImpliesOpen, StaysInTransaction};
+ghost use Rattle.kcr_tables.specs.Frame.{OfTables, OfMachineTables, OfTrees, ChangesTables, Reads};
 ghost use Rattle.kcr_tables.specs.Selected.{asked_of, asked_all};
 ghost use Rattle.kcr_tables.specs.Exact.{rows_at, SelectedAreRead, AllAreRead};
 ghost use Rattle.kcr_tables.specs.Statements.{InsertsRow, UpdatesRow};
@@ -111,10 +110,9 @@ pub trait Put: TableRow {
     /// Any other row may be there: an `UPDATE` changes it, and an `INSERT` follows if it changed none. Both together
     /// cost less than one upsert.
     fn put<S: Alter>(&self, tx: &mut Transaction<'_, S>) -> Result<(), Refusal>
-        ensures same_reference { tx.new.conn.ghost_name ≡ tx.old.conn.ghost_name }
-        ensures holds { ChangesTables (state S.Store tx.old.conn.now) (state S.Store tx.new.conn.now) result
+        ensures holds { ChangesTables S.Store tx.old tx.new result
             (λ t. with_put Self.TableRow.table Self.FromRow.row_of self.now t) }
-        ensures frame { StaysInTransaction IsFault (state S.Store tx.old.conn.now) (state S.Store tx.new.conn.now) result };
+        ensures frame { StaysInTransaction S.Store IsFault tx.old tx.new result };
 }
 
 /// A table in which a row is put the same way, if words of the row are made in memory first.
@@ -125,10 +123,9 @@ pub trait PutAllocating: TableRow {
         alloc: Global,
         tx: &mut Transaction<'_, S>,
     ) -> Result<(), Refusal>
-        ensures same_reference { tx.new.conn.ghost_name ≡ tx.old.conn.ghost_name }
-        ensures holds { ChangesTables (state S.Store tx.old.conn.now) (state S.Store tx.new.conn.now) result
+        ensures holds { ChangesTables S.Store tx.old tx.new result
             (λ t. with_put Self.TableRow.table Self.FromRow.row_of self.now t) }
-        ensures frame { StaysInTransaction IsFault (state S.Store tx.old.conn.now) (state S.Store tx.new.conn.now) result };
+        ensures frame { StaysInTransaction S.Store IsFault tx.old tx.new result };
 }
 
 /// All rows of a table, in the order of their keys. Nothing is changed. The error is `Memory` when out of memory, and
@@ -137,15 +134,13 @@ pub fn all_rows<S: Alter, T: TableRow>(
     alloc: Global,
     tx: &mut Transaction<'_, S>,
 ) -> Result<Vec<T>, Refusal>
-    ensures same_reference { tx.new.conn.ghost_name ≡ tx.old.conn.ghost_name }
-    ensures rows { OfTables (state S.Store tx.old.conn.now) (state S.Store tx.new.conn.now) result
-        (λ t all. all.items ≡ T.table.rows_in t) }
-    ensures machine { OfMachineTables (state S.Store tx.old.conn.now) (state S.Store tx.new.conn.now) result
+    ensures rows { OfTables S.Store tx.old tx.new result (λ t all. all.items ≡ T.table.rows_in t) }
+    ensures machine { OfMachineTables S.Store tx.old tx.new result
         (λ m all. IsPermutation (machine_rows T.table m) all.items) }
-    ensures exact { OfTrees (state S.Store tx.old.conn.now) (state S.Store tx.new.conn.now) result
+    ensures exact { OfTrees S.Store tx.old tx.new result
         (λ db all. IsPermutation (rows_at T.table.place db) (map T.row_of all.items)) }
-    ensures opened { ImpliesOpen (state S.Store tx.old.conn.now) (state S.Store tx.new.conn.now) result }
-    ensures frame { Reads (state S.Store tx.old.conn.now) (state S.Store tx.new.conn.now) result }
+    ensures opened { ImpliesOpen S.Store tx.old tx.new result }
+    ensures frame { Reads S.Store tx.old tx.new result }
 {
     query_rows(alloc, tx, T::select_all_sql(), &[])
 }
@@ -157,14 +152,13 @@ pub fn find_rows<S: Alter, K: AsCell, T: LookupBy<K>>(
     tx: &mut Transaction<'_, S>,
     key: &K,
 ) -> Result<Vec<T>, Refusal>
-    ensures same_reference { tx.new.conn.ghost_name ≡ tx.old.conn.ghost_name }
-    ensures rows { OfTables (state S.Store tx.old.conn.now) (state S.Store tx.new.conn.now) result
+    ensures rows { OfTables S.Store tx.old tx.new result
         (λ t all. all.items ≡ filter (T.lookup_spec.is_under key.now) (T.table.rows_in t)) }
-    ensures exact { OfTrees (state S.Store tx.old.conn.now) (state S.Store tx.new.conn.now) result
+    ensures exact { OfTrees S.Store tx.old tx.new result
         (λ db all. IsPermutation (filter (has_value T.lookup_spec.column (K.value_of key.now)) (rows_at T.table.place db))
         (map T.row_of all.items)) }
-    ensures opened { ImpliesOpen (state S.Store tx.old.conn.now) (state S.Store tx.new.conn.now) result }
-    ensures frame { Reads (state S.Store tx.old.conn.now) (state S.Store tx.new.conn.now) result }
+    ensures opened { ImpliesOpen S.Store tx.old tx.new result }
+    ensures frame { Reads S.Store tx.old tx.new result }
 {
     query_rows(alloc, tx, T::lookup_sql(), &[key.cell()])
 }
@@ -176,13 +170,12 @@ pub fn select_rows<S: Alter, K: AsCell, T: LookupBy<K>>(
     tx: &mut Transaction<'_, S>,
     asked: &Selection<K>,
 ) -> Result<Vec<T>, Refusal>
-    ensures same_reference { tx.new.conn.ghost_name ≡ tx.old.conn.ghost_name }
-    ensures rows { OfTables (state S.Store tx.old.conn.now) (state S.Store tx.new.conn.now) result
+    ensures rows { OfTables S.Store tx.old tx.new result
         (λ t all. all.items ≡ asked_of T.lookup_spec.is_under asked.now (T.table.rows_in t)) }
-    ensures exact { OfTrees (state S.Store tx.old.conn.now) (state S.Store tx.new.conn.now) result
+    ensures exact { OfTrees S.Store tx.old tx.new result
         (λ db all. SelectedAreRead T.row_of T.table.place (λ key. has_value T.lookup_spec.column (K.value_of key)) asked.now
         all.items db) }
-    ensures frame { Reads (state S.Store tx.old.conn.now) (state S.Store tx.new.conn.now) result }
+    ensures frame { Reads S.Store tx.old tx.new result }
 {
     match asked {
         Selection::Nothing => Ok(Vec::new(alloc)),
@@ -197,12 +190,10 @@ pub fn select_all<S: Alter, T: TableRow>(
     tx: &mut Transaction<'_, S>,
     asked: bool,
 ) -> Result<Vec<T>, Refusal>
-    ensures same_reference { tx.new.conn.ghost_name ≡ tx.old.conn.ghost_name }
-    ensures rows { OfTables (state S.Store tx.old.conn.now) (state S.Store tx.new.conn.now) result
-        (λ t all. all.items ≡ asked_all asked (T.table.rows_in t)) }
-    ensures exact { OfTrees (state S.Store tx.old.conn.now) (state S.Store tx.new.conn.now) result
+    ensures rows { OfTables S.Store tx.old tx.new result (λ t all. all.items ≡ asked_all asked (T.table.rows_in t)) }
+    ensures exact { OfTrees S.Store tx.old tx.new result
         (λ db all. AllAreRead T.row_of T.table.place asked all.items db) }
-    ensures frame { Reads (state S.Store tx.old.conn.now) (state S.Store tx.new.conn.now) result }
+    ensures frame { Reads S.Store tx.old tx.new result }
 {
     if asked {
         all_rows(alloc, tx)
@@ -222,10 +213,8 @@ pub fn insert_row<S: Alter, T: TableRow>(
     requires inserts { InsertsRow sql.now T.table.place T.row_of }
     requires cells { bound cells.now ≡ T.row_of row.now }
     requires stored { T.table.is_stored row.now }
-    ensures same_reference { tx.new.conn.ghost_name ≡ tx.old.conn.ghost_name }
-    ensures holds { ChangesTables (state S.Store tx.old.conn.now) (state S.Store tx.new.conn.now) result
-        (λ t. with_put T.table T.row_of row.now t) }
-    ensures frame { StaysInTransaction IsFault (state S.Store tx.old.conn.now) (state S.Store tx.new.conn.now) result }
+    ensures holds { ChangesTables S.Store tx.old tx.new result (λ t. with_put T.table T.row_of row.now t) }
+    ensures frame { StaysInTransaction S.Store IsFault tx.old tx.new result }
 {
     let _value = row;
     run_statement(tx, sql, cells)
@@ -245,10 +234,8 @@ pub fn update_or_insert_row<S: Alter, T: TableRow>(
     requires inserts { InsertsRow insert_sql.now T.table.place T.row_of }
     requires cells { bound cells.now ≡ T.row_of row.now }
     requires stored { T.table.is_stored row.now }
-    ensures same_reference { tx.new.conn.ghost_name ≡ tx.old.conn.ghost_name }
-    ensures holds { ChangesTables (state S.Store tx.old.conn.now) (state S.Store tx.new.conn.now) result
-        (λ t. with_put T.table T.row_of row.now t) }
-    ensures frame { StaysInTransaction IsFault (state S.Store tx.old.conn.now) (state S.Store tx.new.conn.now) result }
+    ensures holds { ChangesTables S.Store tx.old tx.new result (λ t. with_put T.table T.row_of row.now t) }
+    ensures frame { StaysInTransaction S.Store IsFault tx.old tx.new result }
 {
     let _value = row;
     if execute(tx, update_sql, cells)? == 0 {

@@ -1,7 +1,6 @@
 //! The rows that a decision reads, in two parts.
 
 ghost use Rattle.std.specs.Prelude.{◌≡◌, IfOk};
-ghost use Rattle.sqlite.specs.Held.{state};
 ghost use Rattle.kcr_history.specs.Early.{early_asks, Completes};
 ghost use Rattle.kcr_history.specs.Views.{IsViewOf, Includes, is_training_asked, is_withdrawal_of};
 ghost use Rattle.kcr_history.specs.Views.{IncludesAppointments, is_of_serial, is_item_of, is_of_number, is_mark_of};
@@ -57,16 +56,14 @@ fn staff_rows<S: Alter>(
     tx: &mut Transaction<'_, S>,
     asks: &Asks,
 ) -> Result<StaffRows, Refusal>
-    ensures same_reference { tx.new.conn.ghost_name ≡ tx.old.conn.ghost_name }
-    ensures trainings { OfTables (state S.Store tx.old.conn.now) (state S.Store tx.new.conn.now) result
+    ensures trainings { OfTables S.Store tx.old tx.new result
         (λ t rows. Includes is_training_asked asks.now.trainings t.rows.trainings rows.trainings.items) }
-    ensures withdrawals { OfTables (state S.Store tx.old.conn.now) (state S.Store tx.new.conn.now) result
+    ensures withdrawals { OfTables S.Store tx.old tx.new result
         (λ t rows. rows.withdrawals.items ≡ asked_of is_withdrawal_of asks.now.withdrawals t.rows.withdrawals) }
-    ensures appointments { OfTables (state S.Store tx.old.conn.now) (state S.Store tx.new.conn.now) result
+    ensures appointments { OfTables S.Store tx.old tx.new result
         (λ t rows. IncludesAppointments asks.now.appointments t.rows.appointments rows.appointments.items) }
-    ensures exact { OfTrees (state S.Store tx.old.conn.now) (state S.Store tx.new.conn.now) result
-        (λ db rows. StaffIsShown asks.now rows.trainings.items rows.withdrawals.items rows.appointments.items db) }
-    ensures frame { Reads (state S.Store tx.old.conn.now) (state S.Store tx.new.conn.now) result }
+    ensures exact { OfTrees S.Store tx.old tx.new result (StaffIsShown asks.now) }
+    ensures frame { Reads S.Store tx.old tx.new result }
 {
     let trainings = select_trainings(alloc, tx, &asks.trainings)?;
     let withdrawals = select_rows(alloc, tx, &asks.withdrawals)?;
@@ -84,18 +81,16 @@ fn custody_rows<S: Alter>(
     tx: &mut Transaction<'_, S>,
     asks: &Asks,
 ) -> Result<CustodyRows, Refusal>
-    ensures same_reference { tx.new.conn.ghost_name ≡ tx.old.conn.ghost_name }
-    ensures boxes { OfTables (state S.Store tx.old.conn.now) (state S.Store tx.new.conn.now) result
+    ensures boxes { OfTables S.Store tx.old tx.new result
         (λ t rows. rows.boxes.items ≡ asked_all asks.now.boxes t.rows.boxes) }
-    ensures safes { OfTables (state S.Store tx.old.conn.now) (state S.Store tx.new.conn.now) result
+    ensures safes { OfTables S.Store tx.old tx.new result
         (λ t rows. rows.safes.items ≡ asked_all asks.now.safes t.rows.safes) }
-    ensures bags { OfTables (state S.Store tx.old.conn.now) (state S.Store tx.new.conn.now) result
+    ensures bags { OfTables S.Store tx.old tx.new result
         (λ t rows. rows.bags.items ≡ asked_of is_of_serial asks.now.bags t.rows.bags) }
-    ensures items { OfTables (state S.Store tx.old.conn.now) (state S.Store tx.new.conn.now) result
+    ensures items { OfTables S.Store tx.old tx.new result
         (λ t rows. Includes is_item_of asks.now.items t.rows.items rows.items.items) }
-    ensures exact { OfTrees (state S.Store tx.old.conn.now) (state S.Store tx.new.conn.now) result
-        (λ db rows. CustodyIsShown asks.now rows.boxes.items rows.safes.items rows.bags.items rows.items.items db) }
-    ensures frame { Reads (state S.Store tx.old.conn.now) (state S.Store tx.new.conn.now) result }
+    ensures exact { OfTrees S.Store tx.old tx.new result (CustodyIsShown asks.now) }
+    ensures frame { Reads S.Store tx.old tx.new result }
 {
     let boxes = select_all(alloc, tx, asks.boxes)?;
     let safes = select_all(alloc, tx, asks.safes)?;
@@ -115,19 +110,16 @@ fn ceremony_rows<S: Alter>(
     tx: &mut Transaction<'_, S>,
     asks: &Asks,
 ) -> Result<CeremonyRows, Refusal>
-    ensures same_reference { tx.new.conn.ghost_name ≡ tx.old.conn.ghost_name }
-    ensures ceremonies { OfTables (state S.Store tx.old.conn.now) (state S.Store tx.new.conn.now) result
+    ensures ceremonies { OfTables S.Store tx.old tx.new result
         (λ t rows. rows.ceremonies.items ≡ asked_of is_of_number asks.now.ceremonies t.rows.ceremonies) }
-    ensures marks { OfTables (state S.Store tx.old.conn.now) (state S.Store tx.new.conn.now) result
+    ensures marks { OfTables S.Store tx.old tx.new result
         (λ t rows. rows.marks.items ≡ asked_of is_mark_of asks.now.marks t.rows.marks) }
-    ensures steps { OfTables (state S.Store tx.old.conn.now) (state S.Store tx.new.conn.now) result
+    ensures steps { OfTables S.Store tx.old tx.new result
         (λ t rows. IncludesStep asks.now.steps t.rows.seatings rows.seatings.items t.rows.steps rows.steps.items) }
-    ensures exceptions { OfTables (state S.Store tx.old.conn.now) (state S.Store tx.new.conn.now) result
+    ensures exceptions { OfTables S.Store tx.old tx.new result
         (λ t rows. rows.exceptions.items ≡ asked_of is_exception_of asks.now.exceptions t.rows.exceptions) }
-    ensures exact { OfTrees (state S.Store tx.old.conn.now) (state S.Store tx.new.conn.now) result
-        (λ db rows. CeremoniesAreShown asks.now rows.ceremonies.items rows.marks.items rows.steps.items
-        rows.seatings.items rows.exceptions.items db) }
-    ensures frame { Reads (state S.Store tx.old.conn.now) (state S.Store tx.new.conn.now) result }
+    ensures exact { OfTrees S.Store tx.old tx.new result (CeremoniesAreShown asks.now) }
+    ensures frame { Reads S.Store tx.old tx.new result }
 {
     let ceremonies = select_rows(alloc, tx, &asks.ceremonies)?;
     let marks = select_rows(alloc, tx, &asks.marks)?;
@@ -150,12 +142,9 @@ pub fn read_early_rows<S: Alter>(
     tx: &mut Transaction<'_, S>,
     asks: &Asks,
 ) -> Result<View, Refusal>
-    ensures same_reference { tx.new.conn.ghost_name ≡ tx.old.conn.ghost_name }
-    ensures view { OfMachineTables (state S.Store tx.old.conn.now) (state S.Store tx.new.conn.now) result
-        (IsViewOf (early_asks asks.now)) }
-    ensures exact { OfTrees (state S.Store tx.old.conn.now) (state S.Store tx.new.conn.now) result
-        (λ db view. HasNoInvalidRow (early_asks asks.now) view db) }
-    ensures frame { Reads (state S.Store tx.old.conn.now) (state S.Store tx.new.conn.now) result }
+    ensures view { OfMachineTables S.Store tx.old tx.new result (IsViewOf (early_asks asks.now)) }
+    ensures exact { OfTrees S.Store tx.old tx.new result (λ db view. HasNoInvalidRow (early_asks asks.now) view db) }
+    ensures frame { Reads S.Store tx.old tx.new result }
 {
     let people = select_people(alloc, tx, &asks.people)?;
     let custody = custody_rows(alloc, tx, asks)?;
@@ -187,13 +176,12 @@ pub fn read_remaining_rows<S: Alter>(
     asks: &Asks,
     front: View,
 ) -> Result<View, Refusal>
-    ensures same_reference { tx.new.conn.ghost_name ≡ tx.old.conn.ghost_name }
-    ensures view { OfMachineTables (state S.Store tx.old.conn.now) (state S.Store tx.new.conn.now) result
+    ensures view { OfMachineTables S.Store tx.old tx.new result
         (λ m view. IsViewOf (early_asks asks.now) m front → IsViewOf asks.now m view) }
     ensures completes { IfOk result (Completes front) }
-    ensures exact { OfTrees (state S.Store tx.old.conn.now) (state S.Store tx.new.conn.now) result
+    ensures exact { OfTrees S.Store tx.old tx.new result
         (λ db view. HasNoInvalidRow (early_asks asks.now) front db → HasNoInvalidRow asks.now view db) }
-    ensures frame { Reads (state S.Store tx.old.conn.now) (state S.Store tx.new.conn.now) result }
+    ensures frame { Reads S.Store tx.old tx.new result }
 {
     let staff = staff_rows(alloc, tx, asks)?;
     let stays = select_stays(alloc, tx, &asks.stays)?;
@@ -216,12 +204,9 @@ pub fn rows_of<S: Alter>(
     tx: &mut Transaction<'_, S>,
     asks: &Asks,
 ) -> Result<View, Refusal>
-    ensures same_reference { tx.new.conn.ghost_name ≡ tx.old.conn.ghost_name }
-    ensures view { OfMachineTables (state S.Store tx.old.conn.now) (state S.Store tx.new.conn.now) result
-        (IsViewOf asks.now) }
-    ensures exact { OfTrees (state S.Store tx.old.conn.now) (state S.Store tx.new.conn.now) result
-        (λ db view. HasNoInvalidRow asks.now view db) }
-    ensures frame { Reads (state S.Store tx.old.conn.now) (state S.Store tx.new.conn.now) result }
+    ensures view { OfMachineTables S.Store tx.old tx.new result (IsViewOf asks.now) }
+    ensures exact { OfTrees S.Store tx.old tx.new result (λ db view. HasNoInvalidRow asks.now view db) }
+    ensures frame { Reads S.Store tx.old tx.new result }
 {
     let front = read_early_rows(alloc, tx, asks)?;
     read_remaining_rows(alloc, tx, asks, front)

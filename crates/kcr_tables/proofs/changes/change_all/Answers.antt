@@ -6,26 +6,22 @@ use Rattle.kcr_history.specs.declared.views.Change.{Change}
 use Rattle.kcr_history.specs.Tables as machine
 use Rattle.kcr_tables.specs.StoredTables.{Holds}
 use Rattle.kcr_tables.specs.Changed.{rows_after, changed_all}
-use Rattle.kcr_rows.proofs.InsideLemmas.{was_clean}
-use Rattle.kcr_rows.proofs.FrameLemmas.{within_then}
+use Rattle.kcr_rows.proofs.FrameLemmas.{within_then, clean_before}
 use Rattle.kcr_tables.proofs.HoldLemmas.{held_of}
 use Rattle.kcr_tables.proofs.JointLemmas.{changes_hold}
 use Rattle.kcr_tables.proofs.changes.change_all.Goals as goal
 
 pub loop-change-preserved : goal.loop-change-preserved
 loop-change-preserved g c =
-    let old = state g.S.Store c.args.tx.now.conn.now in
-    let mid = state g.S.Store c.loop-change.tx.conn.now in
     let new = state g.S.Store c.make_change.new.tx.conn.now in
     let had = c.loop-change.invariant in
     let step = c.in_ok-make_change.ensures in record {
-      same_reference = step.same_reference ∙ had.same_reference;
       frame = within_then had.frame step.frame;
       built = λ clean t held.
           let changes = c.args.changes.now in
           let i = c.loop-change.change-index in
           let item = c.change-item.result in
-          let was = had.built (was_clean mid new _ step.frame.survives clean) t held in
+          let was = had.built (clean_before step.frame clean) t held in
           let low : i < length changes = search rules in
           let at : get_or changes i item ≡ item = search rules in
           let more = fold_more (λ (rows : machine.Tables) (x : Change). rows_after x rows) t.rows changes i item low

@@ -1,4 +1,4 @@
-use Rattle.std.proofs.Common.{rules, ℕ, [], Ok, OnOk, subst}
+use Rattle.std.proofs.Common.{ℕ, [], Ok, OnOk, subst}
 use Rattle.sqlite.specs.Held.{state}
 use Rattle.sqlite.specs.State.{Executes, HasCleanDisk}
 use Rattle.kcr_rows.proofs.FailLemmas.{on_ok_then}
@@ -12,9 +12,8 @@ returns g c =
     let new = state g.S.Store c.run_statement.new.tx.conn.now in
     let ran = λ (clean : HasCleanDisk new).
     subst (λ text. OnOk c.run_statement.result ((count : ℕ) × Executes text [] old new (Ok count))) c.create_table_sql-text.ensures (c.run_statement.ensures.runs clean) in record {
-      same_reference = search rules;
-      schema = λ clean has empty. on_ok_then _ _ (λ h. (create_next at c.requires old new h.0 has empty h.1).0) c.run_statement.result (ran clean);
-      empty = λ clean has empty. on_ok_then _ _ (λ h. (create_next at c.requires old new h.0 has empty h.1).1) c.run_statement.result (ran clean);
-      sound = λ clean has empty. on_ok_then _ _ (λ h. (create_next at c.requires old new h.0 has empty h.1).2) c.run_statement.result (ran clean);
+      made = λ clean has. on_ok_then _ _ (λ h.
+          let it = create_next at c.requires old new h.0 has.schema has.empty h.1 in record { schema = it.0; empty = it.1 }) c.run_statement.result (ran clean);
+      sound = λ clean has. on_ok_then _ _ (λ h. (create_next at c.requires old new h.0 has.schema has.empty h.1).2) c.run_statement.result (ran clean);
       frame = c.run_statement.ensures.frame;
     }

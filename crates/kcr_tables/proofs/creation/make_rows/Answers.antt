@@ -1,21 +1,16 @@
 use Rattle.std.proofs.Common.{subst, OnOk}
 use Rattle.sqlite.specs.Held.{state}
-use Rattle.sqlite.specs.State.{HasCleanDisk}
 use Rattle.kcr_tables.specs.StoredTables.{StoredTables, Holds}
-use Rattle.kcr_rows.proofs.InsideLemmas.{was_clean}
-use Rattle.kcr_rows.proofs.FrameLemmas.{within_then, within_fails}
+use Rattle.kcr_rows.proofs.FrameLemmas.{within_then, within_fails, clean_before}
 use Rattle.kcr_tables.proofs.SafeLemmas.{first_is}
 use Rattle.kcr_tables.proofs.creation.make_rows.Goals as goal
 
 pub returns-clause-holds : goal.returns-clause-holds
 returns-clause-holds g c clean has =
-    let one = state g.S.Store c.create_all.new.tx.conn.now in
-    let two = state g.S.Store c.put_pair.new.tx.conn.now in
-    let three = state g.S.Store c.put_pair-2.new.tx.conn.now in
     let new = state g.S.Store c.put.new.tx.conn.now in
-    let clean3 : HasCleanDisk three = was_clean three new _ c.put.ensures.frame.survives clean in
-    let clean2 : HasCleanDisk two = was_clean two three _ c.put_pair-2.ensures.frame.survives clean3 in
-    let clean1 : HasCleanDisk one = was_clean one two _ c.put_pair.ensures.frame.survives clean2 in
+    let clean3 = clean_before c.put.ensures.frame clean in
+    let clean2 = clean_before c.put_pair-2.ensures.frame clean3 in
+    let clean1 = clean_before c.put_pair.ensures.frame clean2 in
     let held1 = c.in_ok-create_all.ensures.holds clean1 has in
     let held2 = c.in_ok-put_pair.ensures.holds clean2 _ held1 in
     let held3 = c.in_ok-put_pair-2.ensures.holds clean3 _ held2 in

@@ -1,4 +1,4 @@
-use Rattle.std.proofs.Common.{rules, [], ◌∷◌, refl, filter}
+use Rattle.std.proofs.Common.{[], ◌∷◌, refl, filter}
 use Rattle.kcr_history.specs.Views.{is_appointment_of}
 use Rattle.sqlite.specs.Held.{state}
 use Rattle.kcr_rows.specs.Rows.{appointment_row}
@@ -12,11 +12,10 @@ returns g c =
     let old = state g.S.Store c.args.tx.now.conn.now in
     let new = state g.S.Store c.query_rows.new.tx.conn.now in
     let text = last_of_person c.args.who.now in record {
-      same_reference = search rules;
       rows = tells_last text old new c.query_rows.result appointment_row (λ v. v.items) (λ i. c.initials_cell-c0.ensures i ∷ []) c.query_rows.ensures.shown
           (λ x y. laws.one x y tt tt) (λ x. x.since) (λ x. refl) (λ t. t.rows.appointments)
           (λ t. filter (is_appointment_of c.args.who.now) t.rows.appointments) (λ t k. k.appointments)
           (λ t. appointments_of c.args.who.now t.rows.appointments);
       exact = tells_one text old new c.query_rows.result appointment_row (λ v. v.items) (λ i. c.initials_cell-c0.ensures i ∷ []) c.query_rows.ensures.shown;
-      frame = reads_by of_person_sql old new c.query_rows.result text.bare c.query_rows.ensures.same c.query_rows.ensures.frame;
+      frame = reads_by of_person_sql text.bare c.query_rows.ensures.same c.query_rows.ensures.frame;
     }

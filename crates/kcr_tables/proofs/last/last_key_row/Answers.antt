@@ -1,4 +1,4 @@
-use Rattle.std.proofs.Common.{rules, refl, map, subst}
+use Rattle.std.proofs.Common.{refl, map, subst}
 use Rattle.sqlite.specs.Held.{state}
 use Rattle.kcr_rows.proofs.FailLemmas.{if_ok}
 use Rattle.kcr_rows.proofs.TableLemmas.{filter_every}
@@ -14,11 +14,10 @@ pub returns : goal.returns
 returns g c =
     let old = state g.S.Store c.args.tx.now.conn.now in
     let new = state g.S.Store c.query_rows.new.tx.conn.now in record {
-      same_reference = search rules;
       rows = tells_last last_key old new c.query_rows.result key_row (λ v. v.items) refl c.query_rows.ensures.shown
           (λ x y. laws.one x y tt tt) (λ x. x.accepted) (λ x. refl) (λ t. t.rows.keys) (λ t. t.rows.keys) (λ t k. k.keys) (λ t. filter_every t.rows.keys);
       exact = λ clean has. if_ok _ _ (λ v. subst (λ l. IsOneOf l (map key_row v.items)) (filter_every (rows_at keys_place old.now.trees))) c.query_rows.result
           (tells_one last_key old new c.query_rows.result key_row (λ v. v.items) refl c.query_rows.ensures.shown clean has);
       opened = c.query_rows.ensures.opened;
-      frame = reads_by key_sql old new c.query_rows.result last_key.bare c.query_rows.ensures.same c.query_rows.ensures.frame;
+      frame = reads_by key_sql last_key.bare c.query_rows.ensures.same c.query_rows.ensures.frame;
     }

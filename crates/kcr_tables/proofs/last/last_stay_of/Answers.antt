@@ -1,4 +1,4 @@
-use Rattle.std.proofs.Common.{rules, [], ◌∷◌, refl, filter}
+use Rattle.std.proofs.Common.{[], ◌∷◌, refl, filter}
 use Rattle.kcr_base.specs.Same.{same_text}
 use Rattle.sqlite.specs.Held.{state}
 use Rattle.kcr_rows.specs.Rows.{stay_row}
@@ -12,10 +12,9 @@ returns g c =
     let old = state g.S.Store c.args.tx.now.conn.now in
     let new = state g.S.Store c.query_rows.new.tx.conn.now in
     let text = last_stay c.args.who.now in record {
-      same_reference = search rules;
       rows = tells_last text old new c.query_rows.result stay_row (λ v. v.items) (λ i. c.initials_cell-c0.ensures i ∷ []) c.query_rows.ensures.shown
           (λ x y. laws.one x y tt tt) (λ x. x.since) (λ x. refl) (λ t. t.rows.stays)
           (λ t. filter (λ x. same_text x.who c.args.who.now) t.rows.stays) (λ t k. k.stays) (λ t. stays_of c.args.who.now t.rows.stays);
       exact = tells_one text old new c.query_rows.result stay_row (λ v. v.items) (λ i. c.initials_cell-c0.ensures i ∷ []) c.query_rows.ensures.shown;
-      frame = reads_by stay_sql old new c.query_rows.result text.bare c.query_rows.ensures.same c.query_rows.ensures.frame;
+      frame = reads_by stay_sql text.bare c.query_rows.ensures.same c.query_rows.ensures.frame;
     }

@@ -20,11 +20,10 @@ returns g c =
     let text = beyond_shows day in
     let shown = λ (clean : HasCleanDisk new). subst (λ (v : Row). IfOk c.query_rows.result (λ all. Shown beyond_sql v old new (map appointment_row all.items)))
     (λ i. c.day_cell-c0.ensures i ∷ []) (did.shown clean) in record {
-      same_reference = search rules;
       rows = passing_told text appointment_row laws.one old new c.query_rows.result shown laws.table.rows_in
           (laws.table_laws.keeps old.now.trees)
           (lasts_beyond day) (passes_appointment day);
       exact = passing_exact text appointment_row laws.one old new c.query_rows.result shown (is_beyond_row day) (passes_row day);
       opened = search rules;
-      frame = reads_by beyond_sql old new c.query_rows.result text.bare did.same did.frame;
+      frame = reads_by beyond_sql text.bare did.same did.frame;
     }

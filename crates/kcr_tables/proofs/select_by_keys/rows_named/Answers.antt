@@ -1,19 +1,18 @@
-use Rattle.std.proofs.Common.{rules, arith, ◌≡◌, ◌+◌, ◌<◌, ◌≤◌, ◌++◌, [], ◌∷◌, ◌∙◌, length, take, get_or, filter, refl, sym, ap, subst, subst₂, IsPermutation}
+use Rattle.std.proofs.Common.{rules, arith, ◌≡◌, ◌+◌, ◌<◌, ◌≤◌, ◌++◌, [], ◌∷◌, ◌∙◌, length, take, get_or, filter, sym, ap, subst, subst₂, IsPermutation}
 use Rattle.std.proofs.lemmas.List.{take_all, take_more}
 use Rattle.sqlite.specs.Held.{state}
 use Rattle.sqlite.specs.Tree.{Trees}
-use Rattle.kcr_rows.proofs.InsideLemmas.{was_clean}
+use Rattle.kcr_rows.proofs.FrameLemmas.{clean_before}
 use Rattle.kcr_tables.specs.Selected.{asked_once, is_under_any}
 use Rattle.kcr_tables.specs.Exact.{rows_at, has_key, AreShown}
 use Rattle.kcr_tables.proofs.ExactLemmas.{EachAreShown, each_next, each_any}
-use Rattle.kcr_tables.proofs.FrameLemmas.{reads_none, reads_then, reads_to, reads_fails, read_later}
+use Rattle.kcr_tables.proofs.FrameLemmas.{reads_none, reads_to, read_later, reads_on, fails_as}
 use Rattle.kcr_tables.proofs.NamedLemmas.{none_named, named_more}
 use Rattle.kcr_tables.proofs.select_by_keys.rows_named.Goals as goal
 
 pub loop-at-init : goal.loop-at-init
 loop-at-init g c = record {
-  same_reference = refl;
-  frame = reads_none (state g.S.Store c.args.tx.now.conn.now) tt (search rules);
+  frame = reads_none c.args.tx.now tt (search rules);
   rows = λ clean t held. subst (IsPermutation (filter (is_under_any g.T.LookupBy.lookup_spec.is_under []) (g.T.TableRow.table.rows_in t)))
       (sym c.new-rows.ensures.items) (none_named g.T.LookupBy.lookup_spec.is_under (g.T.TableRow.table.rows_in t));
   exact = λ clean has. tt;
@@ -27,8 +26,6 @@ loop-at-preserved g c =
     let laws = g.met.T.LookupByKeys in
     let under = has_key g.T.LookupBy.lookup_spec.column g.K.AsCell.value_of in
     let old = state g.S.Store c.args.tx.now.conn.now in
-    let mid = state g.S.Store c.loop-at.tx.conn.now in
-    let new = state g.S.Store c.rows_once.new.tx.conn.now in
     let had = c.loop-at.invariant in
     let step = c.in_ok-found.ensures in
     let i = c.loop-at.at in
@@ -38,34 +35,28 @@ loop-at-preserved g c =
     let low : i < length keys = search rules in
     let own : get_or keys i key ≡ key = search rules in
     let more : take (i + 1) keys ≡ take i keys ++ key ∷ [] = take_more keys i key low ∙ ap (λ k. take i keys ++ k ∷ []) own in record {
-      same_reference = step.same_reference ∙ had.same_reference;
-      frame = reads_to old new c.in_ok-found.found _ tt (reads_then old mid new tt _ had.frame step.frame);
+      frame = reads_to tt (reads_on had.frame step.frame);
       rows = λ clean t held.
-          let before = was_clean mid new _ step.frame.within.survives clean in
+          let before = clean_before step.frame.within clean in
           subst₂ (λ ks l. IsPermutation (filter (is_under_any is_under ks) (T.rows_in t)) l) (sym more) (sym c.in_ok-append.ensures.items)
           (named_more same is_under laws.apart (take i keys) key (T.rows_in t) c.loop-at.rows.items found (had.rows before t held)
           (step.rows clean t (had.frame.holds before t held)));
       exact = λ clean has.
-          let before = was_clean mid new _ step.frame.within.survives clean in
+          let before = clean_before step.frame.within clean in
           let rows = rows_at T.place old.now.trees in
           subst₂ (λ l ks. EachAreShown g.T.FromRow.row_of under rows l ks) (sym c.in_ok-append.ensures.items) (sym more)
           (each_next g.T.FromRow.row_of under rows same laws.one (take i keys) key c.loop-at.rows.items found (had.exact before has)
-          (read_later (λ (db : Trees). AreShown g.T.FromRow.row_of found (asked_once same under key (take i keys) (rows_at T.place db))) old mid tt had.frame
-          before has (step.exact clean)));
+          (read_later (λ (db : Trees). AreShown g.T.FromRow.row_of found (asked_once same under key (take i keys) (rows_at T.place db)))
+          had.frame before has (step.exact clean)));
     }
 
 pub returns-in_err-found-clause-frame : goal.returns-in_err-found-clause-frame
 returns-in_err-found-clause-frame g c =
-    reads_then (state g.S.Store c.args.tx.now.conn.now) (state g.S.Store c.loop-at.tx.conn.now)
-    (state g.S.Store c.rows_once.new.tx.conn.now) tt _ c.loop-at.invariant.frame
-    (reads_fails _ _ _ _ c.from_residual.ensures.1 c.in_err-found.ensures.frame)
+    reads_on c.loop-at.invariant.frame (fails_as c.from_residual.ensures.1 c.in_err-found.ensures.frame)
 
 pub returns-in_err-append-clause-frame : goal.returns-in_err-append-clause-frame
 returns-in_err-append-clause-frame g c =
-    let old = state g.S.Store c.args.tx.now.conn.now in
-    let new = state g.S.Store c.rows_once.new.tx.conn.now in
-    reads_to old new c.in_ok-found.found _ (search rules)
-    (reads_then old (state g.S.Store c.loop-at.tx.conn.now) new tt _ c.loop-at.invariant.frame c.in_ok-found.ensures.frame)
+    reads_to (search rules) (reads_on c.loop-at.invariant.frame c.in_ok-found.ensures.frame)
 
 pub returns-clause-rows : goal.returns-clause-rows
 returns-clause-rows g c clean t held =
@@ -84,4 +75,4 @@ returns-clause-exact g c clean has =
     (subst (EachAreShown g.T.FromRow.row_of under rows c.loop-at.rows.items) (take_all c.loop-at.at keys all) (c.loop-at.invariant.exact clean has))
 
 pub returns-clause-frame : goal.returns-clause-frame
-returns-clause-frame g c = reads_to (state g.S.Store c.args.tx.now.conn.now) (state g.S.Store c.loop-at.tx.conn.now) tt _ tt c.loop-at.invariant.frame
+returns-clause-frame g c = reads_to tt c.loop-at.invariant.frame

@@ -13,8 +13,7 @@ abbrev pub invariant-loop-at : goal.invariant-loop-at
 invariant-loop-at g l =
     let old = state g.S.Store l.fn.tx.conn.now in
     let now = state g.S.Store l.tx.conn.now in record {
-      same_reference : l.tx.conn.ghost_name ≡ l.fn.tx.conn.ghost_name;
-      frame : Reads {A = Unit {0}} old now (Ok tt);
+      frame : Reads {A = Unit {0}} g.S.Store l.fn.tx l.tx (Ok tt);
       rows : HasCleanDisk now → (t : StoredTables) → Holds old.now t
           → IsPermutation (filter (is_under_any g.T.LookupBy.lookup_spec.is_under (take l.at l.keys)) (g.T.TableRow.table.rows_in t)) l.rows.items;
       exact : HasCleanDisk now → old.now.schema ≡ register_schema

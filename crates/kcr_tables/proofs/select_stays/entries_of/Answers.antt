@@ -1,4 +1,4 @@
-use Rattle.std.proofs.Common.{rules, ◌≡◌, ◌<◌, ◌^◌, [], ◌∷◌, map, subst, Some, Ok}
+use Rattle.std.proofs.Common.{rules, ◌≡◌, ◌<◌, ◌^◌, [], ◌∷◌, map, subst, Some}
 use Rattle.std.specs.Prelude.{slice_get}
 use Rattle.sqlite.specs.Held.{state}
 use Rattle.sqlite.specs.Order.{Row}
@@ -22,7 +22,4 @@ returns-in-Some-clause-rows g c clean t held =
 
 pub returns-in-Some-clause-frame : goal.returns-in-Some-clause-frame
 returns-in-Some-clause-frame g c =
-    let old = state g.S.Store c.args.tx.now.conn.now in
-    let new = state g.S.Store c.query_rows.new.tx.conn.now in
-    reads_to old new c.in_ok-counts.counts (Ok _) tt
-    (reads_by count_sql old new (Ok c.in_ok-counts.counts) count_bare c.in_ok-counts.ensures.same c.in_ok-counts.ensures.frame)
+    reads_to tt (reads_by count_sql count_bare c.in_ok-counts.ensures.same c.in_ok-counts.ensures.frame)

@@ -3,20 +3,19 @@ use Rattle.std.proofs.lemmas.List.{take_all, take_more}
 use Rattle.sqlite.specs.Held.{state}
 use Rattle.kcr_room.specs.Stays.{stay_reaches}
 use Rattle.kcr_room.specs.declared.Stay.{Stay}
-use Rattle.kcr_rows.proofs.InsideLemmas.{was_clean}
 use Rattle.kcr_rows.specs.Rows.{stay_row}
+use Rattle.kcr_rows.proofs.FrameLemmas.{clean_before}
 use Rattle.kcr_tables.specs.Exact.{rows_at, is_stay_row, AreShown}
 use Rattle.kcr_tables.specs.StoredTables.{stays_place}
 use Rattle.kcr_tables.proofs.ExactLemmas.{are_shown, shown_left}
-use Rattle.kcr_tables.proofs.FrameLemmas.{reads_then, reads_to, reads_fails}
+use Rattle.kcr_tables.proofs.FrameLemmas.{reads_to, reads_on, fails_as}
 use Rattle.kcr_tables.proofs.StayLemmas.{Gathered, room_gathered, more_gathered, gathered_shows, apart_of}
 use Rattle.kcr_tables.proofs.select_stays.stays_and_last.Goals as goal
 
 pub loop-who-init : goal.loop-who-init
 loop-who-init g c =
     let e = c.in_ok-rows.ensures in record {
-      same_reference = e.same_reference;
-      frame = reads_to _ _ _ _ tt e.frame;
+      frame = reads_to tt e.frame;
       rows = λ clean t held. room_gathered (stay_reaches c.args.asked.now.ceremony c.args.asked.now.at) t.rows.stays c.in_ok-rows.rows.items (e.rows clean t held);
       exact = λ clean has. are_shown stay_row _ c.in_ok-rows.rows.items (e.exact clean has);
     }
@@ -24,14 +23,11 @@ loop-who-init g c =
 pub loop-who-preserved : goal.loop-who-preserved
 loop-who-preserved g c =
     let old = state g.S.Store c.args.tx.now.conn.now in
-    let mid = state g.S.Store c.loop-who.tx.conn.now in
-    let new = state g.S.Store c.last_elsewhere.new.tx.conn.now in
     let had = c.loop-who.invariant in
     let step = c.in_ok-last.ensures in record {
-      same_reference = step.same_reference ∙ had.same_reference;
-      frame = reads_to old new c.in_ok-last.last _ tt (reads_then old mid new tt _ had.frame step.frame);
+      frame = reads_to tt (reads_on had.frame step.frame);
       rows = λ clean t held.
-          let before = was_clean mid new _ step.frame.within.survives clean in
+          let before = clean_before step.frame.within clean in
           let i = c.loop-who.who-index in
           let people = c.as_slice-people.result.now in
           let who = c.who-item.result in
@@ -43,7 +39,7 @@ loop-who-preserved g c =
           (more_gathered (stay_reaches c.args.asked.now.ceremony c.args.asked.now.at) (take i people) t.rows.stays c.loop-who.rows.items last.0 c.in_ok-last.last.items who
           (had.rows before t held) last.1 last.2);
       exact = λ clean has.
-          let was = had.exact (was_clean mid new _ step.frame.within.survives clean) has in
+          let was = had.exact (clean_before step.frame.within clean) has in
           subst (λ (l : List Stay). AreShown stay_row l (filter (is_stay_row c.args.asked.now) (rows_at stays_place old.now.trees)))
           (sym c.in_ok-append.ensures.items) (shown_left stay_row c.loop-who.rows.items c.in_ok-last.last.items _ was);
     }
@@ -57,16 +53,11 @@ returns-clause-rows g c clean t held =
 
 pub returns-in_err-last-clause-frame : goal.returns-in_err-last-clause-frame
 returns-in_err-last-clause-frame g c =
-    reads_then (state g.S.Store c.args.tx.now.conn.now) (state g.S.Store c.loop-who.tx.conn.now)
-    (state g.S.Store c.last_elsewhere.new.tx.conn.now) tt _ c.loop-who.invariant.frame
-    (reads_fails _ _ _ _ c.from_residual-in_err-last.ensures.1 c.in_err-last.ensures.frame)
+    reads_on c.loop-who.invariant.frame (fails_as c.from_residual-in_err-last.ensures.1 c.in_err-last.ensures.frame)
 
 pub returns-in_err-append-clause-frame : goal.returns-in_err-append-clause-frame
 returns-in_err-append-clause-frame g c =
-    let old = state g.S.Store c.args.tx.now.conn.now in
-    let new = state g.S.Store c.last_elsewhere.new.tx.conn.now in
-    reads_to old new c.in_ok-last.last _ (search rules)
-    (reads_then old (state g.S.Store c.loop-who.tx.conn.now) new tt _ c.loop-who.invariant.frame c.in_ok-last.ensures.frame)
+    reads_to (search rules) (reads_on c.loop-who.invariant.frame c.in_ok-last.ensures.frame)
 
 pub returns-clause-frame : goal.returns-clause-frame
-returns-clause-frame g c = reads_to (state g.S.Store c.args.tx.now.conn.now) (state g.S.Store c.loop-who.tx.conn.now) tt _ tt c.loop-who.invariant.frame
+returns-clause-frame g c = reads_to tt c.loop-who.invariant.frame

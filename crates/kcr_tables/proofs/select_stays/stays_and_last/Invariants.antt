@@ -14,8 +14,7 @@ abbrev pub invariant-loop-who : goal.invariant-loop-who
 invariant-loop-who g l =
     let old = state g.S.Store l.fn.tx.conn.now in
     let now = state g.S.Store l.tx.conn.now in record {
-      same_reference : l.tx.conn.ghost_name ≡ l.fn.tx.conn.ghost_name;
-      frame : Reads {A = Unit {0}} old now (Ok tt);
+      frame : Reads {A = Unit {0}} g.S.Store l.fn.tx l.tx (Ok tt);
       rows : HasCleanDisk now → (t : StoredTables) → Holds old.now t → Gathered (stay_reaches l.asked.ceremony l.asked.at) (take l.who-index l.people) t.rows.stays l.rows.items;
       exact : HasCleanDisk now → old.now.schema ≡ register_schema
           → AreShown stay_row l.rows.items (filter (is_stay_row l.asked) (rows_at stays_place old.now.trees));

@@ -1,4 +1,4 @@
-use Rattle.std.proofs.Common.{rules, [], ◌∷◌, map, IfOk, subst}
+use Rattle.std.proofs.Common.{[], ◌∷◌, map, IfOk, subst}
 use Rattle.sqlite.specs.Order.{Row}
 use Rattle.sqlite.specs.Held.{state}
 use Rattle.sqlite.specs.State.{HasCleanDisk, Shown}
@@ -21,10 +21,9 @@ returns g c =
     let text = room_shows ceremony at in
     let shown = λ (clean : HasCleanDisk new). subst (λ (v : Row). IfOk c.query_rows.result (λ all. Shown room_sql v old new (map stay_row all.items)))
     (λ i. c.number_cell-c0.ensures i ∷ c.moment_cell-c1.ensures i ∷ []) (did.shown clean) in record {
-      same_reference = search rules;
       rows = passing_told text stay_row laws.one old new c.query_rows.result shown laws.table.rows_in
           (laws.table_laws.keeps old.now.trees)
           (stay_reaches ceremony at) (passes_stay ceremony at);
       exact = passing_exact text stay_row laws.one old new c.query_rows.result shown (is_lasting_row ceremony at) (passes_row ceremony at);
-      frame = reads_by room_sql old new c.query_rows.result text.bare did.same did.frame;
+      frame = reads_by room_sql text.bare did.same did.frame;
     }

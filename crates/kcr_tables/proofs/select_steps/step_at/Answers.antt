@@ -1,4 +1,4 @@
-use Rattle.std.proofs.Common.{rules, List, [], ◌∷◌, map, IfOk, subst, IsPermutation}
+use Rattle.std.proofs.Common.{List, [], ◌∷◌, map, IfOk, subst, IsPermutation}
 use Rattle.sqlite.specs.Order.{Row}
 use Rattle.sqlite.specs.Held.{state}
 use Rattle.sqlite.specs.State.{HasCleanDisk, Shown}
@@ -24,7 +24,6 @@ returns g c =
     let text = step_shows ceremony step in
     let shown = λ (clean : HasCleanDisk new). subst (λ (v : Row). IfOk c.query_rows.result (λ all. Shown step_sql v old new (map step_row all.items)))
     (λ i. c.number_cell-c0.ensures i ∷ c.number_cell-c1.ensures i ∷ []) (did.shown clean) in record {
-      same_reference = search rules;
       rows = λ clean t held. if_both _ _ _ (λ all h read.
           rows_shown step_sql steps_place _ (passes ceremony step) text step_row HasOnlyTheseSeats HasSeatsText laws.one (is_step_at ceremony step)
           (passes_step ceremony step) old new all.items held.schema h read t.rows.steps held.kept.seats held.kept.steps)
@@ -32,5 +31,5 @@ returns g c =
       exact = λ clean has. if_ok _ _ (λ all h.
           subst (λ (l : List Row). IsPermutation l (map step_row all.items)) (filter_as _ _ (passes_row ceremony step) _)
           (every_row step_sql steps_place _ (passes ceremony step) text step_row old new all.items has h)) c.query_rows.result (shown clean);
-      frame = reads_by step_sql old new c.query_rows.result text.bare did.same did.frame;
+      frame = reads_by step_sql text.bare did.same did.frame;
     }

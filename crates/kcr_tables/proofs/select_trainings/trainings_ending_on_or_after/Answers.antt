@@ -1,4 +1,4 @@
-use Rattle.std.proofs.Common.{rules, [], ◌∷◌, map, IfOk, subst}
+use Rattle.std.proofs.Common.{[], ◌∷◌, map, IfOk, subst}
 use Rattle.sqlite.specs.Order.{Row}
 use Rattle.sqlite.specs.Held.{state}
 use Rattle.sqlite.specs.State.{HasCleanDisk, Shown}
@@ -20,10 +20,9 @@ returns g c =
     let text = lasting_shows day in
     let shown = λ (clean : HasCleanDisk new). subst (λ (v : Row). IfOk c.query_rows.result (λ all. Shown lasting_sql v old new (map training_row all.items)))
     (λ i. c.day_cell-c0.ensures i ∷ []) (did.shown clean) in record {
-      same_reference = search rules;
       rows = passing_told text training_row laws.one old new c.query_rows.result shown laws.table.rows_in
           (laws.table_laws.keeps old.now.trees)
           (training_reaches day) (passes_training day);
       exact = passing_exact text training_row laws.one old new c.query_rows.result shown (has_from 3 day) (passes_row day);
-      frame = reads_by lasting_sql old new c.query_rows.result text.bare did.same did.frame;
+      frame = reads_by lasting_sql text.bare did.same did.frame;
     }

@@ -47,6 +47,6 @@ pub returns-clause-frame : goal.returns-clause-frame
 returns-clause-frame g c =
     let old = state g.S.Store c.args.tx.now.conn.now in
     let new = state g.S.Store c.query_rows.new.tx.conn.now in
-    reads_by g.T.TableRow.table.all_sql old new c.query_rows.result g.met.T.TableRow.table_laws.lists.bare
+    reads_by g.T.TableRow.table.all_sql g.met.T.TableRow.table_laws.lists.bare
     (subst (λ (sql : List ℕ). HasCleanDisk new → IsPlain (understood old.now.schema sql) → OnOk c.query_rows.result (IsUnchanged old new)) c.select_all_sql.ensures
     c.query_rows.ensures.same) c.query_rows.ensures.frame

@@ -1,4 +1,4 @@
-use Rattle.std.proofs.Common.{rules, ℕ, List, [], ◌∷◌, map, IfOk, OnOk, subst, subst₂}
+use Rattle.std.proofs.Common.{ℕ, List, [], ◌∷◌, map, IfOk, OnOk, subst, subst₂}
 use Rattle.sqlite.specs.Order.{Row}
 use Rattle.sqlite.specs.Held.{state}
 use Rattle.sqlite.specs.State.{HasCleanDisk, IsUnchanged, Shown}
@@ -23,7 +23,6 @@ returns g c =
     let did = c.query_rows.ensures in
     let shown = λ (clean : HasCleanDisk new). subst₂ (λ (sql : List ℕ) (v : Row). IfOk c.query_rows.result (λ all. Shown sql v old new (map row_of all.items)))
     c.lookup_sql.ensures (λ i. c.cell.ensures i ∷ []) (did.shown clean) in record {
-      same_reference = search rules;
       rows = λ clean t held. if_both _ _ _ (λ all h read.
           rows_shown F.find_sql T.place (value ∷ []) (has_value F.column value) finds row_of g.T.FromRow.is_read T.is_stored g.met.T.TableRow.table_laws.one
           (F.is_under key) (g.met.T.LookupBy.lookup_laws.under key) old new all.items held.schema h read (T.rows_in t)
@@ -32,7 +31,7 @@ returns g c =
       exact = λ clean has. if_ok _ _ (λ all h. every_row F.find_sql T.place (value ∷ []) (has_value F.column value) finds row_of old new all.items has h)
           c.query_rows.result (shown clean);
       opened = did.opened;
-      frame = reads_by F.find_sql old new c.query_rows.result finds.bare
+      frame = reads_by F.find_sql finds.bare
           (subst (λ (sql : List ℕ). HasCleanDisk new → IsPlain (understood old.now.schema sql) → OnOk c.query_rows.result (IsUnchanged old new))
           c.lookup_sql.ensures did.same) did.frame;
     }

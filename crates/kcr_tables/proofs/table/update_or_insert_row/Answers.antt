@@ -1,10 +1,10 @@
 use Rattle.std.proofs.Common.{rules, ◌≡◌, ◌≢◌, ℕ, Ok, OnOk, subst}
 use Rattle.sqlite.specs.Order.{Row}
 use Rattle.sqlite.specs.Held.{state}
-use Rattle.sqlite.specs.State.{HasCleanDisk, Executes}
+use Rattle.sqlite.specs.State.{Executes}
 use Rattle.kcr_rows.proofs.FailLemmas.{on_ok_then}
-use Rattle.kcr_rows.proofs.InsideLemmas.{was_clean}
 use Rattle.kcr_rows.proofs.UpdateLemmas.{Updated, row_changed, changes_then}
+use Rattle.kcr_rows.proofs.FrameLemmas.{clean_before}
 use Rattle.kcr_tables.specs.Schema.{register_schema}
 use Rattle.kcr_tables.proofs.StatementLemmas.{row_put, row_updated, put_holds}
 use Rattle.kcr_tables.proofs.table.update_or_insert_row.Goals as goal
@@ -18,7 +18,7 @@ returns-then-branch-eq0-clause-holds g c clean t held =
     let old = state g.S.Store c.args.tx.now.conn.now in
     let mid = state g.S.Store c.execute.new.tx.conn.now in
     let new = state g.S.Store c.run_statement.new.tx.conn.now in
-    let before : HasCleanDisk mid = was_clean mid new _ c.run_statement.ensures.frame.survives clean in
+    let before = clean_before c.run_statement.ensures.frame clean in
     let tried = subst (λ (v : Row). Executes c.args.update_sql.now v old mid (Ok count)) c.requires.cells (c.in_ok-execute.ensures.runs before) in
     let none : count ≡ 0 = search rules in
     let is = row_updated c.args.update_sql.now T.place row_of x old mid count held.schema tried c.requires.updates in

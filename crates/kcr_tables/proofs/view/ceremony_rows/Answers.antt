@@ -1,11 +1,10 @@
-use Rattle.std.proofs.Common.{rules}
 use Rattle.sqlite.specs.Held.{state}
 use Rattle.sqlite.specs.State.{HasCleanDisk}
-use Rattle.kcr_rows.proofs.InsideLemmas.{was_clean}
 use Rattle.kcr_rows.specs.Rows.{mark_row, exception_row}
+use Rattle.kcr_rows.proofs.FrameLemmas.{clean_before}
 use Rattle.kcr_tables.specs.Exact.{has_number, SelectedAreRead, StepsAreShown}
 use Rattle.kcr_tables.specs.StoredTables.{marks_place, exceptions_place}
-use Rattle.kcr_tables.proofs.FrameLemmas.{reads_on, fails_as, reads_then, reads_to, read_later}
+use Rattle.kcr_tables.proofs.FrameLemmas.{reads_on, fails_as, reads_to, read_later}
 use Rattle.kcr_tables.proofs.view.ceremony_rows.Goals as goal
 
 pub returns-in_err-ceremonies-clause-frame : goal.returns-in_err-ceremonies-clause-frame
@@ -25,32 +24,28 @@ returns-in_err-exceptions-clause-frame g c = reads_on
 
 pub returns : goal.returns
 returns g c =
-    let old = state g.S.Store c.args.tx.now.conn.now in
     let s0 = state g.S.Store c.select_rows.new.tx.conn.now in
     let s1 = state g.S.Store c.select_rows-2.new.tx.conn.now in
-    let s2 = state g.S.Store c.select_steps.new.tx.conn.now in
     let s3 = state g.S.Store c.select_rows-3.new.tx.conn.now in
     let to0 = c.in_ok-ceremonies.ensures.frame in
-    let to1 = reads_then old s0 s1 _ _ to0 c.in_ok-marks.ensures.frame in
-    let to2 = reads_then old s1 s2 _ _ to1 c.in_ok-script.ensures.frame in
-    let clean2 : HasCleanDisk s3 → HasCleanDisk s2 = λ clean. was_clean s2 s3 _ c.in_ok-exceptions.ensures.frame.within.survives clean in
-    let clean1 : HasCleanDisk s3 → HasCleanDisk s1 = λ clean. was_clean s1 s2 _ c.in_ok-script.ensures.frame.within.survives (clean2 clean) in
-    let clean0 : HasCleanDisk s3 → HasCleanDisk s0 = λ clean. was_clean s0 s1 _ c.in_ok-marks.ensures.frame.within.survives (clean1 clean) in record {
-      same_reference = search rules;
+    let to1 = reads_on to0 c.in_ok-marks.ensures.frame in
+    let to2 = reads_on to1 c.in_ok-script.ensures.frame in
+    let clean2 = clean_before c.in_ok-exceptions.ensures.frame.within in
+    let clean1 : HasCleanDisk s3 → HasCleanDisk s1 = λ clean. clean_before c.in_ok-script.ensures.frame.within (clean2 clean) in
+    let clean0 : HasCleanDisk s3 → HasCleanDisk s0 = λ clean. clean_before c.in_ok-marks.ensures.frame.within (clean1 clean) in record {
       ceremonies = λ clean t held. c.in_ok-ceremonies.ensures.rows (clean0 clean) t held;
       marks = λ clean t held. c.in_ok-marks.ensures.rows (clean1 clean) t (to0.holds (clean0 clean) t held);
       steps = λ clean t held. c.in_ok-script.ensures.rows (clean2 clean) t (to1.holds (clean1 clean) t held);
       exceptions = λ clean t held. c.in_ok-exceptions.ensures.rows clean t (to2.holds (clean2 clean) t held);
       exact = λ clean has.
           let asks = c.args.asks.now in record {
-            ceremonies_are = c.in_ok-ceremonies.ensures.exact (clean0 clean) has;
-            marks_are = read_later (SelectedAreRead mark_row marks_place (has_number 0) asks.marks c.in_ok-marks.marks.items) old s0 _ to0 (clean0 clean) has
-                (c.in_ok-marks.ensures.exact (clean1 clean));
-            steps_are = read_later (StepsAreShown asks.steps c.in_ok-script.script.seatings.items c.in_ok-script.script.steps.items) old s1 _ to1
-                (clean1 clean) has (c.in_ok-script.ensures.exact (clean2 clean));
-            exceptions_are = read_later
-                (SelectedAreRead exception_row exceptions_place (has_number 0) asks.exceptions c.in_ok-exceptions.exceptions.items) old s2 _ to2
-                (clean2 clean) has (c.in_ok-exceptions.ensures.exact clean);
+            ceremonies = c.in_ok-ceremonies.ensures.exact (clean0 clean) has;
+            marks = read_later (SelectedAreRead mark_row marks_place (has_number 0) asks.marks c.in_ok-marks.marks.items)
+                to0 (clean0 clean) has (c.in_ok-marks.ensures.exact (clean1 clean));
+            steps = read_later (StepsAreShown asks.steps c.in_ok-script.script.seatings.items c.in_ok-script.script.steps.items)
+                to1 (clean1 clean) has (c.in_ok-script.ensures.exact (clean2 clean));
+            exceptions = read_later (SelectedAreRead exception_row exceptions_place (has_number 0) asks.exceptions c.in_ok-exceptions.exceptions.items)
+                to2 (clean2 clean) has (c.in_ok-exceptions.ensures.exact clean);
           };
-      frame = reads_to old s3 _ _ tt (reads_then old s2 s3 _ _ to2 c.in_ok-exceptions.ensures.frame);
+      frame = reads_to tt (reads_on to2 c.in_ok-exceptions.ensures.frame);
     }

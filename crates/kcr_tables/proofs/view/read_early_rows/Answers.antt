@@ -1,10 +1,9 @@
-use Rattle.std.proofs.Common.{rules}
 use Rattle.sqlite.specs.Held.{state}
 use Rattle.sqlite.specs.State.{HasCleanDisk}
 use Rattle.kcr_history.specs.Views.{is_of_people, is_of_serial, is_item_of, is_of_number, is_mark_of, is_exception_of}
-use Rattle.kcr_rows.proofs.InsideLemmas.{was_clean}
+use Rattle.kcr_rows.proofs.FrameLemmas.{clean_before}
 use Rattle.kcr_tables.specs.Exact.{CustodyIsShown, CeremoniesAreShown}
-use Rattle.kcr_tables.proofs.FrameLemmas.{reads_on, fails_as, reads_then, reads_to, read_later}
+use Rattle.kcr_tables.proofs.FrameLemmas.{reads_on, fails_as, reads_to, read_later}
 use Rattle.kcr_tables.proofs.FrontLemmas.{custody_front, ceremonies_front}
 use Rattle.kcr_tables.proofs.HoldLemmas.{held_of}
 use Rattle.kcr_tables.proofs.ScriptLemmas.{steps_on}
@@ -26,13 +25,11 @@ pub returns : goal.returns
 returns g c =
     let old = state g.S.Store c.args.tx.now.conn.now in
     let s1 = state g.S.Store c.select_people.new.tx.conn.now in
-    let s2 = state g.S.Store c.custody_rows.new.tx.conn.now in
     let s3 = state g.S.Store c.ceremony_rows.new.tx.conn.now in
     let to1 = c.in_ok-people.ensures.frame in
-    let to2 = reads_then old s1 s2 _ _ to1 c.in_ok-custody.ensures.frame in
-    let clean2 : HasCleanDisk s3 → HasCleanDisk s2 = λ clean. was_clean s2 s3 _ c.in_ok-ceremony.ensures.frame.within.survives clean in
-    let clean1 : HasCleanDisk s3 → HasCleanDisk s1 = λ clean. was_clean s1 s2 _ c.in_ok-custody.ensures.frame.within.survives (clean2 clean) in record {
-      same_reference = search rules;
+    let to2 = reads_on to1 c.in_ok-custody.ensures.frame in
+    let clean2 = clean_before c.in_ok-ceremony.ensures.frame.within in
+    let clean1 : HasCleanDisk s3 → HasCleanDisk s1 = λ clean. clean_before c.in_ok-custody.ensures.frame.within (clean2 clean) in record {
       view = λ clean m h.
           let t = h.tables.t in
           let asks = c.args.asks.now in
@@ -60,16 +57,12 @@ returns g c =
       exact = λ clean has.
           let asks = c.args.asks.now in record {
             people = c.in_ok-people.ensures.exact (clean1 clean) has;
-            staff = record { trainings_are = tt; withdrawals_are = tt; appointments_are = tt };
-            custody = custody_front (read_later
-                (CustodyIsShown asks c.in_ok-custody.custody.boxes.items c.in_ok-custody.custody.safes.items c.in_ok-custody.custody.bags.items
-                c.in_ok-custody.custody.items.items) old s1 _ to1 (clean1 clean) has (c.in_ok-custody.ensures.exact (clean2 clean)));
-            ceremonies = ceremonies_front (read_later
-                (CeremoniesAreShown asks c.in_ok-ceremony.ceremony.ceremonies.items c.in_ok-ceremony.ceremony.marks.items c.in_ok-ceremony.ceremony.steps.items
-                c.in_ok-ceremony.ceremony.seatings.items c.in_ok-ceremony.ceremony.exceptions.items) old s2 _ to2
-                (clean2 clean) has
-                (c.in_ok-ceremony.ensures.exact clean));
+            staff = record { trainings = tt; withdrawals = tt; appointments = tt };
+            custody = custody_front (read_later (λ db. CustodyIsShown asks db c.in_ok-custody.custody)
+                to1 (clean1 clean) has (c.in_ok-custody.ensures.exact (clean2 clean)));
+            ceremonies = ceremonies_front (read_later (λ db. CeremoniesAreShown asks db c.in_ok-ceremony.ceremony)
+                to2 (clean2 clean) has (c.in_ok-ceremony.ensures.exact clean));
             stays = tt;
           };
-      frame = reads_to old s3 _ _ tt (reads_then old s2 s3 _ _ to2 c.in_ok-ceremony.ensures.frame);
+      frame = reads_to tt (reads_on to2 c.in_ok-ceremony.ensures.frame);
     }

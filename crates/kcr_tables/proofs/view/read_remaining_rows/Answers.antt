@@ -1,13 +1,13 @@
-use Rattle.std.proofs.Common.{rules, refl}
+use Rattle.std.proofs.Common.{refl}
 use Rattle.sqlite.specs.Held.{state}
 use Rattle.sqlite.specs.State.{HasCleanDisk}
 use Rattle.kcr_history.specs.Views.{is_training_asked, is_withdrawal_of}
-use Rattle.kcr_rows.proofs.InsideLemmas.{was_clean}
 use Rattle.kcr_rows.specs.Rows.{stay_row}
+use Rattle.kcr_rows.proofs.FrameLemmas.{clean_before}
 use Rattle.kcr_tables.specs.Exact.{is_stay_row, SelectedAreRead}
 use Rattle.kcr_tables.specs.StoredTables.{stays_place}
 use Rattle.kcr_tables.proofs.AppointmentLemmas.{appointments_shown}
-use Rattle.kcr_tables.proofs.FrameLemmas.{reads_on, fails_as, reads_then, reads_to, read_later}
+use Rattle.kcr_tables.proofs.FrameLemmas.{reads_on, fails_as, reads_to, read_later}
 use Rattle.kcr_tables.proofs.FrontLemmas.{custody_whole, ceremonies_whole}
 use Rattle.kcr_tables.proofs.HoldLemmas.{held_of}
 use Rattle.kcr_tables.proofs.StayLemmas.{stays_shown, entries_shown, apart_of}
@@ -29,13 +29,11 @@ pub returns : goal.returns
 returns g c =
     let old = state g.S.Store c.args.tx.now.conn.now in
     let s1 = state g.S.Store c.staff_rows.new.tx.conn.now in
-    let s2 = state g.S.Store c.select_stays.new.tx.conn.now in
     let s3 = state g.S.Store c.select_stay_count.new.tx.conn.now in
     let to1 = c.in_ok-staff.ensures.frame in
-    let to2 = reads_then old s1 s2 _ _ to1 c.in_ok-stays.ensures.frame in
-    let clean2 : HasCleanDisk s3 → HasCleanDisk s2 = λ clean. was_clean s2 s3 _ c.in_ok-entries.ensures.frame.within.survives clean in
-    let clean1 : HasCleanDisk s3 → HasCleanDisk s1 = λ clean. was_clean s1 s2 _ c.in_ok-stays.ensures.frame.within.survives (clean2 clean) in record {
-      same_reference = search rules;
+    let to2 = reads_on to1 c.in_ok-stays.ensures.frame in
+    let clean2 = clean_before c.in_ok-entries.ensures.frame.within in
+    let clean1 : HasCleanDisk s3 → HasCleanDisk s1 = λ clean. clean_before c.in_ok-stays.ensures.frame.within (clean2 clean) in record {
       view = λ clean m h front.
           let t = h.tables.t in
           let asks = c.args.asks.now in
@@ -67,8 +65,8 @@ returns g c =
             staff = c.in_ok-staff.ensures.exact (clean1 clean) has;
             custody = custody_whole front.custody;
             ceremonies = ceremonies_whole front.ceremonies;
-            stays = read_later (SelectedAreRead stay_row stays_place is_stay_row asks.stays c.in_ok-stays.stays.items) old s1 _ to1 (clean1 clean) has
-                (c.in_ok-stays.ensures.exact (clean2 clean));
+            stays = read_later (SelectedAreRead stay_row stays_place is_stay_row asks.stays c.in_ok-stays.stays.items)
+                to1 (clean1 clean) has (c.in_ok-stays.ensures.exact (clean2 clean));
           };
-      frame = reads_to old s3 _ _ tt (reads_then old s2 s3 _ _ to2 c.in_ok-entries.ensures.frame);
+      frame = reads_to tt (reads_on to2 c.in_ok-entries.ensures.frame);
     }

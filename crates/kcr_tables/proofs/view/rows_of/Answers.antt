@@ -1,11 +1,9 @@
-use Rattle.std.proofs.Common.{rules, sym, ap, subst, ◌∙◌, Result, Ok, Err, IfOk}
+use Rattle.std.proofs.Common.{sym, ap, subst, ◌∙◌, Result, Ok, Err, IfOk}
 use Rattle.sqlite.specs.Effect.{Database}
-use Rattle.sqlite.specs.Held.{state}
-use Rattle.sqlite.specs.State.{HasCleanDisk}
 use Rattle.kcr_base.specs.declared.refusal.Refusal.{Refusal}
 use Rattle.kcr_history.specs.declared.views.View.{View}
 use Rattle.kcr_history.specs.Early.{early_asks}
-use Rattle.kcr_rows.proofs.InsideLemmas.{was_clean}
+use Rattle.kcr_rows.proofs.FrameLemmas.{clean_before}
 use Rattle.kcr_tables.specs.Exact.{HasNoInvalidRow}
 use Rattle.kcr_tables.proofs.FrameLemmas.{fails_as, reads_on}
 use Rattle.kcr_tables.proofs.view.rows_of.Goals as goal
@@ -20,13 +18,10 @@ returns-in_err-front-clause-frame g c = fails_as c.from_residual.ensures.1 c.in_
 
 pub returns : goal.returns
 returns g c =
-    let s1 = state g.S.Store c.read_early_rows.new.tx.conn.now in
-    let s2 = state g.S.Store c.read_remaining_rows.new.tx.conn.now in
     let asks = c.args.asks.now in
     let front = c.in_ok-front.ensures in
     let rest = c.read_remaining_rows.ensures in
-    let clean1 : HasCleanDisk s2 → HasCleanDisk s1 = λ clean. was_clean s1 s2 _ rest.frame.within.survives clean in record {
-      same_reference = search rules;
+    let clean1 = clean_before rest.frame.within in record {
       view = λ clean m h.
           if-told _ _ (λ view shows. shows (front.view (clean1 clean) m h)) c.read_remaining_rows.result
           (rest.view clean m (front.frame.tables (clean1 clean) m h));
