@@ -1,5 +1,6 @@
 pub mod Sent
 pub mod Seeking
+pub mod Walking
 pub mod Bytes
 pub mod Values
 pub mod Reading

@@ -1,9 +1,7 @@
 -- A body's members are read as the act, and the key as the key.
-use Rattle.std.proofs.Common.{◌≡◌, ℕ, List, [], ◌∷◌, map, codes, Option, Some, Ok, option_map, option_and_then, refl, sym, ap, ◌∙◌, arith, All}
-use Rattle.std.specs.Str.{IsUtf8}
+use Rattle.std.proofs.Common.{◌≡◌, ℕ, List, [], ◌∷◌, map, codes, Option, Some, Ok, refl, sym, All}
 use Rattle.std.proofs.lemmas.List.Elements.{All-head, All-tail}
-use Rattle.serde_json.specs.Data.{Data, string, object, Members, no_members, member}
-use Rattle.serde_json.specs.Read.{read}
+use Rattle.serde_json.specs.Data.{Data, string, object, no_members, member}
 use Rattle.serde_json.specs.View.{items_of}
 use Rattle.kcr_base.specs.Initials.{IsInitials}
 use Rattle.kcr_base.specs.Key.{IsKey}

@@ -30,7 +30,7 @@ better-none : (seg best : List ℕ) → better seg best [] ≡ best
 better-none seg best = grind (arith, nat_tests)
 
 -- the segment of a path that begins with a piece
-segment-piece : (w rest : List ℕ) → All (λ b. eqb b 47 ≡ false) w → segment (w ++ 47 ∷ rest) ≡ w ++ 47 ∷ []
+pub segment-piece : (w rest : List ℕ) → All (λ b. eqb b 47 ≡ false) w → segment (w ++ 47 ∷ rest) ≡ w ++ 47 ∷ []
 segment-piece [] rest lacks = refl
 segment-piece (b ∷ w) rest lacks =
     let here = All-head (λ x. eqb x 47 ≡ false) b w lacks in

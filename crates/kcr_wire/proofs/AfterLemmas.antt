@@ -1,5 +1,5 @@
 -- A reader of the number of commands that a client has.
-use Rattle.std.proofs.Common.{◌≡◌, ℕ, ◌<◌, ◌≤◌, ◌^◌, List, Option, Some, None, refl, sym, ap, subst, ◌∙◌, arith}
+use Rattle.std.proofs.Common.{◌≡◌, ℕ, ◌<◌, ◌≤◌, ◌^◌, List, Option, Some, None, sym, ap, subst, ◌∙◌, arith}
 use Rattle.std.specs.Prelude.{SomeIff}
 use Rattle.std.specs.Fmt.{decimal}
 use Rattle.kcr_base.specs.Reads.{HasText, ReadsText}

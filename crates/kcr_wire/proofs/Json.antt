@@ -4,8 +4,7 @@ use Rattle.std.specs.Str.{IsUtf8, is_utf8}
 use Rattle.std.proofs.lemmas.Str.{is_utf8-from_IsUtf8, IsUtf8-from_is_utf8}
 use Rattle.serde_json.specs.Data.{Data}
 use Rattle.serde_json.specs.Read.{read}
-use Rattle.kcr_wire.specs.Endpoints.{text_in}
-use Rattle.kcr_wire.specs.Members.{json_of}
+use Rattle.kcr_wire.specs.Members.{json_of, text_in}
 
 pub text_in-some : (bytes : List ℕ) → IsUtf8 bytes → text_in bytes ≡ Some bytes
 unfolding text_in

@@ -1,5 +1,6 @@
 pub mod Tables
 pub mod Json
 pub mod Lists
+pub mod PartLemmas
 pub mod ShowLemmas
 mod AfterLemmas

@@ -1,5 +1,6 @@
 -- A body as JSON, and its members.
-use Rattle.std.specs.Prelude.{ℕ, List, [], ◌∷◌, Bool, Option, Some, option_map, option_and_then}
+use Rattle.std.specs.Prelude.{ℕ, List, [], ◌∷◌, Bool, Option, Some, None, option_map, option_and_then, if◌then◌else◌}
+use Rattle.std.specs.Str.{is_utf8}
 use Rattle.serde_json.specs.Data.{Data, Items, no_items, item}
 use Rattle.serde_json.specs.Read.{read}
 use Rattle.serde_json.specs.Find.{get, as_str, as_bool, as_number, as_u64, as_array}
@@ -7,7 +8,10 @@ use Rattle.kcr_base.specs.Refusal.{member_text}
 use Rattle.kcr_base.specs.declared.refusal.Member.{Member}
 use Rattle.kcr_forms.specs.Forms.{number_to}
 use Rattle.kcr_forms.specs.Reading.{Reading}
-use Rattle.kcr_wire.specs.Endpoints.{text_in}
+
+-- the bytes, if they are UTF-8
+unfoldable pub text_in : List ℕ → Option (List ℕ)
+text_in bytes = if is_utf8 bytes then Some bytes else None
 
 -- the value that a body is, if it is UTF-8 and JSON
 unfoldable pub json_of : List ℕ → Option Data

@@ -1,5 +1,5 @@
 -- The routes, and what a router that took them in their order holds.
-use Rattle.std.specs.Prelude.{ℕ, List, [], ◌∷◌, codes, Result, Ok, Err, Bool, true, false, ◌≡◌, ◌&&◌, Option, Some}
+use Rattle.std.specs.Prelude.{ℕ, List, [], ◌∷◌, codes, Result, Ok, Err, Bool, true, false, ◌&&◌, Option, Some}
 use Rattle.std.specs.Prelude.{None}
 use Rattle.matchit.specs.Rows.{RowsOf}
 use Rattle.matchit.specs.Route.{parse_route, Scan}
@@ -23,21 +23,21 @@ route_text Release = codes "/custodians/{place}/release"
 route_text Boxes = codes "/boxes"
 route_text Items = codes "/items"
 route_text Ceremonies = codes "/ceremonies"
-route_text Opening = codes "/ceremonies/{n}/opening"
-route_text Closing = codes "/ceremonies/{n}/closing"
-route_text Sheet = codes "/ceremonies/{n}/sheet"
-route_text Signature = codes "/ceremonies/{n}/steps/{k}/signature"
-route_text Exceptions = codes "/ceremonies/{n}/exceptions"
-route_text Safes = codes "/ceremonies/{n}/safes/{safe}"
-route_text Seal = codes "/ceremonies/{n}/bags/{serial}/seal"
-route_text Take = codes "/ceremonies/{n}/bags/{serial}/take"
-route_text Put = codes "/ceremonies/{n}/bags/{serial}/put"
-route_text Cut = codes "/ceremonies/{n}/bags/{serial}/cut"
+route_text Opening = codes "/ceremonies/{ceremony}/opening"
+route_text Closing = codes "/ceremonies/{ceremony}/closing"
+route_text Sheet = codes "/ceremonies/{ceremony}/sheet"
+route_text Signature = codes "/ceremonies/{ceremony}/steps/{step}/signature"
+route_text Exceptions = codes "/ceremonies/{ceremony}/exceptions"
+route_text Safes = codes "/ceremonies/{ceremony}/safes/{safe}"
+route_text Seal = codes "/ceremonies/{ceremony}/bags/{serial}/seal"
+route_text Take = codes "/ceremonies/{ceremony}/bags/{serial}/take"
+route_text Put = codes "/ceremonies/{ceremony}/bags/{serial}/put"
+route_text Cut = codes "/ceremonies/{ceremony}/bags/{serial}/cut"
 route_text CustodiansOn = codes "/custodians/{day}"
 route_text Bag = codes "/bags/{serial}"
-route_text Room = codes "/ceremonies/{n}/room/{at}"
-route_text Script = codes "/ceremonies/{n}/script"
-route_text Attendance = codes "/ceremonies/{n}/attendance.csv"
+route_text Room = codes "/ceremonies/{ceremony}/room/{at}"
+route_text Script = codes "/ceremonies/{ceremony}/script"
+route_text Attendance = codes "/ceremonies/{ceremony}/attendance.csv"
 route_text Custody = codes "/custody"
 route_text Commands = codes "/commands/{after}"
 

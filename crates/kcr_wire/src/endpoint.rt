@@ -1,20 +1,21 @@
 //! What a request's target asks for.
 ghost use Rattle.std.specs.Prelude.{◌≡◌, ◌==◌, ◌<◌, length, position, option_map, IfErr, IfSome};
-ghost use Rattle.kcr_wire.specs.Endpoints.{path_of, text_in, before_slash, after_slash, second_piece, fourth_piece};
+ghost use Rattle.matchit.specs.Params.{AllText, named};
+ghost use Rattle.kcr_wire.specs.Endpoints.{path_of, ascii_in, parts_of, initials_in, place_in, ceremony_in, serial_in};
 ghost use Rattle.kcr_wire.specs.Endpoints.{target_by, target_of, allow_of_endpoint, allow_of};
 
 use crate::after::After;
 use crate::allow::Allow;
 use crate::question::Inquiry;
 use crate::route::{Route, router};
-use kcr_base::Refusal;
+use kcr_base::{CeremonyNumber, Initials, Place, Refusal, Serial};
 use kcr_forms::Post;
 use kcr_forms::forms::{
     read_ceremony, read_day, read_initials, read_moment, read_place, read_safe, read_serial,
     read_step,
 };
 use kcr_history::Question;
-use matchit::Router;
+use matchit::{Params, Router};
 use std::alloc::Global;
 use std::marker::Model;
 use std::str;
@@ -44,101 +45,98 @@ fn path_of(target: &[u8]) -> &[u8]
     }
 }
 
-// The text that bytes are, if they are UTF-8.
-fn text_in(bytes: &[u8]) -> Option<&str>
-    ensures { option_map (λ text. text.now) result ≡ text_in bytes.now }
+// The text that bytes are, if they are ASCII.
+fn ascii_in(bytes: &[u8]) -> Option<&str>
+    ensures { option_map (λ text. text.now) result ≡ ascii_in bytes.now }
 {
     match str::from_utf8(bytes) {
-        Ok(text) => Some(text),
-        Err(_) => None,
+        Ok(text) if text.is_ascii() => Some(text),
+        _ => None,
     }
 }
 
-// The place of the first slash.
-fn slash_at(path: &[u8]) -> Option<usize>
-    ensures place { result ≡ position (λ b. b == 47) path.now }
-    ensures within { IfSome result (λ i. i < length path.now) }
+// The part of a path with this name.
+fn part<'p>(parts: &Params<'_, 'p>, name: &str) -> Option<&'p [u8]>
+    requires { AllText (parts_of parts.now) }
+    ensures { option_map (λ part. part.now) result ≡ named name.now (parts_of parts.now) }
 {
-    path.iter().position(|b| *b == b'/')
-}
-
-// What stands before the first slash.
-fn before_slash(path: &[u8]) -> &[u8]
-    ensures { result.now ≡ before_slash path.now }
-{
-    match slash_at(path) {
-        Some(i) => &path[..i],
-        None => path,
+    match parts.get(name) {
+        Some(part) => Some(part.as_bytes()),
+        None => None,
     }
 }
 
-// What stands after the first slash.
-fn after_slash(path: &[u8]) -> &[u8]
-    ensures { result.now ≡ after_slash path.now }
+fn initials_in(parts: &Params<'_, '_>) -> Option<Initials>
+    requires { AllText (parts_of parts.now) }
+    ensures { result ≡ initials_in (parts_of parts.now) }
 {
-    match slash_at(path) {
-        Some(i) => &path[i + 1..],
-        None => &[],
-    }
+    read_initials(part(parts, "who")?)
 }
 
-// The second piece of a path between slashes.
-#[tactic(auto, unfolding(crate::specs::Endpoints::second_piece))]
-fn second_piece(path: &[u8]) -> &[u8]
-    ensures { result.now ≡ second_piece path.now }
+fn place_in(parts: &Params<'_, '_>) -> Option<Place>
+    requires { AllText (parts_of parts.now) }
+    ensures { result ≡ place_in (parts_of parts.now) }
 {
-    before_slash(after_slash(after_slash(path)))
+    read_place(part(parts, "place")?)
 }
 
-// The fourth piece of a path between slashes.
-#[tactic(auto, unfolding(crate::specs::Endpoints::fourth_piece))]
-fn fourth_piece(path: &[u8]) -> &[u8]
-    ensures { result.now ≡ fourth_piece path.now }
+fn ceremony_in(parts: &Params<'_, '_>) -> Option<CeremonyNumber>
+    requires { AllText (parts_of parts.now) }
+    ensures { result ≡ ceremony_in (parts_of parts.now) }
 {
-    before_slash(after_slash(after_slash(after_slash(after_slash(path)))))
+    read_ceremony(part(parts, "ceremony")?)
 }
 
-// What a path of this route asks for, if its parts in braces have their forms.
-fn read_parts(route: Route, path: &[u8]) -> Option<Endpoint>
-    ensures { result ≡ target_by route path.now }
+fn serial_in(parts: &Params<'_, '_>) -> Option<Serial>
+    requires { AllText (parts_of parts.now) }
+    ensures { result ≡ serial_in (parts_of parts.now) }
 {
-    let part = second_piece(path);
-    let other = fourth_piece(path);
+    read_serial(part(parts, "serial")?)
+}
+
+// What a path of this route asks for, if its parts have their forms.
+fn read_parts(route: Route, parts: &Params<'_, '_>) -> Option<Endpoint>
+    requires { AllText (parts_of parts.now) }
+    ensures { result ≡ target_by route (parts_of parts.now) }
+{
     let target = match route {
         Route::People => Endpoint::Post(Post::People),
-        Route::Roles => Endpoint::Post(Post::Roles(read_initials(part)?)),
-        Route::Withdrawals => Endpoint::Post(Post::Withdrawals(read_initials(part)?)),
+        Route::Roles => Endpoint::Post(Post::Roles(initials_in(parts)?)),
+        Route::Withdrawals => Endpoint::Post(Post::Withdrawals(initials_in(parts)?)),
         Route::Custodians => Endpoint::Post(Post::Custodians),
-        Route::Replacement => Endpoint::Post(Post::Replacement(read_place(part)?)),
-        Route::Release => Endpoint::Post(Post::Release(read_place(part)?)),
+        Route::Replacement => Endpoint::Post(Post::Replacement(place_in(parts)?)),
+        Route::Release => Endpoint::Post(Post::Release(place_in(parts)?)),
         Route::Boxes => Endpoint::Post(Post::Boxes),
         Route::Items => Endpoint::Post(Post::Items),
         Route::Ceremonies => Endpoint::Post(Post::Ceremonies),
-        Route::Opening => Endpoint::Post(Post::Opening(read_ceremony(part)?)),
-        Route::Closing => Endpoint::Post(Post::Closing(read_ceremony(part)?)),
-        Route::Sheet => Endpoint::Post(Post::Sheet(read_ceremony(part)?)),
+        Route::Opening => Endpoint::Post(Post::Opening(ceremony_in(parts)?)),
+        Route::Closing => Endpoint::Post(Post::Closing(ceremony_in(parts)?)),
+        Route::Sheet => Endpoint::Post(Post::Sheet(ceremony_in(parts)?)),
         Route::Signature => Endpoint::Post(Post::Signature(
-            read_ceremony(part)?,
-            read_step(other)?,
+            ceremony_in(parts)?,
+            read_step(part(parts, "step")?)?,
         )),
-        Route::Exceptions => Endpoint::Post(Post::Exceptions(read_ceremony(part)?)),
-        Route::Safes => Endpoint::Post(Post::Safe(read_ceremony(part)?, read_safe(other)?)),
-        Route::Seal => Endpoint::Post(Post::Seal(read_ceremony(part)?, read_serial(other)?)),
-        Route::Take => Endpoint::Post(Post::Take(read_ceremony(part)?, read_serial(other)?)),
-        Route::Put => Endpoint::Post(Post::Put(read_ceremony(part)?, read_serial(other)?)),
-        Route::Cut => Endpoint::Post(Post::Cut(read_ceremony(part)?, read_serial(other)?)),
-        Route::CustodiansOn => Endpoint::Ask(Inquiry::Question(Question::Custodians(read_day(
-            part,
-        )?))),
-        Route::Bag => Endpoint::Ask(Inquiry::Question(Question::Bag(read_serial(part)?))),
+        Route::Exceptions => Endpoint::Post(Post::Exceptions(ceremony_in(parts)?)),
+        Route::Safes => Endpoint::Post(Post::Safe(
+            ceremony_in(parts)?,
+            read_safe(part(parts, "safe")?)?,
+        )),
+        Route::Seal => Endpoint::Post(Post::Seal(ceremony_in(parts)?, serial_in(parts)?)),
+        Route::Take => Endpoint::Post(Post::Take(ceremony_in(parts)?, serial_in(parts)?)),
+        Route::Put => Endpoint::Post(Post::Put(ceremony_in(parts)?, serial_in(parts)?)),
+        Route::Cut => Endpoint::Post(Post::Cut(ceremony_in(parts)?, serial_in(parts)?)),
+        Route::CustodiansOn => Endpoint::Ask(Inquiry::Question(Question::Custodians(read_day(part(
+            parts, "day",
+        )?)?))),
+        Route::Bag => Endpoint::Ask(Inquiry::Question(Question::Bag(serial_in(parts)?))),
         Route::Room => Endpoint::Ask(Inquiry::Question(Question::Room(
-            read_ceremony(part)?,
-            read_moment(other)?,
+            ceremony_in(parts)?,
+            read_moment(part(parts, "at")?)?,
         ))),
-        Route::Script => Endpoint::Ask(Inquiry::Script(read_ceremony(part)?)),
-        Route::Attendance => Endpoint::Ask(Inquiry::Attendance(read_ceremony(part)?)),
+        Route::Script => Endpoint::Ask(Inquiry::Script(ceremony_in(parts)?)),
+        Route::Attendance => Endpoint::Ask(Inquiry::Attendance(ceremony_in(parts)?)),
         Route::Custody => Endpoint::Ask(Inquiry::Custody),
-        Route::Commands => Endpoint::Ask(Inquiry::Commands(After::read(part)?)),
+        Route::Commands => Endpoint::Ask(Inquiry::Commands(After::read(part(parts, "after")?)?)),
     };
     Some(target)
 }
@@ -171,16 +169,16 @@ impl RouteTable {
     }
 
     /// What a target asks for, or the refusal of a path that the register has not: no route is found
-    /// for it, or a part in braces is not of its form. A target that is not UTF-8 has no route.
+    /// for it, or a part in braces is not of its form. A target that is not ASCII has no route.
     #[tactic(auto, unfolding(crate::specs::Endpoints::target_of))]
     pub fn resolve(&self, target: &[u8]) -> Result<Endpoint, Refusal>
         ensures { result ≡ target_of target.now }
     {
-        let Some(path) = text_in(path_of(target)) else {
+        let Some(path) = ascii_in(path_of(target)) else {
             return Err(Refusal::Path);
         };
         match self.router.at(path) {
-            Ok(found) => match read_parts(*found.value, path.as_bytes()) {
+            Ok(found) => match read_parts(*found.value, &found.params) {
                 Some(endpoint) => Ok(endpoint),
                 None => Err(Refusal::Path),
             },

@@ -67,7 +67,7 @@ pub const ROUTES: [Route; 26] = [
 ];
 
 impl Route {
-    /// The route as `matchit` reads it. The names in braces are for the reader alone.
+    /// The route as `matchit` reads it, with a name for each part in braces.
     pub fn pattern(self) -> &'static str
         ensures { result.now ≡ route_text self }
     {
@@ -81,21 +81,21 @@ impl Route {
             Route::Boxes => "/boxes",
             Route::Items => "/items",
             Route::Ceremonies => "/ceremonies",
-            Route::Opening => "/ceremonies/{n}/opening",
-            Route::Closing => "/ceremonies/{n}/closing",
-            Route::Sheet => "/ceremonies/{n}/sheet",
-            Route::Signature => "/ceremonies/{n}/steps/{k}/signature",
-            Route::Exceptions => "/ceremonies/{n}/exceptions",
-            Route::Safes => "/ceremonies/{n}/safes/{safe}",
-            Route::Seal => "/ceremonies/{n}/bags/{serial}/seal",
-            Route::Take => "/ceremonies/{n}/bags/{serial}/take",
-            Route::Put => "/ceremonies/{n}/bags/{serial}/put",
-            Route::Cut => "/ceremonies/{n}/bags/{serial}/cut",
+            Route::Opening => "/ceremonies/{ceremony}/opening",
+            Route::Closing => "/ceremonies/{ceremony}/closing",
+            Route::Sheet => "/ceremonies/{ceremony}/sheet",
+            Route::Signature => "/ceremonies/{ceremony}/steps/{step}/signature",
+            Route::Exceptions => "/ceremonies/{ceremony}/exceptions",
+            Route::Safes => "/ceremonies/{ceremony}/safes/{safe}",
+            Route::Seal => "/ceremonies/{ceremony}/bags/{serial}/seal",
+            Route::Take => "/ceremonies/{ceremony}/bags/{serial}/take",
+            Route::Put => "/ceremonies/{ceremony}/bags/{serial}/put",
+            Route::Cut => "/ceremonies/{ceremony}/bags/{serial}/cut",
             Route::CustodiansOn => "/custodians/{day}",
             Route::Bag => "/bags/{serial}",
-            Route::Room => "/ceremonies/{n}/room/{at}",
-            Route::Script => "/ceremonies/{n}/script",
-            Route::Attendance => "/ceremonies/{n}/attendance.csv",
+            Route::Room => "/ceremonies/{ceremony}/room/{at}",
+            Route::Script => "/ceremonies/{ceremony}/script",
+            Route::Attendance => "/ceremonies/{ceremony}/attendance.csv",
             Route::Custody => "/custody",
             Route::Commands => "/commands/{after}",
         }
