@@ -77,11 +77,14 @@ def spec_held():
 
 def spec_made():
     out = "-- How an empty database becomes one of a register.\n"
-    out += "use Rattle.std.specs.Prelude.{ℕ, List, [], ◌∷◌, take, codes, slice_index_or}\nuse Rattle.sqlite.specs.Schema.{Schema}\nuse Rattle.kcr_rows.specs.Columns.{schema_of}\nuse Rattle.kcr_tables.specs.Schema.{all_tables}\n"
+    out += "use Rattle.std.specs.Prelude.{◌≡◌, ℕ, List, [], ◌∷◌, take, codes, slice_index_or}\nuse Rattle.sqlite.specs.Effect.{Database}\nuse Rattle.sqlite.specs.Schema.{Schema}\n"
+    out += "use Rattle.kcr_rows.specs.Columns.{AreEmpty, schema_of}\nuse Rattle.kcr_tables.specs.Schema.{all_tables}\n"
     out += "\n-- the texts that make the tables, in their order\nabbrev pub texts : List (List ℕ)\ntexts =\n    "
     out += "\n    ∷ ".join(codes(t.create_table_sql()) for t in TABLES) + " ∷ []\n"
     out += "\nabbrev pub text_at : ℕ → List ℕ\ntext_at at = slice_index_or texts at []\n"
     out += "\n-- the schema of the first tables; of none, that of an empty database\nabbrev pub schema_prefix : ℕ → Schema\nschema_prefix count = schema_of (take count all_tables)\n"
+    out += "\n-- the database has the first tables, and no row in them\npub record HasEmptyTables (count : ℕ) (db : Database) : Type 0 where\n"
+    out += "  pub schema : db.schema ≡ schema_prefix count\n  pub empty : AreEmpty (take count all_tables) db.trees\n"
     write("specs/Creation.antt", out)
 
 
