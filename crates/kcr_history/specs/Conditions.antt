@@ -204,7 +204,15 @@ early_conditions facts (Put ceremony serial to at) =
     put_early (status facts ceremony at) (facts.is_safe_open (facts.facility ceremony))
     (facts.place_of_box (facts.facility ceremony)) (facts.spot serial) serial to
 early_conditions facts (Cut ceremony serial at) = cut_early (status facts ceremony at) (facts.spot serial) serial
-early_conditions facts act = []
+early_conditions facts (Enter who name) = []
+early_conditions facts (Train who role since until) = []
+early_conditions facts (Withdraw who role day) = []
+early_conditions facts (Appoint place who day) = []
+early_conditions facts (Replace place who day) = []
+early_conditions facts (Release place day) = []
+early_conditions facts (AddBox facility number place) = []
+early_conditions facts (Plan number facility day script) = []
+early_conditions facts (Open ceremony at) = []
 
 -- the people whom a bag needs that comes from a box or goes into one, or the CA alone
 abbrev pub keepers_late : Facts → ℕ → ℕ → Option ℕ → List (Option Refusal)
@@ -241,7 +249,8 @@ late_conditions facts (Seal ceremony serial items at) = no_ca_refusal (facts.has
 late_conditions facts (Take ceremony serial at) = keepers_late facts ceremony at (box_of (facts.spot serial))
 late_conditions facts (Put ceremony serial to at) = keepers_late facts ceremony at (box_of_destination to)
 late_conditions facts (Cut ceremony serial at) = no_ca_refusal (facts.has_ca ceremony at) ∷ []
-late_conditions facts act = []
+late_conditions facts (Sign ceremony step at) = []
+late_conditions facts (RecordException ceremony text pass at) = []
 
 abbrev pub conditions_over : Facts → Act → List (Option Refusal)
 conditions_over facts act = early_conditions facts act ++ late_conditions facts act

@@ -139,7 +139,7 @@ changes_by view (Seal ceremony serial items at) = seal_changes_by view ceremony 
 changes_by view (Take ceremony serial at) = take_changes_by view ceremony serial at
 changes_by view (Put ceremony serial to at) = put_changes_by view ceremony serial to at
 changes_by view (Cut ceremony serial at) = cut_changes_by view ceremony serial at
-changes_by view act = []
+changes_by view (Sign ceremony step at) = []
 
 -- SEATS AND ANSWERS: a signature fills the seats of its step, an exception that passes a step those of two of the
 -- staff; other acts need no seats, and are answered their number alone
