@@ -46,6 +46,7 @@ class Source:
 def import_line(source, text):
     """Takes in what a `use` or `ghost use` names."""
     text = " ".join(text.split()).rstrip(";")
+    text = text.removeprefix("unfoldable ")
     handed_on = text.startswith("pub use")
     text = re.sub(r"^(pub |ghost )?use ", "", text).replace("«", "").replace("»", "")
     listed = re.match(r"(.*?)\.\{(.*)\}$", text)
@@ -82,7 +83,7 @@ def read_antt(path, text):
             continue
         if not line.strip():
             section, comment = comment or section, []  # a comment over no definition is that of a section
-        elif line.startswith(("use ", "pub use ")):
+        elif line.startswith(("use ", "pub use ", "unfoldable pub use ")):
             source.about, comment = comment or source.about, []
             import_line(source, line)
         elif line.startswith("--"):

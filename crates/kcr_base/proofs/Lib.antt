@@ -1,4 +1,5 @@
 pub mod DayLemmas
+pub mod FormLemmas
 pub mod ListLemmas
 pub mod Members
 pub mod NamedLemmas
@@ -6,4 +7,6 @@ pub mod PositionsLemmas
 pub mod RefuseLemmas
 pub mod RowsLemmas
 pub mod SameLemmas
+pub mod TextLemmas
+pub mod ValueLemmas
 pub mod Walks

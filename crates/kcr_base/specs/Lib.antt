@@ -4,6 +4,7 @@ pub mod Counts
 pub mod Day
 pub mod Days
 pub mod Facility
+pub mod Forms
 pub mod Initials
 pub mod Key
 pub mod Line

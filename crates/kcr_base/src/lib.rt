@@ -19,6 +19,7 @@ pub mod same;
 pub mod serial;
 pub mod tally;
 pub mod text;
+pub mod written;
 
 pub use code::Code;
 pub use counted::Counted;
@@ -36,3 +37,4 @@ pub use same::{is_before, is_earlier, same_text};
 pub use serial::{ItemCode, Serial};
 pub use tally::Tally;
 pub use text::Text;
+pub use written::Written;

@@ -9,6 +9,7 @@ ghost use Rattle.kcr_base.specs.Same.{same_text};
 
 use crate::initials::Initials;
 use crate::serial::ItemCode;
+use crate::written::Written;
 use std::alloc::AllocError;
 use std::marker::Model;
 
@@ -18,11 +19,8 @@ pub type People = DistinctList<Initials>;
 /// Items in an order: 1 to 64, none of them twice.
 pub type Items = DistinctList<ItemCode>;
 
-/// What a command names in a list, by its text.
-pub trait ListElement: Copy + PartialEq {
-    /// The text of one.
-    ghost text: { Self → List ℕ };
-
+/// What a command names in a list, each by its text.
+pub trait ListElement: Written + Copy + PartialEq {
     /// The texts of several.
     ghost texts: { List Self → List (List ℕ) };
 
@@ -32,24 +30,30 @@ pub trait ListElement: Copy + PartialEq {
     /// The greatest number of them in a list.
     const MAX_LEN: usize;
 
+    /// Its text.
+    fn code(&self) -> &str
+        ensures { result.now ≡ Self.Written.text self.now };
+
     // Several have the text of each.
-    ghost each: { (all : List Self) → texts all ≡ map text all };
+    ghost each: { (all : List Self) → texts all ≡ map Self.Written.text all };
 
     // They are equal if their texts are.
-    ghost same: { (one other : Self) → Self.PartialEq.eq one other ≡ same_text (text one) (text other) };
+    ghost same: { (one other : Self) → Self.PartialEq.eq one other ≡ same_text (Self.Written.text one) (Self.Written.text other) };
 
     // A clone is what it is a clone of.
     ghost exact: { (one other : Self) → Self.Clone.is_clone one other → other ≡ one };
 }
 
 impl ListElement for Initials {
-    ghost text = { λ who. who };
-
     ghost texts = { λ people. people };
 
     ghost MAX_LEN = { 32 };
 
     const MAX_LEN: usize = 32;
+
+    fn code(&self) -> &str {
+        self.as_str()
+    }
 
     ghost each = { λ people. sym (map-id people) };
 
@@ -59,13 +63,15 @@ impl ListElement for Initials {
 }
 
 impl ListElement for ItemCode {
-    ghost text = { λ item. item };
-
     ghost texts = { λ items. items };
 
     ghost MAX_LEN = { 64 };
 
     const MAX_LEN: usize = 64;
+
+    fn code(&self) -> &str {
+        self.as_str()
+    }
 
     ghost each = { λ items. sym (map-id items) };
 

@@ -1,10 +1,11 @@
 //! Texts of any length.
-ghost use Rattle.std.specs.Prelude.{◌≡◌, ℕ, List, IfOk, nat_eq, string_bytes};
+ghost use Rattle.std.specs.Prelude.{◌≡◌, ℕ, List, IfOk, IsUtf8, SomeIff, Some, nat_eq, string_bytes};
 ghost use Rattle.std.specs.Cmp.{partial_equiv_from_equiv};
 ghost use Rattle.std.specs.Cmp.Lexicographic.{pointwise, nat_list_eq_equiv};
 
 use std::alloc::{AllocError, Global};
 use std::marker::Model;
+use std::str;
 
 /// A text of any length in UTF-8, as a script file, a command's text or a reply. Clauses see its bytes.
 #[derive(Drop)]
@@ -35,6 +36,16 @@ impl Text {
         Ok(Text {
             text: String::from_str(alloc, text)?,
         })
+    }
+
+    /// The text that these bytes are, or `None` if they are no UTF-8. The error is out of memory.
+    pub fn read(alloc: Global, bytes: &[u8]) -> Result<Option<Text>, AllocError>
+        ensures { IfOk result (λ found. SomeIff found (IsUtf8 bytes.now) bytes.now) }
+    {
+        match str::from_utf8(bytes) {
+            Ok(text) => Ok(Some(Text::copy_of(alloc, text)?)),
+            Err(_) => Ok(None),
+        }
     }
 
     /// Its text.

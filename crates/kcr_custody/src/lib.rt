@@ -12,6 +12,7 @@ use std::marker::Model;
 
 pub mod acts;
 mod checks;
+mod destinations;
 pub mod laws;
 pub mod queries;
 pub mod spots;

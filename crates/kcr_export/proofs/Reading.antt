@@ -15,8 +15,9 @@ use Rattle.kcr_history.specs.declared.commands.Act.TheVariants.{Sign, RecordExce
 use Rattle.kcr_forms.specs.Acts.{IsAct}
 use Rattle.kcr_forms.specs.Forms.{key_of, initials_of, item_of, number_to, listed_of}
 use Rattle.kcr_forms.specs.Posts.{post_of}
-use Rattle.kcr_forms.proofs.FormLemmas.{key-read, number-new, listed-new}
-use Rattle.kcr_forms.proofs.Formed.{days, moments, roles, facilities, ways, places-read, initials, items, names, remarks, scripts, stores}
+use Rattle.kcr_base.proofs.FormLemmas.{key-read}
+use Rattle.kcr_forms.proofs.FormLemmas.{number-new, listed_new}
+use Rattle.kcr_forms.proofs.Formed.{days, moments, roles, facilities, ways, places-read, initials, serials, names, remarks, scripts, destinations}
 use Rattle.kcr_forms.proofs.Readers.{Reads}
 use Rattle.kcr_wire.specs.Commands.{command_by}
 use Rattle.kcr_wire.specs.Members.{json_of, each_in}
@@ -45,7 +46,7 @@ each-again IsValue form reads (text ∷ list) each =
     rw (reads.again text (All-head IsValue text list each), each-again IsValue form reads list (All-tail IsValue text list each)) refl
 
 listed-again : (limit : ℕ) (list : List (List ℕ)) → IsListed limit list → listed_of limit (λ texts. texts) list ≡ Some list
-listed-again limit list is = sym (listed-new limit (λ texts. texts) list (Some list) (is, refl))
+listed-again limit list is = sym (listed_new limit (λ texts. texts) list (Some list) (is, refl))
 
 pub command-again : (key : List ℕ) (act : Act) → IsKey key → IsAct act → command_by (post_of act) (data_of key act) ≡ Ok (record { key = key; act = act })
 command-again key (Enter who name) is_key is = rw (key-again key is_key, initials.reads.again who is.0, names.again name is.1) refl
@@ -59,7 +60,7 @@ command-again key (Release place day) is_key is = rw (key-again key is_key, days
 command-again key (AddBox facility box place) is_key is =
     rw (key-again key is_key, facilities.reads.again facility tt, number-again box is.0, places-read.reads.again place is.1) refl
 command-again key (AddItem ceremony item at) is_key is =
-    rw (key-again key is_key, number-again ceremony is.0, items.reads.again item is.1, moments.again at is.2) refl
+    rw (key-again key is_key, number-again ceremony is.0, serials.reads.again item is.1, moments.again at is.2) refl
 command-again key (Plan ceremony facility day script) is_key is =
     rw (key-again key is_key, number-again ceremony is.0, facilities.reads.again facility tt, days.reads.again day is.1, scripts.again script is.2) refl
 command-again key (Open ceremony at) is_key is = rw (key-again key is_key, moments.again at is.1) refl
@@ -70,9 +71,9 @@ command-again key (Sign ceremony step at) is_key is = rw (key-again key is_key, 
 command-again key (RecordException ceremony text pass at) is_key is = rw (key-again key is_key, remarks.reads.again text is.1, moments.again at is.2) refl
 command-again key (SetSafe ceremony safe state by at) is_key is = rw (key-again key is_key, initials.reads.again by is.1, moments.again at is.2) refl
 command-again key (Seal ceremony serial list at) is_key is =
-    rw (key-again key is_key, each-again IsSerial item_of items.reads list is.2.each, listed-again 64 list is.2.listed, moments.again at is.3) refl
+    rw (key-again key is_key, each-again IsSerial item_of serials.reads list is.2.each, listed-again 64 list is.2.listed, moments.again at is.3) refl
 command-again key (Take ceremony serial at) is_key is = rw (key-again key is_key, moments.again at is.2) refl
-command-again key (Put ceremony serial to at) is_key is = rw (key-again key is_key, stores.reads.again to is.2, moments.again at is.3) refl
+command-again key (Put ceremony serial to at) is_key is = rw (key-again key is_key, destinations.reads.again to is.2, moments.again at is.3) refl
 command-again key (Cut ceremony serial at) is_key is = rw (key-again key is_key, moments.again at is.2) refl
 
 -- the body is read as those members

@@ -27,11 +27,12 @@ use Rattle.kcr_custody.specs.declared.Destination.TheVariants.{SafeOne, DepositB
 use Rattle.kcr_room.specs.declared.Way.{Way}
 use Rattle.kcr_room.specs.declared.Way.TheVariants as way
 use Rattle.kcr_room.specs.Room.{way_text}
-use Rattle.kcr_history.specs.Texts.{store_text, members_of}
+use Rattle.kcr_custody.specs.Destinations.{IsDestination, destination_text}
+use Rattle.kcr_history.specs.Texts.{members_of}
 use Rattle.kcr_history.specs.declared.commands.Act.{Act}
 use Rattle.kcr_history.specs.declared.commands.Act.TheVariants.{Enter, Train, Withdraw, Appoint, Replace, Release, AddBox, AddItem, Plan, Open, Close, RecordSheet}
 use Rattle.kcr_history.specs.declared.commands.Act.TheVariants.{Sign, RecordException, SetSafe, Seal, Take, Put, Cut}
-use Rattle.kcr_forms.specs.Acts.{IsAct, IsDestination}
+use Rattle.kcr_forms.specs.Acts.{IsAct}
 use Rattle.kcr_export.specs.Bodies.{json_members}
 use Rattle.kcr_export.proofs.Bytes.{initials-word, serial-word, number-word, place-word, word-utf8, ascii-utf8}
 use Rattle.kcr_export.proofs.Sent.{AreSent, are-texts}
@@ -92,7 +93,7 @@ in-or-out : (w : Way) → IsUtf8 (way_text w)
 in-or-out way.Enter = IsUtf8-are_ascii (way_text way.Enter) refl
 in-or-out way.Leave = IsUtf8-are_ascii (way_text way.Leave) refl
 
-store : (to : Destination) → IsDestination to → IsUtf8 (store_text to)
+store : (to : Destination) → IsDestination to → IsUtf8 (destination_text to)
 store SafeOne is = IsUtf8-are_ascii (codes "safe1") refl
 store (DepositBox n) is = word-utf8 (decimal n) (number-word 9999 n (omega arith) is).bytes
 

@@ -7,8 +7,8 @@ ghost use Rattle.kcr_base.specs.Refusal.{member_text};
 ghost use Rattle.kcr_export.specs.Bodies.{next_member};
 
 use kcr_base::Member;
-use kcr_base::lists::DistinctList;
-use kcr_history::{Coded, Teller};
+use kcr_base::lists::{DistinctList, ListElement};
+use kcr_history::Teller;
 use serde_json::{Value, json};
 use std::alloc::{AllocError, Global};
 
@@ -45,7 +45,7 @@ fn text_value(alloc: Global, text: &str) -> Result<Value, AllocError>
 }
 
 /// Codes, each as JSON.
-fn code_values<T: Coded>(alloc: Global, codes: &[T]) -> Result<Vec<Value>, AllocError>
+fn code_values<T: ListElement>(alloc: Global, codes: &[T]) -> Result<Vec<Value>, AllocError>
     ensures { IfOk result (λ v. map view v.items ≡ map string (T.texts codes.now)) }
 {
     let mut values = Vec::new(alloc);
@@ -88,7 +88,7 @@ impl Teller for BodyText {
         self.push(name, &value)
     }
 
-    fn list<T: Coded>(&mut self, name: Member, value: &DistinctList<T>) -> Result<(), AllocError> {
+    fn list<T: ListElement>(&mut self, name: Member, value: &DistinctList<T>) -> Result<(), AllocError> {
         let values = code_values(self.alloc, value.as_slice())?;
         let value = array_value(self.alloc, values)?;
         self.push(name, &value)

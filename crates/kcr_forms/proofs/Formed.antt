@@ -5,11 +5,10 @@ use Rattle.std.specs.Bool.{⊤}
 use Rattle.std.specs.Fmt.{decimal}
 use Rattle.std.specs.Int.Digits.{digits_of}
 use Rattle.std.specs.List.{find, range_with_len, list_all}
-use Rattle.std.specs.Str.Parse.{AllDigits}
 use Rattle.std.specs.Str.{is_utf8, IsUtf8}
 use Rattle.std.specs.Cmp.Lexicographic.{same_text as equal_texts}
 use Rattle.std.proofs.lemmas.Bool.{leb-true}
-use Rattle.std.proofs.lemmas.Fmt.{decimal_injective, decimal-digits_of, decimal_is_IsNumeral}
+use Rattle.std.proofs.lemmas.Fmt.{decimal_injective, decimal-digits_of}
 use Rattle.std.proofs.lemmas.List.Elements.{All-get_or, All-nil, All-weaker, All-map, All-append, All-head, All-tail, All-from_recursion}
 use Rattle.std.proofs.lemmas.List.Sums.{AllPass-from_list_all}
 use Rattle.std.proofs.lemmas.List.Splits.{slice_split_none, slice_split_at}
@@ -38,19 +37,20 @@ use Rattle.kcr_custody.specs.declared.Destination.TheVariants.{SafeOne, DepositB
 use Rattle.kcr_room.specs.declared.Way.{Way}
 use Rattle.kcr_room.specs.declared.Way.TheVariants.{Enter, Leave}
 use Rattle.kcr_room.specs.Room.{way_text}
-use Rattle.kcr_history.specs.Texts.{safe_text, store_text, truth_text, listed}
-use Rattle.kcr_forms.specs.Forms.{by_text, number_by_text, initials_of, serial_of, item_of, name_of, remark_of, is_initials, is_serial, is_line, day_of}
-use Rattle.kcr_forms.specs.Forms.{moment_of, ceremony_of, box_of, step_of, role_of, facility_of, way_of, safe_of, places, place_of, destination_of, script_of, truth_of}
-use Rattle.kcr_forms.specs.Forms.{if_form}
-use Rattle.kcr_forms.proofs.FormLemmas.{initials-read, serial-read, item-read, name-read, remark-read}
-use Rattle.kcr_forms.proofs.TextLemmas.{number-read}
-use Rattle.kcr_forms.proofs.ValueLemmas.{day-read, moment-read, place-read}
-use Rattle.kcr_forms.specs.Acts.{IsDestination}
+use Rattle.kcr_history.specs.Texts.{safe_text, truth_text, listed}
+use Rattle.kcr_base.specs.Forms.{by_text, number_by_text, initials_of, serial_of, line_of, name_of, remark_of, is_initials, is_serial, is_line, day_of}
+use Rattle.kcr_base.specs.Forms.{moment_of, ceremony_of, box_of, step_of, role_of, facility_of, places, place_of, script_of, if_form}
+use Rattle.kcr_base.proofs.FormLemmas.{initials-read, serial-read, line-read, script-read}
+use Rattle.kcr_base.proofs.TextLemmas.{number-read}
+use Rattle.kcr_base.proofs.ValueLemmas.{day-read, moment-read, place-read}
+use Rattle.kcr_custody.specs.Destinations.{IsDestination, destination_text, destination_of}
+use Rattle.kcr_custody.proofs.DestinationLemmas.{number-no_word}
+use Rattle.kcr_room.specs.Forms.{way_of}
+use Rattle.kcr_forms.specs.Forms.{safe_of, truth_of}
 use Rattle.kcr_forms.specs.Lines.{each_of, between_commas}
 use Rattle.kcr_forms.proofs.Cutting.{Lacks, lacks-literal}
 use Rattle.kcr_forms.proofs.Dates.{day-same, moment-same, day-printing}
 use Rattle.kcr_forms.proofs.Readers.{named, nothing, option_map_some, Reads, Value, InPath, AtLeast, lacks-below, at_least-less}
-use Rattle.kcr_forms.proofs.Scripts.{script-some}
 
 -- ---- the bytes of texts
 
@@ -223,27 +223,22 @@ serials = record {
   printing = λ v is. at_least-less 48 32 v (omega arith) (serial-at_least v is);
 }
 
-pub items : Value IsSerial (λ text. text) item_of
-unfolding item_of
-items = record {
-  reads = if_forms is_serial (λ v is. sym (item-read (Some v) v (is, refl)));
-  printing = λ v is. at_least-less 48 32 v (omega arith) (serial-at_least v is);
-}
+line-forms : (limit : ℕ) → Reads (IsLine limit) (λ text. text) (line_of limit)
+unfolding line_of
+line-forms limit = if_forms (is_line limit) (λ v is. sym (line-read limit (Some v) v (is, refl)))
 
 pub names : Reads (IsLine 120) (λ text. text) name_of
-unfolding name_of
-names = if_forms (is_line 120) (λ v is. sym (name-read (Some v) v (is, refl)))
+names = line-forms 120
 
 pub remarks : Value (IsLine 1000) (λ text. text) remark_of
-unfolding remark_of
 remarks = record {
-  reads = if_forms (is_line 1000) (λ v is. sym (remark-read (Some v) v (is, refl)));
+  reads = line-forms 1000;
   printing = λ v is. All-weaker IsPrinting (λ b. 32 ≤ b) (λ b h. h.0) v is.printing;
 }
 
 pub scripts : Reads IsUtf8 (λ text. text) script_of
 unfolding script_of
-scripts = if_forms is_utf8 script-some
+scripts = if_forms is_utf8 (λ v is. sym (script-read (Some v) v (is, refl)))
 
 -- the value that a word chooses has that word for its text
 chosen : {V : Type 0} (text_of : V → List ℕ) (x : V) {v : V} {text : List ℕ} → text ≡ text_of x → Some x ≡ Some v → text_of v ≡ text
@@ -269,31 +264,28 @@ truths = record {
 
 -- ---- where a bag is put
 
-store-again : (v : Destination) → IsDestination v → destination_of (store_text v) ≡ Some v
+destination-again : (v : Destination) → IsDestination v → destination_of (destination_text v) ≡ Some v
 unfolding destination_of
-store-again SafeOne is = refl
-store-again (DepositBox n) is = by (same_text (decimal n) (codes "safe1")) refl
+destination-again SafeOne is = refl
+destination-again (DepositBox n) is = by (same_text (decimal n) (codes "safe1")) refl
   where
-    by : (b : Bool) → same_text (decimal n) (codes "safe1") ≡ b → destination_of (store_text (DepositBox n)) ≡ Some (DepositBox n)
-    by true e =
-        let digits = (decimal_is_IsNumeral n (omega (arith, is.until))).0.1 in
-        let letter : AllDigits 10 (codes "safe1") = subst (AllDigits 10) (equal_texts (decimal n) (codes "safe1") (sym e)) digits in
-        absurd (omega (arith, letter.0))
+    by : (b : Bool) → same_text (decimal n) (codes "safe1") ≡ b → destination_of (destination_text (DepositBox n)) ≡ Some (DepositBox n)
+    by true e = absurd (number-no_word n is (equal_texts (decimal n) (codes "safe1") (sym e)))
     by false e = rw (e, boxes.reads.again n is) refl
 
-store-printing : (v : Destination) → IsDestination v → AtLeast 32 (store_text v)
-store-printing SafeOne is = literal 32 (codes "safe1") refl
-store-printing (DepositBox n) is = at_least-less 48 32 (decimal n) (omega arith) (number-at_least 9999 n (omega arith) is)
+destination-printing : (v : Destination) → IsDestination v → AtLeast 32 (destination_text v)
+destination-printing SafeOne is = literal 32 (codes "safe1") refl
+destination-printing (DepositBox n) is = at_least-less 48 32 (decimal n) (omega arith) (number-at_least 9999 n (omega arith) is)
 
-pub stores : Value IsDestination store_text destination_of
+pub destinations : Value IsDestination destination_text destination_of
 unfolding destination_of
-stores = record {
+destinations = record {
   reads = record {
-    found = λ text v e. named text (codes "safe1") e (chosen store_text SafeOne) (λ e.
-        option_map_some DepositBox (box_of text) v e (λ n found same. ap store_text (sym same) ∙ boxes.reads.found text n found));
-    again = store-again;
+    found = λ text v e. named text (codes "safe1") e (chosen destination_text SafeOne) (λ e.
+        option_map_some DepositBox (box_of text) v e (λ n found same. ap destination_text (sym same) ∙ boxes.reads.found text n found));
+    again = destination-again;
   };
-  printing = store-printing;
+  printing = destination-printing;
 }
 
 -- ---- lists

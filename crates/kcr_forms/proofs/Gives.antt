@@ -13,7 +13,8 @@ use Rattle.kcr_base.specs.Place.{place_text}
 use Rattle.kcr_base.specs.Role.{role_text}
 use Rattle.kcr_room.specs.Room.{way_text}
 use Rattle.kcr_base.specs.declared.refusal.Member.{Member}
-use Rattle.kcr_history.specs.Texts.{MemberValue, Word, Whole, Truth, Several, members_of, value_text, store_text, listed}
+use Rattle.kcr_custody.specs.Destinations.{destination_text}
+use Rattle.kcr_history.specs.Texts.{MemberValue, Word, Whole, Truth, Several, members_of, value_text, listed}
 use Rattle.kcr_history.specs.declared.commands.Act.{Act}
 use Rattle.kcr_history.specs.declared.commands.Act.TheVariants as act
 use Rattle.kcr_forms.specs.Acts.{IsAct}
@@ -23,9 +24,9 @@ use Rattle.kcr_forms.specs.Lines.{each_of, between_commas, lines, on_line}
 use Rattle.kcr_forms.specs.Posts.{post_of, act_by}
 use Rattle.kcr_forms.specs.Reading.{Reading}
 use Rattle.kcr_forms.proofs.Cutting.{Lacks, cut-again}
-use Rattle.kcr_forms.proofs.FormLemmas.{listed-new}
+use Rattle.kcr_forms.proofs.FormLemmas.{listed_new}
 use Rattle.kcr_forms.proofs.Readers.{Reads, no-feed}
-use Rattle.kcr_forms.proofs.Formed.{days, moments, ceremonies, roles, facilities, ways, places-read, initials, items, names, remarks, scripts, truths, stores}
+use Rattle.kcr_forms.proofs.Formed.{days, moments, ceremonies, roles, facilities, ways, places-read, initials, serials, names, remarks, scripts, truths, destinations}
 use Rattle.kcr_forms.proofs.Formed.{each-again, pieces, initials-lack, items-lack, codes-feed}
 
 -- what a source gives of a member that is not the last one
@@ -51,7 +52,7 @@ codes-again : (most : ℕ) (IsValue : List ℕ → Type 0) (read : List ℕ → 
     → (list : List (List ℕ)) → IsListed most list → All IsValue list → option_and_then (listed_of most (λ texts. texts)) (each_of read list) ≡ Some list
 codes-again most IsValue read reads list is each =
     ap (option_and_then (listed_of most (λ texts. texts))) (each-again IsValue read reads list each)
-    ∙ sym (listed-new most (λ texts. texts) list (Some list) (is, refl))
+    ∙ sym (listed_new most (λ texts. texts) list (Some list) (is, refl))
 
 -- ---- the law
 
@@ -85,7 +86,7 @@ module _ {S : Type 0} (r : Reading S) where
   act-given (act.AddItem ceremony item at) s is g =
       rw (
         g.0.whole ceremony refl is.0,
-        g.1.0.word item_of item refl ∙ items.reads.again item is.1,
+        g.1.0.word item_of item refl ∙ serials.reads.again item is.1,
         g.1.1.word moment_of (moment_text at) refl ∙ moments.again at is.2,
       ) refl
   act-given (act.Plan number facility day script) s is g =
@@ -110,12 +111,12 @@ module _ {S : Type 0} (r : Reading S) where
       rw (g.0.truth state refl, g.1.0.word initials_of by refl ∙ initials.reads.again by is.1, g.1.1.word moment_of (moment_text at) refl ∙ moments.again at is.2) refl
   act-given (act.Seal ceremony serial list at) s is g =
       rw (
-        g.0.several item_of (listed_of 64 (λ texts. texts)) list refl ∙ codes-again 64 IsSerial item_of items.reads list is.2.listed is.2.each,
+        g.0.several item_of (listed_of 64 (λ texts. texts)) list refl ∙ codes-again 64 IsSerial item_of serials.reads list is.2.listed is.2.each,
         g.1.word moment_of (moment_text at) refl ∙ moments.again at is.3,
       ) refl
   act-given (act.Take ceremony serial at) s is g = rw (g.word moment_of (moment_text at) refl ∙ moments.again at is.2) refl
   act-given (act.Put ceremony serial to at) s is g =
-      rw (g.0.word destination_of (store_text to) refl ∙ stores.reads.again to is.2, g.1.word moment_of (moment_text at) refl ∙ moments.again at is.3) refl
+      rw (g.0.word destination_of (destination_text to) refl ∙ destinations.reads.again to is.2, g.1.word moment_of (moment_text at) refl ∙ moments.again at is.3) refl
   act-given (act.Cut ceremony serial at) s is g = rw (g.word moment_of (moment_text at) refl ∙ moments.again at is.2) refl
 
 -- ---- the lines of a text give its members
@@ -190,7 +191,7 @@ are-plain (act.Appoint place who day) is = (no-feed places-read place is.0, (no-
 are-plain (act.Replace place who day) is = (no-feed initials who is.1, tt)
 are-plain (act.Release place day) is = tt
 are-plain (act.AddBox facility number place) is = (no-feed facilities facility tt, (is.0, tt))
-are-plain (act.AddItem ceremony item at) is = (is.0, (no-feed items item is.1, tt))
+are-plain (act.AddItem ceremony item at) is = (is.0, (no-feed serials item is.1, tt))
 are-plain (act.Plan number facility day script) is = (is.0, (no-feed facilities facility tt, (no-feed days day is.1, tt)))
 are-plain (act.Open ceremony at) is = tt
 are-plain (act.Close ceremony at) is = tt
@@ -210,14 +211,14 @@ are-plain (act.RecordException ceremony text pass at) is = (no-feed remarks text
 are-plain (act.SetSafe ceremony safe state by at) is = (tt, (no-feed initials by is.1, tt))
 are-plain (act.Seal ceremony serial list at) is = (
   (
-    codes-feed IsSerial items.printing list is.2.each,
+    codes-feed IsSerial serials.printing list is.2.each,
     is.2.listed.at_least_one,
     All-weaker IsSerial (λ code. Lacks 44 code) items-lack list is.2.each,
   ),
   tt,
 )
 are-plain (act.Take ceremony serial at) is = tt
-are-plain (act.Put ceremony serial to at) is = (no-feed stores to is.2, tt)
+are-plain (act.Put ceremony serial to at) is = (no-feed destinations to is.2, tt)
 are-plain (act.Cut ceremony serial at) is = tt
 
 pub lines-told : (does : Act) → IsAct does → act_by lines (post_of does) (lines_text (members_of does)) ≡ Ok does

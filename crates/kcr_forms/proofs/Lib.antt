@@ -1,6 +1,4 @@
 pub mod FormLemmas
-pub mod TextLemmas
-pub mod ValueLemmas
 pub mod Again
 pub mod Cutting
 pub mod Dates
@@ -9,4 +7,3 @@ pub mod Gives
 pub mod Listing
 pub mod Paths
 pub mod Readers
-pub mod Scripts

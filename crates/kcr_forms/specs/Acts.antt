@@ -8,8 +8,7 @@ use Rattle.kcr_base.specs.Moment.{IsMoment}
 use Rattle.kcr_base.specs.Number.{IsNumber}
 use Rattle.kcr_base.specs.Place.{IsPlace}
 use Rattle.kcr_base.specs.Serial.{IsSerial}
-use Rattle.kcr_custody.specs.declared.Destination.{Destination}
-use Rattle.kcr_custody.specs.declared.Destination.TheVariants.{SafeOne, DepositBox}
+use Rattle.kcr_custody.specs.Destinations.{IsDestination}
 use Rattle.kcr_history.specs.declared.commands.Act.{Act}
 use Rattle.kcr_history.specs.declared.commands.Act.TheVariants.{Enter, Train, Withdraw, Appoint, Replace, Release}
 use Rattle.kcr_history.specs.declared.commands.Act.TheVariants.{AddBox, AddItem, Plan, Open, Close, RecordSheet, Sign, RecordException}
@@ -24,11 +23,6 @@ pub record ArePeople (people : List (List ℕ)) : Type 0 where
 pub record AreItems (items : List (List ℕ)) : Type 0 where
   pub listed : IsListed 64 items
   pub each : All IsSerial items
-
--- safe 1, or a box with a number that boxes have
-abbrev pub IsDestination : Destination → Type 0
-IsDestination SafeOne = Unit {0}
-IsDestination (DepositBox number) = IsNumber 9999 number
 
 -- each part of the act is a value of its type; those of which all are, as roles, are left out
 abbrev pub IsAct : Act → Type 0

@@ -1,134 +1,15 @@
 -- The forms of texts, numbers and lists, as the value that each of them tells.
-use Rattle.std.specs.Prelude.{ℕ, ◌+◌, ◌*◌, ◌-◌, ◌&&◌, ◌||◌, ◌==◌, not, List, [], ◌∷◌, ◌++◌, length, map, codes, nat_le}
-use Rattle.std.specs.Prelude.{Bool, true, false, Option, Some, None, option_map, if◌then◌else◌}
-use Rattle.std.specs.Fmt.{decimal}
-use Rattle.std.specs.Str.{is_utf8}
-use Rattle.std.specs.List.{list_all, find, range_with_len}
+use Rattle.std.specs.Prelude.{ℕ, ◌&&◌, List, [], ◌∷◌, length, codes, Bool, true, false, Option, Some, None, if◌then◌else◌}
 use Rattle.kcr_base.specs.Same.{same_text}
-use Rattle.kcr_base.specs.Day.{day_text}
-use Rattle.kcr_base.specs.Facility.{facility_text}
 use Rattle.kcr_base.specs.Lists.{are_apart}
-use Rattle.kcr_base.specs.Moment.{moment_text}
-use Rattle.kcr_base.specs.Place.{place_text}
-use Rattle.kcr_base.specs.Role.{role_text}
-use Rattle.kcr_base.specs.declared.place.Facility.{Facility}
-use Rattle.kcr_base.specs.declared.place.Facility.TheVariants.{East, West}
-use Rattle.kcr_base.specs.declared.place.Place.{Place}
-use Rattle.kcr_base.specs.declared.place.Place.TheVariants.{Co, Rksh}
-use Rattle.kcr_base.specs.declared.place.Role.{Role}
-use Rattle.kcr_base.specs.declared.place.Role.TheVariants.{Ca, Iw, Sa, Ssc1, Ssc2, Rkos, Sw}
+pub use Rattle.kcr_base.specs.Forms.{is_between, is_key_byte, by_text, item_of, name_of, remark_of}
+unfoldable pub use Rattle.kcr_base.specs.Forms.{initials_of, key_of, serial_of, script_of, number_by_text, day_of, moment_of}
+unfoldable pub use Rattle.kcr_base.specs.Forms.{ceremony_of, box_of, step_of, number_of, role_of, facility_of, place_of}
+unfoldable pub use Rattle.kcr_room.specs.Forms.{way_of}
+unfoldable pub use Rattle.kcr_custody.specs.Destinations.{destination_of}
 use Rattle.kcr_custody.specs.declared.SafeNumber.{SafeNumber}
 use Rattle.kcr_custody.specs.declared.SafeNumber.TheVariants.{One, Two}
-use Rattle.kcr_custody.specs.declared.Destination.{Destination}
-use Rattle.kcr_custody.specs.declared.Destination.TheVariants.{SafeOne, DepositBox}
-use Rattle.kcr_room.specs.declared.Way.{Way}
-use Rattle.kcr_room.specs.declared.Way.TheVariants.{Enter, Leave}
-use Rattle.kcr_room.specs.Room.{way_text}
 use Rattle.kcr_history.specs.Texts.{safe_text}
-
--- TEXTS THAT ARE THEIR OWN VALUE
-
--- a number, or a byte, from `low` to `high`
-abbrev pub is_between : ℕ → ℕ → ℕ → Bool
-is_between low high b = nat_le low b && nat_le b high
-
--- a capital letter A to Z
-abbrev pub is_capital : ℕ → Bool
-is_capital b = is_between 65 90 b
-
--- two to four capital letters
-unfoldable pub is_initials : List ℕ → Bool
-is_initials text = is_between 2 4 (length text) && list_all is_capital text
-
--- a letter, a digit or `-`
-abbrev pub is_key_byte : ℕ → Bool
-is_key_byte b = is_capital b || (is_between 97 122 b || (is_between 48 57 b || (b == 45)))
-
--- one to forty of them
-unfoldable pub is_key : List ℕ → Bool
-is_key text = is_between 1 40 (length text) && list_all is_key_byte text
-
--- a capital letter or a digit
-abbrev pub is_serial_byte : ℕ → Bool
-is_serial_byte b = is_capital b || is_between 48 57 b
-
--- four to sixteen of them
-unfoldable pub is_serial : List ℕ → Bool
-is_serial text = is_between 4 16 (length text) && list_all is_serial_byte text
-
--- no control character
-abbrev pub is_printing : ℕ → Bool
-is_printing b = nat_le 32 b && not (b == 127)
-
--- 1 to `limit` bytes of text with no control character
-unfoldable pub is_line : ℕ → List ℕ → Bool
-is_line limit text = is_between 1 limit (length text) && (is_utf8 text && list_all is_printing text)
-
--- the text itself, if it is of a form
-abbrev pub if_form : Bool → List ℕ → Option (List ℕ)
-if_form is text = if is then Some text else None
-
--- the initials that a text is
-unfoldable pub initials_of : List ℕ → Option (List ℕ)
-initials_of text = if_form (is_initials text) text
-
--- the key that a text is
-unfoldable pub key_of : List ℕ → Option (List ℕ)
-key_of text = if_form (is_key text) text
-
--- the serial that a text is
-unfoldable pub serial_of : List ℕ → Option (List ℕ)
-serial_of text = if_form (is_serial text) text
-
--- the code of an item that a text is
-unfoldable pub item_of : List ℕ → Option (List ℕ)
-item_of text = if_form (is_serial text) text
-
--- the name that a text is
-unfoldable pub name_of : List ℕ → Option (List ℕ)
-name_of text = if_form (is_line 120 text) text
-
--- the remark that a text is
-unfoldable pub remark_of : List ℕ → Option (List ℕ)
-remark_of text = if_form (is_line 1000 text) text
-
--- a script's text, if it is UTF-8
-unfoldable pub script_of : List ℕ → Option (List ℕ)
-script_of text = if_form (is_utf8 text) text
-
--- VALUES BY THEIR TEXTS
-
--- the value, of a list of them, that has this text
-abbrev pub by_text : {V : Type 0} → (V → List ℕ) → List V → List ℕ → Option V
-by_text text_of values text = find (λ v. same_text (text_of v) text) values
-
--- the number that has this text, of those from the first to the last
-unfoldable pub number_by_text : (ℕ → List ℕ) → ℕ → ℕ → List ℕ → Option ℕ
-number_by_text text_of first last text = by_text text_of (range_with_len first (last + 1 - first)) text
-
--- the day whose text this is: 10,957 is the number of 2000-01-01, and 47,481 that of 2099-12-31
-unfoldable pub day_of : List ℕ → Option ℕ
-day_of text = number_by_text day_text 10957 47481 text
-
--- the moment whose text this is, from the first second of those days to the last
-unfoldable pub moment_of : List ℕ → Option ℕ
-moment_of text = number_by_text moment_text (10957 * 86400) (47481 * 86400 + 86399) text
-
--- the number of a ceremony whose decimal text this is
-unfoldable pub ceremony_of : List ℕ → Option ℕ
-ceremony_of text = number_by_text decimal 1 9999 text
-
--- the number of a box whose decimal text this is
-unfoldable pub box_of : List ℕ → Option ℕ
-box_of text = number_by_text decimal 1 9999 text
-
--- the number of a step whose decimal text this is
-unfoldable pub step_of : List ℕ → Option ℕ
-step_of text = number_by_text decimal 1 400 text
-
--- the number from 1 to `limit` whose decimal text this is
-unfoldable pub number_of : ℕ → List ℕ → Option ℕ
-number_of limit text = number_by_text decimal 1 limit text
 
 -- `true` or `false`
 unfoldable pub truth_of : List ℕ → Option Bool
@@ -137,35 +18,9 @@ truth_of text =
     else if same_text text (codes "false") then Some false
     else None
 
--- the role whose text this is
-unfoldable pub role_of : List ℕ → Option Role
-role_of text = by_text role_text (Ca ∷ Iw ∷ Sa ∷ Ssc1 ∷ Ssc2 ∷ Rkos ∷ Sw ∷ []) text
-
--- the facility whose text this is
-unfoldable pub facility_of : List ℕ → Option Facility
-facility_of text = by_text facility_text (East ∷ West ∷ []) text
-
--- the way whose text this is
-unfoldable pub way_of : List ℕ → Option Way
-way_of text = by_text way_text (Enter ∷ Leave ∷ []) text
-
 -- the safe whose text this is
 unfoldable pub safe_of : List ℕ → Option SafeNumber
 safe_of text = by_text safe_text (One ∷ Two ∷ []) text
-
--- the places of custodians: seven of Crypto Officers at each facility, and seven of Recovery Key Share Holders
-abbrev pub places : List Place
-places = map (Co East) (range_with_len 1 7) ++ (map (Co West) (range_with_len 1 7) ++ map Rksh (range_with_len 1 7))
-
--- the place whose text this is
-unfoldable pub place_of : List ℕ → Option Place
-place_of text = by_text place_text places text
-
--- where a bag is put: safe 1, or the box whose number the text is
-unfoldable pub destination_of : List ℕ → Option Destination
-destination_of text = if same_text text (codes "safe1") then Some SafeOne else option_map DepositBox (box_of text)
-
--- NUMBERS AND LISTS
 
 -- the number, if it is of 1 to `limit`
 unfoldable pub number_to : ℕ → ℕ → Option ℕ

@@ -1,6 +1,6 @@
 //! The forms of the parts of paths, of whole numbers and of lists. Each reader answers exactly what a definition in
 //! `Forms` says of the text, so that whoever reads requests can say what they mean without looking into the values.
-#![tactic(auto, using(crate::proofs::FormLemmas::form_readings, crate::proofs::ValueLemmas::value_readings))]
+#![tactic(auto, using(kcr_base::proofs::FormLemmas::form_readings, kcr_base::proofs::ValueLemmas::value_readings, crate::proofs::FormLemmas::listed_new))]
 
 ghost use Rattle.std.specs.Prelude.{◌≡◌};
 ghost use Rattle.kcr_forms.specs.Forms.{initials_of, serial_of, day_of, moment_of, ceremony_of, step_of, safe_of};

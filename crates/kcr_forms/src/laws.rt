@@ -135,7 +135,7 @@ pub fn acts_are_values(act: &Act)
         } => {
             parts::ceremony(*ceremony);
             parts::serial(*serial);
-            parts::store(*to);
+            parts::destination(*to);
             parts::moment(*at);
         }
     }

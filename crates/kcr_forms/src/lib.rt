@@ -11,7 +11,6 @@
 mod act;
 mod act_reader;
 pub mod forms;
-mod from_text;
 pub mod laws;
 mod lines;
 mod lists;
@@ -24,7 +23,6 @@ mod values;
 
 pub use act::act_at;
 pub use act_reader::read_act;
-pub use from_text::FromText;
 pub use members::{Members, required};
 pub use path::post_at;
 pub use post::Post;

@@ -1,18 +1,17 @@
 //! The members of a command as the lines of its stored text.
-#![tactic(auto, using(crate::proofs::FormLemmas::form_readings, crate::proofs::ValueLemmas::value_readings))]
+#![tactic(auto, using(kcr_base::proofs::ValueLemmas::value_readings))]
 
 ghost use Rattle.std.specs.Prelude.{◌≡◌};
 ghost use Rattle.kcr_forms.specs.Forms.{number_of};
 ghost use Rattle.kcr_forms.specs.Lines.{lines};
 
-use crate::from_text::FromText;
 use crate::lists::read_list;
 use crate::members::{Members, required};
 use crate::split::split_two_lines;
 use crate::values::read_truth;
 use kcr_base::lists::{DistinctList, ListElement};
 use kcr_base::number::{Number, Numbered};
-use kcr_base::{Member, Refusal};
+use kcr_base::{Member, Refusal, Written};
 use std::alloc::Global;
 
 /// The lines of a stored text behind its path.
@@ -37,7 +36,7 @@ impl<'t> Members for Lines<'t> {
 
     ghost reading = { lines };
 
-    fn word<T: FromText + Drop>(&mut self, alloc: Global, name: Member) -> Result<T, Refusal> {
+    fn word<T: Written + Drop>(&mut self, alloc: Global, name: Member) -> Result<T, Refusal> {
         let Some((line, rest)) = split_two_lines(self.text) else {
             return Err(Refusal::Form { member: name });
         };
@@ -46,7 +45,7 @@ impl<'t> Members for Lines<'t> {
         required(value, name)
     }
 
-    fn last<T: FromText + Drop>(&mut self, alloc: Global, name: Member) -> Result<T, Refusal> {
+    fn last<T: Written + Drop>(&mut self, alloc: Global, name: Member) -> Result<T, Refusal> {
         let value = T::from_text(alloc, self.text)?;
         required(value, name)
     }
@@ -67,7 +66,7 @@ impl<'t> Members for Lines<'t> {
         required(read_truth(line), name)
     }
 
-    fn list<T: ListElement + FromText + Drop>(
+    fn list<T: ListElement + Drop>(
         &mut self,
         alloc: Global,
         name: Member,

@@ -4,7 +4,7 @@ ghost use Rattle.kcr_forms.specs.Forms.{listed_of};
 ghost use Rattle.kcr_forms.specs.Lines;
 
 use crate::forms::listed;
-use crate::from_text::FromText;
+use kcr_base::Written;
 use kcr_base::lists::{DistinctList, ListElement};
 use std::alloc::{AllocError, Global};
 
@@ -16,7 +16,7 @@ fn between_commas(alloc: Global, text: &[u8]) -> Result<Vec<&[u8]>, AllocError>
 }
 
 /// The values that texts give, if each gives one.
-fn each_of<T: FromText + Drop>(alloc: Global, codes: &[&[u8]]) -> Result<Option<Vec<T>>, AllocError>
+fn each_of<T: Written + Drop>(alloc: Global, codes: &[&[u8]]) -> Result<Option<Vec<T>>, AllocError>
     ensures { IfOk result (λ values.
         option_map (λ list. list.items) values ≡ Lines.each_of T.form (map (λ code. code.now) codes.now)) }
 {
@@ -31,7 +31,7 @@ fn each_of<T: FromText + Drop>(alloc: Global, codes: &[&[u8]]) -> Result<Option<
 }
 
 /// The list whose values stand between commas. The error is out of memory.
-pub(crate) fn read_list<T: ListElement + FromText + Drop>(
+pub(crate) fn read_list<T: ListElement + Drop>(
     alloc: Global,
     text: &[u8],
 ) -> Result<Option<DistinctList<T>>, AllocError>

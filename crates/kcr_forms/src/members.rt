@@ -4,10 +4,9 @@ ghost use Rattle.kcr_forms.specs.Forms.{listed_of};
 ghost use Rattle.kcr_forms.specs.OrMemory.{OrMemory};
 ghost use Rattle.kcr_forms.specs.Reading.{Reading, formed};
 
-use crate::from_text::FromText;
 use kcr_base::lists::{DistinctList, ListElement};
 use kcr_base::number::{Number, Numbered};
-use kcr_base::{Member, Refusal};
+use kcr_base::{Member, Refusal, Written};
 use std::alloc::Global;
 
 /// A source of members, which are asked for one after the other. The refusal is `Form` with the member if it is
@@ -23,12 +22,12 @@ pub trait Members {
     ghost reading: { Reading Given };
 
     /// Reads a member that is a text and not the last one.
-    fn word<T: FromText + Drop>(&mut self, alloc: Global, name: Member) -> Result<T, Refusal>
+    fn word<T: Written + Drop>(&mut self, alloc: Global, name: Member) -> Result<T, Refusal>
         ensures told { OrMemory result (formed name (reading.word T.form name (given self.old))) }
         ensures rest { OnOk result (given self.new ≡ reading.rest (given self.old)) };
 
     /// Reads the last member, which is a text.
-    fn last<T: FromText + Drop>(&mut self, alloc: Global, name: Member) -> Result<T, Refusal>
+    fn last<T: Written + Drop>(&mut self, alloc: Global, name: Member) -> Result<T, Refusal>
         ensures { OrMemory result (formed name (reading.last T.form name (given self.old))) };
 
     /// Reads a member that is a number and not the last one.
@@ -42,7 +41,7 @@ pub trait Members {
         ensures rest { OnOk result (given self.new ≡ reading.rest (given self.old)) };
 
     /// Reads a member that is a list and not the last one.
-    fn list<T: ListElement + FromText + Drop>(
+    fn list<T: ListElement + Drop>(
         &mut self,
         alloc: Global,
         name: Member,

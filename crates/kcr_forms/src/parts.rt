@@ -7,7 +7,8 @@ ghost use Rattle.kcr_base.specs.Moment.{IsMoment};
 ghost use Rattle.kcr_base.specs.Number.{IsNumber};
 ghost use Rattle.kcr_base.specs.Place.{IsPlace};
 ghost use Rattle.kcr_base.specs.Serial.{IsSerial};
-ghost use Rattle.kcr_forms.specs.Acts.{ArePeople, AreItems, IsDestination};
+ghost use Rattle.kcr_custody.specs.Destinations.{IsDestination};
+ghost use Rattle.kcr_forms.specs.Acts.{ArePeople, AreItems};
 
 use kcr_base::{
     BoxNumber, CeremonyNumber, Day, Initials, ItemCode, Items, Moment, Name, People, Place, Remark,
@@ -94,7 +95,7 @@ pub(crate) fn place(place: Place)
     }
 }
 
-pub(crate) fn store(to: Destination)
+pub(crate) fn destination(to: Destination)
     ensures { IsDestination to }
 {
     match to {

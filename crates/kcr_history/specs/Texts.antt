@@ -12,8 +12,7 @@ use Rattle.kcr_base.specs.declared.refusal.Member.{Member}
 use Rattle.kcr_base.specs.declared.refusal.Member.TheVariants as Members
 use Rattle.kcr_custody.specs.declared.SafeNumber.{SafeNumber}
 use Rattle.kcr_custody.specs.declared.SafeNumber.TheVariants.{One, Two}
-use Rattle.kcr_custody.specs.declared.Destination.{Destination}
-use Rattle.kcr_custody.specs.declared.Destination.TheVariants.{SafeOne, DepositBox}
+use Rattle.kcr_custody.specs.Destinations.{destination_text}
 use Rattle.kcr_room.specs.Room.{way_text}
 use Rattle.kcr_history.specs.declared.commands.Act.{Act}
 use Rattle.kcr_history.specs.declared.commands.Act.TheVariants.{Enter, Train, Withdraw, Appoint, Replace, Release}
@@ -28,11 +27,6 @@ use Rattle.kcr_history.specs.Json.{quoted, member, object, array}
 abbrev pub safe_text : SafeNumber → List ℕ
 safe_text One = codes "1"
 safe_text Two = codes "2"
-
--- where a bag is put: `safe1`, or the number of a box
-abbrev pub store_text : Destination → List ℕ
-store_text SafeOne = codes "safe1"
-store_text (DepositBox number) = decimal number
 
 abbrev pub truth_text : Bool → List ℕ
 truth_text true = codes "true"
@@ -129,7 +123,7 @@ members_of (RecordException ceremony text pass at) = word Members.Text text ∷ 
 members_of (SetSafe ceremony safe is_open by at) = (Members.Open, Truth is_open) ∷ word Members.By by ∷ at_member at
 members_of (Seal ceremony serial items at) = (Members.Items, Several items) ∷ at_member at
 members_of (Take ceremony serial at) = at_member at
-members_of (Put ceremony serial to at) = word Members.To (store_text to) ∷ at_member at
+members_of (Put ceremony serial to at) = word Members.To (destination_text to) ∷ at_member at
 members_of (Cut ceremony serial at) = at_member at
 
 -- a value on a line

@@ -25,7 +25,6 @@ mod texts;
 mod views;
 
 pub use asks_by_kind::asks;
-pub use comma_lists::Coded;
 pub use commands::{Act, Command, Entry, Reply, ReplyData};
 pub use fitting::fits;
 pub use kcr_base::Text;

@@ -5,12 +5,12 @@ ghost use Rattle.kcr_base.specs.Day.{day_text};
 ghost use Rattle.kcr_base.specs.Moment.{moment_text};
 ghost use Rattle.kcr_base.specs.Place.{place_text};
 ghost use Rattle.kcr_base.specs.declared.refusal.Member.TheVariants as Members;
-ghost use Rattle.kcr_history.specs.Texts.{Word, members_of, store_text};
+ghost use Rattle.kcr_custody.specs.Destinations.{destination_text};
+ghost use Rattle.kcr_history.specs.Texts.{Word, members_of};
 
-use crate::comma_lists::Coded;
 use crate::commands::Act;
 use itoa::Buffer;
-use kcr_base::lists::DistinctList;
+use kcr_base::lists::{DistinctList, ListElement};
 use kcr_base::{Day, Member, Moment, Place};
 use kcr_custody::Destination;
 use std::alloc::AllocError;
@@ -43,7 +43,11 @@ pub trait Teller {
         ensures { OnOk result (seen self.new ≡ adds (seen self.old) (name, Truth value)) };
 
     /// Writes a member that is a list.
-    fn list<T: Coded>(&mut self, name: Member, value: &DistinctList<T>) -> Result<(), AllocError>
+    fn list<T: ListElement>(
+        &mut self,
+        name: Member,
+        value: &DistinctList<T>,
+    ) -> Result<(), AllocError>
         ensures { OnOk result (seen self.new ≡ adds (seen self.old) (name, Several (T.texts value.now))) };
 }
 
@@ -69,10 +73,10 @@ fn tell_place<W: Teller>(to: &mut W, place: Place) -> Result<(), AllocError>
 }
 
 /// Where a bag is put: `safe1`, or the number of a box.
-fn tell_store<W: Teller>(to: &mut W, store: Destination) -> Result<(), AllocError>
-    ensures { OnOk result (W.seen to.new ≡ W.adds (W.seen to.old) (Members.To, Word (store_text store))) }
+fn tell_destination<W: Teller>(to: &mut W, destination: Destination) -> Result<(), AllocError>
+    ensures { OnOk result (W.seen to.new ≡ W.adds (W.seen to.old) (Members.To, Word (destination_text destination))) }
 {
-    match store {
+    match destination {
         Destination::SafeOne => to.text(Member::To, "safe1"),
         Destination::DepositBox(number) => {
             let mut digits = Buffer::new();
@@ -164,8 +168,12 @@ pub fn tell<W: Teller>(act: &Act, to: &mut W) -> Result<(), AllocError>
             to.list(Member::Items, items)?;
             tell_moment(to, *at)
         }
-        Act::Put { to: store, at, .. } => {
-            tell_store(to, *store)?;
+        Act::Put {
+            to: destination,
+            at,
+            ..
+        } => {
+            tell_destination(to, *destination)?;
             tell_moment(to, *at)
         }
         Act::Open { at, .. }

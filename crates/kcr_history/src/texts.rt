@@ -2,12 +2,12 @@
 ghost use Rattle.std.specs.Prelude.{◌≡◌, ◌++◌, IfOk, OnOk, string_bytes};
 ghost use Rattle.kcr_history.specs.Texts;
 
-use crate::comma_lists::{Coded, push_codes};
+use crate::comma_lists::push_codes;
 use crate::commands::Act;
 use crate::paths::path_text;
 use crate::telling::{Teller, tell};
 use itoa::Buffer;
-use kcr_base::lists::DistinctList;
+use kcr_base::lists::{DistinctList, ListElement};
 use kcr_base::{Member, Text};
 use std::alloc::{AllocError, Global};
 
@@ -50,7 +50,11 @@ impl Teller for Lines {
         self.push(if value { "true" } else { "false" })
     }
 
-    fn list<T: Coded>(&mut self, _name: Member, value: &DistinctList<T>) -> Result<(), AllocError> {
+    fn list<T: ListElement>(
+        &mut self,
+        _name: Member,
+        value: &DistinctList<T>,
+    ) -> Result<(), AllocError> {
         self.text.push_str("\n")?;
         push_codes(&mut self.text, value.as_slice())
     }

@@ -14,7 +14,7 @@ use Rattle.std.proofs.lemmas.List.Sums.{position_or_len_is, AllPass-from_list_al
 use Rattle.kcr_base.specs.Initials.{IsCapital, IsInitials}
 use Rattle.kcr_base.specs.Serial.{IsDigit}
 use Rattle.kcr_forms.specs.Forms.{initials_of}
-use Rattle.kcr_forms.proofs.FormLemmas.{initials-read}
+use Rattle.kcr_base.proofs.FormLemmas.{initials-read}
 use Rattle.kcr_history.specs.Json.{quoted, member, object, array}
 use Rattle.kcr_history.specs.Texts.{people_array}
 use Rattle.kcr_journal.specs.Replies.{after_byte, after_two, value_in, exception_in, passed_in, seated_in}

@@ -16,3 +16,4 @@ pub mod Ends
 pub mod Steps
 pub mod AnyOrder
 pub mod Counting
+pub mod Ways

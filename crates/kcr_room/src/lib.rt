@@ -9,15 +9,17 @@ pub mod requests;
 pub mod sheet;
 pub mod stays;
 
-ghost use Rattle.std.specs.Prelude.{⊤, codes, ◌≡◌};
+ghost use Rattle.std.specs.Prelude.{⊤, codes, ◌≡◌, false};
 ghost use Rattle.kcr_base.specs.Reads.{HasText, ReadsText};
+ghost use Rattle.kcr_room.specs.Forms.{way_of};
 ghost use Rattle.kcr_room.specs.Room.{way_text};
 
-use kcr_base::{Initials, Moment};
+use kcr_base::{Initials, Moment, Written};
 pub use presence::{ends_after, first_lone, is_crowded, present_in, stay_covers, stay_reaches};
 pub use requests::add_stays;
 pub use sheet::{add_rows, attendance, present};
 pub use stays::stays_of;
+use std::alloc::{AllocError, Global};
 
 /// Whether people come into a room or go out of it.
 #[derive(Clone, Copy, PartialEq, Eq)]
@@ -49,6 +51,21 @@ impl Way {
             Way::Enter => "in",
             Way::Leave => "out",
         }
+    }
+}
+
+impl Written for Way {
+    ghost is_value = { λ _. ⊤ };
+
+    ghost text = { way_text };
+
+    ghost form = { way_of };
+
+    ghost allocates = { false };
+
+    #[tactic(auto, using(crate::proofs::Ways::way_read))]
+    fn from_text(_alloc: Global, bytes: &[u8]) -> Result<Option<Self>, AllocError> {
+        Ok(Way::read(bytes))
     }
 }
 

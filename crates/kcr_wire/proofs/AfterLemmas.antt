@@ -3,7 +3,7 @@ use Rattle.std.proofs.Common.{◌≡◌, ℕ, ◌<◌, ◌≤◌, ◌^◌, List,
 use Rattle.std.specs.Prelude.{SomeIff}
 use Rattle.std.specs.Fmt.{decimal}
 use Rattle.kcr_base.specs.Reads.{HasText, ReadsText}
-use Rattle.kcr_forms.proofs.TextLemmas.{number-read}
+use Rattle.kcr_base.proofs.TextLemmas.{number-read}
 use Rattle.kcr_wire.specs.Endpoints.{after_of}
 
 abbrev IsAfter : ℕ → Type 0

@@ -10,9 +10,9 @@ ghost use Rattle.kcr_wire.specs.Members.{json_of, text_at, whole_at, truth_at, e
 
 use kcr_base::lists::{DistinctList, ListElement};
 use kcr_base::number::{Number, Numbered};
-use kcr_base::{Member, Refusal};
+use kcr_base::{Member, Refusal, Written};
 use kcr_forms::forms::{listed, number_to};
-use kcr_forms::{FromText, Members, required};
+use kcr_forms::{Members, required};
 use serde_json::Value;
 use std::alloc::{AllocError, Global};
 
@@ -64,7 +64,7 @@ fn truth_of(body: &Value, name: Member) -> Option<bool>
 }
 
 // The value that a member gives by its text, or the refusal that names the member.
-pub(crate) fn text_member<T: FromText + Drop>(
+pub(crate) fn text_member<T: Written + Drop>(
     alloc: Global,
     body: &Value,
     name: Member,
@@ -79,7 +79,7 @@ pub(crate) fn text_member<T: FromText + Drop>(
 }
 
 // The value that a JSON text gives.
-fn text_value<T: FromText + Drop>(alloc: Global, value: &Value) -> Result<Option<T>, AllocError>
+fn text_value<T: Written + Drop>(alloc: Global, value: &Value) -> Result<Option<T>, AllocError>
     ensures { IfOk result (λ told. told ≡ option_and_then T.form (as_str (view value.now))) }
 {
     match value.as_str() {
@@ -89,7 +89,7 @@ fn text_value<T: FromText + Drop>(alloc: Global, value: &Value) -> Result<Option
 }
 
 // The values that an array gives, if each of its items gives one.
-fn each_in<T: FromText + Drop>(alloc: Global, items: &[Value]) -> Result<Option<Vec<T>>, AllocError>
+fn each_in<T: Written + Drop>(alloc: Global, items: &[Value]) -> Result<Option<Vec<T>>, AllocError>
     ensures { IfOk result (λ o. option_map (λ v. v.items) o ≡ each_in T.form (items_view items.now)) }
 {
     let mut list = Vec::new(alloc);
@@ -103,7 +103,7 @@ fn each_in<T: FromText + Drop>(alloc: Global, items: &[Value]) -> Result<Option<
 }
 
 // The values that a value lists.
-fn listed_in<T: ListElement + FromText + Drop>(
+fn listed_in<T: ListElement + Drop>(
     alloc: Global,
     value: &Value,
 ) -> Result<Option<DistinctList<T>>, AllocError>
@@ -134,11 +134,11 @@ impl<'v> Members for Body<'v> {
 
     ghost reading = { body };
 
-    fn word<T: FromText + Drop>(&mut self, alloc: Global, name: Member) -> Result<T, Refusal> {
+    fn word<T: Written + Drop>(&mut self, alloc: Global, name: Member) -> Result<T, Refusal> {
         text_member(alloc, self.value, name)
     }
 
-    fn last<T: FromText + Drop>(&mut self, alloc: Global, name: Member) -> Result<T, Refusal> {
+    fn last<T: Written + Drop>(&mut self, alloc: Global, name: Member) -> Result<T, Refusal> {
         text_member(alloc, self.value, name)
     }
 
@@ -154,7 +154,7 @@ impl<'v> Members for Body<'v> {
         required(truth_of(self.value, name), name)
     }
 
-    fn list<T: ListElement + FromText + Drop>(
+    fn list<T: ListElement + Drop>(
         &mut self,
         alloc: Global,
         name: Member,

@@ -22,7 +22,7 @@ use Rattle.kcr_forms.specs.Forms.{moment_of}
 use Rattle.kcr_forms.specs.OrMemory.{and_then}
 use Rattle.kcr_forms.specs.declared.post.Post.TheVariants as Posts
 use Rattle.kcr_forms.proofs.Formed.{moments}
-use Rattle.kcr_forms.proofs.TextLemmas.{number-read}
+use Rattle.kcr_base.proofs.TextLemmas.{number-read}
 use Rattle.kcr_history.specs.declared.commands.Act.{Act}
 use Rattle.kcr_history.specs.declared.commands.Command.{Command}
 use Rattle.kcr_laws.proofs.WorkedRows.{rows_on_literals}

@@ -5,9 +5,12 @@ use Rattle.std.specs.Str.{chars, is_utf8}
 use Rattle.clap.proofs.OnLiterals.{clap_on_literals}
 use Rattle.matchit.proofs.OnLiterals.{matchit_on_literals}
 use Rattle.serde_json.proofs.OnLiterals.{serde_json_on_literals}
-use Rattle.kcr_forms.specs.Forms.{is_initials, is_key, is_serial, is_line, initials_of, key_of, serial_of, item_of}
-use Rattle.kcr_forms.specs.Forms.{name_of, remark_of, script_of, number_by_text, day_of, ceremony_of, box_of, step_of}
-use Rattle.kcr_forms.specs.Forms.{role_of, facility_of, way_of, safe_of, place_of, destination_of, number_to, number_of, truth_of, listed_of}
+use Rattle.kcr_base.specs.Forms.{is_initials, is_key, is_serial, is_line, initials_of, key_of, serial_of, line_of}
+use Rattle.kcr_base.specs.Forms.{script_of, number_by_text, day_of, ceremony_of, box_of, step_of, number_of}
+use Rattle.kcr_base.specs.Forms.{role_of, facility_of, place_of}
+use Rattle.kcr_custody.specs.Destinations.{destination_of}
+use Rattle.kcr_room.specs.Forms.{way_of}
+use Rattle.kcr_forms.specs.Forms.{safe_of, number_to, truth_of, listed_of}
 use Rattle.kcr_export.specs.Bodies.{body_text}
 use Rattle.kcr_export.specs.Requests.{request_text}
 use Rattle.kcr_print.specs.Requests.{commands_between}
@@ -26,7 +29,7 @@ unfolding clap_on_literals tool_app faults_of file_of into_of met_in task_of
 program_on_literals = tt
 
 unfoldable pub forms_on_literals : ⊤
-unfolding rows_on_literals chars encode_utf8 is_utf8 is_initials is_key is_serial is_line initials_of key_of serial_of item_of name_of remark_of script_of number_by_text day_of ceremony_of box_of step_of role_of facility_of way_of safe_of place_of destination_of number_to number_of truth_of listed_of
+unfolding rows_on_literals chars encode_utf8 is_utf8 is_initials is_key is_serial is_line initials_of key_of serial_of line_of script_of number_by_text day_of ceremony_of box_of step_of role_of facility_of way_of safe_of place_of destination_of number_to number_of truth_of listed_of
 forms_on_literals = tt
 
 unfoldable pub requests_on_literals : ⊤

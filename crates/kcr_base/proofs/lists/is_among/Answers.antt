@@ -5,5 +5,5 @@ use Rattle.kcr_base.proofs.lists.is_among.Goals as goal
 
 pub returns : goal.returns
 returns g c =
-    c.contains.ensures.value ∙ among-texts g.T.PartialEq.eq g.T.ListElement.text g.met.T.ListElement.same c.args.one c.args.those.now
-    ∙ ap (λ all. Lists.is_among all (g.T.ListElement.text c.args.one)) (sym (g.T.ListElement.each c.args.those.now))
+    c.contains.ensures.value ∙ among-texts g.T.PartialEq.eq g.T.Written.text g.met.T.ListElement.same c.args.one c.args.those.now
+    ∙ ap (λ all. Lists.is_among all (g.T.Written.text c.args.one)) (sym (g.met.T.ListElement.each c.args.those.now))

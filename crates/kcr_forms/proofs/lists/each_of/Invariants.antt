@@ -5,5 +5,5 @@ use Rattle.kcr_forms.proofs.lists.each_of.Given as goal
 
 abbrev pub invariant-loop-code : goal.invariant-loop-code
 invariant-loop-code g l =
-    let form = g.T.FromText.form in
+    let form = g.T.Written.form in
     after_codes l.list.items (each_of form (bytes_of (drop l.code-index l.codes))) ≡ each_of form (bytes_of l.codes)

@@ -14,7 +14,7 @@ loop-code-preserved g c =
             c.in_ok-push_str.ensures.bytes,
             so_far.text,
             so_far.comma,
-            listed_more g.T.ListElement.text g.T.ListElement.texts g.T.ListElement.each c.args.codes.now c.loop-code.code-index c.code-item.result below c.code-item.is,
+            listed_more g.T.Written.text g.T.ListElement.texts g.met.T.ListElement.each c.args.codes.now c.loop-code.code-index c.code-item.result below c.code-item.is,
           )
           (simp append_assoc);
       comma = sym (separator_more _ _ below);

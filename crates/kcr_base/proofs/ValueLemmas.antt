@@ -18,11 +18,8 @@ use Rattle.kcr_base.specs.declared.place.Role.{Role}
 use Rattle.kcr_base.specs.declared.place.Role.TheVariants.{Ca, Iw, Sa, Ssc1, Ssc2, Rkos, Sw}
 use Rattle.kcr_base.proofs.ListLemmas.{each-append}
 use Rattle.kcr_base.proofs.Members.{IsIn, in-front, in-behind, map-in}
-use Rattle.kcr_room.specs.declared.Way.{Way}
-use Rattle.kcr_room.specs.declared.Way.TheVariants.{Enter, Leave}
-use Rattle.kcr_room.specs.Room.{way_text}
-use Rattle.kcr_forms.specs.Forms.{number_by_text, number_of, day_of, moment_of, ceremony_of, box_of, step_of, role_of, facility_of, way_of, places, place_of}
-use Rattle.kcr_forms.proofs.TextLemmas.{in-range, each-map, each-range, by_text-read, number-read}
+use Rattle.kcr_base.specs.Forms.{number_by_text, number_of, day_of, moment_of, ceremony_of, box_of, step_of, role_of, facility_of, places, place_of}
+use Rattle.kcr_base.proofs.TextLemmas.{in-range, each-map, each-range, by_text-read, number-read}
 
 pub day-read : (bytes : List ℕ) (r : Option ℕ) → HasText IsDay day_text bytes r → ReadsText IsDay day_text bytes r → r ≡ day_of bytes
 unfolding day_of
@@ -82,13 +79,6 @@ pub facility-read : (bytes : List ℕ) (r : Option Facility) → HasText (λ _. 
 unfolding facility_of
 facility-read bytes r found only = by_text-read (λ _. ⊤) facility_text bytes r (East ∷ West ∷ []) (tt, (tt, tt)) (λ v _. in-facilities v) found only
 
-in-ways : (v : Way) → IsIn v (Enter ∷ Leave ∷ [])
-in-ways v = grind arith
-
-pub way-read : (bytes : List ℕ) (r : Option Way) → HasText (λ _. ⊤) way_text bytes r → ReadsText (λ _. ⊤) way_text bytes r → r ≡ way_of bytes
-unfolding way_of
-way-read bytes r found only = by_text-read (λ _. ⊤) way_text bytes r (Enter ∷ Leave ∷ []) (tt, (tt, tt)) (λ v _. in-ways v) found only
-
 -- the numbers 1 to 7 are those of places
 abbrev seven : List ℕ
 seven = range_with_len 1 7
@@ -116,4 +106,4 @@ unfolding place_of
 place-read bytes r found only = by_text-read IsPlace place_text bytes r places each-place in-places found only
 
 -- what answers of readers cite
-pub ruleset value_readings = (day-read, moment-read, ceremony-read, box-read, step-read, numeral-read, role-read, facility-read, way-read, place-read)
+pub ruleset value_readings = (day-read, moment-read, ceremony-read, box-read, step-read, numeral-read, role-read, facility-read, place-read)

@@ -7,7 +7,7 @@ use Rattle.kcr_base.specs.Reads.{HasText, ReadsText}
 use Rattle.kcr_base.proofs.ListLemmas.{first-is, none-find}
 use Rattle.kcr_base.proofs.Members.{IsIn, none-in}
 use Rattle.kcr_base.proofs.SameLemmas.{same-is, same-itself}
-use Rattle.kcr_forms.specs.Forms.{by_text, number_by_text}
+use Rattle.kcr_base.specs.Forms.{by_text, number_by_text}
 
 pub in-range : (a n k : ℕ) → a ≤ k → k < a + n → IsIn k (range_with_len a n)
 in-range a zero k le lt = absurd (omega (arith, le, lt))

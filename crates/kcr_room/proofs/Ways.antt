@@ -1,0 +1,17 @@
+-- A way is found by its text.
+use Rattle.std.proofs.Common.{◌≡◌, ℕ, List, [], ◌∷◌, Option, arith}
+use Rattle.std.specs.Bool.{⊤}
+use Rattle.kcr_base.specs.Reads.{HasText, ReadsText}
+use Rattle.kcr_base.proofs.Members.{IsIn}
+use Rattle.kcr_base.proofs.TextLemmas.{by_text-read}
+use Rattle.kcr_room.specs.declared.Way.{Way}
+use Rattle.kcr_room.specs.declared.Way.TheVariants.{Enter, Leave}
+use Rattle.kcr_room.specs.Forms.{way_of}
+use Rattle.kcr_room.specs.Room.{way_text}
+
+in-ways : (v : Way) → IsIn v (Enter ∷ Leave ∷ [])
+in-ways v = grind arith
+
+pub way_read : (bytes : List ℕ) (r : Option Way) → HasText (λ _. ⊤) way_text bytes r → ReadsText (λ _. ⊤) way_text bytes r → r ≡ way_of bytes
+unfolding way_of
+way_read bytes r found only = by_text-read (λ _. ⊤) way_text bytes r (Enter ∷ Leave ∷ []) (tt, (tt, tt)) (λ v _. in-ways v) found only
