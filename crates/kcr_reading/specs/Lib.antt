@@ -1,3 +1,4 @@
 pub mod Commands
 pub mod FirstRows
+pub mod Frame
 pub mod Remaining

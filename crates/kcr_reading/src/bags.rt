@@ -1,10 +1,10 @@
 //! The bags, each with its items.
 
 ghost use Rattle.std.specs.Prelude.{◌≡◌, None, IfOk, map, filter, slice_get};
-ghost use Rattle.sqlite.specs.Held.{state};
 ghost use Rattle.kcr_custody.specs.Custody.{lies_in};
 ghost use Rattle.kcr_history.specs.Tables as machine;
-ghost use Rattle.kcr_tables.specs.Frame.{ImpliesOpen, OfMachineTables, Reads};
+ghost use Rattle.kcr_rows.specs.Frame.{ImpliesOpen};
+ghost use Rattle.kcr_tables.specs.Frame.{OfMachineTables, Reads};
 ghost use Rattle.kcr_reading.specs.Remaining.{IsNextOf, serials_past, items_by_code, packed_bags, bags_past};
 
 use crate::cursor::Cursor;
@@ -23,11 +23,10 @@ fn first_bag_after<S: Alter>(
     tx: &mut Transaction<'_, S>,
     last: &Option<Serial>,
 ) -> Result<Option<Bag>, Refusal>
-    ensures same_reference { tx.new.conn.ghost_name ≡ tx.old.conn.ghost_name }
-    ensures first { OfMachineTables (state S.Store tx.old.conn.now) (state S.Store tx.new.conn.now) result
+    ensures first { OfMachineTables S.Store tx.old tx.new result
         (λ m found. found ≡ slice_get (serials_past last.now m) 0) }
-    ensures opened { ImpliesOpen (state S.Store tx.old.conn.now) (state S.Store tx.new.conn.now) result }
-    ensures frame { Reads (state S.Store tx.old.conn.now) (state S.Store tx.new.conn.now) result }
+    ensures opened { ImpliesOpen S.Store tx.old tx.new result }
+    ensures frame { Reads S.Store tx.old tx.new result }
 {
     match last {
         Some(serial) => first_row(
@@ -51,11 +50,10 @@ fn next_bag<S: Alter>(
     tx: &mut Transaction<'_, S>,
     last: &mut Option<Serial>,
 ) -> Result<Option<Bag>, Refusal>
-    ensures same_reference { tx.new.conn.ghost_name ≡ tx.old.conn.ghost_name }
-    ensures gives { OfMachineTables (state S.Store tx.old.conn.now) (state S.Store tx.new.conn.now) result
+    ensures gives { OfMachineTables S.Store tx.old tx.new result
         (λ m found. IsNextOf (serials_past last.old m) found (serials_past last.new m)) }
-    ensures opened { ImpliesOpen (state S.Store tx.old.conn.now) (state S.Store tx.new.conn.now) result }
-    ensures frame { Reads (state S.Store tx.old.conn.now) (state S.Store tx.new.conn.now) result }
+    ensures opened { ImpliesOpen S.Store tx.old tx.new result }
+    ensures frame { Reads S.Store tx.old tx.new result }
 {
     let found = first_bag_after(alloc, tx, last)?;
     if let Some(bag) = &found {
@@ -70,11 +68,10 @@ fn items_within<S: Alter>(
     tx: &mut Transaction<'_, S>,
     serial: &Serial,
 ) -> Result<Vec<Item>, Refusal>
-    ensures same_reference { tx.new.conn.ghost_name ≡ tx.old.conn.ghost_name }
-    ensures rows { OfMachineTables (state S.Store tx.old.conn.now) (state S.Store tx.new.conn.now) result
+    ensures rows { OfMachineTables S.Store tx.old tx.new result
         (λ m rows. rows.items ≡ filter (lies_in serial.now) (items_by_code m)) }
-    ensures opened { ImpliesOpen (state S.Store tx.old.conn.now) (state S.Store tx.new.conn.now) result }
-    ensures frame { Reads (state S.Store tx.old.conn.now) (state S.Store tx.new.conn.now) result }
+    ensures opened { ImpliesOpen S.Store tx.old tx.new result }
+    ensures frame { Reads S.Store tx.old tx.new result }
 {
     find_rows(alloc, tx, serial)
 }

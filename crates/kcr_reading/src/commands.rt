@@ -1,12 +1,11 @@
 //! The accepted commands, by their numbers.
 
 ghost use Rattle.std.specs.Prelude.{◌≡◌, ◌==◌, filter, IfOk, IfSome, IsPermutation, IsTrue};
-ghost use Rattle.sqlite.specs.Held.{state};
-ghost use Rattle.sqlite.specs.State.{HasCleanDisk};
 ghost use Rattle.kcr_history.specs.Tables as machine;
-ghost use Rattle.kcr_tables.specs.Frame.{ImpliesOpen, OfMachineTables, Reads};
-ghost use Rattle.kcr_tables.specs.MachineTables.{HoldsTables};
+ghost use Rattle.kcr_rows.specs.Frame.{IfClean, ImpliesOpen};
+ghost use Rattle.kcr_tables.specs.Frame.{OfMachineTables, Reads};
 ghost use Rattle.kcr_reading.specs.Commands.{commands_within, numbered};
+ghost use Rattle.kcr_reading.specs.Frame.{OfOpenTables};
 ghost use Rattle.kcr_reading.specs.Remaining.{IsNextOf};
 
 use crate::cursor::Cursor;
@@ -23,11 +22,10 @@ fn rows_numbered<S: Alter>(
     tx: &mut Transaction<'_, S>,
     number: u32,
 ) -> Result<Vec<KeyRow>, Refusal>
-    ensures same_reference { tx.new.conn.ghost_name ≡ tx.old.conn.ghost_name }
-    ensures rows { OfMachineTables (state S.Store tx.old.conn.now) (state S.Store tx.new.conn.now) result
+    ensures rows { OfMachineTables S.Store tx.old tx.new result
         (λ m rows. IsPermutation (filter (λ row. row.accepted == number) m.keys) rows.items) }
-    ensures opened { ImpliesOpen (state S.Store tx.old.conn.now) (state S.Store tx.new.conn.now) result }
-    ensures frame { Reads (state S.Store tx.old.conn.now) (state S.Store tx.new.conn.now) result }
+    ensures opened { ImpliesOpen S.Store tx.old tx.new result }
+    ensures frame { Reads S.Store tx.old tx.new result }
 {
     query_rows(
         alloc,
@@ -43,11 +41,9 @@ fn row_numbered<S: Alter>(
     tx: &mut Transaction<'_, S>,
     number: u32,
 ) -> Result<Option<KeyRow>, Refusal>
-    ensures same_reference { tx.new.conn.ghost_name ≡ tx.old.conn.ghost_name }
-    ensures row { OfMachineTables (state S.Store tx.old.conn.now) (state S.Store tx.new.conn.now) result
-        (λ m row. row ≡ numbered number m) }
-    ensures opened { ImpliesOpen (state S.Store tx.old.conn.now) (state S.Store tx.new.conn.now) result }
-    ensures frame { Reads (state S.Store tx.old.conn.now) (state S.Store tx.new.conn.now) result }
+    ensures row { OfMachineTables S.Store tx.old tx.new result (λ m row. row ≡ numbered number m) }
+    ensures opened { ImpliesOpen S.Store tx.old tx.new result }
+    ensures frame { Reads S.Store tx.old tx.new result }
 {
     let mut rows = rows_numbered(alloc, tx, number)?;
     if rows.len() == 1 {
@@ -78,14 +74,11 @@ impl CommandCursor {
         alloc: Global,
         tx: &mut Transaction<'_, S>,
     ) -> Result<Option<KeyRow>, Refusal>
-        ensures same_reference { tx.new.conn.ghost_name ≡ tx.old.conn.ghost_name }
-        ensures gives { HasCleanDisk (state S.Store tx.new.conn.now) → (m : machine.Tables)
-            → (IsTrue (state S.Store tx.old.conn.now).is_open → HoldsTables m (state S.Store tx.old.conn.now).now)
-            → IfOk result (λ row. IsNextOf (commands_within self.old.last self.old.until m) row
-            (commands_within self.new.last self.new.until m)) }
-        ensures opened { HasCleanDisk (state S.Store tx.new.conn.now)
-            → IfOk result (λ row. IfSome row (λ _. IsTrue (state S.Store tx.old.conn.now).is_open)) }
-        ensures frame { Reads (state S.Store tx.old.conn.now) (state S.Store tx.new.conn.now) result }
+        ensures gives { OfOpenTables S.Store tx.old tx.new result (λ m row.
+            IsNextOf (commands_within self.old.last self.old.until m) row (commands_within self.new.last self.new.until m)) }
+        ensures opened { IfClean S.Store tx.old tx.new
+            (λ old _. IfOk result (λ row. IfSome row (λ _. IsTrue old.is_open))) }
+        ensures frame { Reads S.Store tx.old tx.new result }
     {
         if self.last >= self.until {
             return Ok(None);

@@ -1,11 +1,8 @@
 //! What a reading is.
 
-ghost use Rattle.std.specs.Prelude.{◌≡◌, IsTrue, IfOk};
-ghost use Rattle.sqlite.specs.Held.{state};
-ghost use Rattle.sqlite.specs.State.{HasCleanDisk};
 ghost use Rattle.kcr_history.specs.Tables as machine;
 ghost use Rattle.kcr_tables.specs.Frame.{Reads};
-ghost use Rattle.kcr_tables.specs.MachineTables.{HoldsTables};
+ghost use Rattle.kcr_reading.specs.Frame.{OfOpenTables};
 ghost use Rattle.kcr_reading.specs.Remaining.{IsNextOf};
 
 use kcr_base::Refusal;
@@ -30,9 +27,7 @@ pub trait Cursor: Drop {
         alloc: Global,
         tx: &mut Transaction<'_, S>,
     ) -> Result<Option<Self::Row>, Refusal>
-        ensures same_reference { tx.new.conn.ghost_name ≡ tx.old.conn.ghost_name }
-        ensures gives { HasCleanDisk (state S.Store tx.new.conn.now) → (m : machine.Tables)
-            → (IsTrue (state S.Store tx.old.conn.now).is_open → HoldsTables m (state S.Store tx.old.conn.now).now)
-            → IfOk result (λ row. IsNextOf (to_come self.old m) row (to_come self.new m)) }
-        ensures frame { Reads (state S.Store tx.old.conn.now) (state S.Store tx.new.conn.now) result };
+        ensures gives { OfOpenTables S.Store tx.old tx.new result
+            (λ m row. IsNextOf (to_come self.old m) row (to_come self.new m)) }
+        ensures frame { Reads S.Store tx.old tx.new result };
 }

@@ -1,9 +1,9 @@
 //! The exceptions of a ceremony.
 
 ghost use Rattle.std.specs.Prelude.{◌≡◌, None};
-ghost use Rattle.sqlite.specs.Held.{state};
 ghost use Rattle.kcr_history.specs.Tables as machine;
-ghost use Rattle.kcr_tables.specs.Frame.{ImpliesOpen, OfMachineTables, Reads};
+ghost use Rattle.kcr_rows.specs.Frame.{ImpliesOpen};
+ghost use Rattle.kcr_tables.specs.Frame.{OfMachineTables, Reads};
 ghost use Rattle.kcr_reading.specs.Remaining.{IsNextOf, exceptions_of, exceptions_past};
 
 use crate::cursor::Cursor;
@@ -21,11 +21,10 @@ fn next_exception<S: Alter>(
     ceremony: u32,
     last: &mut Option<u32>,
 ) -> Result<Option<ExceptionRow>, Refusal>
-    ensures same_reference { tx.new.conn.ghost_name ≡ tx.old.conn.ghost_name }
-    ensures gives { OfMachineTables (state S.Store tx.old.conn.now) (state S.Store tx.new.conn.now) result
+    ensures gives { OfMachineTables S.Store tx.old tx.new result
         (λ m found. IsNextOf (exceptions_past last.old ceremony m) found (exceptions_past last.new ceremony m)) }
-    ensures opened { ImpliesOpen (state S.Store tx.old.conn.now) (state S.Store tx.new.conn.now) result }
-    ensures frame { Reads (state S.Store tx.old.conn.now) (state S.Store tx.new.conn.now) result }
+    ensures opened { ImpliesOpen S.Store tx.old tx.new result }
+    ensures frame { Reads S.Store tx.old tx.new result }
 {
     let found: Option<ExceptionRow> = first_row(
         alloc,

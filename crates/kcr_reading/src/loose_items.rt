@@ -1,9 +1,9 @@
 //! The loose items.
 
 ghost use Rattle.std.specs.Prelude.{◌≡◌, None, slice_get};
-ghost use Rattle.sqlite.specs.Held.{state};
 ghost use Rattle.kcr_history.specs.Tables as machine;
-ghost use Rattle.kcr_tables.specs.Frame.{ImpliesOpen, OfMachineTables, Reads};
+ghost use Rattle.kcr_rows.specs.Frame.{ImpliesOpen};
+ghost use Rattle.kcr_tables.specs.Frame.{OfMachineTables, Reads};
 ghost use Rattle.kcr_reading.specs.Remaining.{IsNextOf, loose_items, loose_past};
 
 use crate::cursor::Cursor;
@@ -20,11 +20,10 @@ fn first_loose_after<S: Alter>(
     tx: &mut Transaction<'_, S>,
     last: &Option<ItemCode>,
 ) -> Result<Option<Item>, Refusal>
-    ensures same_reference { tx.new.conn.ghost_name ≡ tx.old.conn.ghost_name }
-    ensures first { OfMachineTables (state S.Store tx.old.conn.now) (state S.Store tx.new.conn.now) result
+    ensures first { OfMachineTables S.Store tx.old tx.new result
         (λ m found. found ≡ slice_get (loose_past last.now m) 0) }
-    ensures opened { ImpliesOpen (state S.Store tx.old.conn.now) (state S.Store tx.new.conn.now) result }
-    ensures frame { Reads (state S.Store tx.old.conn.now) (state S.Store tx.new.conn.now) result }
+    ensures opened { ImpliesOpen S.Store tx.old tx.new result }
+    ensures frame { Reads S.Store tx.old tx.new result }
 {
     match last {
         Some(code) => first_row(
@@ -48,11 +47,10 @@ fn next_loose<S: Alter>(
     tx: &mut Transaction<'_, S>,
     last: &mut Option<ItemCode>,
 ) -> Result<Option<Item>, Refusal>
-    ensures same_reference { tx.new.conn.ghost_name ≡ tx.old.conn.ghost_name }
-    ensures gives { OfMachineTables (state S.Store tx.old.conn.now) (state S.Store tx.new.conn.now) result
+    ensures gives { OfMachineTables S.Store tx.old tx.new result
         (λ m found. IsNextOf (loose_past last.old m) found (loose_past last.new m)) }
-    ensures opened { ImpliesOpen (state S.Store tx.old.conn.now) (state S.Store tx.new.conn.now) result }
-    ensures frame { Reads (state S.Store tx.old.conn.now) (state S.Store tx.new.conn.now) result }
+    ensures opened { ImpliesOpen S.Store tx.old tx.new result }
+    ensures frame { Reads S.Store tx.old tx.new result }
 {
     let found = first_loose_after(alloc, tx, last)?;
     if let Some(item) = &found {

@@ -1,7 +1,6 @@
 //! All rows that a reading still gives, as a list.
 
 ghost use Rattle.std.specs.Prelude.{◌≡◌};
-ghost use Rattle.sqlite.specs.Held.{state};
 ghost use Rattle.kcr_tables.specs.Frame.{OfMachineTables, Reads};
 
 use crate::cursor::Cursor;
@@ -17,10 +16,8 @@ pub fn remaining_rows<S: Alter, R: Cursor>(
     tx: &mut Transaction<'_, S>,
     reading: R,
 ) -> Result<Vec<R::Row>, Refusal>
-    ensures same_reference { tx.new.conn.ghost_name ≡ tx.old.conn.ghost_name }
-    ensures rows { OfMachineTables (state S.Store tx.old.conn.now) (state S.Store tx.new.conn.now) result
-        (λ m rows. rows.items ≡ R.to_come reading m) }
-    ensures frame { Reads (state S.Store tx.old.conn.now) (state S.Store tx.new.conn.now) result }
+    ensures rows { OfMachineTables S.Store tx.old tx.new result (λ m rows. rows.items ≡ R.to_come reading m) }
+    ensures frame { Reads S.Store tx.old tx.new result }
 {
     let mut left = reading;
     let mut rows = Vec::new(alloc);

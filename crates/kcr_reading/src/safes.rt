@@ -1,9 +1,9 @@
 //! The four safes.
 
 ghost use Rattle.std.specs.Prelude.{◌≡◌, None, find};
-ghost use Rattle.sqlite.specs.Held.{state};
 ghost use Rattle.kcr_history.specs.Tables as machine;
-ghost use Rattle.kcr_tables.specs.Frame.{ImpliesOpen, OfMachineTables, Reads};
+ghost use Rattle.kcr_rows.specs.Frame.{ImpliesOpen};
+ghost use Rattle.kcr_tables.specs.Frame.{OfMachineTables, Reads};
 ghost use Rattle.kcr_reading.specs.Remaining.{IsNextOf, is_past, safe_place, safes_in_order, safes_past};
 
 use crate::cursor::Cursor;
@@ -52,11 +52,10 @@ fn next_safe<S: Alter>(
     tx: &mut Transaction<'_, S>,
     last: &mut Option<u32>,
 ) -> Result<Option<SafeRow>, Refusal>
-    ensures same_reference { tx.new.conn.ghost_name ≡ tx.old.conn.ghost_name }
-    ensures gives { OfMachineTables (state S.Store tx.old.conn.now) (state S.Store tx.new.conn.now) result
+    ensures gives { OfMachineTables S.Store tx.old tx.new result
         (λ m found. IsNextOf (safes_past last.old m) found (safes_past last.new m)) }
-    ensures opened { ImpliesOpen (state S.Store tx.old.conn.now) (state S.Store tx.new.conn.now) result }
-    ensures frame { Reads (state S.Store tx.old.conn.now) (state S.Store tx.new.conn.now) result }
+    ensures opened { ImpliesOpen S.Store tx.old tx.new result }
+    ensures frame { Reads S.Store tx.old tx.new result }
 {
     let rows: Vec<SafeRow> = all_rows(alloc, tx)?;
     let found = safe_past(rows.as_slice(), *last);

@@ -1,11 +1,11 @@
 //! The first rows of a table that pass a test, or the first one.
 
 ghost use Rattle.std.specs.Prelude.{◌≡◌, ℕ, Option, pos, ℤ};
-ghost use Rattle.sqlite.specs.Held.{state};
 ghost use Rattle.sqlite.specs.Values.{bound, bound_value};
 ghost use Rattle.sqlite.specs.Value.{owned};
 ghost use Rattle.sqlite.specs.declared.types.Value.TheVariants.{Int};
-ghost use Rattle.kcr_tables.specs.Frame.{ImpliesOpen, OfTables, Reads};
+ghost use Rattle.kcr_rows.specs.Frame.{ImpliesOpen};
+ghost use Rattle.kcr_tables.specs.Frame.{OfTables, Reads};
 ghost use Rattle.kcr_tables.specs.Statements.{Choice};
 ghost use Rattle.kcr_reading.specs.FirstRows.{ShowsSome, AreFirst, ShowsFirst, IsFirstRow, bound_of};
 
@@ -36,11 +36,11 @@ pub(crate) fn first_rows<S: Alter, T: TableRow>(
 ) -> Result<Vec<T>, Refusal>
     ensures same_reference { tx.new.conn.ghost_name ≡ tx.old.conn.ghost_name }
     ensures rows { (count : ℕ) → (choice : Choice) → ShowsSome count sql.now T.table.place (bound params.now) choice
-        → OfTables (state S.Store tx.old.conn.now) (state S.Store tx.new.conn.now) result
+        → OfTables S.Store tx.old tx.new result
         (λ t found. AreFirst count T.row_of choice (T.table.rows_in t) found.items) }
-    ensures opened { ImpliesOpen (state S.Store tx.old.conn.now) (state S.Store tx.new.conn.now) result }
+    ensures opened { ImpliesOpen S.Store tx.old tx.new result }
     ensures frame { (count : ℕ) → (choice : Choice) → ShowsSome count sql.now T.table.place (bound params.now) choice
-        → Reads (state S.Store tx.old.conn.now) (state S.Store tx.new.conn.now) result }
+        → Reads S.Store tx.old tx.new result }
 {
     query_rows(alloc, tx, sql, params)
 }
@@ -55,11 +55,10 @@ pub(crate) fn first_row<S: Alter, T: TableRow>(
 ) -> Result<Option<T>, Refusal>
     ensures same_reference { tx.new.conn.ghost_name ≡ tx.old.conn.ghost_name }
     ensures row { (choice : Choice) → ShowsFirst sql.now T.table.place (bound params.now) choice
-        → OfTables (state S.Store tx.old.conn.now) (state S.Store tx.new.conn.now) result
-        (λ t found. IsFirstRow T.row_of choice (T.table.rows_in t) found) }
-    ensures opened { ImpliesOpen (state S.Store tx.old.conn.now) (state S.Store tx.new.conn.now) result }
+        → OfTables S.Store tx.old tx.new result (λ t found. IsFirstRow T.row_of choice (T.table.rows_in t) found) }
+    ensures opened { ImpliesOpen S.Store tx.old tx.new result }
     ensures frame { (choice : Choice) → ShowsFirst sql.now T.table.place (bound params.now) choice
-        → Reads (state S.Store tx.old.conn.now) (state S.Store tx.new.conn.now) result }
+        → Reads S.Store tx.old tx.new result }
 {
     let mut rows: Vec<T> = first_rows(alloc, tx, sql, params)?;
     Ok(rows.pop())

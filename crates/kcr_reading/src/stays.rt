@@ -1,7 +1,6 @@
 //! The stays in the room of a ceremony, each with the name of the person.
 
 ghost use Rattle.std.specs.Prelude.{◌≡◌, ◌++◌, None, map, filter};
-ghost use Rattle.sqlite.specs.Held.{state};
 ghost use Rattle.sqlite.specs.Value.{owned};
 ghost use Rattle.sqlite.specs.Values.{bound_value};
 ghost use Rattle.sqlite.specs.declared.types.Value.TheVariants.{Int};
@@ -9,7 +8,8 @@ ghost use Rattle.kcr_room.specs.Stays.{attendance_in_by};
 ghost use Rattle.kcr_history.specs.Prints.{name_of};
 ghost use Rattle.kcr_history.specs.Questions.{with_name};
 ghost use Rattle.kcr_history.specs.Tables as machine;
-ghost use Rattle.kcr_tables.specs.Frame.{ImpliesOpen, OfMachineTables, Reads};
+ghost use Rattle.kcr_rows.specs.Frame.{ImpliesOpen};
+ghost use Rattle.kcr_tables.specs.Frame.{OfMachineTables, Reads};
 ghost use Rattle.kcr_reading.specs.FirstRows.{bound_of};
 ghost use Rattle.kcr_reading.specs.Remaining.{Begin, IsNextBatchOf, is_stay_in_range, since_of, listed_past, named_stays};
 ghost use Rattle.kcr_reading.specs.Remaining.{read_ahead, stays_past};
@@ -52,11 +52,10 @@ fn first_in_range<S: Alter>(
     ceremony: u32,
     sought: StayRange,
 ) -> Result<Vec<Stay>, Refusal>
-    ensures same_reference { tx.new.conn.ghost_name ≡ tx.old.conn.ghost_name }
-    ensures first { OfMachineTables (state S.Store tx.old.conn.now) (state S.Store tx.new.conn.now) result
+    ensures first { OfMachineTables S.Store tx.old tx.new result
         (λ m found. Begin (filter (is_stay_in_range sought) (attendance_in_by m.stays ceremony)) found.items) }
-    ensures opened { ImpliesOpen (state S.Store tx.old.conn.now) (state S.Store tx.new.conn.now) result }
-    ensures frame { Reads (state S.Store tx.old.conn.now) (state S.Store tx.new.conn.now) result }
+    ensures opened { ImpliesOpen S.Store tx.old tx.new result }
+    ensures frame { Reads S.Store tx.old tx.new result }
 {
     match sought {
         StayRange::SameStart(last) => first_rows(
@@ -85,11 +84,10 @@ fn stays_after<S: Alter>(
     ceremony: u32,
     last: &Option<Stay>,
 ) -> Result<Vec<Stay>, Refusal>
-    ensures same_reference { tx.new.conn.ghost_name ≡ tx.old.conn.ghost_name }
-    ensures first { OfMachineTables (state S.Store tx.old.conn.now) (state S.Store tx.new.conn.now) result
+    ensures first { OfMachineTables S.Store tx.old tx.new result
         (λ m found. Begin (listed_past last.now ceremony m) found.items) }
-    ensures opened { ImpliesOpen (state S.Store tx.old.conn.now) (state S.Store tx.new.conn.now) result }
-    ensures frame { Reads (state S.Store tx.old.conn.now) (state S.Store tx.new.conn.now) result }
+    ensures opened { ImpliesOpen S.Store tx.old tx.new result }
+    ensures frame { Reads S.Store tx.old tx.new result }
 {
     match last {
         None => first_in_range(alloc, tx, ceremony, StayRange::LaterStart(None)),
@@ -112,11 +110,10 @@ fn next_stays<S: Alter>(
     ceremony: u32,
     last: &mut Option<Stay>,
 ) -> Result<Vec<Stay>, Refusal>
-    ensures same_reference { tx.new.conn.ghost_name ≡ tx.old.conn.ghost_name }
-    ensures gives { OfMachineTables (state S.Store tx.old.conn.now) (state S.Store tx.new.conn.now) result
+    ensures gives { OfMachineTables S.Store tx.old tx.new result
         (λ m found. IsNextBatchOf (listed_past last.old ceremony m) found.items (listed_past last.new ceremony m)) }
-    ensures opened { ImpliesOpen (state S.Store tx.old.conn.now) (state S.Store tx.new.conn.now) result }
-    ensures frame { Reads (state S.Store tx.old.conn.now) (state S.Store tx.new.conn.now) result }
+    ensures opened { ImpliesOpen S.Store tx.old tx.new result }
+    ensures frame { Reads S.Store tx.old tx.new result }
 {
     let found = stays_after(alloc, tx, ceremony, last)?;
     if let Some(stay) = found.last() {
@@ -131,11 +128,9 @@ pub fn name_of<S: Alter>(
     tx: &mut Transaction<'_, S>,
     who: &Initials,
 ) -> Result<Name, Refusal>
-    ensures same_reference { tx.new.conn.ghost_name ≡ tx.old.conn.ghost_name }
-    ensures name { OfMachineTables (state S.Store tx.old.conn.now) (state S.Store tx.new.conn.now) result
-        (λ m name. name ≡ name_of m.people who.now) }
-    ensures opened { ImpliesOpen (state S.Store tx.old.conn.now) (state S.Store tx.new.conn.now) result }
-    ensures frame { Reads (state S.Store tx.old.conn.now) (state S.Store tx.new.conn.now) result }
+    ensures name { OfMachineTables S.Store tx.old tx.new result (λ m name. name ≡ name_of m.people who.now) }
+    ensures opened { ImpliesOpen S.Store tx.old tx.new result }
+    ensures frame { Reads S.Store tx.old tx.new result }
 {
     let mut people: Vec<Person> = find_rows(alloc, tx, who)?;
     match people.pop() {
@@ -150,10 +145,9 @@ fn with_names<S: Alter>(
     tx: &mut Transaction<'_, S>,
     stays: &[Stay],
 ) -> Result<Vec<StayWithName>, Refusal>
-    ensures same_reference { tx.new.conn.ghost_name ≡ tx.old.conn.ghost_name }
-    ensures names { OfMachineTables (state S.Store tx.old.conn.now) (state S.Store tx.new.conn.now) result
+    ensures names { OfMachineTables S.Store tx.old tx.new result
         (λ m all. all.items ≡ map (with_name m.people) stays.now) }
-    ensures frame { Reads (state S.Store tx.old.conn.now) (state S.Store tx.new.conn.now) result }
+    ensures frame { Reads S.Store tx.old tx.new result }
 {
     let mut all = Vec::new(alloc);
     for stay in stays {

@@ -5,7 +5,8 @@ ghost use Rattle.std.specs.List.{AllByRecursion};
 ghost use Rattle.sqlite.specs.Held.{state};
 ghost use Rattle.kcr_history.specs.Prints.{seated_at};
 ghost use Rattle.kcr_history.specs.Tables as machine;
-ghost use Rattle.kcr_tables.specs.Frame.{ImpliesOpen, OfMachineTables, Reads};
+ghost use Rattle.kcr_rows.specs.Frame.{ImpliesOpen};
+ghost use Rattle.kcr_tables.specs.Frame.{OfMachineTables, Reads};
 ghost use Rattle.kcr_reading.specs.Remaining.{IsNextBatchOf, IsStepWithin, is_past_until, people_at, rows_past};
 ghost use Rattle.kcr_reading.specs.Remaining.{with_people, read_ahead, seated_steps, steps_past};
 
@@ -26,13 +27,12 @@ fn next_steps<S: Alter>(
     ceremony: u32,
     last: &mut Option<u32>,
 ) -> Result<Vec<StepRow>, Refusal>
-    ensures same_reference { tx.new.conn.ghost_name ≡ tx.old.conn.ghost_name }
-    ensures gives { OfMachineTables (state S.Store tx.old.conn.now) (state S.Store tx.new.conn.now) result
+    ensures gives { OfMachineTables S.Store tx.old tx.new result
         (λ m rows. IsNextBatchOf (rows_past last.old ceremony m) rows.items (rows_past last.new ceremony m)) }
-    ensures within { OfMachineTables (state S.Store tx.old.conn.now) (state S.Store tx.new.conn.now) result
+    ensures within { OfMachineTables S.Store tx.old tx.new result
         (λ m rows. AllByRecursion (IsStepWithin ceremony last.old last.new) rows.items) }
-    ensures opened { ImpliesOpen (state S.Store tx.old.conn.now) (state S.Store tx.new.conn.now) result }
-    ensures frame { Reads (state S.Store tx.old.conn.now) (state S.Store tx.new.conn.now) result }
+    ensures opened { ImpliesOpen S.Store tx.old tx.new result }
+    ensures frame { Reads S.Store tx.old tx.new result }
 {
     let rows: Vec<StepRow> = first_rows(
         alloc,
@@ -54,11 +54,10 @@ fn seatings_within<S: Alter>(
     from: Option<u32>,
     until: Option<u32>,
 ) -> Result<Vec<SeatingRow>, Refusal>
-    ensures same_reference { tx.new.conn.ghost_name ≡ tx.old.conn.ghost_name }
-    ensures people { OfMachineTables (state S.Store tx.old.conn.now) (state S.Store tx.new.conn.now) result
+    ensures people { OfMachineTables S.Store tx.old tx.new result
         (λ m rows. (step : ℕ) → is_past_until from until step ≡ true
         → people_at step rows.items ≡ seated_at m.seatings ceremony step) }
-    ensures frame { Reads (state S.Store tx.old.conn.now) (state S.Store tx.new.conn.now) result }
+    ensures frame { Reads S.Store tx.old tx.new result }
 {
     query_rows(
         alloc,

@@ -1,4 +1,4 @@
-use Rattle.std.proofs.Common.{rules, ◌≡◌, ◌==◌, [], ◌∷◌, List, filter, map, IfOk, subst, IsPermutation, refl, sym}
+use Rattle.std.proofs.Common.{rules, ◌==◌, [], ◌∷◌, map, IfOk, subst}
 use Rattle.std.proofs.lemmas.List.Sorted.{IsPermutation-trans}
 use Rattle.sqlite.specs.Order.{Row}
 use Rattle.sqlite.specs.Held.{state}
@@ -25,10 +25,9 @@ returns g c =
     (λ i. c.number_cell.ensures i ∷ []) (did.shown clean) in
     let told = passing_told text key_row laws.one old new c.query_rows.result shown laws.table.rows_in (laws.table_laws.keeps old.now.trees)
     (λ (row : KeyRow). row.accepted == number) (is_numbered number) in record {
-      same_reference = search rules;
       rows = λ clean m h. if_ok _ _ (λ all same.
           IsPermutation-trans _ _ _ (IsPermutation-filter (λ (row : KeyRow). row.accepted == number) _ _ h.tables.stands.rows.keys) same) c.query_rows.result
           (told clean h.tables.t (held_of m old.now h));
       opened = search rules;
-      frame = reads_by number_text old new c.query_rows.result text.bare did.same did.frame;
+      frame = reads_by number_text text.bare did.same did.frame;
     }

@@ -21,4 +21,4 @@ returns-in_err-found-clause-frame g c =
 pub returns-clause-frame : goal.returns-clause-frame
 returns-clause-frame g c =
     let shown = shown_by (exceptions_shown c.args.ceremony c.args.last.now) (λ i. c.number_cell.ensures i ∷ c.past_cell.ensures i ∷ []) in
-    reads_to _ _ c.in_ok-found.found _ tt (c.in_ok-found.ensures.frame _ shown)
+    reads_to tt (c.in_ok-found.ensures.frame _ shown)

@@ -11,8 +11,7 @@ abbrev pub invariant-loop : goal.invariant-loop
 invariant-loop g l =
     let old = state g.S.Store l.fn.tx.conn.now in
     let now = state g.S.Store l.tx.conn.now in record {
-      same_reference : l.tx.conn.ghost_name ≡ l.fn.tx.conn.ghost_name;
-      frame : Reads {A = Unit {0}} old now (Ok tt);
+      frame : Reads {A = Unit {0}} g.S.Store l.fn.tx l.tx (Ok tt);
       rows : HasCleanDisk now → (m : machine.Tables) → HoldsTables m old.now
           → l.rows.items ++ g.R.Cursor.to_come l.left m ≡ g.R.Cursor.to_come l.fn.reading m;
     }

@@ -14,4 +14,4 @@ returns-clause-row g c choice shows clean t held those same up =
     (λ low. true≢false (sym (subst IsSome none (c.pop.ensures.variant.1 low)))))
 
 pub returns-clause-frame : goal.returns-clause-frame
-returns-clause-frame g c choice shows = reads_to _ _ c.in_ok-rows.rows _ tt (c.in_ok-rows.ensures.frame 1 choice shows)
+returns-clause-frame g c choice shows = reads_to tt (c.in_ok-rows.ensures.frame 1 choice shows)

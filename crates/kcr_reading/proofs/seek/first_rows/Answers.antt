@@ -19,4 +19,4 @@ returns-clause-rows g c count choice shows clean t held =
 pub returns-clause-frame : goal.returns-clause-frame
 returns-clause-frame g c count choice shows =
     let did = c.query_rows.ensures in
-    reads_by c.args.sql.now (state g.S.Store c.args.tx.now.conn.now) (state g.S.Store c.query_rows.new.tx.conn.now) c.query_rows.result shows.bare did.same did.frame
+    reads_by c.args.sql.now shows.bare did.same did.frame

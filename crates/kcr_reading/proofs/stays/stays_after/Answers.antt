@@ -2,7 +2,7 @@ use Rattle.std.proofs.Common.{◌≡◌, ◌==◌, ◌∙◌, [], length, true�
 use Rattle.std.proofs.lemmas.Bool.{eqb-true}
 use Rattle.std.proofs.lemmas.List.{nil_from_length}
 use Rattle.kcr_rows.proofs.FailLemmas.{if_ok}
-use Rattle.kcr_rows.proofs.InsideLemmas.{was_clean}
+use Rattle.kcr_rows.proofs.FrameLemmas.{clean_before}
 use Rattle.kcr_reading.proofs.StayLemmas.{first_with, first_after}
 use Rattle.kcr_reading.proofs.stays.stays_after.Goals as goal
 
@@ -12,7 +12,7 @@ returns-in-None-clause-first g c clean m h = rw c.in-None.is (c.first_in_range.e
 pub returns-then-is_empty-clause-first : goal.returns-then-is_empty-clause-first
 returns-then-is_empty-clause-first g c clean m h =
     let met = c.in_ok-together-in-Some in
-    let before = was_clean _ _ _ c.first_in_range-then-is_empty.ensures.frame.within.survives clean in
+    let before = clean_before c.first_in_range-then-is_empty.ensures.frame.within clean in
     let still = met.ensures.frame.tables before m h in
     let none : met.together.items ≡ [] = nil_from_length _ (sym met.together.ok.0 ∙ eqb-true _ 0 (sym c.is_empty.ensures ∙ c.if-is_empty.true)) in
     let later = rw c.in-Some.is at (c.first_in_range-then-is_empty.ensures.first clean m still) in

@@ -1,24 +1,19 @@
-use Rattle.std.proofs.Common.{rules, arith, ◌≡◌, ◌+◌, ◌<◌, ◌≤◌, ◌++◌, [], ◌∷◌, ◌∙◌, List, ℕ, length, take, get_or, map, refl, sym, ap}
+use Rattle.std.proofs.Common.{rules, arith, ◌≡◌, ◌+◌, ◌<◌, ◌≤◌, ◌++◌, [], ◌∷◌, ◌∙◌, List, ℕ, length, take, get_or, map, sym, ap}
 use Rattle.std.proofs.lemmas.List.{take_all, take_more, map-append}
-use Rattle.sqlite.specs.Held.{state}
-use Rattle.kcr_rows.proofs.InsideLemmas.{was_clean}
-use Rattle.kcr_tables.proofs.FrameLemmas.{reads_none, reads_then, reads_to, reads_fails}
+use Rattle.kcr_tables.proofs.FrameLemmas.{reads_none, reads_to, reads_on, fails_as}
 use Rattle.kcr_history.specs.Questions.{with_name}
 use Rattle.kcr_history.specs.declared.report_rows.StayWithName.{StayWithName}
+use Rattle.kcr_rows.proofs.FrameLemmas.{clean_before}
 use Rattle.kcr_reading.proofs.stays.with_names.Goals as goal
 
 pub loop-stay-init : goal.loop-stay-init
 loop-stay-init g c = record {
-  same_reference = refl;
-  frame = reads_none (state g.S.Store c.args.tx.now.conn.now) tt (search rules);
+  frame = reads_none c.args.tx.now tt (search rules);
   names = λ clean m h. c.new-all.ensures.items;
 }
 
 pub loop-stay-preserved : goal.loop-stay-preserved
 loop-stay-preserved g c =
-    let old = state g.S.Store c.args.tx.now.conn.now in
-    let mid = state g.S.Store c.loop-stay.tx.conn.now in
-    let new = state g.S.Store c.name_of.new.tx.conn.now in
     let had = c.loop-stay.invariant in
     let step = c.in_ok-name.ensures in
     let at = c.loop-stay.stay-index in
@@ -27,10 +22,9 @@ loop-stay-preserved g c =
     let low : at < length stays = search rules in
     let own : get_or stays at stay ≡ stay = search rules in
     let more : take (at + 1) stays ≡ take at stays ++ stay ∷ [] = take_more stays at stay low ∙ ap (λ k. take at stays ++ k ∷ []) own in record {
-      same_reference = step.same_reference ∙ had.same_reference;
-      frame = reads_to old new c.in_ok-name.name _ tt (reads_then old mid new tt _ had.frame step.frame);
+      frame = reads_to tt (reads_on had.frame step.frame);
       names = λ clean m h.
-          let before = was_clean mid new _ step.frame.within.survives clean in
+          let before = clean_before step.frame.within clean in
           let named : List ℕ → StayWithName = λ name. record { stay = stay; name = name } in
           c.in_ok-push.ensures.items
           ∙ (λ i. had.names before m h i ++ (named (step.name clean m (had.frame.tables before m h) i) ∷ []))
@@ -39,16 +33,11 @@ loop-stay-preserved g c =
 
 pub returns-in_err-name-clause-frame : goal.returns-in_err-name-clause-frame
 returns-in_err-name-clause-frame g c =
-    reads_then (state g.S.Store c.args.tx.now.conn.now) (state g.S.Store c.loop-stay.tx.conn.now)
-    (state g.S.Store c.name_of.new.tx.conn.now) tt _ c.loop-stay.invariant.frame
-    (reads_fails _ _ _ _ c.from_residual.ensures.1 c.in_err-name.ensures.frame)
+    reads_on c.loop-stay.invariant.frame (fails_as c.from_residual.ensures.1 c.in_err-name.ensures.frame)
 
 pub returns-in_err-push-clause-frame : goal.returns-in_err-push-clause-frame
 returns-in_err-push-clause-frame g c =
-    let old = state g.S.Store c.args.tx.now.conn.now in
-    let new = state g.S.Store c.name_of.new.tx.conn.now in
-    reads_to old new c.in_ok-name.name _ (search rules)
-    (reads_then old (state g.S.Store c.loop-stay.tx.conn.now) new tt _ c.loop-stay.invariant.frame c.in_ok-name.ensures.frame)
+    reads_to (search rules) (reads_on c.loop-stay.invariant.frame c.in_ok-name.ensures.frame)
 
 pub returns-clause-names : goal.returns-clause-names
 returns-clause-names g c clean m h =
@@ -57,4 +46,4 @@ returns-clause-names g c clean m h =
     c.loop-stay.invariant.names clean m h ∙ ap (map (with_name m.people)) (take_all c.loop-stay.stay-index stays all)
 
 pub returns-clause-frame : goal.returns-clause-frame
-returns-clause-frame g c = reads_to (state g.S.Store c.args.tx.now.conn.now) (state g.S.Store c.loop-stay.tx.conn.now) tt _ tt c.loop-stay.invariant.frame
+returns-clause-frame g c = reads_to tt c.loop-stay.invariant.frame

@@ -32,4 +32,4 @@ returns-clause-within g c clean m h =
 pub returns-clause-frame : goal.returns-clause-frame
 returns-clause-frame g c =
     let shown = shown_by (steps_shown c.args.ceremony c.args.last.now) (λ i. c.number_cell.ensures i ∷ c.past_cell.ensures i ∷ []) in
-    reads_to _ _ c.in_ok-rows.rows _ tt (c.in_ok-rows.ensures.frame 16 _ shown)
+    reads_to tt (c.in_ok-rows.ensures.frame 16 _ shown)

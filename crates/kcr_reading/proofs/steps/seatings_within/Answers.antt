@@ -21,4 +21,4 @@ returns-clause-people g c clean m h =
 pub returns-clause-frame : goal.returns-clause-frame
 returns-clause-frame g c =
     let did = c.query_rows.ensures in
-    reads_by seatings_text _ _ c.query_rows.result (seatings_shown c.args.ceremony c.args.from c.args.until).bare did.same did.frame
+    reads_by seatings_text (seatings_shown c.args.ceremony c.args.from c.args.until).bare did.same did.frame

@@ -1,15 +1,15 @@
 use Rattle.std.proofs.Common.{◌∙◌, map, ap, List, ℕ}
-use Rattle.kcr_rows.proofs.InsideLemmas.{was_clean}
 use Rattle.kcr_custody.specs.declared.Item.{Item}
 use Rattle.kcr_history.specs.Questions.{with_items}
 use Rattle.kcr_reading.specs.Remaining.{items_by_code}
 use Rattle.kcr_history.specs.declared.report_rows.BagWithItems.{BagWithItems}
+use Rattle.kcr_rows.proofs.FrameLemmas.{clean_before}
 use Rattle.kcr_reading.proofs.ChoiceLemmas.{gives_made}
 use Rattle.kcr_reading.proofs.bags.BagCursorCursor.next.Goals as goal
 
 pub returns-clause-gives : goal.returns-clause-gives
 returns-clause-gives g c clean m live =
-    let before = was_clean _ _ _ c.items_within.ensures.frame.within.survives clean in
+    let before = clean_before c.items_within.ensures.frame.within clean in
     let h = live (c.in_ok-bag.ensures.opened before) in
     let still = c.in_ok-bag.ensures.frame.tables before m h in
     let made : List (List ℕ) → BagWithItems = λ codes. record { bag = c.in-Some.bag; codes = codes } in

@@ -1,6 +1,6 @@
 use Rattle.std.proofs.Common.{◌∙◌, List, map, ap}
 use Rattle.kcr_rows.proofs.FailLemmas.{if_ok}
-use Rattle.kcr_rows.proofs.InsideLemmas.{was_clean}
+use Rattle.kcr_rows.proofs.FrameLemmas.{clean_before}
 use Rattle.kcr_room.specs.declared.Stay.{Stay}
 use Rattle.kcr_history.specs.Questions.{with_name}
 use Rattle.kcr_reading.proofs.ChoiceLemmas.{several_made}
@@ -8,7 +8,7 @@ use Rattle.kcr_reading.proofs.stays.StayBatchesBatchSource.next_batch.Goals as g
 
 pub returns-clause-gives : goal.returns-clause-gives
 returns-clause-gives g c clean m live =
-    let before = was_clean _ _ _ c.with_names.ensures.frame.within.survives clean in
+    let before = clean_before c.with_names.ensures.frame.within clean in
     let h = live (c.in_ok-stays.ensures.opened before) in
     let still = c.in_ok-stays.ensures.frame.tables before m h in
     let given = c.in_ok-stays.ensures.gives before m h in

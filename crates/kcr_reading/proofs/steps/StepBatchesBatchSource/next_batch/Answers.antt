@@ -1,9 +1,9 @@
 use Rattle.std.proofs.Common.{◌≡◌, ◌∙◌, [], List, map, sym, ap}
 use Rattle.std.proofs.lemmas.Bool.{eqb-true}
 use Rattle.std.proofs.lemmas.List.{nil_from_length}
-use Rattle.kcr_rows.proofs.InsideLemmas.{was_clean}
 use Rattle.kcr_history.specs.declared.row_types.SeatingRow.{SeatingRow}
 use Rattle.kcr_history.specs.Questions.{with_seated}
+use Rattle.kcr_rows.proofs.FrameLemmas.{clean_before}
 use Rattle.kcr_reading.specs.Remaining.{with_people}
 use Rattle.kcr_reading.proofs.CeremonyLemmas.{people_are}
 use Rattle.kcr_reading.proofs.ChoiceLemmas.{several_made}
@@ -19,7 +19,7 @@ returns-then-is_empty-clause-gives g c clean m live =
 
 pub returns-clause-gives : goal.returns-clause-gives
 returns-clause-gives g c clean m live =
-    let before = was_clean _ _ _ c.seatings_within.ensures.frame.within.survives clean in
+    let before = clean_before c.seatings_within.ensures.frame.within clean in
     let h = live (c.in_ok-steps.ensures.opened before) in
     let still = c.in_ok-steps.ensures.frame.tables before m h in
     let steps = c.in_ok-steps.steps.items in
