@@ -1,13 +1,11 @@
 //! The table of stays, filled from the sheet.
 
-ghost use Rattle.std.specs.Prelude.{◌≡◌, map, IfOk, OnOk};
-ghost use Rattle.sqlite.specs.Held.{state};
-ghost use Rattle.sqlite.specs.State.{HasCleanDisk};
+ghost use Rattle.std.specs.Prelude.{◌≡◌, map, IfOk};
 ghost use Rattle.kcr_history.specs.declared.views.Change.TheVariants.{PutStay};
 ghost use Rattle.kcr_room.specs.Stays.{stays_by};
 ghost use Rattle.kcr_rows.specs.Refusals.{IsFault};
 ghost use Rattle.kcr_rows.specs.Frame.{StaysInTransaction};
-ghost use Rattle.kcr_tables.specs.StoredTables.{StoredTables, Holds};
+ghost use Rattle.kcr_tables.specs.Frame.{ChangesTables};
 ghost use Rattle.kcr_older.specs.Migrated.{with_own_stays};
 ghost use Rattle.kcr_older.specs.Backfilled.{with_stays};
 
@@ -40,11 +38,8 @@ fn stay_changes(alloc: Global, rows: &[SheetRow]) -> Result<Vec<Change>, AllocEr
 
 /// Puts the stays of the sheet into the table of stays, each under its key. The errors are those of `migrate`.
 fn backfill_stays<S: Alter>(alloc: Global, tx: &mut Transaction<'_, S>) -> Result<(), Refusal>
-    ensures same_reference { tx.new.conn.ghost_name ≡ tx.old.conn.ghost_name }
-    ensures holds { HasCleanDisk (state S.Store tx.new.conn.now) → (t : StoredTables)
-        → Holds (state S.Store tx.old.conn.now).now t
-        → OnOk result (Holds (state S.Store tx.new.conn.now).now (with_stays t)) }
-    ensures frame { StaysInTransaction IsFault (state S.Store tx.old.conn.now) (state S.Store tx.new.conn.now) result }
+    ensures holds { ChangesTables S.Store tx.old tx.new result with_stays }
+    ensures frame { StaysInTransaction S.Store IsFault tx.old tx.new result }
 {
     let rows = all_rows::<_, SheetRow>(alloc, tx)?;
     match stay_changes(alloc, rows.as_slice()) {
@@ -60,11 +55,8 @@ pub(crate) fn backfill<S: Alter>(
     tx: &mut Transaction<'_, S>,
     from: OldVersion,
 ) -> Result<(), Refusal>
-    ensures same_reference { tx.new.conn.ghost_name ≡ tx.old.conn.ghost_name }
-    ensures holds { HasCleanDisk (state S.Store tx.new.conn.now) → (t : StoredTables)
-        → Holds (state S.Store tx.old.conn.now).now t
-        → OnOk result (Holds (state S.Store tx.new.conn.now).now (with_own_stays from t)) }
-    ensures frame { StaysInTransaction IsFault (state S.Store tx.old.conn.now) (state S.Store tx.new.conn.now) result }
+    ensures holds { ChangesTables S.Store tx.old tx.new result (with_own_stays from) }
+    ensures frame { StaysInTransaction S.Store IsFault tx.old tx.new result }
 {
     match from {
         OldVersion::V1 => backfill_stays(alloc, tx),

@@ -1,12 +1,10 @@
 //! Registers of older versions, migrated to this version.
 
 ghost use Rattle.std.specs.Prelude.{◌≡◌, ◌+◌, OnOk};
-ghost use Rattle.sqlite.specs.Held.{state};
-ghost use Rattle.sqlite.specs.State.{HasCleanDisk};
 ghost use Rattle.kcr_history.specs.History.{History};
 ghost use Rattle.kcr_history.specs.Tables.{tables};
 ghost use Rattle.kcr_rows.specs.Refusals.{IsFault};
-ghost use Rattle.kcr_rows.specs.Frame.{StaysInTransaction};
+ghost use Rattle.kcr_rows.specs.Frame.{IfClean, StaysInTransaction};
 ghost use Rattle.kcr_tables.specs.StoredTables.{StoredTables, Holds};
 ghost use Rattle.kcr_tables.specs.MachineTables.{HoldsTables};
 ghost use Rattle.kcr_older.specs.Migrated.{migrated_tables};
@@ -49,16 +47,14 @@ pub fn migrate<S: Alter>(
     tx: &mut Transaction<'_, S>,
     from: OldVersion,
 ) -> Result<(), Refusal>
-    ensures same_reference { tx.new.conn.ghost_name ≡ tx.old.conn.ghost_name }
-    ensures brought { HasCleanDisk (state S.Store tx.new.conn.now) → (A : History)
-        → HoldsHistoryAs (number_of from) A (state S.Store tx.old.conn.now).now
-        → OnOk result (HoldsTables (tables A) (state S.Store tx.new.conn.now).now) }
+    ensures brought { IfClean S.Store tx.old tx.new (λ old new. (A : History)
+        → HoldsHistoryAs (number_of from) A old.now → OnOk result (HoldsTables (tables A) new.now)) }
 
     // Whoever wrote the rows.
-    ensures rows { HasCleanDisk (state S.Store tx.new.conn.now) → (t : StoredTables)
-        → HoldsFirst (14 + number_of from) (state S.Store tx.old.conn.now).now t → t.versions ≡ numbered (number_of from)
-        → OnOk result (Holds (state S.Store tx.new.conn.now).now (migrated_tables from t)) }
-    ensures frame { StaysInTransaction IsFault (state S.Store tx.old.conn.now) (state S.Store tx.new.conn.now) result }
+    ensures rows { IfClean S.Store tx.old tx.new (λ old new. (t : StoredTables)
+        → HoldsFirst (14 + number_of from) old.now t → t.versions ≡ numbered (number_of from)
+        → OnOk result (Holds new.now (migrated_tables from t))) }
+    ensures frame { StaysInTransaction S.Store IsFault tx.old tx.new result }
 {
     create_missing_tables(tx, from)?;
     backfill(alloc, tx, from)?;

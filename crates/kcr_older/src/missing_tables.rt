@@ -1,10 +1,8 @@
 //! The tables that an older file lacks, made over those that it has, and the number of its version.
 
 ghost use Rattle.std.specs.Prelude.{◌≡◌, ℕ, ◌+◌, OnOk};
-ghost use Rattle.sqlite.specs.Held.{state};
-ghost use Rattle.sqlite.specs.State.{HasCleanDisk};
 ghost use Rattle.kcr_rows.specs.Refusals.{IsFault};
-ghost use Rattle.kcr_rows.specs.Frame.{StaysInTransaction};
+ghost use Rattle.kcr_rows.specs.Frame.{IfClean, StaysInTransaction};
 ghost use Rattle.kcr_tables.specs.StoredTables.{StoredTables, Holds};
 ghost use Rattle.kcr_tables.specs.Creation.{schema_prefix};
 ghost use Rattle.kcr_tables.specs.Schema.{stays, withdrawals};
@@ -21,10 +19,9 @@ use sqlite::{Alter, Transaction};
 
 /// Makes the table of stays, without rows, over the tables of version 1.
 fn create_stays<S: Alter>(tx: &mut Transaction<'_, S>) -> Result<(), Refusal>
-    ensures same_reference { tx.new.conn.ghost_name ≡ tx.old.conn.ghost_name }
-    ensures gains { HasCleanDisk (state S.Store tx.new.conn.now) → (state S.Store tx.old.conn.now).now.schema ≡ schema_prefix 15
-        → OnOk result (Gains 15 stays (state S.Store tx.old.conn.now).now (state S.Store tx.new.conn.now).now) }
-    ensures frame { StaysInTransaction IsFault (state S.Store tx.old.conn.now) (state S.Store tx.new.conn.now) result }
+    ensures gains { IfClean S.Store tx.old tx.new
+        (λ old new. old.now.schema ≡ schema_prefix 15 → OnOk result (Gains 15 stays old.now new.now)) }
+    ensures frame { StaysInTransaction S.Store IsFault tx.old tx.new result }
 {
     let text = create_table_sql(15);
     run_statement(tx, text, &[])
@@ -32,10 +29,9 @@ fn create_stays<S: Alter>(tx: &mut Transaction<'_, S>) -> Result<(), Refusal>
 
 /// Makes the table of withdrawals, without rows, over the tables of version 2. It is the last table.
 fn create_withdrawals<S: Alter>(tx: &mut Transaction<'_, S>) -> Result<(), Refusal>
-    ensures same_reference { tx.new.conn.ghost_name ≡ tx.old.conn.ghost_name }
-    ensures gains { HasCleanDisk (state S.Store tx.new.conn.now) → (state S.Store tx.old.conn.now).now.schema ≡ schema_prefix 16
-        → OnOk result (Gains 16 withdrawals (state S.Store tx.old.conn.now).now (state S.Store tx.new.conn.now).now) }
-    ensures frame { StaysInTransaction IsFault (state S.Store tx.old.conn.now) (state S.Store tx.new.conn.now) result }
+    ensures gains { IfClean S.Store tx.old tx.new
+        (λ old new. old.now.schema ≡ schema_prefix 16 → OnOk result (Gains 16 withdrawals old.now new.now)) }
+    ensures frame { StaysInTransaction S.Store IsFault tx.old tx.new result }
 {
     let text = create_table_sql(16);
     run_statement(tx, text, &[])
@@ -46,11 +42,9 @@ pub(crate) fn create_missing_tables<S: Alter>(
     tx: &mut Transaction<'_, S>,
     from: OldVersion,
 ) -> Result<(), Refusal>
-    ensures same_reference { tx.new.conn.ghost_name ≡ tx.old.conn.ghost_name }
-    ensures holds { HasCleanDisk (state S.Store tx.new.conn.now) → (t : StoredTables)
-        → HoldsFirst (14 + number_of from) (state S.Store tx.old.conn.now).now t
-        → OnOk result (Holds (state S.Store tx.new.conn.now).now (with_bare_tables from t)) }
-    ensures frame { StaysInTransaction IsFault (state S.Store tx.old.conn.now) (state S.Store tx.new.conn.now) result }
+    ensures holds { IfClean S.Store tx.old tx.new (λ old new. (t : StoredTables)
+        → HoldsFirst (14 + number_of from) old.now t → OnOk result (Holds new.now (with_bare_tables from t))) }
+    ensures frame { StaysInTransaction S.Store IsFault tx.old tx.new result }
 {
     match from {
         OldVersion::V1 => {
@@ -64,11 +58,10 @@ pub(crate) fn create_missing_tables<S: Alter>(
 /// Sets the number of the version, which is in one row, to that of this version. The errors are those of
 /// `migrate`.
 pub(crate) fn set_version<S: Alter>(tx: &mut Transaction<'_, S>) -> Result<(), Refusal>
-    ensures same_reference { tx.new.conn.ghost_name ≡ tx.old.conn.ghost_name }
-    ensures holds { HasCleanDisk (state S.Store tx.new.conn.now) → (number : ℕ) → (t : StoredTables)
-        → t.versions ≡ numbered number → Holds (state S.Store tx.old.conn.now).now t
-        → OnOk result (Holds (state S.Store tx.new.conn.now).now (record t { versions = numbered 3 })) }
-    ensures frame { StaysInTransaction IsFault (state S.Store tx.old.conn.now) (state S.Store tx.new.conn.now) result }
+    ensures holds { IfClean S.Store tx.old tx.new (λ old new. (number : ℕ) → (t : StoredTables)
+        → t.versions ≡ numbered number → Holds old.now t
+        → OnOk result (Holds new.now (record t { versions = numbered 3 }))) }
+    ensures frame { StaysInTransaction S.Store IsFault tx.old tx.new result }
 {
     run_statement(tx, "UPDATE versions SET number = 3", &[])
 }

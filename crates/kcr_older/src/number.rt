@@ -1,10 +1,9 @@
 //! The number of its version that a database has, whatever its schema is.
 
 ghost use Rattle.std.specs.Prelude.{◌≡◌, [], ◌∷◌, ⊤, IsTrue, is_some, map, IfOk, OnOk};
-ghost use Rattle.sqlite.specs.Held.{state};
-ghost use Rattle.sqlite.specs.State.{HasCleanDisk, IsLive, IsUnchanged};
+ghost use Rattle.sqlite.specs.State.{IsLive, IsUnchanged};
 ghost use Rattle.kcr_rows.specs.Refusals.{IsFault};
-ghost use Rattle.kcr_rows.specs.Frame.{StaysInTransaction};
+ghost use Rattle.kcr_rows.specs.Frame.{IfClean, ImpliesOpen, StaysInTransaction};
 ghost use Rattle.kcr_older.specs.Kind as spec;
 ghost use Rattle.kcr_older.specs.Kind.{numbered_table};
 
@@ -57,16 +56,12 @@ pub fn version_in<S: Alter>(
     alloc: Global,
     tx: &mut Transaction<'_, S>,
 ) -> Result<Option<i64>, Refusal>
-    ensures same_reference { tx.new.conn.ghost_name ≡ tx.old.conn.ghost_name }
-    ensures number { HasCleanDisk (state S.Store tx.new.conn.now) → IsLive (state S.Store tx.old.conn.now)
-        → IsTrue (is_some (numbered_table (state S.Store tx.old.conn.now).now.schema))
-        → IfOk result (λ number. number ≡ spec.version_in (state S.Store tx.old.conn.now).now) }
-    ensures same { HasCleanDisk (state S.Store tx.new.conn.now)
-        → IsTrue (is_some (numbered_table (state S.Store tx.old.conn.now).now.schema))
-        → OnOk result (IsUnchanged (state S.Store tx.old.conn.now) (state S.Store tx.new.conn.now)) }
-    ensures opened { HasCleanDisk (state S.Store tx.new.conn.now)
-        → OnOk result (IsTrue (state S.Store tx.old.conn.now).is_open) }
-    ensures frame { StaysInTransaction IsFault (state S.Store tx.old.conn.now) (state S.Store tx.new.conn.now) result }
+    ensures number { IfClean S.Store tx.old tx.new (λ old _. IsLive old
+        → IsTrue (is_some (numbered_table old.now.schema)) → IfOk result (λ number. number ≡ spec.version_in old.now)) }
+    ensures same { IfClean S.Store tx.old tx.new
+        (λ old new. IsTrue (is_some (numbered_table old.now.schema)) → OnOk result (IsUnchanged old new)) }
+    ensures opened { ImpliesOpen S.Store tx.old tx.new result }
+    ensures frame { StaysInTransaction S.Store IsFault tx.old tx.new result }
 {
     let cells = query_rows::<_, Cell>(alloc, tx, "SELECT number FROM versions", &[])?;
     Ok(only_number(cells.as_slice()))

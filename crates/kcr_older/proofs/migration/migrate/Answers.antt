@@ -1,15 +1,15 @@
-use Rattle.kcr_rows.proofs.InsideLemmas.{was_clean}
 use Rattle.kcr_older.specs.Migrated.{with_bare_tables, with_own_stays}
 use Rattle.kcr_older.specs.Versions.{number_of}
 use Rattle.std.proofs.Common.{refl, ◌∙◌}
 use Rattle.std.proofs.lemmas.Result.{on_ok_weaker}
+use Rattle.kcr_rows.proofs.FrameLemmas.{clean_before}
 use Rattle.kcr_older.proofs.Bringing.{old_holds, same_number, brought_from}
 use Rattle.kcr_older.proofs.migration.migrate.Goals as goal
 
 pub returns-clause-rows : goal.returns-clause-rows
 returns-clause-rows g c clean t held number =
-    let clean3 = was_clean _ _ _ c.set_version.ensures.frame.survives clean in
-    let clean2 = was_clean _ _ _ c.backfill.ensures.frame.survives clean3 in
+    let clean3 = clean_before c.set_version.ensures.frame clean in
+    let clean2 = clean_before c.backfill.ensures.frame clean3 in
     let from = c.args.from in
     let grown = c.in_ok-create_missing_tables.ensures.holds clean2 t held in
     let filled = c.in_ok-backfill.ensures.holds clean3 (with_bare_tables from t) grown in

@@ -1,7 +1,6 @@
 use Rattle.sqlite.specs.Held.{state}
-use Rattle.sqlite.specs.State.{HasCleanDisk}
 use Rattle.kcr_rows.proofs.FailLemmas.{on_ok_then}
-use Rattle.kcr_rows.proofs.InsideLemmas.{was_clean}
+use Rattle.kcr_rows.proofs.FrameLemmas.{clean_before}
 use Rattle.kcr_older.proofs.Grown.{grown_from_1, grown_from_2}
 use Rattle.kcr_older.proofs.missing_tables.create_missing_tables.Goals as goal
 
@@ -10,7 +9,7 @@ returns-in_ok-create_stays-in-V1-clause-holds g c clean t held =
     let old = state g.S.Store c.args.tx.now.conn.now in
     let mid = state g.S.Store c.create_stays.new.tx.conn.now in
     let new = state g.S.Store c.create_withdrawals.new.tx.conn.now in
-    let before : HasCleanDisk mid = was_clean mid new _ c.create_withdrawals.ensures.frame.survives clean in
+    let before = clean_before c.create_withdrawals.ensures.frame clean in
     let own = rw c.in-V1.is at held in
     let one = c.in_ok-create_stays-in-V1.ensures.gains before own.schema in
     rw c.in-V1.is (on_ok_then _ _ (grown_from_1 old.now mid.now new.now t own one) c.create_withdrawals.result
