@@ -25,53 +25,52 @@ class Kind:
         return self.read.split("(")[0]
 
 
-def text(name, by_ref=True):
-    ref = "&" if by_ref else ""
-    return Kind("TEXT NOT NULL", "words", "Text {x}", f"{name}_at(row, {{at}})?", f"{name}_cell({ref}{{x}})", ties="text_ties")
+TEXT_AT = "text_at(alloc, row, {at})?"
 
 
-def line(name):
-    return Kind("TEXT NOT NULL", "words", "Text {x}", f"{name}_at(alloc, row, {{at}})?", f"{name}_cell(&{{x}})", ties="text_ties")
+def text():
+    return Kind("TEXT NOT NULL", "words", "Text {x}", TEXT_AT, "text_cell({x}.as_str())", ties="text_ties")
 
 
-def integer(name):
-    return Kind("INT NOT NULL", "number", "Int (pos {x})", f"{name}_at(row, {{at}})?", f"{name}_cell({{x}})", cast="cast_int (pos {x}) i", ties="number_ties", casts=("cast_int",))
+def integer():
+    return Kind("INT NOT NULL", "number", "Int (pos {x})", "number_at(row, {at})?", "number_cell({x})", cast="cast_int (pos {x}) i", ties="number_ties", casts=("cast_int",))
 
 
-def integer_or_null(name):
-    return Kind("INT", "number_or_null", "int_or_null {x}", f"{name}_or_null_at(row, {{at}})?", f"{name}_or_null_cell({{x}})", one="one_number", cast="cast_or_null {x} i", words=("int_or_null",), casts=("cast_or_null",))
+def integer_or_null():
+    return Kind("INT", "number_or_null", "int_or_null {x}", "number_or_null_at(row, {at})?", "number_or_null_cell({x})", one="one_number", cast="cast_or_null {x} i", words=("int_or_null",), casts=("cast_or_null",))
 
 
-def numbered(name, word, one, ties=None):
-    return Kind("INT NOT NULL", "number", f"Int (pos ({word} {{x}}))", f"{name}_at(row, {{at}})?", f"{name}_cell({{x}})", one=one, cast=f"cast_int (pos ({word} {{x}})) i", ties=ties, words=(word,), casts=("cast_int",))
+def numbered(name, word, ties=None):
+    return Kind("INT NOT NULL", "number", f"Int (pos ({word} {{x}}))", "number_at(row, {at})?", "number_cell({x})", one=f"one_{name}", cast=f"cast_int (pos ({word} {{x}})) i", ties=ties, words=(word,), casts=("cast_int",))
 
 
-def named(name, word):
-    return Kind("TEXT NOT NULL", "words", f"Text ({word} {{x}})", f"{name}_at(row, {{at}})?", f"{name}_cell({{x}})", one=f"one_{name}", ties=f"{name}_ties", words=(word,))
+def named(name, write="text_cell({x}.text())", prelude=None):
+    word = f"{name}_text"
+    return Kind("TEXT NOT NULL", "words", f"Text ({word} {{x}})", TEXT_AT, write, one=f"one_{name}", ties=f"{name}_ties", words=(word,), prelude=prelude)
 
 
-INITIALS = text("initials")
-KEY = text("key")
-SERIAL = text("serial")
-ITEM = text("item")
-LINE = line("line")
-TEXT = line("text")
-NUMBER = integer("number")
-DAY = integer("day")
-MOMENT = integer("moment")
-DAY_OR_NULL = integer_or_null("day")
-MOMENT_OR_NULL = integer_or_null("moment")
-NUMBER_OR_NULL = integer_or_null("number")
-FACILITY = named("facility", "facility_text")
-ROLE = named("role", "role_text")
-PLACE = Kind("TEXT NOT NULL", "words", "Text (place_text {x})", "place_at(row, {at})?", "code_cell(&{f})", one="one_place", ties="place_ties", words=("place_text",), prelude="let {f} = {x}.text();")
-SAFE = numbered("safe", "safe_digit", "one_safe", "safe_ties")
-TRUTH = numbered("truth", "truth_number", "one_truth")
-WAY = numbered("way", "way_number", "one_way")
-CEREMONY_STATE = numbered("ceremony_state", "ceremony_number", "one_ceremony_state")
-STEP_STATE = numbered("step_state", "step_number", "one_step_state")
-SPOT = Kind("TEXT NOT NULL", "words", "Text (spot_text {x})", "spot_at(row, {at})?", "text_cell(&{f})", one="one_spot", words=("spot_text",), prelude="let {f} = spot_words(alloc, {x})?;")
-SEATS = Kind("TEXT NOT NULL", "words", "Text (written {x})", "seats_at(alloc, row, {at})?", "text_cell(&{f})", one="one_seats", words=("written",), prelude="let {f} = seats_words(alloc, &{x})?;")
+INITIALS = text()
+KEY = text()
+SERIAL = text()
+ITEM = text()
+LINE = text()
+TEXT = text()
+NUMBER = integer()
+DAY = integer()
+MOMENT = integer()
+DAY_OR_NULL = integer_or_null()
+MOMENT_OR_NULL = integer_or_null()
+NUMBER_OR_NULL = integer_or_null()
+FACILITY = named("facility")
+ROLE = named("role")
+PLACE = named("place", "text_cell({f}.as_str())", "let {f} = {x}.text();")
+SAFE = numbered("safe", "safe_digit", "safe_ties")
+TRUTH = numbered("truth", "truth_number")
+WAY = numbered("way", "way_number")
+CEREMONY_STATE = numbered("ceremony_state", "ceremony_number")
+STEP_STATE = numbered("step_state", "step_number")
+SPOT = Kind("TEXT NOT NULL", "words", "Text (spot_text {x})", "spot_at(row, {at})?", "text_cell({f}.as_str())", one="one_spot", words=("spot_text",), prelude="let {f} = spot_words(alloc, {x})?;")
+SEATS = Kind("TEXT NOT NULL", "words", "Text (written {x})", "seats_at(alloc, row, {at})?", "text_cell({f}.as_str())", one="one_seats", words=("written",), prelude="let {f} = seats_words(alloc, &{x})?;")
 # the two columns of an item's rest
 LOOSE = Kind("TEXT", "words_or_null", "loose_value {x}", "rest_at(row, {at})?", "loose_cell({x})", cast="cast_loose {x} i", words=("loose_value",), casts=("cast_loose",))
 WITHIN = Kind("TEXT", "words_or_null", "within_value {x}", None, "within_cell(&{x})", cast="cast_within {x} i", words=("within_value",), casts=("cast_within",))

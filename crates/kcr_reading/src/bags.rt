@@ -12,7 +12,7 @@ use crate::seek::first_row;
 use kcr_base::{ItemCode, Refusal, Serial};
 use kcr_custody::{Bag, Item};
 use kcr_history::{BagWithItems, ItemList};
-use kcr_rows::cells::serial_cell;
+use kcr_rows::cells::text_cell;
 use kcr_tables::find_rows;
 use sqlite::{Alter, Transaction};
 use std::alloc::{AllocError, Global};
@@ -33,7 +33,7 @@ fn first_bag_after<S: Alter>(
             alloc,
             tx,
             "SELECT serial, spot FROM bags WHERE serial > ?1 ORDER BY serial LIMIT 1",
-            &[serial_cell(serial)],
+            &[text_cell(serial.as_str())],
         ),
         None => first_row(
             alloc,

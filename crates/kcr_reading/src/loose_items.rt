@@ -10,7 +10,7 @@ use crate::cursor::Cursor;
 use crate::seek::first_row;
 use kcr_base::{ItemCode, Refusal};
 use kcr_custody::Item;
-use kcr_rows::cells::item_cell;
+use kcr_rows::cells::text_cell;
 use sqlite::{Alter, Transaction};
 use std::alloc::Global;
 
@@ -30,7 +30,7 @@ fn first_loose_after<S: Alter>(
             alloc,
             tx,
             "SELECT code, facility, serial FROM items WHERE serial IS NULL AND code > ?1 ORDER BY code LIMIT 1",
-            &[item_cell(code)],
+            &[text_cell(code.as_str())],
         ),
         None => first_row(
             alloc,

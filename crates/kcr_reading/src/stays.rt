@@ -20,7 +20,7 @@ use kcr_base::{Initials, Name, Refusal};
 use kcr_history::StayWithName;
 use kcr_people::Person;
 use kcr_room::Stay;
-use kcr_rows::cells::{initials_cell, moment_cell, number_cell};
+use kcr_rows::cells::{number_cell, text_cell};
 use kcr_tables::find_rows;
 use sqlite::types::ValueRef;
 use sqlite::{Alter, Transaction};
@@ -31,7 +31,7 @@ fn past_moment(last: &Option<Stay>) -> ValueRef<'static>
     ensures { bound_value (owned result) ≡ Int (bound_of (since_of last.now)) }
 {
     match last {
-        Some(stay) => moment_cell(stay.since),
+        Some(stay) => number_cell(stay.since),
         None => past_cell(None),
     }
 }
@@ -64,8 +64,8 @@ fn first_in_range<S: Alter>(
             "SELECT who, since, ceremony, until FROM stays WHERE ceremony = ?1 AND since = ?2 AND who > ?3 ORDER BY who, since LIMIT 16",
             &[
                 number_cell(ceremony),
-                moment_cell(last.since),
-                initials_cell(&last.who),
+                number_cell(last.since),
+                text_cell(last.who.as_str()),
             ],
         ),
         StayRange::LaterStart(last) => first_rows(

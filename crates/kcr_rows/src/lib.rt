@@ -8,6 +8,7 @@
 pub mod cells;
 mod count_row;
 pub mod from_row;
+pub mod numbers;
 mod row_impls;
 pub mod statements;
 

@@ -7,11 +7,7 @@ ghost use Rattle.kcr_rows.specs.Rows.{item_row, ceremony_row, mark_row, step_row
 ghost use Rattle.kcr_rows.specs.Rows.{exception_row, version_row, key_row, stay_row, withdrawal_row};
 ghost use Rattle.kcr_rows.specs.States.{HasBoxNumber, HasOnlyTheseSeats};
 
-use crate::cells::{
-    ceremony_state_at, day_at, day_or_null_at, facility_at, initials_at, item_at, key_at, line_at,
-    moment_at, moment_or_null_at, number_at, number_or_null_at, place_at, rest_at, role_at,
-    safe_at, seats_at, serial_at, spot_at, step_state_at, text_at, truth_at, way_at,
-};
+use crate::cells::{number_at, number_or_null_at, rest_at, seats_at, spot_at, text_at};
 use crate::from_row::FromRow;
 use kcr_base::Refusal;
 use kcr_custody::{Bag, BoxRow, Item, SafeRow};
@@ -30,8 +26,8 @@ impl FromRow for Person {
         if row.column_count() != 2 {
             return Err(Refusal::Disk);
         }
-        let who = initials_at(row, 0)?;
-        let name = line_at(alloc, row, 1)?;
+        let who = text_at(alloc, row, 0)?;
+        let name = text_at(alloc, row, 1)?;
         Ok(Person { who, name })
     }
 }
@@ -41,14 +37,14 @@ impl FromRow for Training {
 
     ghost is_read = { λ _. ⊤ };
 
-    fn from_row(_alloc: Global, row: &Row) -> Result<Training, Refusal> {
+    fn from_row(alloc: Global, row: &Row) -> Result<Training, Refusal> {
         if row.column_count() != 4 {
             return Err(Refusal::Disk);
         }
-        let who = initials_at(row, 0)?;
-        let role = role_at(row, 1)?;
-        let since = day_at(row, 2)?;
-        let until = day_at(row, 3)?;
+        let who = text_at(alloc, row, 0)?;
+        let role = text_at(alloc, row, 1)?;
+        let since = number_at(row, 2)?;
+        let until = number_at(row, 3)?;
         Ok(Training {
             who,
             role,
@@ -63,14 +59,14 @@ impl FromRow for Appointment {
 
     ghost is_read = { λ _. ⊤ };
 
-    fn from_row(_alloc: Global, row: &Row) -> Result<Appointment, Refusal> {
+    fn from_row(alloc: Global, row: &Row) -> Result<Appointment, Refusal> {
         if row.column_count() != 4 {
             return Err(Refusal::Disk);
         }
-        let place = place_at(row, 0)?;
-        let since = day_at(row, 1)?;
-        let who = initials_at(row, 2)?;
-        let until = day_or_null_at(row, 3)?;
+        let place = text_at(alloc, row, 0)?;
+        let since = number_at(row, 1)?;
+        let who = text_at(alloc, row, 2)?;
+        let until = number_or_null_at(row, 3)?;
         Ok(Appointment {
             place,
             since,
@@ -85,13 +81,13 @@ impl FromRow for BoxRow {
 
     ghost is_read = { λ _. ⊤ };
 
-    fn from_row(_alloc: Global, row: &Row) -> Result<BoxRow, Refusal> {
+    fn from_row(alloc: Global, row: &Row) -> Result<BoxRow, Refusal> {
         if row.column_count() != 3 {
             return Err(Refusal::Disk);
         }
-        let facility = facility_at(row, 0)?;
+        let facility = text_at(alloc, row, 0)?;
         let number = number_at(row, 1)?;
-        let place = place_at(row, 2)?;
+        let place = text_at(alloc, row, 2)?;
         Ok(BoxRow {
             facility,
             number,
@@ -105,13 +101,13 @@ impl FromRow for SafeRow {
 
     ghost is_read = { λ _. ⊤ };
 
-    fn from_row(_alloc: Global, row: &Row) -> Result<SafeRow, Refusal> {
+    fn from_row(alloc: Global, row: &Row) -> Result<SafeRow, Refusal> {
         if row.column_count() != 3 {
             return Err(Refusal::Disk);
         }
-        let facility = facility_at(row, 0)?;
-        let safe = safe_at(row, 1)?;
-        let is_open = truth_at(row, 2)?;
+        let facility = text_at(alloc, row, 0)?;
+        let safe = number_at(row, 1)?;
+        let is_open = number_at(row, 2)?;
         Ok(SafeRow {
             facility,
             safe,
@@ -125,11 +121,11 @@ impl FromRow for Bag {
 
     ghost is_read = { HasBoxNumber };
 
-    fn from_row(_alloc: Global, row: &Row) -> Result<Bag, Refusal> {
+    fn from_row(alloc: Global, row: &Row) -> Result<Bag, Refusal> {
         if row.column_count() != 2 {
             return Err(Refusal::Disk);
         }
-        let serial = serial_at(row, 0)?;
+        let serial = text_at(alloc, row, 0)?;
         let spot = spot_at(row, 1)?;
         Ok(Bag { serial, spot })
     }
@@ -140,11 +136,11 @@ impl FromRow for Item {
 
     ghost is_read = { λ _. ⊤ };
 
-    fn from_row(_alloc: Global, row: &Row) -> Result<Item, Refusal> {
+    fn from_row(alloc: Global, row: &Row) -> Result<Item, Refusal> {
         if row.column_count() != 3 {
             return Err(Refusal::Disk);
         }
-        let code = item_at(row, 0)?;
+        let code = text_at(alloc, row, 0)?;
         let rest = rest_at(row, 1)?;
         Ok(Item { code, rest })
     }
@@ -155,16 +151,16 @@ impl FromRow for CeremonyRow {
 
     ghost is_read = { λ _. ⊤ };
 
-    fn from_row(_alloc: Global, row: &Row) -> Result<CeremonyRow, Refusal> {
+    fn from_row(alloc: Global, row: &Row) -> Result<CeremonyRow, Refusal> {
         if row.column_count() != 6 {
             return Err(Refusal::Disk);
         }
         let number = number_at(row, 0)?;
-        let facility = facility_at(row, 1)?;
-        let day = day_at(row, 2)?;
-        let state = ceremony_state_at(row, 3)?;
-        let opened = moment_or_null_at(row, 4)?;
-        let closed = moment_or_null_at(row, 5)?;
+        let facility = text_at(alloc, row, 1)?;
+        let day = number_at(row, 2)?;
+        let state = number_at(row, 3)?;
+        let opened = number_or_null_at(row, 4)?;
+        let closed = number_or_null_at(row, 5)?;
         Ok(CeremonyRow {
             number,
             facility,
@@ -186,7 +182,7 @@ impl FromRow for MarkRow {
             return Err(Refusal::Disk);
         }
         let ceremony = number_at(row, 0)?;
-        let at = moment_at(row, 1)?;
+        let at = number_at(row, 1)?;
         Ok(MarkRow { ceremony, at })
     }
 }
@@ -202,10 +198,10 @@ impl FromRow for StepRow {
         }
         let ceremony = number_at(row, 0)?;
         let step = number_at(row, 1)?;
-        let activity = line_at(alloc, row, 2)?;
+        let activity = text_at(alloc, row, 2)?;
         let seats = seats_at(alloc, row, 3)?;
-        let state = step_state_at(row, 4)?;
-        let at = moment_or_null_at(row, 5)?;
+        let state = number_at(row, 4)?;
+        let at = number_or_null_at(row, 5)?;
         Ok(StepRow {
             ceremony,
             step,
@@ -222,14 +218,14 @@ impl FromRow for SeatingRow {
 
     ghost is_read = { λ _. ⊤ };
 
-    fn from_row(_alloc: Global, row: &Row) -> Result<SeatingRow, Refusal> {
+    fn from_row(alloc: Global, row: &Row) -> Result<SeatingRow, Refusal> {
         if row.column_count() != 4 {
             return Err(Refusal::Disk);
         }
         let ceremony = number_at(row, 0)?;
         let step = number_at(row, 1)?;
         let seat = number_at(row, 2)?;
-        let who = initials_at(row, 3)?;
+        let who = text_at(alloc, row, 3)?;
         Ok(SeatingRow {
             ceremony,
             step,
@@ -244,14 +240,14 @@ impl FromRow for SheetRow {
 
     ghost is_read = { λ _. ⊤ };
 
-    fn from_row(_alloc: Global, row: &Row) -> Result<SheetRow, Refusal> {
+    fn from_row(alloc: Global, row: &Row) -> Result<SheetRow, Refusal> {
         if row.column_count() != 4 {
             return Err(Refusal::Disk);
         }
-        let who = initials_at(row, 0)?;
-        let at = moment_at(row, 1)?;
+        let who = text_at(alloc, row, 0)?;
+        let at = number_at(row, 1)?;
         let ceremony = number_at(row, 2)?;
-        let way = way_at(row, 3)?;
+        let way = number_at(row, 3)?;
         Ok(SheetRow {
             who,
             at,
@@ -272,8 +268,8 @@ impl FromRow for ExceptionRow {
         }
         let ceremony = number_at(row, 0)?;
         let exception = number_at(row, 1)?;
-        let text = line_at(alloc, row, 2)?;
-        let at = moment_at(row, 3)?;
+        let text = text_at(alloc, row, 2)?;
+        let at = number_at(row, 3)?;
         let passed = number_or_null_at(row, 4)?;
         Ok(ExceptionRow {
             ceremony,
@@ -314,7 +310,7 @@ impl FromRow for KeyRow {
         if row.column_count() != 4 {
             return Err(Refusal::Disk);
         }
-        let key = key_at(row, 0)?;
+        let key = text_at(alloc, row, 0)?;
         let accepted = number_at(row, 1)?;
         let command = text_at(alloc, row, 2)?;
         let reply = text_at(alloc, row, 3)?;
@@ -332,14 +328,14 @@ impl FromRow for Stay {
 
     ghost is_read = { λ _. ⊤ };
 
-    fn from_row(_alloc: Global, row: &Row) -> Result<Stay, Refusal> {
+    fn from_row(alloc: Global, row: &Row) -> Result<Stay, Refusal> {
         if row.column_count() != 4 {
             return Err(Refusal::Disk);
         }
-        let who = initials_at(row, 0)?;
-        let since = moment_at(row, 1)?;
+        let who = text_at(alloc, row, 0)?;
+        let since = number_at(row, 1)?;
         let ceremony = number_at(row, 2)?;
-        let until = moment_or_null_at(row, 3)?;
+        let until = number_or_null_at(row, 3)?;
         Ok(Stay {
             who,
             since,
@@ -354,15 +350,15 @@ impl FromRow for Withdrawal {
 
     ghost is_read = { λ _. ⊤ };
 
-    fn from_row(_alloc: Global, row: &Row) -> Result<Withdrawal, Refusal> {
+    fn from_row(alloc: Global, row: &Row) -> Result<Withdrawal, Refusal> {
         if row.column_count() != 5 {
             return Err(Refusal::Disk);
         }
-        let who = initials_at(row, 0)?;
-        let role = role_at(row, 1)?;
-        let since = day_at(row, 2)?;
-        let until = day_at(row, 3)?;
-        let day = day_at(row, 4)?;
+        let who = text_at(alloc, row, 0)?;
+        let role = text_at(alloc, row, 1)?;
+        let since = number_at(row, 2)?;
+        let until = number_at(row, 3)?;
+        let day = number_at(row, 4)?;
         Ok(Withdrawal {
             who,
             role,

@@ -6,7 +6,7 @@ ghost use Rattle.kcr_tables.specs.AppointmentsLaws as laws;
 use crate::table::{Put, TableRow, update_or_insert_row};
 use kcr_base::Refusal;
 use kcr_people::Appointment;
-use kcr_rows::cells::{code_cell, day_cell, day_or_null_cell, initials_cell};
+use kcr_rows::cells::{number_cell, number_or_null_cell, text_cell};
 use sqlite::{Alter, Transaction};
 
 impl TableRow for Appointment {
@@ -29,10 +29,10 @@ impl Put for Appointment {
             "UPDATE appointments SET place = ?1, since = ?2, who = ?3, until = ?4 WHERE place = ?1 AND since = ?2",
             "INSERT INTO appointments (place, since, who, until) VALUES (?1, ?2, ?3, ?4)",
             &[
-                code_cell(&place),
-                day_cell(self.since),
-                initials_cell(&self.who),
-                day_or_null_cell(self.until),
+                text_cell(place.as_str()),
+                number_cell(self.since),
+                text_cell(self.who.as_str()),
+                number_or_null_cell(self.until),
             ],
         )
     }

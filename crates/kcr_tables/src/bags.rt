@@ -6,7 +6,7 @@ ghost use Rattle.kcr_tables.specs.BagsLaws as laws;
 use crate::table::{LookupBy, PutAllocating, TableRow, update_or_insert_row};
 use kcr_base::{Refusal, Serial};
 use kcr_custody::Bag;
-use kcr_rows::cells::{serial_cell, spot_words, text_cell};
+use kcr_rows::cells::{spot_words, text_cell};
 use sqlite::{Alter, Transaction};
 use std::alloc::Global;
 
@@ -44,7 +44,7 @@ impl PutAllocating for Bag {
             self,
             "UPDATE bags SET serial = ?1, spot = ?2 WHERE serial = ?1",
             "INSERT INTO bags (serial, spot) VALUES (?1, ?2)",
-            &[serial_cell(&self.serial), text_cell(&spot)],
+            &[text_cell(self.serial.as_str()), text_cell(spot.as_str())],
         )
     }
 }

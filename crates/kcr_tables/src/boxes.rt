@@ -6,7 +6,7 @@ ghost use Rattle.kcr_tables.specs.BoxesLaws as laws;
 use crate::table::{Put, TableRow, insert_row};
 use kcr_base::Refusal;
 use kcr_custody::BoxRow;
-use kcr_rows::cells::{code_cell, facility_cell, number_cell};
+use kcr_rows::cells::{number_cell, text_cell};
 use sqlite::{Alter, Transaction};
 
 impl TableRow for BoxRow {
@@ -28,9 +28,9 @@ impl Put for BoxRow {
             self,
             "INSERT INTO boxes (facility, box, place) VALUES (?1, ?2, ?3)",
             &[
-                facility_cell(self.facility),
+                text_cell(self.facility.text()),
                 number_cell(self.number),
-                code_cell(&place),
+                text_cell(place.as_str()),
             ],
         )
     }

@@ -6,9 +6,7 @@ ghost use Rattle.kcr_tables.specs.CeremoniesLaws as laws;
 use crate::table::{LookupBy, Put, TableRow, update_or_insert_row};
 use kcr_base::Refusal;
 use kcr_history::CeremonyRow;
-use kcr_rows::cells::{
-    ceremony_state_cell, day_cell, facility_cell, moment_or_null_cell, number_cell,
-};
+use kcr_rows::cells::{number_cell, number_or_null_cell, text_cell};
 use sqlite::{Alter, Transaction};
 
 impl TableRow for CeremonyRow {
@@ -42,11 +40,11 @@ impl Put for CeremonyRow {
             "INSERT INTO ceremonies (number, facility, day, state, opened, closed) VALUES (?1, ?2, ?3, ?4, ?5, ?6)",
             &[
                 number_cell(self.number),
-                facility_cell(self.facility),
-                day_cell(self.day),
-                ceremony_state_cell(self.state),
-                moment_or_null_cell(self.opened),
-                moment_or_null_cell(self.closed),
+                text_cell(self.facility.text()),
+                number_cell(self.day),
+                number_cell(self.state),
+                number_or_null_cell(self.opened),
+                number_or_null_cell(self.closed),
             ],
         )
     }

@@ -6,7 +6,7 @@ ghost use Rattle.kcr_tables.specs.ExceptionsLaws as laws;
 use crate::table::{LookupBy, Put, TableRow, insert_row};
 use kcr_base::Refusal;
 use kcr_history::ExceptionRow;
-use kcr_rows::cells::{line_cell, moment_cell, number_cell, number_or_null_cell};
+use kcr_rows::cells::{number_cell, number_or_null_cell, text_cell};
 use sqlite::{Alter, Transaction};
 
 impl TableRow for ExceptionRow {
@@ -40,8 +40,8 @@ impl Put for ExceptionRow {
             &[
                 number_cell(self.ceremony),
                 number_cell(self.exception),
-                line_cell(&self.text),
-                moment_cell(self.at),
+                text_cell(self.text.as_str()),
+                number_cell(self.at),
                 number_or_null_cell(self.passed),
             ],
         )

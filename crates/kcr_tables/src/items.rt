@@ -6,7 +6,7 @@ ghost use Rattle.kcr_tables.specs.ItemsLaws as laws;
 use crate::table::{LookupBy, Put, TableRow, update_or_insert_row};
 use kcr_base::{ItemCode, Refusal, Serial};
 use kcr_custody::Item;
-use kcr_rows::cells::{item_cell, loose_cell, within_cell};
+use kcr_rows::cells::{loose_cell, text_cell, within_cell};
 use sqlite::{Alter, Transaction};
 
 impl TableRow for Item {
@@ -50,7 +50,7 @@ impl Put for Item {
             "UPDATE items SET code = ?1, facility = ?2, serial = ?3 WHERE code = ?1",
             "INSERT INTO items (code, facility, serial) VALUES (?1, ?2, ?3)",
             &[
-                item_cell(&self.code),
+                text_cell(self.code.as_str()),
                 loose_cell(self.rest),
                 within_cell(&self.rest),
             ],

@@ -6,7 +6,7 @@ ghost use Rattle.kcr_tables.specs.KeysLaws as laws;
 use crate::table::{LookupBy, Put, TableRow, insert_row};
 use kcr_base::{Key, Refusal};
 use kcr_history::KeyRow;
-use kcr_rows::cells::{key_cell, number_cell, text_cell};
+use kcr_rows::cells::{number_cell, text_cell};
 use sqlite::{Alter, Transaction};
 
 impl TableRow for KeyRow {
@@ -38,10 +38,10 @@ impl Put for KeyRow {
             self,
             "INSERT INTO keys (\"key\", accepted, command, reply) VALUES (?1, ?2, ?3, ?4)",
             &[
-                key_cell(&self.key),
+                text_cell(self.key.as_str()),
                 number_cell(self.accepted),
-                text_cell(&self.command),
-                text_cell(&self.reply),
+                text_cell(self.command.as_str()),
+                text_cell(self.reply.as_str()),
             ],
         )
     }

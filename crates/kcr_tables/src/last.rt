@@ -14,7 +14,7 @@ use kcr_base::{Initials, Place, Refusal};
 use kcr_history::{KeyRow, SeatingRow};
 use kcr_people::Appointment;
 use kcr_room::Stay;
-use kcr_rows::cells::{code_cell, initials_cell, number_cell};
+use kcr_rows::cells::{number_cell, text_cell};
 use kcr_rows::statements::query_rows;
 use sqlite::{Alter, Transaction};
 use std::alloc::Global;
@@ -52,7 +52,7 @@ pub fn last_stay_of<S: Alter>(
         (λ db all. IsOneOf (filter (has_text 0 who.now) (rows_at stays_place db)) (map stay_row all.items)) }
     ensures frame { Reads S.Store tx.old tx.new result }
 {
-    let c0 = initials_cell(who);
+    let c0 = text_cell(who.as_str());
     query_rows(
         alloc,
         tx,
@@ -74,7 +74,7 @@ pub fn last_appointment_to<S: Alter>(
     ensures frame { Reads S.Store tx.old tx.new result }
 {
     let words = place.text();
-    let c0 = code_cell(&words);
+    let c0 = text_cell(words.as_str());
     query_rows(
         alloc,
         tx,
@@ -95,7 +95,7 @@ pub fn last_appointment_of<S: Alter>(
         (λ db all. IsOneOf (rows_of_person who.now db) (map appointment_row all.items)) }
     ensures frame { Reads S.Store tx.old tx.new result }
 {
-    let c0 = initials_cell(who);
+    let c0 = text_cell(who.as_str());
     query_rows(
         alloc,
         tx,

@@ -6,7 +6,7 @@ ghost use Rattle.kcr_tables.specs.MarksLaws as laws;
 use crate::table::{LookupBy, Put, TableRow, update_or_insert_row};
 use kcr_base::Refusal;
 use kcr_history::MarkRow;
-use kcr_rows::cells::{moment_cell, number_cell};
+use kcr_rows::cells::number_cell;
 use sqlite::{Alter, Transaction};
 
 impl TableRow for MarkRow {
@@ -38,7 +38,7 @@ impl Put for MarkRow {
             self,
             "UPDATE marks SET ceremony = ?1, at = ?2 WHERE ceremony = ?1",
             "INSERT INTO marks (ceremony, at) VALUES (?1, ?2)",
-            &[number_cell(self.ceremony), moment_cell(self.at)],
+            &[number_cell(self.ceremony), number_cell(self.at)],
         )
     }
 }

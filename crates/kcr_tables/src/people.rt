@@ -6,7 +6,7 @@ ghost use Rattle.kcr_tables.specs.PeopleLaws as laws;
 use crate::table::{LookupBy, Put, TableRow, insert_row};
 use kcr_base::{Initials, Refusal};
 use kcr_people::Person;
-use kcr_rows::cells::{initials_cell, line_cell};
+use kcr_rows::cells::text_cell;
 use sqlite::{Alter, Transaction};
 
 impl TableRow for Person {
@@ -37,7 +37,7 @@ impl Put for Person {
             tx,
             self,
             "INSERT INTO people (who, name) VALUES (?1, ?2)",
-            &[initials_cell(&self.who), line_cell(&self.name)],
+            &[text_cell(self.who.as_str()), text_cell(self.name.as_str())],
         )
     }
 }

@@ -6,7 +6,7 @@ ghost use Rattle.kcr_tables.specs.SafesLaws as laws;
 use crate::table::{Put, TableRow, update_or_insert_row};
 use kcr_base::Refusal;
 use kcr_custody::SafeRow;
-use kcr_rows::cells::{facility_cell, safe_cell, truth_cell};
+use kcr_rows::cells::{number_cell, text_cell};
 use sqlite::{Alter, Transaction};
 
 impl TableRow for SafeRow {
@@ -28,9 +28,9 @@ impl Put for SafeRow {
             "UPDATE safes SET facility = ?1, safe = ?2, state = ?3 WHERE facility = ?1 AND safe = ?2",
             "INSERT INTO safes (facility, safe, state) VALUES (?1, ?2, ?3)",
             &[
-                facility_cell(self.facility),
-                safe_cell(self.safe),
-                truth_cell(self.is_open),
+                text_cell(self.facility.text()),
+                number_cell(self.safe),
+                number_cell(self.is_open),
             ],
         )
     }

@@ -6,7 +6,7 @@ ghost use Rattle.kcr_tables.specs.SeatingsLaws as laws;
 use crate::table::{Put, TableRow, insert_row};
 use kcr_base::Refusal;
 use kcr_history::SeatingRow;
-use kcr_rows::cells::{initials_cell, number_cell};
+use kcr_rows::cells::{number_cell, text_cell};
 use sqlite::{Alter, Transaction};
 
 impl TableRow for SeatingRow {
@@ -30,7 +30,7 @@ impl Put for SeatingRow {
                 number_cell(self.ceremony),
                 number_cell(self.step),
                 number_cell(self.seat),
-                initials_cell(&self.who),
+                text_cell(self.who.as_str()),
             ],
         )
     }

@@ -17,7 +17,7 @@ use crate::table::all_rows;
 use kcr_base::{Day, Initials, Place, Refusal};
 use kcr_history::{AppointmentFilter, Selection};
 use kcr_people::Appointment;
-use kcr_rows::cells::day_cell;
+use kcr_rows::cells::number_cell;
 use kcr_rows::statements::query_rows;
 use sqlite::{Alter, Transaction};
 use std::alloc::Global;
@@ -38,7 +38,7 @@ pub fn appointments_ending_after<S: Alter>(
     ensures opened { ImpliesOpen S.Store tx.old tx.new result }
     ensures frame { Reads S.Store tx.old tx.new result }
 {
-    let c0 = day_cell(day);
+    let c0 = number_cell(day);
     query_rows(
         alloc,
         tx,

@@ -19,7 +19,7 @@ use kcr_base::{Initials, Moment, Refusal};
 use kcr_history::{Selection, StayFilter};
 use kcr_room::{Stay, stay_reaches};
 use kcr_rows::CountRow;
-use kcr_rows::cells::{moment_cell, number_cell};
+use kcr_rows::cells::number_cell;
 use kcr_rows::statements::query_rows;
 use sqlite::{Alter, Transaction};
 use std::alloc::Global;
@@ -40,7 +40,7 @@ pub fn stays_ending_at_or_after<S: Alter>(
     ensures frame { Reads S.Store tx.old tx.new result }
 {
     let c0 = number_cell(ceremony);
-    let c1 = moment_cell(at);
+    let c1 = number_cell(at);
     query_rows(
         alloc,
         tx,

@@ -11,7 +11,7 @@ use crate::table::{all_rows, find_rows};
 use kcr_base::{Day, Refusal};
 use kcr_history::{Selection, TrainingFilter};
 use kcr_people::Training;
-use kcr_rows::cells::day_cell;
+use kcr_rows::cells::number_cell;
 use kcr_rows::statements::query_rows;
 use sqlite::{Alter, Transaction};
 use std::alloc::Global;
@@ -31,7 +31,7 @@ fn trainings_ending_on_or_after<S: Alter>(
         (λ db all. IsPermutation (filter (has_from 3 day) (rows_at trainings_place db)) (map training_row all.items)) }
     ensures frame { Reads S.Store tx.old tx.new result }
 {
-    let c0 = day_cell(day);
+    let c0 = number_cell(day);
     query_rows(
         alloc,
         tx,

@@ -6,7 +6,7 @@ ghost use Rattle.kcr_tables.specs.SheetLaws as laws;
 use crate::table::{Put, TableRow, insert_row};
 use kcr_base::Refusal;
 use kcr_room::SheetRow;
-use kcr_rows::cells::{initials_cell, moment_cell, number_cell, way_cell};
+use kcr_rows::cells::{number_cell, text_cell};
 use sqlite::{Alter, Transaction};
 
 impl TableRow for SheetRow {
@@ -27,10 +27,10 @@ impl Put for SheetRow {
             self,
             "INSERT INTO sheet (who, at, ceremony, way) VALUES (?1, ?2, ?3, ?4)",
             &[
-                initials_cell(&self.who),
-                moment_cell(self.at),
+                text_cell(self.who.as_str()),
+                number_cell(self.at),
                 number_cell(self.ceremony),
-                way_cell(self.way),
+                number_cell(self.way),
             ],
         )
     }

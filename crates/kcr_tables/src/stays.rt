@@ -6,7 +6,7 @@ ghost use Rattle.kcr_tables.specs.StaysLaws as laws;
 use crate::table::{Put, TableRow, insert_row, update_or_insert_row};
 use kcr_base::Refusal;
 use kcr_room::Stay;
-use kcr_rows::cells::{initials_cell, moment_cell, moment_or_null_cell, number_cell};
+use kcr_rows::cells::{number_cell, number_or_null_cell, text_cell};
 use sqlite::{Alter, Transaction};
 
 impl TableRow for Stay {
@@ -24,10 +24,10 @@ impl Put for Stay {
     fn put<S: Alter>(&self, tx: &mut Transaction<'_, S>) -> Result<(), Refusal> {
         let insert = "INSERT INTO stays (who, since, ceremony, until) VALUES (?1, ?2, ?3, ?4)";
         let cells = [
-            initials_cell(&self.who),
-            moment_cell(self.since),
+            text_cell(self.who.as_str()),
+            number_cell(self.since),
             number_cell(self.ceremony),
-            moment_or_null_cell(self.until),
+            number_or_null_cell(self.until),
         ];
         if self.until.is_none() {
             insert_row(tx, self, insert, &cells)

@@ -6,9 +6,7 @@ ghost use Rattle.kcr_tables.specs.StepsLaws as laws;
 use crate::table::{PutAllocating, TableRow, insert_row, update_or_insert_row};
 use kcr_base::Refusal;
 use kcr_history::{StepRow, StepState};
-use kcr_rows::cells::{
-    line_cell, moment_or_null_cell, number_cell, seats_words, step_state_cell, text_cell,
-};
+use kcr_rows::cells::{number_cell, number_or_null_cell, seats_words, text_cell};
 use sqlite::{Alter, Transaction};
 use std::alloc::Global;
 
@@ -35,10 +33,10 @@ impl PutAllocating for StepRow {
         let cells = [
             number_cell(self.ceremony),
             number_cell(self.step),
-            line_cell(&self.activity),
-            text_cell(&seats),
-            step_state_cell(self.state),
-            moment_or_null_cell(self.at),
+            text_cell(self.activity.as_str()),
+            text_cell(seats.as_str()),
+            number_cell(self.state),
+            number_or_null_cell(self.at),
         ];
         if self.state == StepState::Undone {
             insert_row(tx, self, insert, &cells)

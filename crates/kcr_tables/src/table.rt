@@ -15,9 +15,10 @@ ghost use Rattle.kcr_tables.specs.Exact.{rows_at, SelectedAreRead, AllAreRead};
 ghost use Rattle.kcr_tables.specs.Statements.{InsertsRow, UpdatesRow};
 ghost use Rattle.kcr_tables.specs.Table.{TableSpec, IsTable, LookupSpec, IsLookup, with_put, machine_rows};
 
-use kcr_base::{Initials, ItemCode, Key, Refusal, Serial};
+use kcr_base::serial::Tag;
+use kcr_base::{Initials, Key, Refusal};
 use kcr_history::Selection;
-use kcr_rows::cells::{initials_cell, item_cell, key_cell, number_cell, serial_cell};
+use kcr_rows::cells::{number_cell, text_cell};
 use kcr_rows::from_row::FromRow;
 use kcr_rows::statements::{execute, query_rows, run_statement};
 use sqlite::types::ValueRef;
@@ -51,15 +52,15 @@ impl AsCell for Initials {
     ghost value_of = { Text };
 
     fn cell(&self) -> ValueRef<'_> {
-        initials_cell(self)
+        text_cell(self.as_str())
     }
 }
 
-impl AsCell for ItemCode {
+impl<K> AsCell for Tag<K> {
     ghost value_of = { Text };
 
     fn cell(&self) -> ValueRef<'_> {
-        item_cell(self)
+        text_cell(self.as_str())
     }
 }
 
@@ -67,15 +68,7 @@ impl AsCell for Key {
     ghost value_of = { Text };
 
     fn cell(&self) -> ValueRef<'_> {
-        key_cell(self)
-    }
-}
-
-impl AsCell for Serial {
-    ghost value_of = { Text };
-
-    fn cell(&self) -> ValueRef<'_> {
-        serial_cell(self)
+        text_cell(self.as_str())
     }
 }
 

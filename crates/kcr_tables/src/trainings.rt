@@ -6,7 +6,7 @@ ghost use Rattle.kcr_tables.specs.TrainingsLaws as laws;
 use crate::table::{LookupBy, Put, TableRow, insert_row};
 use kcr_base::{Initials, Refusal};
 use kcr_people::Training;
-use kcr_rows::cells::{day_cell, initials_cell, role_cell};
+use kcr_rows::cells::{number_cell, text_cell};
 use sqlite::{Alter, Transaction};
 
 impl TableRow for Training {
@@ -38,10 +38,10 @@ impl Put for Training {
             self,
             "INSERT INTO trainings (who, role, since, until) VALUES (?1, ?2, ?3, ?4)",
             &[
-                initials_cell(&self.who),
-                role_cell(self.role),
-                day_cell(self.since),
-                day_cell(self.until),
+                text_cell(self.who.as_str()),
+                text_cell(self.role.text()),
+                number_cell(self.since),
+                number_cell(self.until),
             ],
         )
     }

@@ -8,10 +8,7 @@ use kcr_history::{CeremonyRow, ExceptionRow, KeyRow, MarkRow, SeatingRow, StepRo
 use kcr_people::{Appointment, Person, Training, Withdrawal};
 use kcr_room::{SheetRow, Stay};
 use kcr_rows::cells::{
-    ceremony_state_cell, code_cell, day_cell, day_or_null_cell, facility_cell, initials_cell,
-    item_cell, key_cell, line_cell, loose_cell, moment_cell, moment_or_null_cell, number_cell,
-    number_or_null_cell, role_cell, safe_cell, seats_words, serial_cell, spot_words,
-    step_state_cell, text_cell, truth_cell, way_cell, within_cell,
+    loose_cell, number_cell, number_or_null_cell, seats_words, spot_words, text_cell, within_cell,
 };
 use std::alloc::Global;
 
@@ -20,7 +17,7 @@ impl Quoted for Person {
         text_of(
             alloc,
             self,
-            &[initials_cell(&self.who), line_cell(&self.name)],
+            &[text_cell(self.who.as_str()), text_cell(self.name.as_str())],
         )
     }
 }
@@ -31,10 +28,10 @@ impl Quoted for Training {
             alloc,
             self,
             &[
-                initials_cell(&self.who),
-                role_cell(self.role),
-                day_cell(self.since),
-                day_cell(self.until),
+                text_cell(self.who.as_str()),
+                text_cell(self.role.text()),
+                number_cell(self.since),
+                number_cell(self.until),
             ],
         )
     }
@@ -46,11 +43,11 @@ impl Quoted for Withdrawal {
             alloc,
             self,
             &[
-                initials_cell(&self.who),
-                role_cell(self.role),
-                day_cell(self.since),
-                day_cell(self.until),
-                day_cell(self.day),
+                text_cell(self.who.as_str()),
+                text_cell(self.role.text()),
+                number_cell(self.since),
+                number_cell(self.until),
+                number_cell(self.day),
             ],
         )
     }
@@ -63,10 +60,10 @@ impl Quoted for Appointment {
             alloc,
             self,
             &[
-                code_cell(&place),
-                day_cell(self.since),
-                initials_cell(&self.who),
-                day_or_null_cell(self.until),
+                text_cell(place.as_str()),
+                number_cell(self.since),
+                text_cell(self.who.as_str()),
+                number_or_null_cell(self.until),
             ],
         )
     }
@@ -79,9 +76,9 @@ impl Quoted for BoxRow {
             alloc,
             self,
             &[
-                facility_cell(self.facility),
+                text_cell(self.facility.text()),
                 number_cell(self.number),
-                code_cell(&place),
+                text_cell(place.as_str()),
             ],
         )
     }
@@ -93,9 +90,9 @@ impl Quoted for SafeRow {
             alloc,
             self,
             &[
-                facility_cell(self.facility),
-                safe_cell(self.safe),
-                truth_cell(self.is_open),
+                text_cell(self.facility.text()),
+                number_cell(self.safe),
+                number_cell(self.is_open),
             ],
         )
     }
@@ -104,7 +101,11 @@ impl Quoted for SafeRow {
 impl Quoted for Bag {
     fn quoted(&self, alloc: Global) -> Result<Text, Refusal> {
         let spot = spot_words(alloc, self.spot)?;
-        text_of(alloc, self, &[serial_cell(&self.serial), text_cell(&spot)])
+        text_of(
+            alloc,
+            self,
+            &[text_cell(self.serial.as_str()), text_cell(spot.as_str())],
+        )
     }
 }
 
@@ -114,7 +115,7 @@ impl Quoted for Item {
             alloc,
             self,
             &[
-                item_cell(&self.code),
+                text_cell(self.code.as_str()),
                 loose_cell(self.rest),
                 within_cell(&self.rest),
             ],
@@ -129,11 +130,11 @@ impl Quoted for CeremonyRow {
             self,
             &[
                 number_cell(self.number),
-                facility_cell(self.facility),
-                day_cell(self.day),
-                ceremony_state_cell(self.state),
-                moment_or_null_cell(self.opened),
-                moment_or_null_cell(self.closed),
+                text_cell(self.facility.text()),
+                number_cell(self.day),
+                number_cell(self.state),
+                number_or_null_cell(self.opened),
+                number_or_null_cell(self.closed),
             ],
         )
     }
@@ -144,7 +145,7 @@ impl Quoted for MarkRow {
         text_of(
             alloc,
             self,
-            &[number_cell(self.ceremony), moment_cell(self.at)],
+            &[number_cell(self.ceremony), number_cell(self.at)],
         )
     }
 }
@@ -158,10 +159,10 @@ impl Quoted for StepRow {
             &[
                 number_cell(self.ceremony),
                 number_cell(self.step),
-                line_cell(&self.activity),
-                text_cell(&seats),
-                step_state_cell(self.state),
-                moment_or_null_cell(self.at),
+                text_cell(self.activity.as_str()),
+                text_cell(seats.as_str()),
+                number_cell(self.state),
+                number_or_null_cell(self.at),
             ],
         )
     }
@@ -176,7 +177,7 @@ impl Quoted for SeatingRow {
                 number_cell(self.ceremony),
                 number_cell(self.step),
                 number_cell(self.seat),
-                initials_cell(&self.who),
+                text_cell(self.who.as_str()),
             ],
         )
     }
@@ -188,10 +189,10 @@ impl Quoted for SheetRow {
             alloc,
             self,
             &[
-                initials_cell(&self.who),
-                moment_cell(self.at),
+                text_cell(self.who.as_str()),
+                number_cell(self.at),
                 number_cell(self.ceremony),
-                way_cell(self.way),
+                number_cell(self.way),
             ],
         )
     }
@@ -203,10 +204,10 @@ impl Quoted for Stay {
             alloc,
             self,
             &[
-                initials_cell(&self.who),
-                moment_cell(self.since),
+                text_cell(self.who.as_str()),
+                number_cell(self.since),
                 number_cell(self.ceremony),
-                moment_or_null_cell(self.until),
+                number_or_null_cell(self.until),
             ],
         )
     }
@@ -220,8 +221,8 @@ impl Quoted for ExceptionRow {
             &[
                 number_cell(self.ceremony),
                 number_cell(self.exception),
-                line_cell(&self.text),
-                moment_cell(self.at),
+                text_cell(self.text.as_str()),
+                number_cell(self.at),
                 number_or_null_cell(self.passed),
             ],
         )
@@ -234,10 +235,10 @@ impl Quoted for KeyRow {
             alloc,
             self,
             &[
-                key_cell(&self.key),
+                text_cell(self.key.as_str()),
                 number_cell(self.accepted),
-                text_cell(&self.command),
-                text_cell(&self.reply),
+                text_cell(self.command.as_str()),
+                text_cell(self.reply.as_str()),
             ],
         )
     }

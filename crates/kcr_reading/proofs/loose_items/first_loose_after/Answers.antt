@@ -1,16 +1,17 @@
-use Rattle.std.proofs.Common.{◌∷◌, [], Some, None}
+use Rattle.std.proofs.Common.{◌∷◌, [], Some, None, ◌∙◌, ap}
 use Rattle.kcr_reading.proofs.ChoiceLemmas.{shown_by, by_tables}
 use Rattle.kcr_reading.proofs.CustodyLemmas.{loose_shown, first_loose}
+use Rattle.sqlite.specs.declared.types.Value.TheVariants.{Text}
 use Rattle.kcr_reading.proofs.loose_items.first_loose_after.Goals as goal
 
 pub returns-in-Some-clause-first : goal.returns-in-Some-clause-first
 returns-in-Some-clause-first g c =
     let last = c.in-Some.code in
-    rw c.in-Some.is (by_tables c.first_row.result _ _ (c.first_row.ensures.row _ (shown_by (loose_shown (Some last)) (λ i. c.item_cell.ensures i ∷ [])))
+    rw c.in-Some.is (by_tables c.first_row.result _ _ (c.first_row.ensures.row _ (shown_by (loose_shown (Some last)) (λ i. (c.text_cell.ensures ∙ ap Text c.as_str.ensures.value) i ∷ [])))
     (λ m k. first_loose (Some last) m k))
 
 pub returns-in-Some-clause-frame : goal.returns-in-Some-clause-frame
-returns-in-Some-clause-frame g c = c.first_row.ensures.frame _ (shown_by (loose_shown (Some c.in-Some.code)) (λ i. c.item_cell.ensures i ∷ []))
+returns-in-Some-clause-frame g c = c.first_row.ensures.frame _ (shown_by (loose_shown (Some c.in-Some.code)) (λ i. (c.text_cell.ensures ∙ ap Text c.as_str.ensures.value) i ∷ []))
 
 pub returns-in-None-clause-first : goal.returns-in-None-clause-first
 returns-in-None-clause-first g c =

@@ -13,11 +13,11 @@ returns g c =
     let old = state g.S.Store c.args.tx.now.conn.now in
     let new = state g.S.Store c.query_rows.new.tx.conn.now in
     let text = last_to_place c.args.place in record {
-      rows = tells_last text old new c.query_rows.result appointment_row (λ v. v.items) (λ i. (c.code_cell-c0.ensures ∙ ap Text c.text-words.ensures) i ∷ [])
+      rows = tells_last text old new c.query_rows.result appointment_row (λ v. v.items) (λ i. (c.text_cell-c0.ensures ∙ ap Text (c.as_str.ensures ∙ c.text-words.ensures)) i ∷ [])
           c.query_rows.ensures.shown
           (λ x y. laws.one x y tt tt) (λ x. x.since) (λ x. refl) (λ t. t.rows.appointments)
           (λ t. filter (is_appointment_to c.args.place) t.rows.appointments) (λ t k. k.appointments) (λ t. appointments_to c.args.place t.rows.appointments);
-      exact = tells_one text old new c.query_rows.result appointment_row (λ v. v.items) (λ i. (c.code_cell-c0.ensures ∙ ap Text c.text-words.ensures) i ∷ [])
+      exact = tells_one text old new c.query_rows.result appointment_row (λ v. v.items) (λ i. (c.text_cell-c0.ensures ∙ ap Text (c.as_str.ensures ∙ c.text-words.ensures)) i ∷ [])
           c.query_rows.ensures.shown;
       frame = reads_by to_place_sql text.bare c.query_rows.ensures.same c.query_rows.ensures.frame;
     }

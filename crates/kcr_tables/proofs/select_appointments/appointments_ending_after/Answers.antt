@@ -19,7 +19,7 @@ returns g c =
     let did = c.query_rows.ensures in
     let text = beyond_shows day in
     let shown = λ (clean : HasCleanDisk new). subst (λ (v : Row). IfOk c.query_rows.result (λ all. Shown beyond_sql v old new (map appointment_row all.items)))
-    (λ i. c.day_cell-c0.ensures i ∷ []) (did.shown clean) in record {
+    (λ i. c.number_cell-c0.ensures i ∷ []) (did.shown clean) in record {
       rows = passing_told text appointment_row laws.one old new c.query_rows.result shown laws.table.rows_in
           (laws.table_laws.keeps old.now.trees)
           (lasts_beyond day) (passes_appointment day);

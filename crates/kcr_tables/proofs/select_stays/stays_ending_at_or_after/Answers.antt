@@ -20,7 +20,7 @@ returns g c =
     let did = c.query_rows.ensures in
     let text = room_shows ceremony at in
     let shown = λ (clean : HasCleanDisk new). subst (λ (v : Row). IfOk c.query_rows.result (λ all. Shown room_sql v old new (map stay_row all.items)))
-    (λ i. c.number_cell-c0.ensures i ∷ c.moment_cell-c1.ensures i ∷ []) (did.shown clean) in record {
+    (λ i. c.number_cell-c0.ensures i ∷ c.number_cell-c1.ensures i ∷ []) (did.shown clean) in record {
       rows = passing_told text stay_row laws.one old new c.query_rows.result shown laws.table.rows_in
           (laws.table_laws.keeps old.now.trees)
           (stay_reaches ceremony at) (passes_stay ceremony at);
