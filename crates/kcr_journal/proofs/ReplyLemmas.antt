@@ -1,12 +1,12 @@
 -- The parts of a reply's text.
-use Rattle.std.proofs.Common.{◌≡◌, ℕ, zero, suc, ◌+◌, ◌/◌, ◌%◌, ◌<◌, ◌==◌, ◌||◌, Bool, true, false, not, eqb, if◌then◌else◌, List, [], ◌∷◌, ◌++◌, length, map, take, drop}
+use Rattle.std.proofs.Common.{◌≡◌, ℕ, zero, suc, ◌+◌, ◌/◌, ◌%◌, ◌<◌, ◌==◌, ◌||◌, Bool, true, false, not, if◌then◌else◌, List, [], ◌∷◌, ◌++◌, length, map, take, drop}
 use Rattle.std.proofs.Common.{Option, Some, None, codes, refl, sym, ap, ◌∙◌, arith, append_assoc, append-nil, All, length-append}
 use Rattle.std.specs.Fmt.{decimal, digits, digits_onto, digit_glyph}
-use Rattle.std.specs.List.{position, position_or_len, list_all, filter_map, cons_option, slice_split, join_with_byte, AllByRecursion}
+use Rattle.std.specs.List.{position, position_or_len, list_all, filter_map, cons_option, join_with_byte, AllByRecursion}
 use Rattle.std.specs.Option.{option_map_or}
 use Rattle.std.proofs.Math.Seq.{drop-append-add, take-append_seam, get_or-append_seam}
 use Rattle.std.proofs.Math.ListN.{get_or-append}
-use Rattle.std.proofs.lemmas.Bool.{eq-eqb, lt-ltb}
+use Rattle.std.proofs.lemmas.Bool.{lt-ltb}
 use Rattle.std.proofs.lemmas.Bool.Decides.{nat_tests}
 use Rattle.std.proofs.lemmas.List.Elements.{All-get_or, All-weaker, All-nil, All-cons, All-head, All-append}
 use Rattle.std.proofs.lemmas.List.Splits.{slice_split_at, slice_split_none}
@@ -15,7 +15,7 @@ use Rattle.kcr_base.specs.Initials.{IsCapital, IsInitials}
 use Rattle.kcr_base.specs.Serial.{IsDigit}
 use Rattle.kcr_forms.specs.Forms.{initials_of}
 use Rattle.kcr_base.proofs.FormLemmas.{initials-read}
-use Rattle.kcr_history.specs.Json.{quoted, member, object, array}
+use Rattle.kcr_history.specs.Json.{quoted, member, object}
 use Rattle.kcr_history.specs.Texts.{people_array}
 use Rattle.kcr_journal.specs.Replies.{after_byte, after_two, value_in, exception_in, passed_in, seated_in}
 
@@ -122,13 +122,6 @@ stated-form : (a e : List ℕ) → object (member (codes "accepted") a ∷ membe
 stated-form a e =
     ap (λ t. codes "{\"accepted\":" ++ t)
     (append_assoc a (codes ",\"exception\":" ++ e) (codes "}") ∙ sym (append_assoc a (codes ",\"exception\"") (58 ∷ (e ++ 125 ∷ []))))
-
-stated-quotes : (a e : List ℕ) → object (member (codes "accepted") a ∷ member (codes "exception") e ∷ [])
-    ≡ codes "{" ++ 34 ∷ (codes "accepted" ++ 34 ∷ ((codes ":" ++ a ++ codes ",") ++ 34 ∷ (codes "exception" ++ 34 ∷ (codes ":" ++ e ++ codes "}"))))
-stated-quotes a e =
-    ap (λ t. codes "{\"accepted\":" ++ t)
-    (append_assoc a (codes ",\"exception\":" ++ e) (codes "}")
-    ∙ sym (append_assoc a (codes ",") (34 ∷ (codes "exception" ++ 34 ∷ (codes ":" ++ e ++ codes "}")))))
 
 -- of one that passes a step
 passed-plain : (a e s k : List ℕ)
@@ -286,13 +279,6 @@ pub signed-people : (a k : List ℕ) (people : List (List ℕ)) → All IsDigit 
 signed-people a k people first last each =
     let j = join_with_byte 44 (map quoted people) in
     ap seated_in (signed-form a j k) ∙ seated-after a (listing j k) first ∙ listed-people people k each last
-
-pub stated-people : (a e : List ℕ) → All IsDigit a → All IsDigit e
-    → seated_in (object (member (codes "accepted") a ∷ member (codes "exception") e ∷ [])) ≡ []
-stated-people a e first second =
-    ap seated_in (stated-quotes a e) ∙ seated-after a (codes "exception" ++ 34 ∷ (codes ":" ++ e ++ codes "}")) first
-    ∙ skip (codes "exception") _ (lacks is_quote (codes "exception") refl) exception-other
-    ∙ ends (codes ":" ++ e ++ codes "}") (number-quote e 125 refl second) (not-initials 58 (e ++ 125 ∷ []) (omega arith))
 
 pub passing-people : (a e k : List ℕ) (people : List (List ℕ)) → All IsDigit a → All IsDigit e → All IsDigit k → AllByRecursion IsInitials people
     → seated_in (object (member (codes "accepted") a ∷ member (codes "exception") e ∷ member (codes "seating") (people_array people) ∷ member (codes "step") k ∷ [])) ≡ people

@@ -34,12 +34,6 @@ goes_more f a b c whole before after row g e p = record {
   is = g.is ∙ ap (λ rows. g.text ++ flat_map f rows) e ∙ sym (append_assoc g.text (f row) (flat_map f after));
 }
 
--- no row is left
-pub goes_end : {X : Type 0} (f : X → List ℕ) (a b : Option (List ℕ)) (whole : List ℕ) (before : List X)
-    → Goes a b whole (flat_map f before) → before ≡ [] → Appends a b whole
-goes_end f a b whole before g e =
-    subst (Appends a b) (sym (g.is ∙ ap (λ rows. g.text ++ flat_map f rows) e ∙ append-nil g.text)) g.written
-
 -- a row was begun
 pub goes_front : {X : Type 0} (f : X → List ℕ) (a b c : Option (List ℕ)) (whole : List ℕ) (before after : List X) (row : X)
     → Goes a b whole (flat_map f before) → before ≡ row ∷ after → WritesPrefix b c (f row) → WritesPrefix a c whole

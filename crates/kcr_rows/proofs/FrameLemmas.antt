@@ -50,9 +50,3 @@ within_fails {MayRefuse = MayRefuse} (Err y) is may one = record {
   survives = one.survives;
   cause = subst MayRefuse (sym is) (may one.cause);
 }
-
--- the error of what is made of the answer of a call
-pub within_refuses : {S A B E F : Type 0} {g : Ghosts S} {MayFail : E → Type 0} {MayRefuse : F → Type 0} {old new : Transaction S} {a : A} (e : F)
-    (r : Result B F) → IsErrAnd r (λ y. y ≡ e) → MayRefuse e → StaysInTransaction g MayFail old new (Ok a) → StaysInTransaction g MayRefuse old new r
-within_refuses e (Ok x) is may one = absurd is
-within_refuses {MayRefuse = MayRefuse} e (Err y) is may one = within_to (Err y) (subst MayRefuse (sym is) may) one

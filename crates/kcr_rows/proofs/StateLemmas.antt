@@ -12,7 +12,7 @@ use Rattle.sqlite_schema.specs.Rules.{equal}
 use Rattle.kcr_base.specs.Facility.{facility_text}
 use Rattle.kcr_base.specs.declared.place.Facility.{Facility}
 use Rattle.kcr_custody.specs.Custody.{same_safe, is_within}
-use Rattle.kcr_custody.specs.Spots.{IsSpot, spot_text}
+use Rattle.kcr_custody.specs.Spots.{spot_text}
 use Rattle.kcr_custody.specs.declared.SafeNumber.{SafeNumber}
 use Rattle.kcr_custody.specs.declared.SafeNumber.TheVariants.{One, Two}
 use Rattle.kcr_custody.specs.declared.Spot.{Spot}
@@ -113,16 +113,7 @@ within_is (Within a) serial = value_is (Text a) (Text serial) refl refl ∙ sym 
 pub one_seats : (x y : List Seat) → ((seats : List Seat) → StandsFor (written x) seats → seats ≡ x) → StandsFor (written y) y → written x ≡ written y → x ≡ y
 one_seats x y only stands same = sym (only y (subst (λ t. StandsFor t y) (sym same) stands))
 
-pub only_seats : (x y : List Seat) → ◌≡◌ {A = Option (List Seat)} (Some x) (Some y) → y ≡ x
-only_seats x y h = let is : x ≡ y = cc in sym is
-
 -- ---- spots
-
-pub small_spot : (s : Spot) → IsSpot s → IsNumbered s
-small_spot (InBox f n) h = omega (arith, h.1)
-small_spot (Table f) h = tt
-small_spot (Equipment f) h = tt
-small_spot Spent h = tt
 
 ends : (a b : List ℕ) (f g : Facility) → a ++ (codes " " ++ facility_text f) ≡ b ++ (codes " " ++ facility_text g) → (f ≡ g) × (a ≡ b)
 ends a b f g h = box_parts f g a b h

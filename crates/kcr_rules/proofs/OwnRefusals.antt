@@ -5,7 +5,7 @@ use Rattle.std.proofs.lemmas.Option.{none-some}
 use Rattle.std.specs.Prelude.{find, ◌||◌}
 use Rattle.kcr_base.specs.Refuse.{first_of, not_after_mark_refusal}
 use Rattle.kcr_base.specs.declared.refusal.Refusal.{Refusal}
-use Rattle.kcr_base.specs.declared.refusal.Refusal.TheVariants.{Memory, Disk, Short}
+use Rattle.kcr_base.specs.declared.refusal.Refusal.TheVariants.{Memory}
 use Rattle.kcr_room.specs.declared.Stay.{Stay}
 use Rattle.kcr_room.specs.declared.Way.{Way}
 use Rattle.kcr_room.specs.Requests.{stays_from_moment, turn_refusal, is_out_of_turn_in, occupancy_refusal, is_overfull}
@@ -14,12 +14,10 @@ use Rattle.kcr_history.specs.declared.commands.Act.TheVariants.{Enter, Train, Wi
 use Rattle.kcr_history.specs.declared.commands.Act.TheVariants.{Close, RecordSheet, SetSafe, Sign, RecordException, Seal, Take, Put, Cut}
 use Rattle.kcr_history.specs.declared.views.View.{View}
 use Rattle.kcr_history.specs.Conditions.{Facts, early_conditions, late_conditions}
-use Rattle.kcr_history.specs.Machine.{SeatRequest}
 use Rattle.kcr_rules.specs.ByRows.{late_refusal_by, by_rows, HasRefusal, IsCheckResult}
 use Rattle.kcr_rules.specs.CeremonyStatus.{mark_by}
 use Rattle.kcr_rules.specs.Refusals.{may_refuse}
 use Rattle.kcr_rules.specs.SheetRows.{room_refusal}
-use Rattle.kcr_rules.specs.Signing.{IsUnseatedBy}
 
 -- a list of conditions in two parts
 halves : (P : Refusal → Bool) (n : ℕ) (os : List (Option Refusal)) → ((r : Refusal) → first_of (take n os) ≡ Some r → P r ≡ true)
@@ -139,11 +137,3 @@ check-kind view full act (Ok x) s e is = tt
 check-kind view full (Sign ceremony step at) (Err r) s e is = absurd (s ceremony step at refl)
 check-kind view full (RecordException ceremony text pass at) (Err r) s e is = absurd (e ceremony text pass at refl)
 check-kind view full act (Err r) s e is = own-early (by_rows view full) act r (is refl)
-
--- seats that are not filled, for an act that needs some
-pub unseated-kind : (P : Refusal → Bool) → P Memory ≡ true → P Disk ≡ true → ((seats : List ℕ) → P (Short seats) ≡ true)
-    → (view : View) (s : SeatRequest) (r : Refusal) → (r ≢ Memory → IsUnseatedBy view s r) → P r ≡ true
-unseated-kind P memory disk short view s r unseated = by_memory P memory r (λ ne. elim (unseated ne) [
-  | inl lacks ↦ subst (λ q. P q ≡ true) (sym lacks.2) (short lacks.0)
-  | inr many ↦ subst (λ q. P q ≡ true) (sym many.0) disk
-])

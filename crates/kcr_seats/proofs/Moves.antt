@@ -13,14 +13,6 @@ set_at w seat new d k h = elim (same_or_not k seat) [
   | inr ne ↦ inr (ne, get_or-set_other w seat k new d ne)
 ]
 
--- in a seating all are seated but any one
-pub all_but : {fits : ℕ → ℕ → Bool} {seats people : ℕ} {w : List ℕ} → IsSeating fits seats people w → (root : ℕ) → IsSeatedBut fits people root w
-all_but y root = record {
-  in_range = λ k l _. y.in_range k (rw y.each_seat at l);
-  fitting = λ k l _. y.fitting k (rw y.each_seat at l);
-  distinct = λ j k l m _ _ e. y.distinct j k (rw y.each_seat at l) (rw y.each_seat at m) e;
-}
-
 -- if the one who is left out is none of the list, it is a seating
 pub all_seated : {fits : ℕ → ℕ → Bool} {people root : ℕ} {w : List ℕ} (seats : ℕ) → length w ≡ seats → seats ≤ root
     → IsSeatedBut fits people root w → IsSeating fits seats people w
