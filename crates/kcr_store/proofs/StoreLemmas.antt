@@ -4,7 +4,7 @@ use Rattle.std.specs.Prelude.{MatchOption, AllPairs, IsPermutation, Result, IfOk
 use Rattle.std.specs.Ordering.{is_lt}
 use Rattle.sqlite.specs.declared.types.Value.TheVariants.{Text}
 use Rattle.sqlite.specs.Effect.{Database}
-use Rattle.sqlite.specs.State.{State}
+use Rattle.sqlite.specs.State.{State, HasCleanDisk}
 use Rattle.sqlite.specs.Order.{Row, value_cmp}
 use Rattle.sqlite.specs.Tree.{IsAscending, Trees}
 use Rattle.sqlite_trees.proofs.ListLemmas.{ascending-get_or, ascending_from_map, ascending_weaker}
@@ -41,7 +41,7 @@ use Rattle.kcr_machine.specs.RowDecision.{IsOfKind, IsRowRepeat, MayBeRefused}
 use Rattle.kcr_machine.proofs.Decided.{fault-refused, repeat-kind}
 use Rattle.kcr_store.specs.TransactionResult.{ends_with}
 use Rattle.kcr_store.specs.Commands.{AppliesCommand, MayBeReplied, with_reply, number_after}
-use Rattle.kcr_store.specs.Stored.{Stores, OfStored}
+use Rattle.kcr_store.specs.Stored.{Stores}
 use Rattle.kcr_store.specs.FullView.{AreRows, IsListed, Lists}
 
 -- the tables that the database holds
@@ -82,18 +82,22 @@ pub counts_after : (A : History) (x : Command) (answer : Option ReplyData) (coun
 counts_after A x None count is h = is
 counts_after A x (Some answer) count is h = numbers A (record { command = x; reply = answer }) h
 
+-- as `OfStored`, of the states before and after a call
+abbrev pub OfStates : State → State → (History → Type 0) → Type 0
+OfStates old new Says = HasCleanDisk new → (A : History) → (IsTrue old.is_open → Stores A old.now) → Says A
+
 -- over the tables of each history it is the machine's decision, and the tables stay
 abbrev pub IsDecided : State → State → ℕ → Command → Result Verdict Refusal → Type 0
-IsDecided old new count x r = OfStored old new (λ A. count ≡ length A → IsDecision A x r × HoldsTables (tables A) new.now)
+IsDecided old new count x r = OfStates old new (λ A. count ≡ length A → IsDecision A x r × HoldsTables (tables A) new.now)
 
 module _ (old new : State) (count : ℕ) (x : Command) where
   pub decided : (r : Result Verdict Refusal) → IsDecided old new count x r
-      → OfStored old new (λ A. count ≡ length A → IfOk r (λ v. IsDecision A x (Ok v) × HoldsTables (tables A) new.now))
+      → OfStates old new (λ A. count ≡ length A → IfOk r (λ v. IsDecision A x (Ok v) × HoldsTables (tables A) new.now))
   decided (Ok v) d = d
   decided (Err e) d = λ clean A had is. tt
 
   -- the refusal of a decision is the machine's
-  pub refused : (r : Result Verdict Refusal) → IsDecided old new count x r → IfErr r (λ e. OfStored old new (λ A. count ≡ length A → AppliesCommand A x (Err e) A))
+  pub refused : (r : Result Verdict Refusal) → IsDecided old new count x r → IfErr r (λ e. OfStates old new (λ A. count ≡ length A → AppliesCommand A x (Err e) A))
   refused (Ok v) d = tt
   refused (Err e) d = λ clean A had is. (refl, λ memory disk. (d clean A had is).0 memory)
 
@@ -103,7 +107,7 @@ fault_steps A x e (inl memory) = (refl, λ no_memory no_disk. absurd (no_memory 
 fault_steps A x e (inr disk) = (refl, λ no_memory no_disk. absurd (no_disk disk))
 
 pub faults : {T : Type 0} (old new : State) (x : Command) (count : ℕ) (r : Result T Refusal) → IfErr r IsFault
-    → IfErr r (λ e. OfStored old new (λ A. count ≡ length A → AppliesCommand A x (Err e) A))
+    → IfErr r (λ e. OfStates old new (λ A. count ≡ length A → AppliesCommand A x (Err e) A))
 faults old new x count (Ok v) fault = tt
 faults old new x count (Err e) fault = λ clean A had is. fault_steps A x e fault
 

@@ -6,13 +6,15 @@ use Rattle.sqlite.specs.declared.error.Error.TheVariants.{SqliteFailure}
 use Rattle.sqlite.specs.Store.{Ghosts}
 use Rattle.sqlite.specs.Tree.{Trees}
 use Rattle.sqlite.specs.State.{State, HasCleanDisk, KeepsCommit, IsRolledBack, IsUnchanged, Survives, Shows}
+use Rattle.sqlite.specs.declared.transaction.Transaction.{Transaction}
 use Rattle.sqlite.proofs.StateLemmas.{survives_then}
 use Rattle.sqlite.specs.Effect.{Database}
 use Rattle.sqlite.specs.Steps.{FailsToCommit}
 use Rattle.sqlite.specs.Held.{Held, state}
 use Rattle.kcr_history.specs.declared.commands.Command.{Command}
 use Rattle.kcr_rows.proofs.InsideLemmas.{was_clean, survives_on}
-use Rattle.kcr_rows.specs.Frame.{StaysInTransaction}
+use Rattle.kcr_rows.specs.Frame.{state_in, StaysInTransaction}
+use Rattle.kcr_rows.proofs.FrameLemmas.{clean_before}
 use Rattle.kcr_store.specs.Commands.{AppliesCommand, with_reply, number_after}
 use Rattle.kcr_history.specs.declared.views.Verdict.{Verdict}
 use Rattle.kcr_store.proofs.StoreLemmas.{counts_after}
@@ -142,17 +144,6 @@ module _ {S : Type 0} (g : Ghosts S) (old begun : Held S) (is : begun ≡ record
     pub read_stores : (A : History) → IsDurable A (state g old) → HasCleanDisk end → IsTrue (state g begun).is_open → Stores A (state g begun).now
     read_stores A was clean live = ((begins g A old begun is was).shows (was_clean (state g begun) mid _ kept (was_clean mid end _ then clean)) live).now
 
-  -- and if it is rolled back, the call over the connection only reads
-  pub read_back : {A E : Type 0} {MayFail : E → Type 0} {r : Result A E} {mid : State} (end : Held S) → StaysInTransaction MayFail (state g begun) mid r
-      → Survives mid (state g end) (λ _. ⊥) → (HasCleanDisk (state g end) → IsRolledBack mid (state g end)) → end.in_transaction ≡ false
-      → OnlyReads g MayFail old end r
-  read_back {mid = mid} end left then back out = record {
-    autocommit = out;
-    clean = λ clean. begun_clean g old begun is (was_clean (state g begun) mid _ left.survives (was_clean mid (state g end) _ then clean));
-    whole = λ A was. whole_undone A (state g begun) mid (begins g A old begun is was) left.survives left.kept (state g end) then back;
-    cause = left.cause;
-  }
-
   -- what survives the transaction survives from before it
   module _ (mid : State) (kept : Survives (state g begun) mid (λ _. ⊥)) where
     within : Survives (state g old) mid (λ _. ⊥)
@@ -203,6 +194,17 @@ module _ {S : Type 0} (g : Ghosts S) (old begun : Held S) (is : begun ≡ record
                 | inr other ↦ absurd (let apart = sym memory ∙ other.0 in cc)
               ];
         }
+
+-- a transaction that is rolled back: the call over the connection only reads
+pub read_back : {S A E : Type 0} (g : Ghosts S) (old end : Held S) {MayFail : E → Type 0} {r : Result A E} {begun mid : Transaction S}
+    → StaysInTransaction g MayFail begun mid r → begun.conn.now ≡ record old { in_transaction = true } → Survives (state_in g mid) (state g end) (λ _. ⊥)
+    → (HasCleanDisk (state g end) → IsRolledBack (state_in g mid) (state g end)) → end.in_transaction ≡ false → OnlyReads g MayFail old end r
+read_back g old end {begun = begun} {mid = mid} left is then back out = record {
+  autocommit = out;
+  clean = λ clean. begun_clean g old begun.conn.now is (clean_before left (was_clean (state_in g mid) (state g end) _ then clean));
+  whole = λ A was. whole_undone A (state_in g begun) (state_in g mid) (begins g A old begun.conn.now is was) left.survives left.kept (state g end) then back;
+  cause = left.cause;
+}
 
 -- a call that leaves what was there follows
 pub outside_then : {S : Type 0} (g : Ghosts S) (P : Trees → Type 0) (old mid end : Held S) → StaysOutside g P old mid → StaysOutside g (λ _. ⊥) mid end

@@ -1,11 +1,21 @@
--- What a call over a connection leaves, whatever it answers.
+-- What a call over a connection says and leaves.
 use Rattle.std.specs.Prelude.{◌≡◌, false, Result, IfErr, IsTrue, OnOk}
 use Rattle.sqlite.specs.Store.{Ghosts}
 use Rattle.sqlite.specs.Tree.{Trees}
-use Rattle.sqlite.specs.State.{HasCleanDisk, Survives}
+use Rattle.sqlite.specs.State.{State, HasCleanDisk, Survives}
 use Rattle.sqlite.specs.Held.{Held, state}
+use Rattle.sqlite.specs.declared.transaction.Transaction.{Transaction}
 use Rattle.kcr_history.specs.History.{History}
+use Rattle.kcr_rows.specs.Frame.{IfClean}
 use Rattle.kcr_store.specs.Register.{IsDurable}
+
+-- what a call over a connection says of the states before and after it, if the disk is clean after it
+abbrev pub IfCleanOver : {S : Type 0} → Ghosts S → Held S → Held S → (State → State → Type 0) → Type 0
+IfCleanOver g old new Says = HasCleanDisk (state g new) → Says (state g old) (state g new)
+
+-- said of each history whose register the connection was, by a call that leaves the disk clean
+abbrev pub OfDurable : {S : Type 0} → Ghosts S → Held S → Held S → (History → Type 0) → Type 0
+OfDurable g old new Says = (A : History) → IsDurable A (state g old) → HasCleanDisk (state g new) → Says A
 
 -- it ends outside of a transaction, and a crash leaves what was there or one of these
 pub record StaysOutside {S : Type 0} (g : Ghosts S) (MayLeave : Trees → Type 0) (old new : Held S) : Type 0 where
@@ -22,6 +32,6 @@ pub record OnlyReads {A E : Type 0} {S : Type 0} (g : Ghosts S) (MayFail : E →
   pub cause : IfErr result MayFail
 
 -- within a transaction it answers only if the store was open
-abbrev pub NeedsOpen : {A E S : Type 0} → Ghosts S → Held S → Held S → Result A E → Type 0
+abbrev pub NeedsOpen : {A E S : Type 0} → Ghosts S → Transaction S → Transaction S → Result A E → Type 0
 NeedsOpen g old new result =
-    HasCleanDisk (state g new) → IsTrue (state g old).in_transaction → OnOk result (IsTrue (state g old).is_open)
+    IfClean g old new (λ before _. IsTrue before.in_transaction → OnOk result (IsTrue before.is_open))

@@ -2,9 +2,7 @@
 use Rattle.std.specs.Prelude.{◌≡◌, ◌⊎◌, ◌≢◌, ◌+◌, ℕ, ℤ, pos, [], length, IsTrue, Bool, true, false, Some, Result, MatchResult}
 use Rattle.sqlite.specs.Effect.{Database}
 use Rattle.sqlite.specs.Files.{HoldsDatabase, AreFoundIn, IsEmpty}
-use Rattle.sqlite.specs.Held.{Held, state}
 use Rattle.sqlite.specs.State.{State, HasCleanDisk, IsLive}
-use Rattle.sqlite.specs.Store.{Ghosts}
 use Rattle.sqlite.specs.Tree.{Trees}
 use Rattle.sqlite_wal.specs.Recovery.{Image}
 use Rattle.kcr_history.specs.History.{History}
@@ -37,10 +35,9 @@ abbrev pub IsAnswerBy : {A : Type 0} → ℤ → Database → Result A OpenFault
 IsAnswerBy number db result = MatchResult result (λ _. version_in db ≡ Some number) (RefusesBy number db)
 
 -- what is answered to a database with the schema of version N, by its number, if the store serves
-abbrev pub GoesByNumber : {A S : Type 0} → Ghosts S → ℕ → Held S → Held S → Result A OpenFault → Type 0
-GoesByNumber g number old new result =
-    HasCleanDisk (state g new) → IsLive (state g old) → (state g old).now.schema ≡ schema_prefix (14 + number)
-    → IsAnswerBy (pos number) (state g old).now result
+abbrev pub GoesByNumber : {A : Type 0} → ℕ → Result A OpenFault → State → State → Type 0
+GoesByNumber number result old new =
+    IsLive old → old.now.schema ≡ schema_prefix (14 + number) → IsAnswerBy (pos number) old.now result
 
 -- the trees hold the tables of the history, as a file of any version has them that is taken
 abbrev pub HoldsHistory : History → Trees → Type 0

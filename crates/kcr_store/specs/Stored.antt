@@ -2,10 +2,12 @@
 use Rattle.std.specs.Prelude.{◌≡◌, IsTrue}
 use Rattle.sqlite.specs.Tree.{Trees}
 use Rattle.sqlite.specs.Effect.{Database}
-use Rattle.sqlite.specs.State.{State, HasCleanDisk}
+use Rattle.sqlite.specs.Store.{Ghosts}
+use Rattle.sqlite.specs.declared.transaction.Transaction.{Transaction}
 use Rattle.kcr_history.specs.History.{History}
 use Rattle.kcr_history.specs.Tables.{tables}
 use Rattle.kcr_history.specs.Machine.{IsRegister}
+use Rattle.kcr_rows.specs.Frame.{IfClean}
 use Rattle.kcr_tables.specs.Schema.{register_schema}
 use Rattle.kcr_tables.specs.MachineTables.{TreesHoldTables}
 
@@ -20,5 +22,6 @@ pub record Stores (accepted : History) (db : Database) : Type 0 where
   pub tables : IsTables accepted db.trees
 
 -- said of each history whose tables the database held, if it was open, by a call that leaves the disk clean
-abbrev pub OfStored : State → State → (History → Type 0) → Type 0
-OfStored old new Says = HasCleanDisk new → (A : History) → (IsTrue old.is_open → Stores A old.now) → Says A
+abbrev pub OfStored : {S : Type 0} → Ghosts S → Transaction S → Transaction S → (History → Type 0) → Type 0
+OfStored g old new Says =
+    IfClean g old new (λ before _. (A : History) → (IsTrue before.is_open → Stores A before.now) → Says A)

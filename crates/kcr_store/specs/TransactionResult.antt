@@ -1,6 +1,7 @@
 -- What the end of a command says.
 use Rattle.std.specs.Prelude.{◌≡◌, ℕ, Bool, true, false, length, Result, Ok, Err}
-use Rattle.sqlite.specs.State.{State}
+use Rattle.sqlite.specs.Store.{Ghosts}
+use Rattle.sqlite.specs.declared.transaction.Transaction.{Transaction}
 use Rattle.kcr_base.specs.declared.refusal.Refusal.{Refusal}
 use Rattle.kcr_base.specs.declared.refusal.Refusal.TheVariants.{Disk}
 use Rattle.kcr_history.specs.declared.commands.Command.{Command}
@@ -56,6 +57,9 @@ is_genuine_after old (InDoubt p) = p.is_genuine
 
 -- a call within the transaction of a command, before which there were N: over the tables of a history its refusal
 -- is the machine's
-abbrev pub RefusesAsMachine : {T : Type 0} → ℕ → Command → State → State → Result T Refusal → Type 0
-RefusesAsMachine count command old new result =
-    StaysInTransaction (λ refusal. OfStored old new (λ A. count ≡ length A → AppliesCommand A command (Err refusal) A)) old new result
+abbrev pub RefusesAsMachine : {T S : Type 0} → Ghosts S → ℕ → Command → Transaction S → Transaction S
+    → Result T Refusal → Type 0
+RefusesAsMachine g count command old new result =
+    let MayFail = λ (refusal : Refusal).
+    OfStored g old new (λ A. count ≡ length A → AppliesCommand A command (Err refusal) A) in
+    StaysInTransaction g MayFail old new result

@@ -1,7 +1,7 @@
 //! All rows of a database of any version, which stays as it is.
 ghost use Rattle.std.specs.Prelude.{◌≡◌, ◌≢◌, ◌+◌, ◌⊎◌, [], false, Ok, IfOk, IfErr, IsTrue};
 ghost use Rattle.std.specs.Prelude.{OnOk};
-ghost use Rattle.sqlite.specs.State.{HasCleanDisk, IsLive};
+ghost use Rattle.sqlite.specs.State.{IsLive};
 ghost use Rattle.sqlite.specs.Held.{state};
 ghost use Rattle.kcr_history.specs.History.{History};
 ghost use Rattle.kcr_history.specs.Tables.{Tables, tables};
@@ -9,8 +9,8 @@ ghost use Rattle.kcr_older.specs.OldFiles.{HoldsHistoryAs, HoldsFirst, numbered}
 ghost use Rattle.kcr_older.specs.Kind.{IsForeignSchema, no_schema};
 ghost use Rattle.kcr_older.specs.Migrated.{migrated_tables};
 ghost use Rattle.kcr_older.specs.Versions.{number_of};
-ghost use Rattle.kcr_rows.specs.Frame.{StaysInTransaction};
-ghost use Rattle.kcr_store.specs.Frame.{NeedsOpen, StaysOutside};
+ghost use Rattle.kcr_rows.specs.Frame.{IfClean, StaysInTransaction};
+ghost use Rattle.kcr_store.specs.Frame.{IfCleanOver, NeedsOpen, StaysOutside};
 ghost use Rattle.kcr_store.specs.DatabaseRows.{Gives, GivesCurrent, GivesOlder, GivesOr, IsBroughtView, IsKeptView, IsNumberedView, IsUnread};
 ghost use Rattle.kcr_store.specs.Opening.{IsAnswer, IsGenuine};
 ghost use Rattle.kcr_store.specs.FullView.{IsListed};
@@ -32,11 +32,10 @@ fn empty_register_rows<S: Alter>(
     alloc: Global,
     tx: &mut Transaction<'_, S>,
 ) -> Result<FullView, Refusal>
-    ensures same_reference { tx.new.conn.ghost_name ≡ tx.old.conn.ghost_name }
-    ensures rows { HasCleanDisk (state S.Store tx.new.conn.now) → (state S.Store tx.old.conn.now).now.schema ≡ no_schema
-        → IfOk result (IsListed (tables [])) }
-    ensures opened { NeedsOpen S.Store tx.old.conn.now tx.new.conn.now result }
-    ensures frame { StaysInTransaction IsFault (state S.Store tx.old.conn.now) (state S.Store tx.new.conn.now) result }
+    ensures rows { IfClean S.Store tx.old tx.new
+        (λ old _. old.now.schema ≡ no_schema → IfOk result (IsListed (tables []))) }
+    ensures opened { NeedsOpen S.Store tx.old tx.new result }
+    ensures frame { StaysInTransaction S.Store IsFault tx.old tx.new result }
 {
     make(tx)?;
     read_full_view(alloc, tx)
@@ -48,14 +47,13 @@ fn migrated_rows<S: Alter>(
     tx: &mut Transaction<'_, S>,
     from: OldVersion,
 ) -> Result<FullView, Refusal>
-    ensures same_reference { tx.new.conn.ghost_name ≡ tx.old.conn.ghost_name }
-    ensures rows { HasCleanDisk (state S.Store tx.new.conn.now) → (t : Held)
-        → HoldsFirst (14 + number_of from) (state S.Store tx.old.conn.now).now t → t.versions ≡ numbered (number_of from)
-        → IfOk result (IsKeptView (migrated_tables from t)) }
-    ensures own { HasCleanDisk (state S.Store tx.new.conn.now) → (A : History)
-        → HoldsHistoryAs (number_of from) A (state S.Store tx.old.conn.now).now → IfOk result (IsListed (tables A)) }
-    ensures opened { NeedsOpen S.Store tx.old.conn.now tx.new.conn.now result }
-    ensures frame { StaysInTransaction IsFault (state S.Store tx.old.conn.now) (state S.Store tx.new.conn.now) result }
+    ensures rows { IfClean S.Store tx.old tx.new (λ old _. (t : Held)
+        → HoldsFirst (14 + number_of from) old.now t → t.versions ≡ numbered (number_of from)
+        → IfOk result (IsKeptView (migrated_tables from t))) }
+    ensures own { IfClean S.Store tx.old tx.new (λ old _. (A : History)
+        → HoldsHistoryAs (number_of from) A old.now → IfOk result (IsListed (tables A))) }
+    ensures opened { NeedsOpen S.Store tx.old tx.new result }
+    ensures frame { StaysInTransaction S.Store IsFault tx.old tx.new result }
 {
     migrate(alloc, tx, from)?;
     read_full_view(alloc, tx)
@@ -74,11 +72,9 @@ fn given(rows: Result<FullView, Refusal>) -> Result<FullView, OpenFault>
 
 /// All rows of a register of this version, if the database has its number.
 fn current_rows<S: Alter>(alloc: Global, tx: &mut Transaction<'_, S>) -> Result<FullView, OpenFault>
-    ensures same_reference { tx.new.conn.ghost_name ≡ tx.old.conn.ghost_name }
-    ensures gives { HasCleanDisk (state S.Store tx.new.conn.now) → IsLive (state S.Store tx.old.conn.now)
-        → GivesCurrent (state S.Store tx.old.conn.now).now result }
-    ensures opened { NeedsOpen S.Store tx.old.conn.now tx.new.conn.now result }
-    ensures frame { StaysInTransaction (λ _. Unit {0}) (state S.Store tx.old.conn.now) (state S.Store tx.new.conn.now) result }
+    ensures gives { IfClean S.Store tx.old tx.new (λ old _. IsLive old → GivesCurrent old.now result) }
+    ensures opened { NeedsOpen S.Store tx.old tx.new result }
+    ensures frame { StaysInTransaction S.Store (λ _. Unit {0}) tx.old tx.new result }
 {
     match expect_number(alloc, tx, VERSION) {
         Ok(()) => given(read_full_view(alloc, tx)),
@@ -92,11 +88,9 @@ fn older_rows<S: Alter>(
     tx: &mut Transaction<'_, S>,
     from: OldVersion,
 ) -> Result<FullView, OpenFault>
-    ensures same_reference { tx.new.conn.ghost_name ≡ tx.old.conn.ghost_name }
-    ensures gives { HasCleanDisk (state S.Store tx.new.conn.now) → IsLive (state S.Store tx.old.conn.now)
-        → GivesOlder from (state S.Store tx.old.conn.now).now result }
-    ensures opened { NeedsOpen S.Store tx.old.conn.now tx.new.conn.now result }
-    ensures frame { StaysInTransaction (λ _. Unit {0}) (state S.Store tx.old.conn.now) (state S.Store tx.new.conn.now) result }
+    ensures gives { IfClean S.Store tx.old tx.new (λ old _. IsLive old → GivesOlder from old.now result) }
+    ensures opened { NeedsOpen S.Store tx.old tx.new result }
+    ensures frame { StaysInTransaction S.Store (λ _. Unit {0}) tx.old tx.new result }
 {
     match expect_number(alloc, tx, from.number()) {
         Ok(()) => given(migrated_rows(alloc, tx, from)),
@@ -110,12 +104,10 @@ fn rows_as<S: Alter>(
     tx: &mut Transaction<'_, S>,
     standing: DatabaseKind,
 ) -> Result<FullView, OpenFault>
-    ensures same_reference { tx.new.conn.ghost_name ≡ tx.old.conn.ghost_name }
-    ensures gives { HasCleanDisk (state S.Store tx.new.conn.now) → IsLive (state S.Store tx.old.conn.now)
-        → Gives standing (state S.Store tx.old.conn.now).now result }
-    ensures opened { NeedsOpen S.Store tx.old.conn.now tx.new.conn.now result }
+    ensures gives { IfClean S.Store tx.old tx.new (λ old _. IsLive old → Gives standing old.now result) }
+    ensures opened { NeedsOpen S.Store tx.old tx.new result }
     ensures read { IfOk result (λ _. ¬ IsUnread standing) }
-    ensures frame { StaysInTransaction (λ _. Unit {0}) (state S.Store tx.old.conn.now) (state S.Store tx.new.conn.now) result }
+    ensures frame { StaysInTransaction S.Store (λ _. Unit {0}) tx.old tx.new result }
 {
     match standing {
         DatabaseKind::Empty => given(empty_register_rows(alloc, tx)),
@@ -133,9 +125,8 @@ fn rows_then_rollback<S: Alter>(
     standing: DatabaseKind,
 ) -> Result<FullView, OpenFault>
     requires autocommit { conn.old.in_transaction ≡ false }
-    ensures gives { HasCleanDisk (state S.Store conn.new) → IsLive (state S.Store conn.old)
-        → Gives standing (state S.Store conn.old).now result }
-    ensures opened { HasCleanDisk (state S.Store conn.new) → OnOk result (IsTrue (state S.Store conn.old).is_open) }
+    ensures gives { IfCleanOver S.Store conn.old conn.new (λ old _. IsLive old → Gives standing old.now result) }
+    ensures opened { IfCleanOver S.Store conn.old conn.new (λ old _. OnOk result (IsTrue old.is_open)) }
     ensures read { IfOk result (λ _. ¬ IsUnread standing) }
     ensures frame { StaysOutside S.Store (λ _. ⊥) conn.old conn.new }
 {
@@ -153,22 +144,22 @@ pub fn read_tables<S: Alter>(alloc: Global, conn: &mut Connection<S>) -> Result<
     requires autocommit { conn.old.in_transaction ≡ false }
 
     // Where the database is that of a history, in whichever version, the rows are its tables.
-    ensures own { HasCleanDisk (state S.Store conn.new) → (A : History) → IsGenuine A (state S.Store conn.old)
-        → IfOk result (IsListed (tables A)) }
-    ensures taken { HasCleanDisk (state S.Store conn.new) → IsTrue (state S.Store conn.old).is_open → (A : History)
-        → IsGenuine A (state S.Store conn.old) → IfErr result (λ e. (e ≡ OpenFault.Memory) ⊎ (e ≡ OpenFault.Disk)) }
+    ensures own { IfCleanOver S.Store conn.old conn.new
+        (λ old _. (A : History) → IsGenuine A old → IfOk result (IsListed (tables A))) }
+    ensures taken { IfCleanOver S.Store conn.old conn.new (λ old _. IsTrue old.is_open → (A : History) → IsGenuine A old
+        → IfErr result (λ e. (e ≡ OpenFault.Memory) ⊎ (e ≡ OpenFault.Disk))) }
 
     // Whoever wrote them, they are the rows that the database holds. Those of an older version are migrated.
-    ensures rows { HasCleanDisk (state S.Store conn.new) → (m : Tables)
-        → HoldsTables m (state S.Store conn.old).now → IfOk result (IsListed m) }
-    ensures version { HasCleanDisk (state S.Store conn.new) → (t : Held) → Holds (state S.Store conn.old).now t
-        → GivesOr (t.versions ≢ numbered 3) (IsNumberedView t) result }
-    ensures older { HasCleanDisk (state S.Store conn.new) → (from : OldVersion) → (t : Held)
-        → HoldsFirst (14 + number_of from) (state S.Store conn.old).now t
-        → GivesOr (t.versions ≢ numbered (number_of from)) (IsBroughtView from t) result }
+    ensures rows { IfCleanOver S.Store conn.old conn.new
+        (λ old _. (m : Tables) → HoldsTables m old.now → IfOk result (IsListed m)) }
+    ensures version { IfCleanOver S.Store conn.old conn.new (λ old _. (t : Held) → Holds old.now t
+        → GivesOr (t.versions ≢ numbered 3) (IsNumberedView t) result) }
+    ensures older { IfCleanOver S.Store conn.old conn.new (λ old _. (from : OldVersion) → (t : Held)
+        → HoldsFirst (14 + number_of from) old.now t
+        → GivesOr (t.versions ≢ numbered (number_of from)) (IsBroughtView from t) result) }
 
     // What is taken, and each refusal, is what its name says, and no database is two of these.
-    ensures answer { HasCleanDisk (state S.Store conn.new) → IsAnswer (state S.Store conn.old).now result }
+    ensures answer { IfCleanOver S.Store conn.old conn.new (λ old _. IsAnswer old.now result) }
     ensures known { IfOk result (λ _. ¬ IsForeignSchema (state S.Store conn.old).now.schema) }
     ensures frame { StaysOutside S.Store (λ _. ⊥) conn.old conn.new }
 {

@@ -1,16 +1,13 @@
 //! All rows of a register's tables, and what an audit finds in them.
 ghost use Rattle.std.specs.Prelude.{◌≡◌, false, None, IfOk};
-ghost use Rattle.sqlite.specs.State.{HasCleanDisk};
-ghost use Rattle.sqlite.specs.Held.{state};
-ghost use Rattle.kcr_history.specs.History.{History};
 ghost use Rattle.kcr_history.specs.Machine.{IsRegister};
 ghost use Rattle.kcr_history.specs.Tables.{Tables, tables};
 ghost use Rattle.kcr_tables.specs.StoredTables.{StoredTables as Held};
 ghost use Rattle.kcr_tables.specs.MachineTables.{HoldsTables};
 ghost use Rattle.kcr_tables.specs.Refusals.{IsFault};
-ghost use Rattle.kcr_tables.specs.Frame.{ImpliesOpen, OfTables, Reads};
-ghost use Rattle.kcr_store.specs.Frame.{OnlyReads};
-ghost use Rattle.kcr_store.specs.Register.{IsDurable};
+ghost use Rattle.kcr_rows.specs.Frame.{ImpliesOpen};
+ghost use Rattle.kcr_tables.specs.Frame.{OfTables, Reads};
+ghost use Rattle.kcr_store.specs.Frame.{IfCleanOver, OfDurable, OnlyReads};
 ghost use Rattle.kcr_store.specs.FullView.{FindsIn, IsListed, AreRows, Lists};
 
 use kcr_audit::{audit, registers_pass};
@@ -27,10 +24,9 @@ trait ReadAll: Drop {
 
     /// All rows. Nothing is changed; the errors are those of `all_rows`.
     fn read_all<S: Alter>(alloc: Global, tx: &mut Transaction<'_, S>) -> Result<Self, Refusal>
-        ensures same_reference { tx.new.conn.ghost_name ≡ tx.old.conn.ghost_name }
-        ensures rows { OfTables (state S.Store tx.old.conn.now) (state S.Store tx.new.conn.now) result are_all }
-        ensures opened { ImpliesOpen (state S.Store tx.old.conn.now) (state S.Store tx.new.conn.now) result }
-        ensures frame { Reads (state S.Store tx.old.conn.now) (state S.Store tx.new.conn.now) result };
+        ensures rows { OfTables S.Store tx.old tx.new result are_all }
+        ensures opened { ImpliesOpen S.Store tx.old tx.new result }
+        ensures frame { Reads S.Store tx.old tx.new result };
 }
 
 impl<T: TableRow> ReadAll for Vec<T> {
@@ -56,10 +52,9 @@ pub(crate) fn read_full_view<S: Alter>(
     alloc: Global,
     tx: &mut Transaction<'_, S>,
 ) -> Result<FullView, Refusal>
-    ensures same_reference { tx.new.conn.ghost_name ≡ tx.old.conn.ghost_name }
-    ensures rows { OfTables (state S.Store tx.old.conn.now) (state S.Store tx.new.conn.now) result Lists }
-    ensures opened { ImpliesOpen (state S.Store tx.old.conn.now) (state S.Store tx.new.conn.now) result }
-    ensures frame { Reads (state S.Store tx.old.conn.now) (state S.Store tx.new.conn.now) result }
+    ensures rows { OfTables S.Store tx.old tx.new result Lists }
+    ensures opened { ImpliesOpen S.Store tx.old tx.new result }
+    ensures frame { Reads S.Store tx.old tx.new result }
 {
     let (
         (((people, trainings), (withdrawals, appointments)), ((boxes, safes), (bags, items))),
@@ -95,10 +90,10 @@ pub(crate) fn full_view<S: Alter>(
     conn: &mut Connection<S>,
 ) -> Result<FullView, Refusal>
     requires autocommit { conn.old.in_transaction ≡ false }
-    ensures rows { HasCleanDisk (state S.Store conn.new) → (m : Tables)
-        → HoldsTables m (state S.Store conn.old).now → IfOk result (IsListed m) }
-    ensures register { (A : History) → IsDurable A (state S.Store conn.old) → HasCleanDisk (state S.Store conn.new)
-        → IfOk result (λ view. IsRegister A × IsListed (tables A) view) }
+    ensures rows { IfCleanOver S.Store conn.old conn.new
+        (λ old _. (m : Tables) → HoldsTables m old.now → IfOk result (IsListed m)) }
+    ensures register { OfDurable S.Store conn.old conn.new
+        (λ A. IfOk result (λ view. IsRegister A × IsListed (tables A) view)) }
     ensures frame { OnlyReads S.Store IsFault conn.old conn.new result }
 {
     let mut tx = conn.transaction();
@@ -113,10 +108,10 @@ pub(crate) fn read_table<S: Alter, R: TableRow>(
     conn: &mut Connection<S>,
 ) -> Result<Vec<R>, Refusal>
     requires autocommit { conn.old.in_transaction ≡ false }
-    ensures rows { HasCleanDisk (state S.Store conn.new) → (m : Tables)
-        → HoldsTables m (state S.Store conn.old).now → IfOk result (λ rows. AreRows R.table.rows_in m rows.items) }
-    ensures register { (A : History) → IsDurable A (state S.Store conn.old) → HasCleanDisk (state S.Store conn.new)
-        → IfOk result (λ rows. IsRegister A × AreRows R.table.rows_in (tables A) rows.items) }
+    ensures rows { IfCleanOver S.Store conn.old conn.new (λ old _. (m : Tables) → HoldsTables m old.now
+        → IfOk result (λ rows. AreRows R.table.rows_in m rows.items)) }
+    ensures register { OfDurable S.Store conn.old conn.new
+        (λ A. IfOk result (λ rows. IsRegister A × AreRows R.table.rows_in (tables A) rows.items)) }
     ensures frame { OnlyReads S.Store IsFault conn.old conn.new result }
 {
     let mut tx = conn.transaction();
@@ -131,10 +126,9 @@ pub(crate) fn audit_database<S: Alter>(
     conn: &mut Connection<S>,
 ) -> Result<Option<Finding>, Refusal>
     requires autocommit { conn.old.in_transaction ≡ false }
-    ensures found { HasCleanDisk (state S.Store conn.new) → (m : Tables)
-        → HoldsTables m (state S.Store conn.old).now → IfOk result (FindsIn m) }
-    ensures nothing { (A : History) → IsDurable A (state S.Store conn.old) → HasCleanDisk (state S.Store conn.new)
-        → IfOk result (λ found. found ≡ None) }
+    ensures found { IfCleanOver S.Store conn.old conn.new
+        (λ old _. (m : Tables) → HoldsTables m old.now → IfOk result (FindsIn m)) }
+    ensures nothing { OfDurable S.Store conn.old conn.new (λ A. IfOk result (λ found. found ≡ None)) }
     ensures frame { OnlyReads S.Store IsFault conn.old conn.new result }
 {
     let view = full_view(alloc, conn)?;

@@ -1,12 +1,8 @@
 //! Questions whose answers are lists: the rows of a reading or of a table, read in one transaction.
-ghost use Rattle.std.specs.Prelude.{◌≡◌, IfOk, MatchResult, OnOk};
-ghost use Rattle.sqlite.specs.State.{HasCleanDisk};
-ghost use Rattle.sqlite.specs.Held.{state};
+ghost use Rattle.std.specs.Prelude.{IfOk, MatchResult};
 ghost use Rattle.kcr_history.specs.Questions.{AreStepsShown, IsSheetShown, IsCustodyShown};
-ghost use Rattle.kcr_history.specs.Tables.{Tables};
-ghost use Rattle.kcr_rows.specs.Frame.{StaysInTransaction};
-ghost use Rattle.kcr_tables.specs.Frame.{ImpliesOpen};
-ghost use Rattle.kcr_tables.specs.MachineTables.{HoldsTables};
+ghost use Rattle.kcr_rows.specs.Frame.{ImpliesOpen, StaysInTransaction};
+ghost use Rattle.kcr_tables.specs.Frame.{ChangesMachineTables};
 ghost use Rattle.kcr_tables.specs.Refusals.{IsFault};
 ghost use Rattle.kcr_store.specs.Commands.{IsQuestionRefusal, MayRefuseQuestion};
 ghost use Rattle.kcr_store.specs.Rows.{IsRowOf, HasNoRow, MayHaveNoRow};
@@ -28,14 +24,10 @@ pub(crate) fn find_ceremony<S: Alter>(
     tx: &mut Transaction<'_, S>,
     ceremony: CeremonyNumber,
 ) -> Result<CeremonyRow, Refusal>
-    ensures same_reference { tx.new.conn.ghost_name ≡ tx.old.conn.ghost_name }
-    ensures row { OfStored (state S.Store tx.old.conn.now) (state S.Store tx.new.conn.now)
-        (λ A. MatchResult result (IsRowOf A ceremony) (HasNoRow A ceremony)) }
-    ensures opened { ImpliesOpen (state S.Store tx.old.conn.now) (state S.Store tx.new.conn.now) result }
-    ensures tables { HasCleanDisk (state S.Store tx.new.conn.now) → (m : Tables)
-        → HoldsTables m (state S.Store tx.old.conn.now).now → OnOk result (HoldsTables m (state S.Store tx.new.conn.now).now) }
-    ensures frame { StaysInTransaction (MayHaveNoRow ceremony) (state S.Store tx.old.conn.now)
-        (state S.Store tx.new.conn.now) result }
+    ensures row { OfStored S.Store tx.old tx.new (λ A. MatchResult result (IsRowOf A ceremony) (HasNoRow A ceremony)) }
+    ensures opened { ImpliesOpen S.Store tx.old tx.new result }
+    ensures tables { ChangesMachineTables S.Store tx.old tx.new result (λ m. m) }
+    ensures frame { StaysInTransaction S.Store (MayHaveNoRow ceremony) tx.old tx.new result }
 {
     let number = ceremony.get();
     let planned = find_rows::<_, u32, CeremonyRow>(alloc, tx, &number)?;
@@ -50,12 +42,9 @@ pub(crate) fn read_steps<S: Alter>(
     tx: &mut Transaction<'_, S>,
     ceremony: CeremonyNumber,
 ) -> Result<StepsShown, Refusal>
-    ensures same_reference { tx.new.conn.ghost_name ≡ tx.old.conn.ghost_name }
-    ensures shown { OfStored (state S.Store tx.old.conn.now)
-        (state S.Store tx.new.conn.now) (λ A. MatchResult result (AreStepsShown A ceremony)
+    ensures shown { OfStored S.Store tx.old tx.new (λ A. MatchResult result (AreStepsShown A ceremony)
         (IsQuestionRefusal A (Question.Steps ceremony))) }
-    ensures frame { StaysInTransaction (MayRefuseQuestion (Question.Steps ceremony)) (state S.Store tx.old.conn.now)
-        (state S.Store tx.new.conn.now) result }
+    ensures frame { StaysInTransaction S.Store (MayRefuseQuestion (Question.Steps ceremony)) tx.old tx.new result }
 {
     let row = find_ceremony(alloc, tx, ceremony)?;
     let steps = remaining_rows(alloc, tx, StepCursor::new(ceremony.get()))?;
@@ -73,12 +62,9 @@ pub(crate) fn read_sheet<S: Alter>(
     tx: &mut Transaction<'_, S>,
     ceremony: CeremonyNumber,
 ) -> Result<Vec<StayWithName>, Refusal>
-    ensures same_reference { tx.new.conn.ghost_name ≡ tx.old.conn.ghost_name }
-    ensures shown { OfStored (state S.Store tx.old.conn.now)
-        (state S.Store tx.new.conn.now) (λ A. MatchResult result (λ stays. IsSheetShown A ceremony stays.items)
+    ensures shown { OfStored S.Store tx.old tx.new (λ A. MatchResult result (λ stays. IsSheetShown A ceremony stays.items)
         (IsQuestionRefusal A (Question.Sheet ceremony))) }
-    ensures frame { StaysInTransaction (MayRefuseQuestion (Question.Sheet ceremony)) (state S.Store tx.old.conn.now)
-        (state S.Store tx.new.conn.now) result }
+    ensures frame { StaysInTransaction S.Store (MayRefuseQuestion (Question.Sheet ceremony)) tx.old tx.new result }
 {
     find_ceremony(alloc, tx, ceremony)?;
     remaining_rows(alloc, tx, StayCursor::new(ceremony.get()))
@@ -89,10 +75,8 @@ pub(crate) fn read_custody<S: Alter>(
     alloc: Global,
     tx: &mut Transaction<'_, S>,
 ) -> Result<CustodyShown, Refusal>
-    ensures same_reference { tx.new.conn.ghost_name ≡ tx.old.conn.ghost_name }
-    ensures shown { OfStored (state S.Store tx.old.conn.now)
-        (state S.Store tx.new.conn.now) (λ A. IfOk result (IsCustodyShown A)) }
-    ensures frame { StaysInTransaction IsFault (state S.Store tx.old.conn.now) (state S.Store tx.new.conn.now) result }
+    ensures shown { OfStored S.Store tx.old tx.new (λ A. IfOk result (IsCustodyShown A)) }
+    ensures frame { StaysInTransaction S.Store IsFault tx.old tx.new result }
 {
     let safes = all_rows::<_, SafeRow>(alloc, tx)?;
     let bags = remaining_rows(alloc, tx, BagCursor::new())?;

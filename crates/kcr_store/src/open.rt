@@ -9,7 +9,7 @@ ghost use Rattle.sqlite.specs.Start.{FindsIn};
 ghost use Rattle.sqlite.specs.WalFiles.{image_at};
 ghost use Rattle.kcr_history.specs.History.{History};
 ghost use Rattle.kcr_history.specs.Tables.{tables};
-ghost use Rattle.kcr_rows.specs.Frame.{StaysInTransaction};
+ghost use Rattle.kcr_rows.specs.Frame.{IfClean, ImpliesOpen, StaysInTransaction};
 ghost use Rattle.kcr_tables.specs.Frame.{Reads};
 ghost use Rattle.kcr_tables.specs.MachineTables.{HoldsTables};
 ghost use Rattle.kcr_older.specs.OldFiles.{HoldsHistoryAs};
@@ -17,7 +17,7 @@ ghost use Rattle.kcr_older.specs.Kind.{IsOfOtherVersion, IsOtherNumber, IsForeig
 ghost use Rattle.kcr_older.specs.Kind.{numbered_table};
 ghost use Rattle.kcr_older.specs.Versions.{number_of};
 ghost use Rattle.kcr_tables.specs.Refusals.{IsFault};
-ghost use Rattle.kcr_store.specs.Frame.{StaysOutside};
+ghost use Rattle.kcr_store.specs.Frame.{IfCleanOver, StaysOutside};
 ghost use Rattle.kcr_store.specs.Stored.{IsTables, OfStored};
 ghost use Rattle.kcr_store.specs.Register.{IsSynced};
 ghost use Rattle.kcr_store.specs.Opening.{IsGenuine, FilesHoldHistory, IsMigrated, IsOpeningOf, IsOpened, IsAnswer, IsAnswerBy};
@@ -113,8 +113,7 @@ pub(crate) fn inspect<S: Alter>(
 fn commit_fault<S: Alter>(conn: &mut Connection<S>) -> OpenFault
     requires autocommit { conn.old.in_transaction ≡ false }
     ensures kind { (result ≡ OpenFault.Memory) ⊎ (result ≡ OpenFault.Disk) }
-    ensures same { HasCleanDisk (state S.Store conn.new) → result ≡ OpenFault.Memory
-        → IsUnchanged (state S.Store conn.old) (state S.Store conn.new) }
+    ensures same { IfCleanOver S.Store conn.old conn.new (λ old new. result ≡ OpenFault.Memory → IsUnchanged old new) }
     ensures frame { StaysOutside S.Store (λ _. ⊥) conn.old conn.new }
 {
     match conn.prepare("COMMIT") {
@@ -128,10 +127,8 @@ fn commit_fault<S: Alter>(conn: &mut Connection<S>) -> OpenFault
 fn create_tables<S: Alter>(conn: &mut Connection<S>) -> Result<(), OpenFault>
     requires autocommit { conn.old.in_transaction ≡ false }
     requires empty { (state S.Store conn.old).now.schema ≡ no_schema }
-    ensures made { HasCleanDisk (state S.Store conn.new)
-        → OnOk result
-        (IsSynced [] (state S.Store conn.new) × IsTrue (state S.Store conn.new).is_open
-        × IsTrue (state S.Store conn.old).is_open) }
+    ensures made { IfCleanOver S.Store conn.old conn.new
+        (λ old new. OnOk result (IsSynced [] new × IsTrue new.is_open × IsTrue old.is_open)) }
     ensures kind { IfErr result (λ e. (e ≡ OpenFault.Memory) ⊎ (e ≡ OpenFault.Disk)) }
     ensures left { IfErr result (λ e. e ≡ OpenFault.Memory
         → Survives (state S.Store conn.old) (state S.Store conn.new) (λ _. ⊥)) }
@@ -151,8 +148,7 @@ fn create_tables<S: Alter>(conn: &mut Connection<S>) -> Result<(), OpenFault>
 /// Whether the store still serves. It changes nothing.
 fn probe<S: Alter>(conn: &mut Connection<S>) -> Result<(), OpenFault>
     requires autocommit { conn.old.in_transaction ≡ false }
-    ensures same { HasCleanDisk (state S.Store conn.new)
-        → OnOk result (IsUnchanged (state S.Store conn.old) (state S.Store conn.new)) }
+    ensures same { IfCleanOver S.Store conn.old conn.new (λ old new. OnOk result (IsUnchanged old new)) }
     ensures kind { IfErr result (λ e. (e ≡ OpenFault.Memory) ⊎ (e ≡ OpenFault.Disk)) }
     ensures frame { StaysOutside S.Store (λ _. ⊥) conn.old conn.new }
 {
@@ -179,16 +175,12 @@ pub(crate) fn expect_number<S: Alter>(
     tx: &mut Transaction<'_, S>,
     number: u32,
 ) -> Result<(), OpenFault>
-    ensures same_reference { tx.new.conn.ghost_name ≡ tx.old.conn.ghost_name }
-    ensures answer { HasCleanDisk (state S.Store tx.new.conn.now) → IsLive (state S.Store tx.old.conn.now)
-        → IsTrue (is_some (numbered_table (state S.Store tx.old.conn.now).now.schema))
-        → IsAnswerBy (pos number) (state S.Store tx.old.conn.now).now result }
-    ensures same { HasCleanDisk (state S.Store tx.new.conn.now)
-        → IsTrue (is_some (numbered_table (state S.Store tx.old.conn.now).now.schema))
-        → OnOk result (IsUnchanged (state S.Store tx.old.conn.now) (state S.Store tx.new.conn.now)) }
-    ensures opened { HasCleanDisk (state S.Store tx.new.conn.now)
-        → OnOk result (IsTrue (state S.Store tx.old.conn.now).is_open) }
-    ensures frame { StaysInTransaction (λ _. Unit {0}) (state S.Store tx.old.conn.now) (state S.Store tx.new.conn.now) result }
+    ensures answer { IfClean S.Store tx.old tx.new (λ old _. IsLive old
+        → IsTrue (is_some (numbered_table old.now.schema)) → IsAnswerBy (pos number) old.now result) }
+    ensures same { IfClean S.Store tx.old tx.new
+        (λ old new. IsTrue (is_some (numbered_table old.now.schema)) → OnOk result (IsUnchanged old new)) }
+    ensures opened { ImpliesOpen S.Store tx.old tx.new result }
+    ensures frame { StaysInTransaction S.Store (λ _. Unit {0}) tx.old tx.new result }
 {
     match version_in(alloc, tx) {
         Ok(Some(found)) if found == i64::from(number) => Ok(()),
@@ -199,10 +191,8 @@ pub(crate) fn expect_number<S: Alter>(
 
 /// The number of the last command, 0 if there is none. Nothing is changed.
 fn last_number<S: Alter>(alloc: Global, tx: &mut Transaction<'_, S>) -> Result<u32, Refusal>
-    ensures same_reference { tx.new.conn.ghost_name ≡ tx.old.conn.ghost_name }
-    ensures count { OfStored (state S.Store tx.old.conn.now) (state S.Store tx.new.conn.now)
-        (λ A. IfOk result (λ count. count ≡ length A)) }
-    ensures frame { Reads (state S.Store tx.old.conn.now) (state S.Store tx.new.conn.now) result }
+    ensures count { OfStored S.Store tx.old tx.new (λ A. IfOk result (λ count. count ≡ length A)) }
+    ensures frame { Reads S.Store tx.old tx.new result }
 {
     let last = last_key_row(alloc, tx)?;
     match last.first() {
@@ -213,11 +203,9 @@ fn last_number<S: Alter>(alloc: Global, tx: &mut Transaction<'_, S>) -> Result<u
 
 /// The number of the last command of a register of this version, if the database has its number. Nothing is changed.
 fn count_in<S: Alter>(alloc: Global, tx: &mut Transaction<'_, S>) -> Result<u32, OpenFault>
-    ensures same_reference { tx.new.conn.ghost_name ≡ tx.old.conn.ghost_name }
-    ensures answer { GoesByNumber S.Store 3 tx.old.conn.now tx.new.conn.now result }
-    ensures count { OfStored (state S.Store tx.old.conn.now) (state S.Store tx.new.conn.now)
-        (λ A. IfOk result (λ count. count ≡ length A)) }
-    ensures frame { StaysInTransaction (λ _. Unit {0}) (state S.Store tx.old.conn.now) (state S.Store tx.new.conn.now) result }
+    ensures answer { IfClean S.Store tx.old tx.new (GoesByNumber 3 result) }
+    ensures count { OfStored S.Store tx.old tx.new (λ A. IfOk result (λ count. count ≡ length A)) }
+    ensures frame { StaysInTransaction S.Store (λ _. Unit {0}) tx.old tx.new result }
 {
     if let Err(fault) = expect_number(alloc, tx, VERSION) {
         return Err(fault);
@@ -231,13 +219,11 @@ fn count_in<S: Alter>(alloc: Global, tx: &mut Transaction<'_, S>) -> Result<u32,
 /// The same in a transaction that is rolled back.
 fn read_count<S: Alter>(alloc: Global, conn: &mut Connection<S>) -> Result<u32, OpenFault>
     requires autocommit { conn.old.in_transaction ≡ false }
-    ensures answer { GoesByNumber S.Store 3 conn.old conn.new result }
-    ensures count { HasCleanDisk (state S.Store conn.new) → (A : History)
-        → (IsTrue (state S.Store conn.old).is_open → IsSynced A (state S.Store conn.old))
-        → IfOk result (λ count. count ≡ length A) }
-    ensures shows { HasCleanDisk (state S.Store conn.new) → (A : History)
-        → (IsTrue (state S.Store conn.old).is_open → IsSynced A (state S.Store conn.old))
-        → IsTrue (state S.Store conn.new).is_open → IsSynced A (state S.Store conn.new) }
+    ensures answer { IfCleanOver S.Store conn.old conn.new (GoesByNumber 3 result) }
+    ensures count { IfCleanOver S.Store conn.old conn.new (λ old _. (A : History)
+        → (IsTrue old.is_open → IsSynced A old) → IfOk result (λ count. count ≡ length A)) }
+    ensures shows { IfCleanOver S.Store conn.old conn.new (λ old new. (A : History)
+        → (IsTrue old.is_open → IsSynced A old) → IsTrue new.is_open → IsSynced A new) }
     ensures frame { StaysOutside S.Store (λ _. ⊥) conn.old conn.new }
 {
     let mut tx = conn.transaction();
@@ -249,10 +235,9 @@ fn read_count<S: Alter>(alloc: Global, conn: &mut Connection<S>) -> Result<u32, 
 /// Takes the database of a register of this version, and changes nothing: the number of its last command.
 fn open_current<S: Alter>(alloc: Global, conn: &mut Connection<S>) -> Result<u32, OpenFault>
     requires autocommit { conn.old.in_transaction ≡ false }
-    ensures shows { HasCleanDisk (state S.Store conn.new) → (A : History)
-        → (IsTrue (state S.Store conn.old).is_open → IsSynced A (state S.Store conn.old))
-        → IfOk result (λ count. IsOpened A count (state S.Store conn.new)) }
-    ensures answer { GoesByNumber S.Store 3 conn.old conn.new result }
+    ensures shows { IfCleanOver S.Store conn.old conn.new (λ old new. (A : History)
+        → (IsTrue old.is_open → IsSynced A old) → IfOk result (λ count. IsOpened A count new)) }
+    ensures answer { IfCleanOver S.Store conn.old conn.new (GoesByNumber 3 result) }
     ensures frame { StaysOutside S.Store (λ _. ⊥) conn.old conn.new }
 {
     let count = read_count(alloc, conn)?;
@@ -267,11 +252,10 @@ fn brought_count<S: Alter>(
     tx: &mut Transaction<'_, S>,
     from: OldVersion,
 ) -> Result<u32, Refusal>
-    ensures same_reference { tx.new.conn.ghost_name ≡ tx.old.conn.ghost_name }
-    ensures brought { HasCleanDisk (state S.Store tx.new.conn.now) → (A : History)
-        → HoldsHistoryAs (number_of from) A (state S.Store tx.old.conn.now).now
-        → IfOk result (λ count. (count ≡ length A) × HoldsTables (tables A) (state S.Store tx.new.conn.now).now) }
-    ensures frame { StaysInTransaction IsFault (state S.Store tx.old.conn.now) (state S.Store tx.new.conn.now) result }
+    ensures brought { IfClean S.Store tx.old tx.new (λ old new. (A : History)
+        → HoldsHistoryAs (number_of from) A old.now
+        → IfOk result (λ count. (count ≡ length A) × HoldsTables (tables A) new.now)) }
+    ensures frame { StaysInTransaction S.Store IsFault tx.old tx.new result }
 {
     migrate(alloc, tx, from)?;
     last_number(alloc, tx)
@@ -283,12 +267,11 @@ fn renewed_count<S: Alter>(
     tx: &mut Transaction<'_, S>,
     from: OldVersion,
 ) -> Result<u32, OpenFault>
-    ensures same_reference { tx.new.conn.ghost_name ≡ tx.old.conn.ghost_name }
-    ensures answer { GoesByNumber S.Store (number_of from) tx.old.conn.now tx.new.conn.now result }
-    ensures brought { HasCleanDisk (state S.Store tx.new.conn.now) → (A : History)
-        → HoldsHistoryAs (number_of from) A (state S.Store tx.old.conn.now).now
-        → IfOk result (λ count. (count ≡ length A) × HoldsTables (tables A) (state S.Store tx.new.conn.now).now) }
-    ensures frame { StaysInTransaction (λ _. Unit {0}) (state S.Store tx.old.conn.now) (state S.Store tx.new.conn.now) result }
+    ensures answer { IfClean S.Store tx.old tx.new (GoesByNumber (number_of from) result) }
+    ensures brought { IfClean S.Store tx.old tx.new (λ old new. (A : History)
+        → HoldsHistoryAs (number_of from) A old.now
+        → IfOk result (λ count. (count ≡ length A) × HoldsTables (tables A) new.now)) }
+    ensures frame { StaysInTransaction S.Store (λ _. Unit {0}) tx.old tx.new result }
 {
     if let Err(fault) = expect_number(alloc, tx, from.number()) {
         return Err(fault);
@@ -307,11 +290,10 @@ fn migrate_database<S: Alter>(
     from: OldVersion,
 ) -> Result<u32, OpenFault>
     requires autocommit { conn.old.in_transaction ≡ false }
-    ensures shows { HasCleanDisk (state S.Store conn.new) → (A : History)
-        → HoldsHistoryAs (number_of from) A (state S.Store conn.old).now
-        → IfOk result (λ count. IsOpened A count (state S.Store conn.new)) }
-    ensures opened { HasCleanDisk (state S.Store conn.new) → OnOk result (IsTrue (state S.Store conn.old).is_open) }
-    ensures answer { GoesByNumber S.Store (number_of from) conn.old conn.new result }
+    ensures shows { IfCleanOver S.Store conn.old conn.new (λ old new. (A : History)
+        → HoldsHistoryAs (number_of from) A old.now → IfOk result (λ count. IsOpened A count new)) }
+    ensures opened { IfCleanOver S.Store conn.old conn.new (λ old _. OnOk result (IsTrue old.is_open)) }
+    ensures answer { IfCleanOver S.Store conn.old conn.new (GoesByNumber (number_of from) result) }
     ensures left { IfErr result (λ e. e ≢ OpenFault.Disk
         → Survives (state S.Store conn.old) (state S.Store conn.new) (λ _. ⊥)) }
     ensures frame { StaysOutside S.Store (IsMigrated (number_of from) (state S.Store conn.old).now) conn.old conn.new }
@@ -331,10 +313,9 @@ fn migrate_database<S: Alter>(
 /// Why a database with a table `versions` of the one column `number`, whose schema is that of no version, is refused.
 pub(crate) fn unknown_database_fault<S: Alter>(alloc: Global, conn: &mut Connection<S>) -> OpenFault
     requires autocommit { conn.old.in_transaction ≡ false }
-    ensures answer { HasCleanDisk (state S.Store conn.new) → IsLive (state S.Store conn.old)
-        → IsTrue (is_some (numbered_table (state S.Store conn.old).now.schema))
-        → ((result ≡ OpenFault.Version) → IsOfOtherVersion (state S.Store conn.old).now)
-        × ((result ≡ OpenFault.Foreign) → ¬ IsOfOtherVersion (state S.Store conn.old).now) }
+    ensures answer { IfCleanOver S.Store conn.old conn.new (λ old _. IsLive old
+        → IsTrue (is_some (numbered_table old.now.schema)) → ((result ≡ OpenFault.Version) → IsOfOtherVersion old.now)
+        × ((result ≡ OpenFault.Foreign) → ¬ IsOfOtherVersion old.now)) }
     ensures frame { StaysOutside S.Store (λ _. ⊥) conn.old conn.new }
 {
     let mut tx = conn.transaction();
@@ -353,14 +334,13 @@ pub(crate) fn open_or_migrate<S: Alter>(
     conn: &mut Connection<S>,
 ) -> Result<u32, OpenFault>
     requires autocommit { conn.old.in_transaction ≡ false }
-    ensures found { HasCleanDisk (state S.Store conn.new) → (A : History) → IsGenuine A (state S.Store conn.old)
-        → IfOk result (λ count. IsOpened A count (state S.Store conn.new)) }
-    ensures taken { HasCleanDisk (state S.Store conn.new) → IsTrue (state S.Store conn.old).is_open → (A : History)
-        → IsGenuine A (state S.Store conn.old)
-        → IfErr result (λ e. (e ≡ OpenFault.Memory) ⊎ (e ≡ OpenFault.Disk)) }
+    ensures found { IfCleanOver S.Store conn.old conn.new (λ old new. (A : History)
+        → IsGenuine A old → IfOk result (λ count. IsOpened A count new)) }
+    ensures taken { IfCleanOver S.Store conn.old conn.new (λ old _. IsTrue old.is_open → (A : History) → IsGenuine A old
+        → IfErr result (λ e. (e ≡ OpenFault.Memory) ⊎ (e ≡ OpenFault.Disk))) }
 
     // What is taken, and each refusal, is what its name says, and no database is two of these.
-    ensures answer { HasCleanDisk (state S.Store conn.new) → IsAnswer (state S.Store conn.old).now result }
+    ensures answer { IfCleanOver S.Store conn.old conn.new (λ old _. IsAnswer old.now result) }
     ensures known { IfOk result (λ _. ¬ IsForeignSchema (state S.Store conn.old).now.schema) }
 
     // An opening that fails changes nothing, but after an I/O error it may have.

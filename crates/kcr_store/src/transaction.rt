@@ -8,15 +8,15 @@ ghost use Rattle.kcr_history.specs.Tables.{Tables, tables};
 ghost use Rattle.kcr_history.specs.Views.{row_of_key};
 ghost use Rattle.kcr_tables.specs.MachineTables.{HoldsTables};
 ghost use Rattle.kcr_tables.specs.Refusals.{IsFault};
-ghost use Rattle.kcr_rows.specs.Frame.{StaysInTransaction};
-ghost use Rattle.kcr_store.specs.Frame.{OnlyReads};
+ghost use Rattle.kcr_rows.specs.Frame.{state_in, IfClean, ImpliesOpen, StaysInTransaction};
+ghost use Rattle.kcr_store.specs.Frame.{IfCleanOver, OfDurable, OnlyReads};
 ghost use Rattle.kcr_store.specs.Stored.{Stores, OfStored};
 ghost use Rattle.kcr_history.specs.Questions.{ArePeopleShown, AreCustodiansShown, IsBagShown, IsRoomShown};
 ghost use Rattle.kcr_store.specs.Commands as steps;
 ghost use Rattle.kcr_store.specs.Commands.{AppliesCommand, with_reply, IsSameOrNext, IsQuestionResult, IsQuestionRefusal, MayBeReplied, MayRefuseQuestion};
 ghost use Rattle.kcr_store.specs.Commands.{GoesByRow};
 ghost use Rattle.kcr_store.specs.TransactionResult.{ends_with};
-ghost use Rattle.kcr_store.specs.Register.{IsDurable, IsDurableWith, AfterCrash};
+ghost use Rattle.kcr_store.specs.Register.{IsDurableWith, AfterCrash};
 ghost use Rattle.kcr_store.specs.Rows.{GivesNext, IsRowOf, HasNoRow, MayHaveNoRow};
 ghost use Rattle.kcr_store.specs.TransactionResult.{history_after, in_doubt_after, last_number_after, result_of, is_in_doubt};
 ghost use Rattle.kcr_store.specs.TransactionResult.{is_genuine_after, RefusesAsMachine};
@@ -60,26 +60,21 @@ fn decide_command<S: Alter>(
     tx: &mut Transaction<'_, S>,
     turn: &NextCommand<'_>,
 ) -> Result<Verdict, Refusal>
-    ensures same_reference { tx.new.conn.ghost_name ≡ tx.old.conn.ghost_name }
-
     // Over the tables of a history it is the machine's, and the tables stay.
-    ensures decided { OfStored (state S.Store tx.old.conn.now) (state S.Store tx.new.conn.now)
+    ensures decided { OfStored S.Store tx.old tx.new
         (λ A. turn.now.last_number ≡ length A → IfOk result (λ verdict. IsDecision A turn.now.command.now (Ok verdict)
-        × HoldsTables (tables A) (state S.Store tx.new.conn.now).now)) }
-    ensures opened { HasCleanDisk (state S.Store tx.new.conn.now)
-        → OnOk result (IsTrue (state S.Store tx.old.conn.now).is_open) }
+        × HoldsTables (tables A) (state_in S.Store tx.new).now)) }
+    ensures opened { ImpliesOpen S.Store tx.old tx.new result }
 
     // Whatever the tables hold, the reply or the refusal is one of a command of this kind.
     ensures kind { MayBeReplied turn.now.command.now (ends_with result) }
 
     // Whatever rows they hold, the row of its key decides a repeat, for which no row is put.
-    ensures by_row { GoesByRow (state S.Store tx.old.conn.now) (state S.Store tx.new.conn.now)
+    ensures by_row { GoesByRow (state_in S.Store tx.old) (state_in S.Store tx.new)
         turn.now.command.now (ends_with result) }
-    ensures unchanging { HasCleanDisk (state S.Store tx.new.conn.now) → (m : Tables)
-        → HoldsTables m (state S.Store tx.old.conn.now).now → IsSome (row_of_key turn.now.command.now.key m.keys)
-        → IfOk result (λ verdict. verdict.changes.items ≡ []) }
-    ensures frame { RefusesAsMachine turn.now.last_number turn.now.command.now
-        (state S.Store tx.old.conn.now) (state S.Store tx.new.conn.now) result }
+    ensures unchanging { IfClean S.Store tx.old tx.new (λ old _. (m : Tables) → HoldsTables m old.now
+        → IsSome (row_of_key turn.now.command.now.key m.keys) → IfOk result (λ verdict. verdict.changes.items ≡ [])) }
+    ensures frame { RefusesAsMachine S.Store turn.now.last_number turn.now.command.now tx.old tx.new result }
 {
     let NextCommand {
         command,
@@ -105,23 +100,18 @@ fn decide_and_write<S: Alter>(
     tx: &mut Transaction<'_, S>,
     turn: &NextCommand<'_>,
 ) -> Result<Verdict, Refusal>
-    ensures same_reference { tx.new.conn.ghost_name ≡ tx.old.conn.ghost_name }
-
     // Over the tables of a history, an answer is the machine's, and the transaction then holds the tables after it.
-    ensures done { HasCleanDisk (state S.Store tx.new.conn.now) → IsTrue (state S.Store tx.old.conn.now).in_transaction
-        → (A : History) → turn.now.last_number ≡ length A
-        → (IsTrue (state S.Store tx.old.conn.now).is_open → Stores A (state S.Store tx.old.conn.now).now)
+    ensures done { IfClean S.Store tx.old tx.new (λ old new. IsTrue old.in_transaction
+        → (A : History) → turn.now.last_number ≡ length A → (IsTrue old.is_open → Stores A old.now)
         → IfOk result (λ verdict.
         AppliesCommand A turn.now.command.now (Ok verdict.reply) (with_reply A turn.now.command.now verdict.new_reply)
-        × Stores (with_reply A turn.now.command.now verdict.new_reply) (state S.Store tx.new.conn.now).now
-        × IsTrue (state S.Store tx.new.conn.now).in_transaction) }
+        × Stores (with_reply A turn.now.command.now verdict.new_reply) new.now × IsTrue new.in_transaction)) }
     ensures kind { MayBeReplied turn.now.command.now (ends_with result) }
 
     // Whatever rows the tables held, the row of its key decides a repeat, which leaves them as they were.
-    ensures by_row { GoesByRow (state S.Store tx.old.conn.now) (state S.Store tx.new.conn.now)
+    ensures by_row { GoesByRow (state_in S.Store tx.old) (state_in S.Store tx.new)
         turn.now.command.now (ends_with result) }
-    ensures frame { RefusesAsMachine turn.now.last_number turn.now.command.now
-        (state S.Store tx.old.conn.now) (state S.Store tx.new.conn.now) result }
+    ensures frame { RefusesAsMachine S.Store turn.now.last_number turn.now.command.now tx.old tx.new result }
 {
     let verdict = decide_command(alloc, tx, turn)?;
     change_all(alloc, tx, verdict.changes.as_slice())?;
@@ -165,8 +155,7 @@ pub(crate) fn run_command<S: Alter>(
         → AppliesCommand past.now.entries command.now (result_of result) (history_after past.now.entries result) }
     ensures kind { MayBeReplied command.now (result_of result) }
     ensures by_row { GoesByRow (state S.Store conn.old) (state S.Store conn.new) command.now (result_of result) }
-    ensures served { HasCleanDisk (state S.Store conn.new)
-        → OnOk (result_of result) (IsTrue (state S.Store conn.new).is_open) }
+    ensures served { IfCleanOver S.Store conn.old conn.new (λ _ new. OnOk (result_of result) (IsTrue new.is_open)) }
     ensures candidate { IsDurableWith count past.now.entries (state S.Store conn.old)
         → HasCleanDisk (state S.Store conn.new)
         → IsSameOrNext past.now.entries command.now (in_doubt_after past.now.entries result) }
@@ -220,12 +209,9 @@ pub(crate) trait TableQuery {
         alloc: Global,
         tx: &mut Transaction<'_, S>,
     ) -> Result<Self::Answer, Refusal>
-        ensures same_reference { tx.new.conn.ghost_name ≡ tx.old.conn.ghost_name }
-        ensures answer { OfStored (state S.Store tx.old.conn.now) (state S.Store tx.new.conn.now)
-            (λ A. is_answer self.now A result) }
+        ensures answer { OfStored S.Store tx.old tx.new (λ A. is_answer self.now A result) }
         ensures by_rows { IfOk result (may_answer self.now) }
-        ensures frame { StaysInTransaction (may_refuse self.now) (state S.Store tx.old.conn.now)
-            (state S.Store tx.new.conn.now) result };
+        ensures frame { StaysInTransaction S.Store (may_refuse self.now) tx.old tx.new result };
 }
 
 /// What is asked, read in a transaction that is rolled back.
@@ -235,8 +221,7 @@ pub(crate) fn run_query<S: Alter, Q: TableQuery>(
     asked: &Q,
 ) -> Result<Q::Answer, Refusal>
     requires autocommit { conn.old.in_transaction ≡ false }
-    ensures answer { (A : History) → IsDurable A (state S.Store conn.old) → HasCleanDisk (state S.Store conn.new)
-        → Q.is_answer asked.now A result }
+    ensures answer { OfDurable S.Store conn.old conn.new (λ A. Q.is_answer asked.now A result) }
     ensures by_rows { IfOk result (Q.may_answer asked.now) }
     ensures survives { Survives (state S.Store conn.old) (state S.Store conn.new) (λ _. ⊥) }
     ensures frame { OnlyReads S.Store (Q.may_refuse asked.now) conn.old conn.new result }
@@ -275,11 +260,9 @@ fn read_people<S: Alter>(
     alloc: Global,
     tx: &mut Transaction<'_, S>,
 ) -> Result<Vec<PersonShown>, Refusal>
-    ensures same_reference { tx.new.conn.ghost_name ≡ tx.old.conn.ghost_name }
-    ensures shown { OfStored (state S.Store tx.old.conn.now)
-        (state S.Store tx.new.conn.now) (λ A. IfOk result (λ rows. ArePeopleShown A rows.items)) }
+    ensures shown { OfStored S.Store tx.old tx.new (λ A. IfOk result (λ rows. ArePeopleShown A rows.items)) }
     ensures by_rows { IfOk result (λ rows. IsShownByRows Question.People (Shown.People rows)) }
-    ensures frame { StaysInTransaction IsFault (state S.Store tx.old.conn.now) (state S.Store tx.new.conn.now) result }
+    ensures frame { StaysInTransaction S.Store IsFault tx.old tx.new result }
 {
     let people = all_rows::<_, Person>(alloc, tx)?;
     let trainings = all_rows::<_, Training>(alloc, tx)?;
@@ -293,11 +276,9 @@ fn read_custodians<S: Alter>(
     tx: &mut Transaction<'_, S>,
     day: Day,
 ) -> Result<CustodiansShown, Refusal>
-    ensures same_reference { tx.new.conn.ghost_name ≡ tx.old.conn.ghost_name }
-    ensures shown { OfStored (state S.Store tx.old.conn.now)
-        (state S.Store tx.new.conn.now) (λ A. IfOk result (AreCustodiansShown A day)) }
+    ensures shown { OfStored S.Store tx.old tx.new (λ A. IfOk result (AreCustodiansShown A day)) }
     ensures by_rows { IfOk result (λ shown. IsShownByRows (Question.Custodians day) (Shown.Custodians shown)) }
-    ensures frame { StaysInTransaction IsFault (state S.Store tx.old.conn.now) (state S.Store tx.new.conn.now) result }
+    ensures frame { StaysInTransaction S.Store IsFault tx.old tx.new result }
 {
     let appointments = appointments_ending_after(alloc, tx, day)?;
     Ok(custodians_shown(alloc, &appointments, day)?)
@@ -309,13 +290,10 @@ fn read_bag<S: Alter>(
     tx: &mut Transaction<'_, S>,
     serial: Serial,
 ) -> Result<BagShown, Refusal>
-    ensures same_reference { tx.new.conn.ghost_name ≡ tx.old.conn.ghost_name }
-    ensures shown { OfStored (state S.Store tx.old.conn.now)
-        (state S.Store tx.new.conn.now) (λ A. MatchResult result (IsBagShown A serial)
+    ensures shown { OfStored S.Store tx.old tx.new (λ A. MatchResult result (IsBagShown A serial)
         (IsQuestionRefusal A (Question.Bag serial))) }
     ensures by_rows { IfOk result (λ shown. IsShownByRows (Question.Bag serial) (Shown.Bag shown)) }
-    ensures frame { StaysInTransaction (MayRefuseQuestion (Question.Bag serial)) (state S.Store tx.old.conn.now)
-        (state S.Store tx.new.conn.now) result }
+    ensures frame { StaysInTransaction S.Store (MayRefuseQuestion (Question.Bag serial)) tx.old tx.new result }
 {
     let bags = find_rows::<_, Serial, Bag>(alloc, tx, &serial)?;
     let Some(here) = spot(&bags, serial) else {
@@ -338,13 +316,10 @@ fn read_room<S: Alter>(
     ceremony: CeremonyNumber,
     at: Moment,
 ) -> Result<RoomShown, Refusal>
-    ensures same_reference { tx.new.conn.ghost_name ≡ tx.old.conn.ghost_name }
-    ensures shown { OfStored (state S.Store tx.old.conn.now)
-        (state S.Store tx.new.conn.now) (λ A. MatchResult result (IsRoomShown A ceremony at)
+    ensures shown { OfStored S.Store tx.old tx.new (λ A. MatchResult result (IsRoomShown A ceremony at)
         (IsQuestionRefusal A (Question.Room ceremony at))) }
     ensures by_rows { IfOk result (λ shown. IsShownByRows (Question.Room ceremony at) (Shown.Room shown)) }
-    ensures frame { StaysInTransaction (MayRefuseQuestion (Question.Room ceremony at)) (state S.Store tx.old.conn.now)
-        (state S.Store tx.new.conn.now) result }
+    ensures frame { StaysInTransaction S.Store (MayRefuseQuestion (Question.Room ceremony at)) tx.old tx.new result }
 {
     let number = ceremony.get();
     find_ceremony(alloc, tx, ceremony)?;
@@ -360,8 +335,7 @@ pub(crate) fn next_row<S: Alter, R: Cursor>(
     reading: &mut R,
 ) -> Result<Option<R::Row>, Refusal>
     requires autocommit { conn.old.in_transaction ≡ false }
-    ensures gives { (A : History) → IsDurable A (state S.Store conn.old) → HasCleanDisk (state S.Store conn.new)
-        → GivesNext R.to_come reading.old reading.new result A }
+    ensures gives { OfDurable S.Store conn.old conn.new (GivesNext R.to_come reading.old reading.new result) }
     ensures frame { OnlyReads S.Store IsFault conn.old conn.new result }
 {
     let mut tx = conn.transaction();

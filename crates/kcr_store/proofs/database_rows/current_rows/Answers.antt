@@ -1,7 +1,7 @@
 use Rattle.std.proofs.Common.{pos}
 use Rattle.std.proofs.lemmas.Result.{IfOk-weaker}
 use Rattle.sqlite.specs.Held.{state}
-use Rattle.kcr_rows.proofs.InsideLemmas.{was_clean}
+use Rattle.kcr_rows.proofs.FrameLemmas.{clean_before}
 use Rattle.kcr_tables.specs.StoredTables.{Holds}
 use Rattle.kcr_store.specs.DatabaseRows.{IsKeptView}
 use Rattle.kcr_store.proofs.ListingLemmas.{given_answer, given_rows}
@@ -15,7 +15,7 @@ returns-in-Err-clause-gives g c clean live =
 pub returns-in-Ok-clause-gives : goal.returns-in-Ok-clause-gives
 returns-in-Ok-clause-gives g c clean live =
     let old = state g.S.Store c.args.tx.now.conn.now in
-    let before = was_clean _ _ _ c.read_full_view.ensures.frame.within.survives clean in
+    let before = clean_before c.read_full_view.ensures.frame.within clean in
     record {
       answer = λ is. given_answer (pos 3) old.now c.given.result (c.in-Ok.ensures.answer before live (there 3 known_3 _ is)) c.given.ensures.kind;
       rows = λ t held.

@@ -1,11 +1,11 @@
 use Rattle.std.proofs.Common.{◌≡◌, ◌+◌, Some, pos, subst}
 use Rattle.sqlite.specs.Held.{state}
-use Rattle.kcr_rows.proofs.InsideLemmas.{was_clean}
 use Rattle.kcr_older.specs.Migrated.{migrated_tables}
 use Rattle.kcr_older.specs.OldFiles.{HoldsFirst, HoldsHistoryAs}
 use Rattle.kcr_older.specs.Kind.{version_in}
 use Rattle.kcr_older.specs.Versions.{number_of}
 use Rattle.kcr_history.specs.Tables.{tables}
+use Rattle.kcr_rows.proofs.FrameLemmas.{clean_before}
 use Rattle.kcr_store.specs.DatabaseRows.{IsKeptView}
 use Rattle.kcr_store.specs.Opening.{RefusesBy}
 use Rattle.kcr_store.specs.FullView.{IsListed}
@@ -27,7 +27,7 @@ returns-in-Ok-clause-gives g c clean live =
     let from = c.args.from in
     let old = state g.S.Store c.args.tx.now.conn.now in
     let mid = state g.S.Store c.expect_number.new.tx.conn.now in
-    let before = was_clean _ _ _ c.migrated_rows.ensures.frame.survives clean in
+    let before = clean_before c.migrated_rows.ensures.frame clean in
     let known = there (number_of from) (is_known from) in
     record {
       answer = λ is.

@@ -30,4 +30,4 @@ pub returns-in_err-people-clause-frame : goal.returns-in_err-people-clause-frame
 returns-in_err-people-clause-frame g c = fails_as c.from_residual.ensures.1 c.in_err-people.ensures.frame
 
 pub returns-clause-frame : goal.returns-clause-frame
-returns-clause-frame g c = reads_to _ _ _ _ tt c.in_ok-people.ensures.frame
+returns-clause-frame g c = reads_to tt c.in_ok-people.ensures.frame

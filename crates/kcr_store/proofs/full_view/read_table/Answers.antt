@@ -31,6 +31,6 @@ pub returns-clause-frame : goal.returns-clause-frame
 returns-clause-frame g c =
     let back = c.rollback.ensures in
     let left =
-    read_back g.S.Store c.args.conn.now _ c.transaction-tx.ensures.begun c.rollback.new.self.0 c.all_rows-rows.ensures.frame.within
+    read_back g.S.Store c.args.conn.now c.rollback.new.self.0 c.all_rows-rows.ensures.frame.within c.transaction-tx.ensures.begun
     back.survives back.undone back.ended in
     search rules

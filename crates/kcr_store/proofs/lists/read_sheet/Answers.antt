@@ -3,14 +3,14 @@ use Rattle.kcr_reading.specs.Remaining.{named_stays}
 use Rattle.kcr_history.specs.Questions.{IsSheetShown, IsMissing}
 use Rattle.kcr_history.specs.Tables.{tables}
 use Rattle.kcr_history.specs.declared.questions.Question.TheVariants.{Sheet}
-use Rattle.kcr_rows.proofs.InsideLemmas.{was_clean}
+use Rattle.kcr_rows.proofs.FrameLemmas.{clean_before}
 use Rattle.kcr_store.proofs.QuestionLemmas.{sheet_shown, shown_or_fault}
 use Rattle.kcr_store.proofs.StoreLemmas.{held_in}
 use Rattle.kcr_store.proofs.lists.read_sheet.Goals as goal
 
 pub returns-clause-shown : goal.returns-clause-shown
 returns-clause-shown g c clean accepted had =
-    let before = was_clean _ _ _ c.remaining_rows.ensures.frame.within.survives clean in
+    let before = clean_before c.remaining_rows.ensures.frame.within clean in
     let found = c.in_ok-find_ceremony.ensures in
     let was = had (found.opened before) in
     let m = tables accepted in

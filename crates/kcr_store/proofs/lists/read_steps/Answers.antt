@@ -1,14 +1,14 @@
 use Rattle.std.proofs.Common.{◌∙◌, ap}
 use Rattle.kcr_reading.specs.Remaining.{seated_steps, exceptions_of}
 use Rattle.kcr_history.specs.Tables.{tables}
-use Rattle.kcr_rows.proofs.InsideLemmas.{was_clean}
+use Rattle.kcr_rows.proofs.FrameLemmas.{clean_before}
 use Rattle.kcr_store.proofs.StoreLemmas.{held_in}
 use Rattle.kcr_store.proofs.lists.read_steps.Goals as goal
 
 pub returns-clause-shown : goal.returns-clause-shown
 returns-clause-shown g c clean accepted had =
-    let clean2 = was_clean _ _ _ c.in_ok-exceptions.ensures.frame.within.survives clean in
-    let clean1 = was_clean _ _ _ c.in_ok-steps.ensures.frame.within.survives clean2 in
+    let clean2 = clean_before c.in_ok-exceptions.ensures.frame.within clean in
+    let clean1 = clean_before c.in_ok-steps.ensures.frame.within clean2 in
     let m = tables accepted in
     let held = held_in accepted _ (had (c.in_ok-row.ensures.opened clean1)) in
     let held1 = c.in_ok-row.ensures.tables clean1 m held in

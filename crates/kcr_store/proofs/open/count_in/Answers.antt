@@ -1,6 +1,6 @@
 use Rattle.std.proofs.Common.{inr, refl}
 use Rattle.sqlite.specs.Held.{state}
-use Rattle.kcr_rows.proofs.InsideLemmas.{was_clean}
+use Rattle.kcr_rows.proofs.FrameLemmas.{clean_before}
 use Rattle.kcr_store.proofs.OpenLemmas.{still_stores, there}
 use Rattle.kcr_store.proofs.open.count_in.Goals as goal
 
@@ -9,11 +9,11 @@ returns-in-Err-clause-answer g c clean live is = c.in-Err.ensures.answer clean l
 
 pub returns-in-Ok-clause-answer : goal.returns-in-Ok-clause-answer
 returns-in-Ok-clause-answer g c clean live is =
-    c.in_default.ensures.answer (was_clean _ _ _ c.last_number.ensures.frame.within.survives clean) live (there 3 (inr (inr refl)) _ is)
+    c.in_default.ensures.answer (clean_before c.last_number.ensures.frame.within clean) live (there 3 (inr (inr refl)) _ is)
 
 pub returns-in-Ok-clause-count : goal.returns-in-Ok-clause-count
 returns-in-Ok-clause-count g c clean A had =
-    let before = was_clean _ _ _ c.last_number.ensures.frame.within.survives clean in
+    let before = clean_before c.last_number.ensures.frame.within clean in
     c.in-Ok.ensures.count clean A
     (λ _. still_stores A (state g.S.Store c.args.tx.now.conn.now) (state g.S.Store c.expect_number.new.tx.conn.now) had (c.in_default.ensures.opened before)
     (c.in_default.ensures.same before))

@@ -1,6 +1,6 @@
 use Rattle.std.proofs.Common.{◌≡◌, Some, pos, subst}
 use Rattle.sqlite.specs.Held.{state}
-use Rattle.kcr_rows.proofs.InsideLemmas.{was_clean}
+use Rattle.kcr_rows.proofs.FrameLemmas.{clean_before}
 use Rattle.kcr_older.specs.OldFiles.{HoldsHistoryAs}
 use Rattle.kcr_older.specs.Kind.{version_in}
 use Rattle.kcr_older.specs.Versions.{number_of}
@@ -15,13 +15,13 @@ returns-in-Err-clause-answer g c clean live is =
 
 pub returns-in-Ok-clause-answer : goal.returns-in-Ok-clause-answer
 returns-in-Ok-clause-answer g c clean live is =
-    let before = was_clean _ _ _ c.brought_count.ensures.frame.survives clean in
+    let before = clean_before c.brought_count.ensures.frame clean in
     subst (λ n. version_in (state g.S.Store c.args.tx.now.conn.now).now ≡ Some (pos n)) c.number.ensures
     (c.in_default.ensures.answer before live (there (number_of c.args.from) (is_known c.args.from) _ is))
 
 pub returns-in-Ok-clause-brought : goal.returns-in-Ok-clause-brought
 returns-in-Ok-clause-brought g c clean A s =
-    let before = was_clean _ _ _ c.brought_count.ensures.frame.survives clean in
+    let before = clean_before c.brought_count.ensures.frame clean in
     let same = c.in_default.ensures.same before (there (number_of c.args.from) (is_known c.args.from) _ s.schema) in
     c.in-Ok.ensures.brought clean A
     (still_has (HoldsHistoryAs (number_of c.args.from) A) (state g.S.Store c.args.tx.now.conn.now) (state g.S.Store c.expect_number.new.tx.conn.now) same s)

@@ -3,8 +3,7 @@ use Rattle.sqlite.specs.Held.{state}
 use Rattle.kcr_history.specs.Changes.{changed_by}
 use Rattle.kcr_history.specs.declared.views.Change.{Change}
 use Rattle.kcr_history.specs.Tables.{tables}
-use Rattle.kcr_rows.proofs.InsideLemmas.{was_clean}
-use Rattle.kcr_rows.proofs.FrameLemmas.{within_then, within_to, within_fails}
+use Rattle.kcr_rows.proofs.FrameLemmas.{within_then, within_to, within_fails, clean_before}
 use Rattle.kcr_tables.specs.MachineTables.{HoldsTables}
 use Rattle.kcr_store.proofs.KeyLemmas.{fault_goes, handed_goes}
 use Rattle.kcr_store.proofs.StoreLemmas.{steps, next_stores, fault_steps, fault_replied, handed_replied}
@@ -24,7 +23,7 @@ returns-clause-frame g c = within_to _ tt (within_then c.in_ok-verdict.ensures.f
 
 pub returns-clause-done : goal.returns-clause-done
 returns-clause-done g c clean inside accepted number had =
-    let clean1 = was_clean _ _ _ c.change_all.ensures.frame.survives clean in
+    let clean1 = clean_before c.change_all.ensures.frame clean in
     let was = had (c.in_ok-verdict.ensures.opened clean1) in
     let decided = c.in_ok-verdict.ensures.decided clean1 accepted had number in
     let held = c.in_ok-change_all.ensures.tables clean (tables accepted) decided.1 in
@@ -61,7 +60,7 @@ returns-in_err-change_all-clause-by_row g c =
 
 pub returns-clause-by_row : goal.returns-clause-by_row
 returns-clause-by_row g c =
-    let before = was_clean _ _ _ c.change_all.ensures.frame.survives in
+    let before = clean_before c.change_all.ensures.frame in
     let said = c.in_ok-verdict.ensures in
     record {
       told = λ clean m held. said.by_row.told (before clean) m held;

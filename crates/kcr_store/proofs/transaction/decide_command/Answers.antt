@@ -11,8 +11,7 @@ use Rattle.kcr_machine.proofs.Completed.{still-cleared}
 use Rattle.kcr_store.specs.Commands.{MayBeReplied, GoesByRow}
 use Rattle.kcr_store.specs.TransactionResult.{ends_with, RefusesAsMachine}
 use Rattle.kcr_rows.proofs.FailLemmas.{on_ok}
-use Rattle.kcr_rows.proofs.InsideLemmas.{was_clean}
-use Rattle.kcr_rows.proofs.FrameLemmas.{within_then, within_to, within_fails}
+use Rattle.kcr_rows.proofs.FrameLemmas.{within_then, within_to, within_fails, clean_before}
 use Rattle.kcr_tables.proofs.HoldLemmas.{held_of}
 use Rattle.kcr_tables.proofs.ViewLemmas.{row_under}
 use Rattle.kcr_store.proofs.KeyLemmas.{HasRow, fault_goes, faults_go, handed_goes, kept_goes, new_goes, no_row, nothing_put}
@@ -54,7 +53,6 @@ returns-in-Some g c =
     sym (row_under m _ held c.args.turn.now.command.now.key c.in_ok-kept.kept.items rows)
     ∙ ap (λ (l : List KeyRow). slice_get l 0) (sym c.deref.ensures.value) ∙ sym c.in-Some.ensures.value in
     record {
-      same_reference = search rules;
       decided = decided old new c.args.turn.now.last_number c.args.turn.now.command.now c.decide_repeat.result decision;
       opened = λ clean. on_ok _ c.decide_repeat.result (kept.opened clean);
       kind = repeat_replied c.args.turn.now.command.now _ c.decide_repeat.result c.decide_repeat.ensures.by_row;
@@ -140,7 +138,7 @@ returns-in_err-check_early-in-None-clause-by_row g c =
     let made = c.from_residual-in_err-check_early-in-None in
     let none : HasRow old new x.key None =
     λ clean m held.
-    let before = was_clean _ _ _ c.in_ok-front-in-None.ensures.frame.within.survives clean in
+    let before = clean_before c.in_ok-front-in-None.ensures.frame.within clean in
     let rows = c.in_ok-kept.ensures.rows before held.tables.t (held_of m _ held) in
     sym (row_under m _ held x.key c.in_ok-kept.kept.items rows)
     ∙ ap (λ (l : List KeyRow). slice_get l 0) (sym c.deref.ensures.value) ∙ sym c.in-None.ensures.value in
@@ -158,7 +156,7 @@ returns-in_err-check_early-in-None-clause-frame g c =
     let told = refusal_of made.result _ made.ensures.1 in
     let decision : IsDecided old new c.args.turn.now.last_number x (Err told) =
     λ clean A had number.
-    let before = was_clean _ _ _ front.frame.within.survives clean in
+    let before = clean_before front.frame.within clean in
     let was = had (kept.opened before) in
     let held = held_in _ _ was in
     let rows = kept.rows before held.tables.t (held_of (tables A) _ held) in
@@ -170,7 +168,7 @@ returns-in_err-check_early-in-None-clause-frame g c =
       c.in_err-check_early-in-None.ensures.step A was.tables.register none (rw c.in_ok-asked-in-None.ensures at shown) last,
       front.frame.tables clean (tables A) held1,
     ) in
-    handed (λ r. RefusesAsMachine c.args.turn.now.last_number x old new r) _ made.result made.ensures.1
+    handed (λ r. RefusesAsMachine g.S.Store c.args.turn.now.last_number x c.args.tx.now c.read_early_rows.new.tx r) _ made.result made.ensures.1
     (within_to _ (refused old new c.args.turn.now.last_number x (Err told) decision)
     (within_then kept.frame.within front.frame.within))
 
@@ -183,8 +181,8 @@ returns g c =
     let seen = c.in_ok-view-in-None.ensures in
     let decision : IsDecided old new c.args.turn.now.last_number c.args.turn.now.command.now c.decide_new.result =
     λ clean A had number.
-    let after = was_clean _ _ _ seen.frame.within.survives clean in
-    let before = was_clean _ _ _ front.frame.within.survives after in
+    let after = clean_before seen.frame.within clean in
+    let before = clean_before front.frame.within after in
     let was = had (kept.opened before) in
     let held = held_in _ _ was in
     let rows = kept.rows before held.tables.t (held_of (tables A) _ held) in
@@ -197,15 +195,14 @@ returns g c =
     (c.decide_new.ensures.step A was.tables.register none (rw c.in_ok-asked-in-None.ensures at view) last, seen.frame.tables clean (tables A) held2) in
     let none : HasRow old new c.args.turn.now.command.now.key None =
     λ clean m held.
-    let before = was_clean _ _ _ front.frame.within.survives (was_clean _ _ _ seen.frame.within.survives clean) in
+    let before = clean_before front.frame.within (clean_before seen.frame.within clean) in
     let rows = kept.rows before held.tables.t (held_of m _ held) in
     sym (row_under m _ held c.args.turn.now.command.now.key c.in_ok-kept.kept.items rows)
     ∙ ap (λ (l : List KeyRow). slice_get l 0) (sym c.deref.ensures.value) ∙ sym c.in-None.ensures.value in
     record {
-      same_reference = search rules;
       decided = decided old new c.args.turn.now.last_number c.args.turn.now.command.now c.decide_new.result decision;
       opened = λ clean. on_ok _ c.decide_new.result
-          (kept.opened (was_clean _ _ _ front.frame.within.survives (was_clean _ _ _ seen.frame.within.survives clean)));
+          (kept.opened (clean_before front.frame.within (clean_before seen.frame.within clean)));
       kind = new_replied c.args.turn.now.command.now c.decide_new.result c.decide_new.ensures.kind;
       by_row = new_goes old new c.args.turn.now.command.now c.decide_new.result none c.decide_new.ensures.kind;
       unchanging = λ clean m held some. absurd (no_row (none clean m held) some);

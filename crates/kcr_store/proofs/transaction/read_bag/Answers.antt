@@ -1,10 +1,10 @@
 use Rattle.std.proofs.Common.{◌∙◌, [], sym, ap, refl, inr, map}
 use Rattle.kcr_custody.specs.Custody.{spot_by, sealed_items}
 use Rattle.kcr_history.specs.Tables.{tables}
+use Rattle.kcr_rows.proofs.FrameLemmas.{clean_before}
 use Rattle.kcr_tables.proofs.JointLemmas.{kept_rises}
 use Rattle.kcr_store.proofs.QuestionLemmas.{spot_shown, bag_shown, codes_packed}
 use Rattle.kcr_store.proofs.StoreLemmas.{holds_in}
-use Rattle.kcr_rows.proofs.InsideLemmas.{was_clean}
 use Rattle.kcr_store.proofs.transaction.read_bag.Goals as goal
 
 pub returns-in_default-clause-shown : goal.returns-in_default-clause-shown
@@ -17,7 +17,7 @@ returns-in_default-clause-shown g c clean accepted had =
 
 pub returns-clause-shown : goal.returns-clause-shown
 returns-clause-shown g c clean accepted had =
-    let clean1 = was_clean _ _ _ c.in_ok-items.ensures.frame.within.survives clean in
+    let clean1 = clean_before c.in_ok-items.ensures.frame.within clean in
     let was = had (c.in_ok-bags.ensures.opened clean1) in
     let kept = was.tables.kept in
     let held = holds_in accepted _ was in

@@ -5,16 +5,16 @@ use Rattle.kcr_people.specs.declared.Withdrawal.{Withdrawal}
 use Rattle.kcr_tables.proofs.JointLemmas.{kept_rises}
 use Rattle.kcr_history.specs.declared.questions.PersonShown.{PersonShown}
 use Rattle.kcr_history.specs.Tables.{tables}
+use Rattle.kcr_rows.proofs.FrameLemmas.{clean_before}
 use Rattle.kcr_store.specs.Shown.{AreRolesOf}
 use Rattle.kcr_store.proofs.ShownLemmas.{people_shown}
-use Rattle.kcr_rows.proofs.InsideLemmas.{was_clean}
 use Rattle.kcr_store.proofs.StoreLemmas.{holds_in}
 use Rattle.kcr_store.proofs.transaction.read_people.Goals as goal
 
 pub returns-clause-shown : goal.returns-clause-shown
 returns-clause-shown g c clean accepted had =
-    let clean2 = was_clean _ _ _ c.in_ok-withdrawals.ensures.frame.within.survives clean in
-    let clean1 = was_clean _ _ _ c.in_ok-trainings.ensures.frame.within.survives clean2 in
+    let clean2 = clean_before c.in_ok-withdrawals.ensures.frame.within clean in
+    let clean1 = clean_before c.in_ok-trainings.ensures.frame.within clean2 in
     let was = had (c.in_ok-people.ensures.opened clean1) in
     let kept = was.tables.kept in
     let held = holds_in accepted _ was in

@@ -2,14 +2,14 @@ use Rattle.std.proofs.Common.{◌≡◌, ◌∙◌, [], ◌∷◌, ap, refl}
 use Rattle.kcr_room.specs.Stays.{present_in_by}
 use Rattle.kcr_history.specs.Room.{present}
 use Rattle.kcr_history.specs.Tables.{tables, ceremony_row}
+use Rattle.kcr_rows.proofs.FrameLemmas.{clean_before}
 use Rattle.kcr_store.proofs.QuestionLemmas.{present_shown, one_planned}
 use Rattle.kcr_store.proofs.StoreLemmas.{held_in}
-use Rattle.kcr_rows.proofs.InsideLemmas.{was_clean}
 use Rattle.kcr_store.proofs.transaction.read_room.Goals as goal
 
 pub returns-clause-shown : goal.returns-clause-shown
 returns-clause-shown g c clean accepted had =
-    let clean1 = was_clean _ _ _ c.in_ok-stays.ensures.frame.within.survives clean in
+    let clean1 = clean_before c.in_ok-stays.ensures.frame.within clean in
     let found = c.in_ok-find_ceremony.ensures in
     let was = had (found.opened clean1) in
     let held = found.tables clean1 (tables accepted) (held_in accepted _ was) in

@@ -2,6 +2,7 @@ use Rattle.std.proofs.Common.{inl, inr, refl, rules}
 use Rattle.sqlite.specs.State.{HasCleanDisk, Survives}
 use Rattle.sqlite.specs.Held.{state}
 use Rattle.kcr_rows.proofs.InsideLemmas.{was_clean}
+use Rattle.kcr_rows.proofs.FrameLemmas.{clean_before}
 use Rattle.kcr_store.proofs.KeyLemmas.{fault_goes, refused_goes, replied_goes}
 use Rattle.kcr_store.proofs.WholeLemmas.{begins, begun_clean, counted_as, either, either_last, made_by, read_back, read_stores, still_counted, whole_done}
 use Rattle.kcr_store.proofs.WholeLemmas.{whole_stands}
@@ -57,7 +58,7 @@ pub returns-in-Err-clause-whole : goal.returns-in-Err-clause-whole
 returns-in-Err-clause-whole g c was _ =
     let back = c.drop-tx.ensures in
     let left =
-    read_back g.S.Store c.args.conn.now _ c.transaction-tx.ensures.begun c.drop-tx.new.self.0 c.decide_and_write.ensures.frame back.survives back.undone back.ended in
+    read_back g.S.Store c.args.conn.now c.drop-tx.new.self.0 c.decide_and_write.ensures.frame c.transaction-tx.ensures.begun back.survives back.undone back.ended in
     let whole = still_counted left was in
     search rules
 
@@ -66,14 +67,14 @@ returns-in-Err-clause-step g c was clean =
     let back = c.drop-tx.ensures.survives in
     let before = was_clean _ _ _ back (search rules) in
     let number = was.counts
-    (begun_clean g.S.Store c.args.conn.now _ c.transaction-tx.ensures.begun (was_clean _ _ _ c.decide_and_write.ensures.frame.survives before)) in
+    (begun_clean g.S.Store c.args.conn.now _ c.transaction-tx.ensures.begun (clean_before c.decide_and_write.ensures.frame before)) in
     c.in-Err.ensures.frame.cause before _
     (read_stores g.S.Store c.args.conn.now _ c.transaction-tx.ensures.begun _ _ c.decide_and_write.ensures.frame.survives back _ was.whole (search rules)) number
 
 pub returns-in-Err-clause-clean : goal.returns-in-Err-clause-clean
 returns-in-Err-clause-clean g c clean =
     begun_clean g.S.Store c.args.conn.now _ c.transaction-tx.ensures.begun
-    (was_clean _ _ _ c.decide_and_write.ensures.frame.survives (was_clean _ _ _ c.drop-tx.ensures.survives (search rules)))
+    (clean_before c.decide_and_write.ensures.frame (was_clean _ _ _ c.drop-tx.ensures.survives (search rules)))
 
 -- ---- accepted: the commit stands
 
@@ -107,7 +108,7 @@ returns-in-Ok-commit-clause-candidate g c was clean =
 pub returns-in-Ok-commit-clause-clean : goal.returns-in-Ok-commit-clause-clean
 returns-in-Ok-commit-clause-clean g c clean =
     begun_clean g.S.Store c.args.conn.now _ c.transaction-tx.ensures.begun
-    (was_clean _ _ _ c.decide_and_write.ensures.frame.survives (was_clean _ _ _ c.commit.ensures.survives (search rules)))
+    (clean_before c.decide_and_write.ensures.frame (was_clean _ _ _ c.commit.ensures.survives (search rules)))
 
 -- ---- the commit failed, and may stand
 
@@ -133,7 +134,7 @@ returns-clause-candidate g c was clean =
 pub returns-clause-clean : goal.returns-clause-clean
 returns-clause-clean g c clean =
     begun_clean g.S.Store c.args.conn.now _ c.transaction-tx.ensures.begun
-    (was_clean _ _ _ c.decide_and_write.ensures.frame.survives (was_clean _ _ _ c.commit.ensures.survives (search rules)))
+    (clean_before c.decide_and_write.ensures.frame (was_clean _ _ _ c.commit.ensures.survives (search rules)))
 
 pub returns-clause-step : goal.returns-clause-step
 returns-clause-step g c was clean = (refl, λ memory disk. absurd (disk refl))
@@ -170,7 +171,7 @@ returns-in-Ok-prepare-clause-whole g c was _ =
     (state g.S.Store last) probed (λ db. g.met.S.Store.settled last.store db) c.in-Err-SqliteFailure-OutOfMemory.field-0 (search rules)
     (λ clean. c.in-Err-SqliteFailure-OutOfMemory.ensures.err clean) (λ clean. search rules) in
     counted_as stands (λ clean.
-    let before = was_clean _ _ _ c.decide_and_write.ensures.frame.survives (was_clean _ _ _ c.commit.ensures.survives (was_clean _ _ _ probed clean)) in
+    let before = clean_before c.decide_and_write.ensures.frame (was_clean _ _ _ c.commit.ensures.survives (was_clean _ _ _ probed clean)) in
     was.counts (begun_clean g.S.Store c.args.conn.now _ c.transaction-tx.ensures.begun before))
 
 pub returns-in-Ok-prepare-clause-tried : goal.returns-in-Ok-prepare-clause-tried
