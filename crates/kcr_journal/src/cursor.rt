@@ -1,6 +1,5 @@
 //! The lines of the journal, one after the other.
 ghost use Rattle.std.specs.Prelude.{◌≡◌, map, IfOk, IfErr};
-ghost use Rattle.sqlite.specs.Held.{state};
 ghost use Rattle.kcr_history.specs.Tables as machine;
 ghost use Rattle.kcr_reading.specs.Commands.{commands_within};
 ghost use Rattle.kcr_tables.specs.Frame.{OfMachineTables, Reads};
@@ -51,10 +50,9 @@ fn with_names<S: Alter>(
     tx: &mut Transaction<'_, S>,
     people: &[Initials],
 ) -> Result<Vec<Person>, Refusal>
-    ensures same_reference { tx.new.conn.ghost_name ≡ tx.old.conn.ghost_name }
-    ensures names { OfMachineTables (state S.Store tx.old.conn.now) (state S.Store tx.new.conn.now) result
+    ensures names { OfMachineTables S.Store tx.old tx.new result
         (λ m all. all.items ≡ map (said.with_name m.people) people.now) }
-    ensures frame { Reads (state S.Store tx.old.conn.now) (state S.Store tx.new.conn.now) result }
+    ensures frame { Reads S.Store tx.old tx.new result }
 {
     let mut all = Vec::new(alloc);
     for who in people {
@@ -108,10 +106,9 @@ fn line_of_row<S: Alter>(
     asked: Option<CeremonyNumber>,
     row: &KeyRow,
 ) -> Result<JournalLine, Refusal>
-    ensures same_reference { tx.new.conn.ghost_name ≡ tx.old.conn.ghost_name }
-    ensures line { OfMachineTables (state S.Store tx.old.conn.now) (state S.Store tx.new.conn.now) result
+    ensures line { OfMachineTables S.Store tx.old tx.new result
         (λ m made. made ≡ said.row_line asked m.people row.now) }
-    ensures frame { Reads (state S.Store tx.old.conn.now) (state S.Store tx.new.conn.now) result }
+    ensures frame { Reads S.Store tx.old tx.new result }
 {
     let act = kept_act(alloc, row)?;
     if !is_of_ceremony(asked, &act) {

@@ -12,7 +12,6 @@ abbrev pub invariant-loop-who : goal.invariant-loop-who
 invariant-loop-who g l =
     let old = state g.S.Store l.fn.tx.conn.now in
     let now = state g.S.Store l.tx.conn.now in record {
-      same_reference : l.tx.conn.ghost_name ≡ l.fn.tx.conn.ghost_name;
-      frame : Reads {A = Unit {0}} old now (Ok tt);
+      frame : Reads {A = Unit {0}} g.S.Store l.fn.tx l.tx (Ok tt);
       names : HasCleanDisk now → (m : machine.Tables) → HoldsTables m old.now → l.all.items ≡ map (with_name m.people) (take l.who-index l.people);
     }
