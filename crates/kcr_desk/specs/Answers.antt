@@ -47,6 +47,10 @@ pub record RegisterHistory : Type 0 where
   pub accepted : History
   pub in_doubt : Option History
 
+-- a register with this history that nothing has broken
+abbrev pub whole : History → RegisterHistory
+whole A = record { accepted = A; in_doubt = None }
+
 abbrev pub history_of : {S : Type 0} → RegisterState S → RegisterHistory
 history_of register = record { accepted = register.accepted; in_doubt = register.in_doubt }
 

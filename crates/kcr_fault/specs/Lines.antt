@@ -48,6 +48,16 @@ finding_line (Findings.Lone ceremony moment) =
 finding_line (Findings.Crowd ceremony moment) =
     found_line (codes "finding: crowd ") (numbered ceremony (moment_text moment))
 
+-- how the line begins if a register was verified, rebuilt or packed
+abbrev pub verified_head : List ℕ
+verified_head = codes "verified: "
+
+abbrev pub rebuilt_head : List ℕ
+rebuilt_head = codes "rebuilt: "
+
+abbrev pub packed_head : List ℕ
+packed_head = codes "packed: "
+
 -- the register is the one of its own commands, N of them
 abbrev pub whole_line : List ℕ → ℕ → List ℕ
 whole_line head count = head ++ (decimal count ++ codes " commands\n")

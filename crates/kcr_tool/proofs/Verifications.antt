@@ -5,9 +5,9 @@ use Rattle.kcr_tool.proofs.Causes.{whole_front}
 use Rattle.kcr_tool.specs.Runs.{CompletesInPart, WritesProblem}
 use Rattle.kcr_words.specs.declared.words.Task.{Task}
 use Rattle.kcr_words.specs.declared.words.Task.TheVariants.{Rebuild}
-use Rattle.kcr_fault.specs.Lines.{difference_line, whole_line}
+use Rattle.kcr_fault.specs.Lines.{difference_line, rebuilt_head, whole_line}
 use Rattle.kcr_print.specs.Written.{WritesPrefix}
-use Rattle.kcr_tool.specs.Verifications.{WritesVerification, WritesVerified, WritesDifference, WritesVerificationPrefix, TellsWholeFront, rebuilt_head, verified_line}
+use Rattle.kcr_tool.specs.Verifications.{WritesVerification, WritesVerified, WritesDifference, WritesVerificationPrefix, TellsWholeFront, verified_line}
 use Rattle.kcr_verify.specs.declared.verification.Verification.{Verification}
 use Rattle.kcr_verify.specs.declared.verification.Verification.TheVariants.{Verified, Differs}
 

@@ -12,25 +12,20 @@ use Rattle.kcr_history.specs.History.{History}
 use Rattle.kcr_history.specs.Prints.{annotated, attendance, custody}
 use Rattle.kcr_store.specs.Register.{RegisterState}
 use Rattle.kcr_desk.specs.Run.{IsServed, IsServedInPart}
-use Rattle.kcr_desk.specs.Answers.{RegisterHistory, IsAnswer, IsReply}
+use Rattle.kcr_desk.specs.Answers.{RegisterHistory, whole, IsAnswer, IsReply}
 use Rattle.kcr_desk.specs.Connections.{Connects}
 use Rattle.kcr_forms.specs.Values.{AreValues}
 use Rattle.kcr_journal.specs.Journal.{journal}
 use Rattle.kcr_print.specs.Requests.{requests_between}
 use Rattle.kcr_print.specs.Written.{WritesPrefix}
 use Rattle.kcr_fault.specs.Faults.{MayMeet, MeetsOver, StopsReport}
-use Rattle.kcr_fault.specs.Lines.{clean_line, listening_line, whole_line}
+use Rattle.kcr_fault.specs.Lines.{clean_line, listening_line, verified_head, rebuilt_head, packed_head, whole_line}
 use Rattle.kcr_tool.specs.Audits.{WritesFinding, WritesAuditPrefix}
 use Rattle.kcr_tool.specs.Verifications.{WritesVerified, TellsWholeFront, WritesDifference, WritesVerificationPrefix}
-use Rattle.kcr_tool.specs.Verifications.{verified_head, rebuilt_head, packed_head}
 use Rattle.kcr_fault.specs.declared.fault.Fault.{Fault}
 use Rattle.kcr_words.specs.declared.words.Task.{Task}
 use Rattle.kcr_words.specs.declared.words.Task.TheVariants.{Run, Serve, Print, Attendance, Custody, Export}
 use Rattle.kcr_words.specs.declared.words.Task.TheVariants.{Journal, Audit, Verify, Rebuild, Pack}
-
--- a register with this history that nothing has broken
-abbrev pub whole : History → RegisterHistory
-whole A = record { accepted = A; in_doubt = None }
 
 -- all of the input was answered: what was written is the answers of a run of the machine from this history
 abbrev pub AnswersAll : History → Option (List ℕ) → Option (List ℕ) → Option (List ℕ) → Type 0

@@ -1,22 +1,11 @@
 -- What a verification of a register, or its rebuilding, leaves on the output.
-use Rattle.std.specs.Prelude.{◌≡◌, ◌<◌, ◌⊎◌, ℕ, List, Option, codes}
+use Rattle.std.specs.Prelude.{◌≡◌, ◌<◌, ◌⊎◌, ℕ, List, Option}
 use Rattle.std.specs.Io.KnownBytes.{Appends}
 use Rattle.kcr_print.specs.Written.{WritesPrefix}
 use Rattle.kcr_fault.specs.Lines.{whole_line, difference_line}
 use Rattle.kcr_verify.specs.declared.verification.Difference.{Difference}
 use Rattle.kcr_verify.specs.declared.verification.Verification.{Verification}
 use Rattle.kcr_verify.specs.declared.verification.Verification.TheVariants.{Verified, Differs}
-
--- how the line of a good end begins
-abbrev pub verified_head : List ℕ
-verified_head = codes "verified: "
-
-abbrev pub rebuilt_head : List ℕ
-rebuilt_head = codes "rebuilt: "
-
--- the same of a register that was packed into one file
-abbrev pub packed_head : List ℕ
-packed_head = codes "packed: "
 
 -- the line of what it came to
 abbrev pub verified_line : List ℕ → Verification → List ℕ

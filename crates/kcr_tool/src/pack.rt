@@ -2,7 +2,8 @@
 ghost use Rattle.std.specs.Prelude.{◌≡◌, ◌⊎◌, IfOk, IfErr, OnErr};
 ghost use Rattle.kcr_base.specs.Counted.{inner_of};
 ghost use Rattle.kcr_fault.specs.Faults.{StopsMaking, StopsOpening, StopsReading, StopsRebuild};
-ghost use Rattle.kcr_tool.specs.Verifications.{WritesVerified, TellsWholeFront, packed_head};
+ghost use Rattle.kcr_fault.specs.Lines.{packed_head};
+ghost use Rattle.kcr_tool.specs.Verifications.{WritesVerified, TellsWholeFront};
 
 use crate::opening::{count_of, fault_of_reading, files_at, take};
 use crate::verify::write_verification;

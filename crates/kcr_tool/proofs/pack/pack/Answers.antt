@@ -1,6 +1,6 @@
 use Rattle.std.proofs.lemmas.Result.{IfOk-weaker, on_err_weaker}
 use Rattle.kcr_tool.proofs.Verifications.{packed_told, packed_front}
-use Rattle.kcr_tool.specs.Verifications.{packed_head}
+use Rattle.kcr_fault.specs.Lines.{packed_head}
 use Rattle.kcr_tool.proofs.pack.pack.Goals as goal
 
 pub returns-clause-status : goal.returns-clause-status

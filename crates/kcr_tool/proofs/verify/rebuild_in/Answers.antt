@@ -1,6 +1,6 @@
 use Rattle.std.proofs.lemmas.Result.{IfOk-weaker, on_err_weaker}
 use Rattle.kcr_tool.proofs.Verifications.{verified_front}
-use Rattle.kcr_tool.specs.Verifications.{rebuilt_head}
+use Rattle.kcr_fault.specs.Lines.{rebuilt_head}
 use Rattle.kcr_tool.proofs.verify.rebuild_in.Goals as goal
 
 pub returns-in-Ok-clause-told : goal.returns-in-Ok-clause-told
