@@ -18,6 +18,7 @@ EXAMPLES = [
     ("crates/kcr_laws/src/worked.rt", ""),
     ("crates/kcr_script/src/laws.rt", "worked_"),
     ("crates/kcr_worked/src/", ""),
+    ("crates/kcr_worked_program/src/", ""),
 ]
 
 # A sentence for each clause that has no comment of its own in the sources. A comment there goes before a sentence here.
@@ -219,8 +220,8 @@ KIT_ABOUT = (
 
 EXAMPLES_ABOUT = (
     "Definitions with a value: {shown} on an example, {none} on none. Examples are functions that do nothing, in "
-    "`kcr_laws`, `kcr_script` and `kcr_worked`: the prover computes the definitions that their contracts name, and the "
-    "answers stand there in words of their own. Each definition stands behind the example that leads to its name by "
+    "`kcr_laws`, `kcr_script`, `kcr_worked` and `kcr_worked_program`: the prover computes the definitions that their "
+    "contracts name, and the answers stand there in words of their own. Each definition stands behind the example that leads to its name by "
     "the fewest names between. Cases for a kind of command are followed only if the example has such a command. The "
     "names do not show which of its other cases a definition takes. Facts and types are not listed."
 )

@@ -1,0 +1,15 @@
+use Rattle.std.proofs.Common.{refl}
+use Rattle.kcr_worked_program.proofs.OnLiterals.{messages_on_literals}
+use Rattle.kcr_worked_program.proofs.answers.methods.Goals as goal
+
+pub returns : goal.returns
+unfolding messages_on_literals
+returns c = record {
+  get = refl;
+  post = refl;
+  small = refl;
+  head = refl;
+  small_head = refl;
+  both = refl;
+  unnamed = refl;
+}

@@ -1,0 +1,10 @@
+use Rattle.std.proofs.Common.{refl}
+use Rattle.kcr_worked_program.proofs.OnLiterals.{messages_on_literals}
+use Rattle.kcr_worked_program.proofs.answers.waiting_messages.Goals as goal
+
+pub returns : goal.returns
+unfolding messages_on_literals
+returns c = record {
+  waits = refl;
+  sends = refl;
+}

@@ -1,0 +1,12 @@
+use Rattle.std.proofs.Common.{refl}
+use Rattle.kcr_worked_program.proofs.OnLiterals.{messages_on_literals}
+use Rattle.kcr_worked_program.proofs.fields.refused_heads.Goals as goal
+
+pub returns : goal.returns
+unfolding messages_on_literals
+returns c = record {
+  host = refl;
+  length = refl;
+  coding = refl;
+  large = refl;
+}

@@ -1,0 +1,11 @@
+use Rattle.std.proofs.Common.{refl}
+use Rattle.kcr_worked_program.proofs.OnLiterals.{messages_on_literals}
+use Rattle.kcr_worked_program.proofs.streams.counts.Goals as goal
+
+pub returns : goal.returns
+unfolding messages_on_literals
+returns c = record {
+  reader = λ bytes. refl;
+  failures = λ bytes. refl;
+  reads = λ bytes. refl;
+}

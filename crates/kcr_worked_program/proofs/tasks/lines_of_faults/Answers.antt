@@ -1,0 +1,16 @@
+use Rattle.std.proofs.Common.{refl}
+use Rattle.kcr_laws.proofs.WorkedRows.{rows_on_literals}
+use Rattle.kcr_worked_program.proofs.tasks.lines_of_faults.Goals as goal
+
+pub returns : goal.returns
+unfolding rows_on_literals
+returns c = record {
+  unknown = refl;
+  broken = refl;
+  file = refl;
+  damaged = refl;
+  missing = refl;
+  new_file = refl;
+  port = refl;
+  lost = refl;
+}

@@ -1,0 +1,14 @@
+use Rattle.std.proofs.Common.{refl}
+use Rattle.kcr_laws.proofs.WorkedRows.{rows_on_literals}
+use Rattle.kcr_worked_program.proofs.tasks.lines_of_findings.Goals as goal
+
+pub returns : goal.returns
+unfolding rows_on_literals
+returns c = record {
+  seating = refl;
+  custody = refl;
+  bag = refl;
+  key = refl;
+  lone = refl;
+  crowd = refl;
+}

@@ -1,0 +1,12 @@
+use Rattle.std.proofs.Common.{refl}
+use Rattle.kcr_laws.proofs.WorkedRows.{rows_on_literals}
+use Rattle.kcr_worked_program.proofs.tasks.lines_of_logs.Goals as goal
+
+pub returns : goal.returns
+unfolding rows_on_literals
+returns c = record {
+  head = refl;
+  frame = refl;
+  no_file = refl;
+  sound = refl;
+}

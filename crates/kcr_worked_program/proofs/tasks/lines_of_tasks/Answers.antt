@@ -1,0 +1,13 @@
+use Rattle.std.proofs.Common.{refl}
+use Rattle.kcr_laws.proofs.WorkedRows.{rows_on_literals}
+use Rattle.kcr_worked_program.proofs.tasks.lines_of_tasks.Goals as goal
+
+pub returns : goal.returns
+unfolding rows_on_literals
+returns c = record {
+  listening = refl;
+  clean = refl;
+  verified = refl;
+  rebuilt = refl;
+  packed = refl;
+}
