@@ -87,6 +87,19 @@ pub record IsIntact {S : Type 0} (g : Ghosts S) (register : RegisterState S) : T
   pub in_doubt : register.in_doubt ≡ None
   pub kept : IsConsistent g register
 
+-- one of these that has no command yet
+pub record IsFresh {S : Type 0} (g : Ghosts S) (register : RegisterState S) : Type 0 where
+  pub intact : IsIntact g register
+  pub empty : register.accepted ≡ []
+
+-- what a call that may write leaves of an intact register: only a fault breaks it
+pub record StaysGenuine {A S : Type 0} (g : Ghosts S) (old new : RegisterState S) (result : Result A Refusal) : Type 0 where
+  pub founded : new.is_genuine ≡ true
+  pub in_doubt : IfOk result (λ _. new.in_doubt ≡ None)
+  pub cause : IfErr result IsFault
+  pub clean : HasCleanDisk (state g new.conn) → HasCleanDisk (state g old.conn)
+  pub kept : IsConsistent g new
+
 -- what a call that only reads leaves of such a register, whatever it answers
 pub record OnlyLooks {A S : Type 0} (g : Ghosts S) (old new : RegisterState S) (result : Result A Refusal) : Type 0 where
   pub founded : new.is_genuine ≡ true

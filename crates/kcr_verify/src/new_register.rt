@@ -1,12 +1,12 @@
 //! A new register, to rebuild another in.
-ghost use Rattle.std.specs.Prelude.{◌≡◌, ◌≢◌, [], true, false, None, IsSome, IfOk, IfErr, IfSome, MatchResult};
+ghost use Rattle.std.specs.Prelude.{◌≡◌, ◌≢◌, false, IsSome, IfOk, IfErr, IfSome, MatchResult};
 ghost use Rattle.sqlite.specs.Files.{over_files};
 ghost use Rattle.sqlite.specs.Held.{state};
 ghost use Rattle.sqlite.specs.State.{Survives};
 ghost use Rattle.sqlite.specs.WalFiles.{image_at};
 ghost use Rattle.kcr_older.specs.Kind.{no_schema};
-ghost use Rattle.kcr_store.specs.Register.{IsConsistent};
 ghost use Rattle.kcr_verify.specs.Fresh.{IsGivenBack, IsMadeOn, IsNewOf};
+ghost use Rattle.kcr_verify.specs.Verification.{IsFresh};
 
 use kcr_base::Refusal;
 use kcr_older::{DatabaseKind, database_kind};
@@ -44,7 +44,7 @@ pub fn init<S: Alter + Drop>(
     connection: Connection<S>,
 ) -> Result<Register<S>, (CreateFault, Connection<S>)>
     requires autocommit { connection.in_transaction ≡ false }
-    ensures new { IfOk result (λ r. (r.is_genuine ≡ true) × (r.accepted ≡ []) × (r.in_doubt ≡ None)) }
+    ensures new { IfOk result (IsFresh S.Store) }
     ensures nothing { IfOk result (λ _. (state S.Store connection).now.schema ≡ no_schema) }
     ensures filled { IfErr result (λ e. e.0 ≡ CreateFault.Filled
         → ((state S.Store connection).now.schema ≢ no_schema) × (e.1 ≡ connection)) }
@@ -55,7 +55,6 @@ pub fn init<S: Alter + Drop>(
     ensures crash { MatchResult result
         (λ r. Survives (state S.Store connection) (state S.Store r.conn) (IsNewOf (state S.Store connection).now))
         (λ e. Survives (state S.Store connection) (state S.Store e.1) (IsNewOf (state S.Store connection).now)) }
-    ensures kept { IfOk result (IsConsistent S.Store) }
 {
     match database_kind(alloc, connection.schema()) {
         Ok(DatabaseKind::Empty) => match Register::adopt(alloc, connection) {
@@ -79,13 +78,12 @@ pub fn create<S: Start>(
     Register<FileStore<FileFrom<S>>>,
     (CreateFault, Option<Connection<FileStore<FileFrom<S>>>>),
 >
-    ensures new { IfOk result (λ r. (r.is_genuine ≡ true) × (r.accepted ≡ []) × (r.in_doubt ≡ None)) }
+    ensures new { IfOk result (IsFresh over_files) }
 
     // The file held nothing. One that holds something is refused as filled, and after each fault it is as it was.
     ensures made { IfOk result (λ r. IsMadeOn over_files (image_at S.Start) r.conn) }
     ensures filled { IfErr result (λ e. e.0 ≡ CreateFault.Filled → IsSome e.1) }
     ensures left { IfErr result (λ e. IfSome e.1 (IsGivenBack over_files (image_at S.Start) e.0)) }
-    ensures kept { IfOk result (IsConsistent over_files) }
 {
     match connect(rt, path, start) {
         Ok(connection) => match init(rt.alloc(), connection) {

@@ -1,15 +1,13 @@
 //! The commands of a register, given to another.
-ghost use Rattle.std.specs.Prelude.{◌≡◌, ◌∷◌, [], true, None, IfOk, IfErr, MatchOption};
+ghost use Rattle.std.specs.Prelude.{◌≡◌, ◌∷◌, IfOk, MatchOption};
 ghost use Rattle.sqlite.specs.State.{HasCleanDisk};
 ghost use Rattle.sqlite.specs.Held.{state};
 ghost use Rattle.kcr_history.specs.History.{History};
 ghost use Rattle.kcr_history.specs.Machine.{IsOfMachine, IsRegister};
 ghost use Rattle.kcr_history.specs.Tables.{key_row};
 ghost use Rattle.kcr_history.specs.declared.commands.Entry.{Entry as Accepted};
-ghost use Rattle.kcr_store.specs.Register.{IsConsistent};
-ghost use Rattle.kcr_tables.specs.Refusals.{IsFault};
-ghost use Rattle.kcr_verify.specs.Verification.{AreValues, HasAll, HasNext, IsIntact, rows_by_number};
-ghost use Rattle.kcr_verify.specs.Verification.{Declines, HaveOwnKeys, StopsFor, Takes};
+ghost use Rattle.kcr_verify.specs.Verification.{AreValues, HasAll, HasNext, IsFresh, IsIntact, StaysGenuine};
+ghost use Rattle.kcr_verify.specs.Verification.{Declines, HaveOwnKeys, StopsFor, Takes, rows_by_number};
 
 use crate::verification::Difference;
 use kcr_base::Refusal;
@@ -26,11 +24,7 @@ fn replay_one<S: Alter>(
     register: &mut Register<S>,
 ) -> Result<Option<Difference>, Refusal>
     requires { IsIntact S.Store register.old }
-    ensures founded { register.new.is_genuine ≡ true }
-    ensures in_doubt { IfOk result (λ _. register.new.in_doubt ≡ None) }
-    ensures cause { IfErr result IsFault }
-    ensures clean { HasCleanDisk (state S.Store register.new.conn) → HasCleanDisk (state S.Store register.old.conn) }
-    ensures kept { IsConsistent S.Store register.new }
+    ensures frame { StaysGenuine S.Store register.old register.new result }
 
     // Whatever the row says, the machine leads to the register's history.
     ensures of_machine { HasCleanDisk (state S.Store register.new.conn) → IsOfMachine register.old.accepted
@@ -73,13 +67,8 @@ pub(crate) fn replay<S: Alter>(
     rows: &[KeyRow],
     register: &mut Register<S>,
 ) -> Result<Option<Difference>, Refusal>
-    requires intact { IsIntact S.Store register.old }
-    requires empty { register.old.accepted ≡ [] }
-    ensures founded { register.new.is_genuine ≡ true }
-    ensures in_doubt { IfOk result (λ _. register.new.in_doubt ≡ None) }
-    ensures cause { IfErr result IsFault }
-    ensures clean { HasCleanDisk (state S.Store register.new.conn) → HasCleanDisk (state S.Store register.old.conn) }
-    ensures kept { IsConsistent S.Store register.new }
+    requires { IsFresh S.Store register.old }
+    ensures frame { StaysGenuine S.Store register.old register.new result }
     ensures of_machine { HasCleanDisk (state S.Store register.new.conn) → IsOfMachine register.new.accepted }
 
     // The register has the commands of all rows, or of those before the one that is not the next, as told.

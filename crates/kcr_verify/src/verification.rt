@@ -1,5 +1,5 @@
 //! The verification of a register.
-ghost use Rattle.std.specs.Prelude.{◌≡◌, [], true, None, IfOk, IfErr, length};
+ghost use Rattle.std.specs.Prelude.{◌≡◌, IfOk, IfErr, length};
 ghost use Rattle.sqlite.specs.State.{HasCleanDisk};
 ghost use Rattle.sqlite.specs.Held.{state};
 ghost use Rattle.sqlite.specs.Steps.{over_memory};
@@ -7,10 +7,10 @@ ghost use Rattle.kcr_history.specs.History.{History};
 ghost use Rattle.kcr_history.specs.Machine.{IsOfMachine, IsRegister};
 ghost use Rattle.kcr_history.specs.Tables.{Tables, tables};
 ghost use Rattle.kcr_history.specs.declared.views.FullView.{FullView as View};
-ghost use Rattle.kcr_store.specs.Register.{IsConsistent};
 ghost use Rattle.kcr_store.specs.FullView.{IsListed};
 ghost use Rattle.kcr_tables.specs.Refusals.{IsFault};
-ghost use Rattle.kcr_verify.specs.Verification.{AreValues, HaveOwnKeys, IsIntact, IsVerification, IsToldOf};
+ghost use Rattle.kcr_verify.specs.Verification.{AreValues, HaveOwnKeys, IsFresh, IsVerification, IsToldOf};
+ghost use Rattle.kcr_verify.specs.Verification.{StaysGenuine};
 
 use crate::compare::{RowDifference, TableName, first_difference};
 use crate::replay::replay;
@@ -47,8 +47,7 @@ pub enum Verification {
 
 /// An empty register in memory.
 fn empty(alloc: Global) -> Result<Register<MemStore>, Refusal>
-    ensures new { IfOk result (λ r. (r.is_genuine ≡ true) × (r.accepted ≡ []) × (r.in_doubt ≡ None)
-        × IsConsistent over_memory r) }
+    ensures new { IfOk result (IsFresh over_memory) }
     ensures cause { IfErr result IsFault }
 {
     match Register::in_memory(alloc) {
@@ -72,8 +71,8 @@ pub fn rebuild<S: Alter>(
     rows: FullView,
     fresh: &mut Register<S>,
 ) -> Result<Verification, Refusal>
-    requires intact { IsIntact S.Store fresh.old }
-    requires empty { fresh.old.accepted ≡ [] }
+    // The fresh register is founded, whole, and not broken, and has no command.
+    requires { IsFresh S.Store fresh.old }
 
     // Whatever the rows say, the machine leads to the fresh register's history.
     ensures of_machine { HasCleanDisk (state S.Store fresh.new.conn) → IsOfMachine fresh.new.accepted }
@@ -91,11 +90,9 @@ pub fn rebuild<S: Alter>(
     // there is none, nothing does.
     ensures register { HasCleanDisk (state S.Store fresh.new.conn) → (A : History) → IsRegister A → AreValues A
         → IsListed (tables A) rows → IfOk result (IsToldOf A) }
-    ensures cause { IfErr result IsFault }
-    ensures founded { fresh.new.is_genuine ≡ true }
-    ensures in_doubt { IfOk result (λ _. fresh.new.in_doubt ≡ None) }
-    ensures clean { HasCleanDisk (state S.Store fresh.new.conn) → HasCleanDisk (state S.Store fresh.old.conn) }
-    ensures kept { IsConsistent S.Store fresh.new }
+
+    // The fresh register stays founded and whole, and only a fault breaks it: out of memory or one of its device.
+    ensures frame { StaysGenuine S.Store fresh.old fresh.new result }
 {
     numbers_count_commands();
     let mut rows = rows;

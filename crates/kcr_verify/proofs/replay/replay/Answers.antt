@@ -29,16 +29,16 @@ returns-in-Ok-Some-clause-told g c clean =
     let at : get_or c.args.rows.now c.loop-index.index c.index-rows-index.result ≡ c.index-rows-index.result = search rules in
     let number : c.index-rows-index.result.accepted ≡ c.loop-index.index + 1 = search rules in
     stops_for _ c.args.rows.now c.loop-index.index c.loop-index.register.accepted c.index-rows-index.result _
-    (c.loop-index.invariant.taken (c.in-Ok-Some.ensures.clean clean)) low at number (rw c.in-Ok-Some.field-0-is at c.in-Ok-Some.ensures.told clean)
+    (c.loop-index.invariant.taken (c.in-Ok-Some.ensures.frame.clean clean)) low at number (rw c.in-Ok-Some.field-0-is at c.in-Ok-Some.ensures.told clean)
 
 pub returns-in-Ok-Some-clause-own : goal.returns-in-Ok-Some-clause-own
 returns-in-Ok-Some-clause-own g c clean A h values is =
     let low : c.loop-index.index < length c.args.rows.now = search rules in
     let at : get_or c.args.rows.now c.loop-index.index c.index-rows-index.result ≡ c.index-rows-index.result = search rules in
     let next = next_row c.numbers_count_commands.ensures A h values c.args.rows.now c.loop-index.index c.loop-index.register.accepted c.index-rows-index.result
-    (c.loop-index.invariant.own (c.in-Ok-Some.ensures.clean clean) A h values is) low at in
+    (c.loop-index.invariant.own (c.in-Ok-Some.ensures.frame.clean clean) A h values is) low at in
     let differs = rw c.in-Ok-Some.field-0-is at c.in-Ok-Some.ensures.own clean next.entry next.grown next.values next.row_is in
-    let before = c.in-Ok-Some.ensures.clean clean in (
+    let before = c.in-Ok-Some.ensures.frame.clean clean in (
       next.entry.reply.accepted,
       differs.0,
       record {
@@ -64,22 +64,22 @@ loop-index-init g c = record {
 pub loop-index-preserved : goal.loop-index-preserved
 loop-index-preserved g c = record {
   intact = search rules;
-  clean = λ now. c.loop-index.invariant.clean (c.in-Ok-None.ensures.clean now);
+  clean = λ now. c.loop-index.invariant.clean (c.in-Ok-None.ensures.frame.clean now);
   taken = λ now own.
       let low : c.loop-index.index < length c.args.rows.now = search rules in
       let at : get_or c.args.rows.now c.loop-index.index c.index-rows-index.result ≡ c.index-rows-index.result = search rules in
       let number : c.index-rows-index.result.accepted ≡ c.loop-index.index + 1 = search rules in
-      let was = c.in-Ok-None.ensures.clean now in
+      let was = c.in-Ok-None.ensures.frame.clean now in
       taken_on c.numbers_count_commands.ensures c.args.rows.now c.loop-index.index c.loop-index.register.accepted c.index-rows-index.result
       (c.loop-index.invariant.of_machine was) own (c.loop-index.invariant.taken was own) low at number _ (rw c.in-Ok-None.field-0-is at c.in-Ok-None.ensures.told now);
   own = λ now A h values is.
       let low : c.loop-index.index < length c.args.rows.now = search rules in
       let at : get_or c.args.rows.now c.loop-index.index c.index-rows-index.result ≡ c.index-rows-index.result = search rules in
       let next = next_row c.numbers_count_commands.ensures A h values c.args.rows.now c.loop-index.index c.loop-index.register.accepted
-      c.index-rows-index.result (c.loop-index.invariant.own (c.in-Ok-None.ensures.clean now) A h values is) low at in
+      c.index-rows-index.result (c.loop-index.invariant.own (c.in-Ok-None.ensures.frame.clean now) A h values is) low at in
       let has = rw c.in-Ok-None.field-0-is at c.in-Ok-None.ensures.own now next.entry next.grown next.values next.row_is in
       subst (IsGiven A c.args.rows.now (c.loop-index.index + 1)) (sym has) next.then;
-  of_machine = λ now. c.in-Ok-None.ensures.of_machine now (c.loop-index.invariant.of_machine (c.in-Ok-None.ensures.clean now));
+  of_machine = λ now. c.in-Ok-None.ensures.of_machine now (c.loop-index.invariant.of_machine (c.in-Ok-None.ensures.frame.clean now));
 }
 
 pub returns-clause-told : goal.returns-clause-told

@@ -69,11 +69,7 @@ returns g c =
     let memory : c.in-Err.field-0 ≢ Memory = search rules in
     let disk : c.in-Err.field-0 ≢ Disk = search rules in
     record {
-      founded = search rules;
-      in_doubt = search rules;
-      cause = search rules;
-      clean = search rules;
-      kept = search rules;
+      frame = search rules;
       of_machine = λ clean made.
           leads_on _ (record { key = c.args.row.now.key; act = c.in-Some.act }) (Err c.in-Err.field-0) _
           (c.in-Err.ensures.step (rw c.requires.founded refl) c.requires.in_doubt clean) made;
