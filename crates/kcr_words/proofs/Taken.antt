@@ -22,7 +22,8 @@ use Rattle.clap.specs.Simple.{App, built, built_leaf, names_of, label_of, entere
 use Rattle.kcr_words.specs.Commands.{tool_app, file_rule, choice_rule, number_rule, of_ceremony, into_file}
 use Rattle.kcr_words.specs.Tasks.{task_at, met_in, faults_of, number_at, ceremony_at, into_at}
 use Rattle.kcr_words.specs.declared.words.Task.{Task}
-use Rattle.kcr_words.specs.declared.words.Task.TheVariants.{Serve, Print, Attendance, Rebuild, Pack}
+use Rattle.kcr_words.specs.declared.words.Report.TheVariants.{Print, Attendance}
+use Rattle.kcr_words.specs.declared.words.Task.TheVariants.{Serve, Write, Rebuild, Pack}
 use Rattle.kcr_words.proofs.Options.{both_empty, is_number, is_text, required_number, required_text, number_keeps, text_keeps, other_keeps, help_keeps}
 
 -- if a walk has stopped, it is not at `help`
@@ -166,8 +167,8 @@ verify_holds : HoldsTask (sub 8)
 unfolding tool_app
 verify_holds words none = refl
 
-some_task : {X : Type 0} (f : X → Task) (o : Option X) → is_some o ≡ true → is_some (option_map f o) ≡ true
-some_task f o is = grind arith
+some_made : {X Y : Type 0} (f : X → Y) (o : Option X) → is_some o ≡ true → is_some (option_map f o) ≡ true
+some_made f o is = grind arith
 
 both_there : (idle : ℕ) (a b : Option ℕ) → is_some a ≡ true → is_some b ≡ true
     → is_some (option_and_then (λ port. option_map (λ connections. Serve port connections idle) b) a) ≡ true
@@ -235,11 +236,11 @@ serve_holds words none = both_there _ _ _ (serve_port words none) (serve_connect
 
 print_holds : HoldsTask (sub 2)
 unfolding tool_app
-print_holds words none = some_task Print _ (ceremony_there (codes "print") words none)
+print_holds words none = some_made Write _ (some_made Print _ (ceremony_there (codes "print") words none))
 
 attendance_holds : HoldsTask (sub 3)
 unfolding tool_app
-attendance_holds words none = some_task Attendance _ (ceremony_there (codes "attendance") words none)
+attendance_holds words none = some_made Write _ (some_made Attendance _ (ceremony_there (codes "attendance") words none))
 
 -- a subcommand that makes a new file, whose rules are the file, the new file, help
 abbrev making : Text → Shape
@@ -260,11 +261,11 @@ into_there name words none =
 
 rebuild_holds : HoldsTask (sub 9)
 unfolding tool_app
-rebuild_holds words none = some_task (λ into. Rebuild) _ (into_there (codes "rebuild") words none)
+rebuild_holds words none = some_made (λ into. Rebuild) _ (into_there (codes "rebuild") words none)
 
 pack_holds : HoldsTask (sub 10)
 unfolding tool_app
-pack_holds words none = some_task (λ into. Pack) _ (into_there (codes "pack") words none)
+pack_holds words none = some_made (λ into. Pack) _ (into_there (codes "pack") words none)
 
 help_label : label_of (sub 11) ≡ (codes "help", [])
 unfolding tool_app

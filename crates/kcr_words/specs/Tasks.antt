@@ -1,6 +1,6 @@
 -- The task that the words hold, by what `clap` makes of a simple command.
 use Rattle.std.specs.Prelude.{ℕ, List, codes, Bool, false, ◌||◌, nat_eq, Option, Some, None, option_and_then, option_map}
-use Rattle.std.specs.Prelude.{unwrap_or, if◌then◌else◌}
+use Rattle.std.specs.Prelude.{unwrap_or, if◌then◌else◌, String, map, string_bytes}
 use Rattle.std.specs.List.{ends_with}
 use Rattle.std.specs.Option.{option_map_or}
 use Rattle.std.specs.Str.{bytes_eq}
@@ -10,18 +10,22 @@ use Rattle.clap.specs.Words.{Kinds, Row, Text, fault_of, first_of, one_of, subco
 use Rattle.kcr_words.specs.Commands.{tool_app}
 use Rattle.kcr_words.specs.declared.words.WordsFault.{WordsFault}
 use Rattle.kcr_words.specs.declared.words.WordsFault.TheVariants as WordsFaults
+use Rattle.kcr_words.specs.declared.words.Order.{Order}
+use Rattle.kcr_words.specs.declared.words.Report.{Report}
+use Rattle.kcr_words.specs.declared.words.Report.TheVariants.{Print, Attendance, Custody, Export, Journal, Audit}
 use Rattle.kcr_words.specs.declared.words.Task.{Task}
-use Rattle.kcr_words.specs.declared.words.Task.TheVariants.{Run, Serve, Print, Attendance, Custody, Export}
-use Rattle.kcr_words.specs.declared.words.Task.TheVariants.{Journal, Audit, Verify, Rebuild, Pack}
+use Rattle.kcr_words.specs.declared.words.Task.TheVariants.{Run, Serve, Write, Verify, Rebuild, Pack}
 
--- the task tells of a register and does nothing else; those that verify or make a register want commands
-abbrev pub IsReport : Task → Type 0
-IsReport Run = ⊥
-IsReport (Serve port connections idle) = ⊥
-IsReport Verify = ⊥
-IsReport Rebuild = ⊥
-IsReport Pack = ⊥
-IsReport report = Unit {0}
+-- the words as texts
+abbrev pub said : {Z : Type 0} → List (String Z) → List Text
+said words = map string_bytes words
+
+-- the file that an order names, and that of a new register
+abbrev pub file_in : Order → Option Text
+file_in order = option_map (λ name. name.now) order.file
+
+abbrev pub into_in : Order → Option Text
+into_in order = option_map (λ name. name.now) order.into
 
 -- the number that a text is in decimal, where it is one from the least to the most; a plus may stand before it
 abbrev pub number_between : ℕ → ℕ → Text → Option ℕ
@@ -52,7 +56,7 @@ abbrev pub command_at : Text → List Row → Option ℕ
 command_at = number_at 0 4000000000
 
 -- the commands to be exported: those behind a number, all of them where none was named, up to a number, or to the last
-abbrev pub export_at : List Row → Task
+abbrev pub export_at : List Row → Report
 export_at rows =
     Export (unwrap_or (command_at (codes "after") rows) 0) (unwrap_or (command_at (codes "until") rows) 4294967295)
 
@@ -60,20 +64,24 @@ export_at rows =
 abbrev pub into_at : List Row → Option Text
 into_at rows = first_of (codes "into") rows
 
--- the task of a subcommand with its matches
-abbrev pub task_at : Text × List Row → Option Task
-task_at p =
-    if bytes_eq p.0 (codes "run") then Some Run else
-    if bytes_eq p.0 (codes "serve") then serve_at p.1 else
+-- the report of a subcommand with its matches
+abbrev pub report_at : Text × List Row → Option Report
+report_at p =
     if bytes_eq p.0 (codes "print") then option_map Print (ceremony_at p.1) else
     if bytes_eq p.0 (codes "attendance") then option_map Attendance (ceremony_at p.1) else
     if bytes_eq p.0 (codes "custody") then Some Custody else
     if bytes_eq p.0 (codes "export") then Some (export_at p.1) else
     if bytes_eq p.0 (codes "journal") then Some (Journal (ceremony_at p.1)) else
-    if bytes_eq p.0 (codes "audit") then Some Audit else
+    if bytes_eq p.0 (codes "audit") then Some Audit else None
+
+-- its task
+abbrev pub task_at : Text × List Row → Option Task
+task_at p =
+    if bytes_eq p.0 (codes "run") then Some Run else
+    if bytes_eq p.0 (codes "serve") then serve_at p.1 else
     if bytes_eq p.0 (codes "verify") then Some Verify else
     if bytes_eq p.0 (codes "rebuild") then option_map (λ into. Rebuild) (into_at p.1) else
-    if bytes_eq p.0 (codes "pack") then option_map (λ into. Pack) (into_at p.1) else None
+    if bytes_eq p.0 (codes "pack") then option_map (λ into. Pack) (into_at p.1) else option_map Write (report_at p)
 
 -- the file that was named, if one was
 abbrev pub file_at : List Row → Option Text

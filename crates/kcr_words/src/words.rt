@@ -1,10 +1,10 @@
 //! The words of the command line, and the task that they hold.
-ghost use Rattle.std.specs.Prelude.{◌≡◌, ◌≢◌, ◌≤◌, [], true, false, codes, Some, IfOk, IfErr, IfSome, IsSome, map};
-ghost use Rattle.std.specs.Prelude.{option_map, string_bytes};
+ghost use Rattle.std.specs.Prelude.{◌≡◌, ◌≢◌, ◌≤◌, [], true, false, Some, IfOk, IfErr, IfSome};
+ghost use Rattle.std.specs.Prelude.{option_map};
 ghost use Rattle.clap.specs.Words.{rows_of, found_of, subcommand_rows_of};
 ghost use Rattle.kcr_words.specs.Tasks.{IsLine, task_of, task_at, file_of, file_at, into_of, into_at, number_at};
-ghost use Rattle.kcr_words.specs.Tasks.{ceremony_at, command_at, export_at, idle_at, serve_at, met_in, faults_of, is_companion, names_companion};
-ghost use Rattle.kcr_words.specs.Tasks.{IsCompanion};
+ghost use Rattle.kcr_words.specs.Tasks.{ceremony_at, command_at, export_at, idle_at, report_at, serve_at, met_in};
+ghost use Rattle.kcr_words.specs.Tasks.{IsCompanion, faults_of, file_in, into_in, is_companion, names_companion, said};
 
 use crate::commands::tool;
 use clap::ArgMatches;
@@ -15,6 +15,23 @@ use std::alloc::Global;
 /// For how many seconds a connection may be silent between two messages, unless the words say.
 const IDLE: u32 = 5;
 
+/// What is told of a register, which it leaves as it is.
+#[derive(Clone, Copy, PartialEq, Eq)]
+pub enum Report {
+    /// The annotated script of the ceremony.
+    Print(CeremonyNumber),
+    /// The attendance of the ceremony.
+    Attendance(CeremonyNumber),
+    /// What lies where.
+    Custody,
+    /// The accepted commands behind the first number up to the second as requests.
+    Export(u32, u32),
+    /// A line for each accepted command, or for each that names the ceremony.
+    Journal(Option<CeremonyNumber>),
+    /// The first thing that is wrong in the rows of the register.
+    Audit,
+}
+
 /// What the program is to do.
 #[derive(Clone, Copy, PartialEq, Eq)]
 pub enum Task {
@@ -23,44 +40,14 @@ pub enum Task {
     /// Answers requests on a port of 127.0.0.1, 1 to 65,535, on N connections, 1 to 1,000,000, each of which may
     /// be silent between two messages for N seconds, 1 to 300.
     Serve(u16, u32, u32),
-    /// Prints the annotated script of the ceremony.
-    Print(CeremonyNumber),
-    /// Prints the attendance of the ceremony.
-    Attendance(CeremonyNumber),
-    /// Prints what lies where.
-    Custody,
-    /// Prints the accepted commands behind the first number up to the second as requests.
-    Export(u32, u32),
-    /// Prints a line for each accepted command, or for each that names the ceremony.
-    Journal(Option<CeremonyNumber>),
-    /// Looks for what is wrong in the rows of the register.
-    Audit,
+    /// Writes a report of a register.
+    Write(Report),
     /// Sees whether the register is the one of its own commands.
     Verify,
     /// Makes a new register of its commands, and sees whether the two are the same.
     Rebuild,
     /// Makes one file of the register's file and its log.
     Pack,
-}
-
-impl Task {
-    ghost use Rattle.std.specs.Prelude.{◌↔◌, IsTrue};
-    ghost use Rattle.kcr_words.specs.Tasks.{IsReport};
-
-    /// Whether it tells of a register and does nothing else. Those that verify or make a register want commands.
-    pub fn is_report(&self) -> bool
-        ensures { IsTrue result ↔ IsReport self.now }
-    {
-        match self {
-            Task::Run | Task::Serve(..) | Task::Verify | Task::Rebuild | Task::Pack => false,
-            Task::Print(_)
-            | Task::Attendance(_)
-            | Task::Custody
-            | Task::Export(..)
-            | Task::Journal(_)
-            | Task::Audit => true,
-        }
-    }
 }
 
 /// What the words ask for: a task, the file of the register, or None for a register in memory, and the file of the new
@@ -85,9 +72,9 @@ pub enum WordsFault {
 
 /// What `clap` makes of the words.
 fn parse<'a>(alloc: Global, words: &'a [String]) -> Result<ArgMatches<'a>, WordsFault>
-    ensures found { IfOk result (λ m. subcommand_rows_of m ≡ met_in (map string_bytes words.entry.now)) }
-    ensures taken { IfOk result (λ _. faults_of (map string_bytes words.entry.now) ≡ []) }
-    ensures line { IfErr result (λ e. IsLine e → faults_of (map string_bytes words.entry.now) ≢ []) }
+    ensures found { IfOk result (λ m. subcommand_rows_of m ≡ met_in (said words.entry.now)) }
+    ensures taken { IfOk result (λ _. faults_of (said words.entry.now) ≡ []) }
+    ensures line { IfErr result (λ e. IsLine e → faults_of (said words.entry.now) ≢ []) }
     ensures read { IfErr result (λ e. ¬ IsCompanion e) }
 {
     let Ok(command) = tool(alloc) else {
@@ -152,12 +139,12 @@ fn read_command(matches: &ArgMatches<'_>, name: &str) -> Option<u32>
 }
 
 /// The commands to be exported: behind the one that was named, or all of them, up to the other one, or to the last.
-fn read_export(matches: &ArgMatches<'_>) -> Task
+fn read_export(matches: &ArgMatches<'_>) -> Report
     ensures { result ≡ export_at (rows_of (found_of matches.now)) }
 {
     let after = read_command(matches, "after").unwrap_or(0);
     let until = read_command(matches, "until").unwrap_or(u32::MAX);
-    Task::Export(after, until)
+    Report::Export(after, until)
 }
 
 /// The file of the new register, if one was named.
@@ -167,6 +154,21 @@ fn read_into<'a>(matches: &ArgMatches<'a>) -> Option<&'a str>
     matches.get_str("into")
 }
 
+/// The report of a subcommand.
+fn read_report(name: &str, matches: &ArgMatches<'_>) -> Option<Report>
+    ensures { result ≡ report_at (name.now, rows_of (found_of matches.now)) }
+{
+    match name {
+        "print" => Some(Report::Print(read_ceremony(matches)?)),
+        "attendance" => Some(Report::Attendance(read_ceremony(matches)?)),
+        "custody" => Some(Report::Custody),
+        "export" => Some(read_export(matches)),
+        "journal" => Some(Report::Journal(read_ceremony(matches))),
+        "audit" => Some(Report::Audit),
+        _ => None,
+    }
+}
+
 /// The task of a subcommand.
 fn read_task(name: &str, matches: &ArgMatches<'_>) -> Option<Task>
     ensures { result ≡ task_at (name.now, rows_of (found_of matches.now)) }
@@ -174,16 +176,10 @@ fn read_task(name: &str, matches: &ArgMatches<'_>) -> Option<Task>
     match name {
         "run" => Some(Task::Run),
         "serve" => read_serve(matches),
-        "print" => Some(Task::Print(read_ceremony(matches)?)),
-        "attendance" => Some(Task::Attendance(read_ceremony(matches)?)),
-        "custody" => Some(Task::Custody),
-        "export" => Some(read_export(matches)),
-        "journal" => Some(Task::Journal(read_ceremony(matches))),
-        "audit" => Some(Task::Audit),
         "verify" => Some(Task::Verify),
         "rebuild" => read_into(matches).map(|_| Task::Rebuild),
         "pack" => read_into(matches).map(|_| Task::Pack),
-        _ => None,
+        _ => Some(Task::Write(read_report(name, matches)?)),
     }
 }
 
@@ -217,20 +213,16 @@ fn names_companion(into: Option<&str>) -> bool
 /// comes only where `clap` refuses the words or they ask for help or the version, and where it does, no task comes.
 /// `Memory` comes only where memory was refused.
 pub fn read_words<'a>(alloc: Global, words: &'a [String]) -> Result<Order<'a>, WordsFault>
-    ensures task { IfOk result (λ order. task_of (map string_bytes words.entry.now) ≡ Some order.task) }
-    ensures file { IfOk result (λ order. file_of
-        (map string_bytes words.entry.now) ≡ option_map (λ file. file.now) order.file) }
-    ensures into { IfOk result (λ order. into_of
-        (map string_bytes words.entry.now) ≡ option_map (λ file. file.now) order.into) }
+    ensures task { IfOk result (λ order. task_of (said words.entry.now) ≡ Some order.task) }
+    ensures file { IfOk result (λ order. file_of (said words.entry.now) ≡ file_in order) }
+    ensures into { IfOk result (λ order. into_of (said words.entry.now) ≡ into_in order) }
 
-    // What makes a register has a file for it, and no other's log or journal.
-    ensures apart { IfOk result (λ _. names_companion (into_of (map string_bytes words.entry.now)) ≡ false) }
+    // The file of the new register is no other's log or journal.
+    ensures apart { IfOk result (λ _. names_companion (into_of (said words.entry.now)) ≡ false) }
     ensures companion { IfErr result (λ e. IsCompanion e
-        → names_companion (into_of (map string_bytes words.entry.now)) ≡ true) }
-    ensures rebuild { IfOk result (λ order. order.task ≡ Task.Rebuild → IsSome order.into) }
-    ensures pack { IfOk result (λ order. order.task ≡ Task.Pack → IsSome order.into) }
-    ensures taken { IfOk result (λ _. faults_of (map string_bytes words.entry.now) ≡ []) }
-    ensures line { IfErr result (λ e. IsLine e → faults_of (map string_bytes words.entry.now) ≢ []) }
+        → names_companion (into_of (said words.entry.now)) ≡ true) }
+    ensures taken { IfOk result (λ _. faults_of (said words.entry.now) ≡ []) }
+    ensures line { IfErr result (λ e. IsLine e → faults_of (said words.entry.now) ≢ []) }
 {
     let matches = parse(alloc, words)?;
     let Some((name, inner)) = matches.subcommand() else {

@@ -1,8 +1,8 @@
 //! What words are which task of the program.
 ghost use Rattle.std.specs.Prelude.{◌≡◌, true, false, [], codes, Some, None};
 ghost use Rattle.kcr_words.specs.Tasks.{faults_of, file_of, into_of, names_companion, task_of};
-ghost use Rattle.kcr_words.specs.declared.words.Task.TheVariants.{Run, Serve, Print, Attendance, Custody, Export};
-ghost use Rattle.kcr_words.specs.declared.words.Task.TheVariants.{Journal, Audit, Verify, Rebuild, Pack};
+ghost use Rattle.kcr_words.specs.declared.words.Report.TheVariants.{Print, Attendance, Custody, Export, Journal, Audit};
+ghost use Rattle.kcr_words.specs.declared.words.Task.TheVariants.{Run, Serve, Write, Verify, Rebuild, Pack};
 ghost use Rattle.kcr_worked.specs.Words.{words_of};
 
 /// Each task by its words; an option that is left out has its value.
@@ -10,14 +10,14 @@ pub fn words_of_tasks()
     ensures run { task_of (words_of (codes "kcr run")) ≡ Some Run }
     ensures serve { task_of (words_of (codes "kcr serve --port 8053 --connections 9")) ≡ Some (Serve 8053 9 5) }
     ensures idle { task_of (words_of (codes "kcr serve --port 8053 --connections 9 --idle 60")) ≡ Some (Serve 8053 9 60) }
-    ensures print { task_of (words_of (codes "kcr print --ceremony 61")) ≡ Some (Print 61) }
-    ensures attendance { task_of (words_of (codes "kcr attendance --ceremony 61")) ≡ Some (Attendance 61) }
-    ensures custody { task_of (words_of (codes "kcr custody")) ≡ Some Custody }
-    ensures export { task_of (words_of (codes "kcr export")) ≡ Some (Export 0 4294967295) }
-    ensures some_commands { task_of (words_of (codes "kcr export --after 3 --until 5")) ≡ Some (Export 3 5) }
-    ensures journal { task_of (words_of (codes "kcr journal")) ≡ Some (Journal None) }
-    ensures of_ceremony { task_of (words_of (codes "kcr journal --ceremony 61")) ≡ Some (Journal (Some 61)) }
-    ensures audit { task_of (words_of (codes "kcr audit")) ≡ Some Audit }
+    ensures print { task_of (words_of (codes "kcr print --ceremony 61")) ≡ Some (Write (Print 61)) }
+    ensures attendance { task_of (words_of (codes "kcr attendance --ceremony 61")) ≡ Some (Write (Attendance 61)) }
+    ensures custody { task_of (words_of (codes "kcr custody")) ≡ Some (Write Custody) }
+    ensures export { task_of (words_of (codes "kcr export")) ≡ Some (Write (Export 0 4294967295)) }
+    ensures some_commands { task_of (words_of (codes "kcr export --after 3 --until 5")) ≡ Some (Write (Export 3 5)) }
+    ensures journal { task_of (words_of (codes "kcr journal")) ≡ Some (Write (Journal None)) }
+    ensures of_ceremony { task_of (words_of (codes "kcr journal --ceremony 61")) ≡ Some (Write (Journal (Some 61))) }
+    ensures audit { task_of (words_of (codes "kcr audit")) ≡ Some (Write Audit) }
     ensures verify { task_of (words_of (codes "kcr verify")) ≡ Some Verify }
     ensures rebuild { task_of (words_of (codes "kcr rebuild --into new.db")) ≡ Some Rebuild }
     ensures pack { task_of (words_of (codes "kcr pack --into new.db")) ≡ Some Pack }

@@ -1,7 +1,7 @@
 use Rattle.std.proofs.Common.{sym, ap, ◌∙◌}
 use Rattle.kcr_words.specs.Tasks.{names_companion}
 use Rattle.clap.specs.Words.{rows_of, found_of}
-use Rattle.kcr_words.proofs.Parses.{met_is, task_is, file_is, into_is, rebuild_into, pack_into}
+use Rattle.kcr_words.proofs.Parses.{met_is, task_is, file_is, into_is}
 use Rattle.kcr_words.proofs.Taken.{never_none, never_other}
 use Rattle.kcr_words.proofs.words.read_words.Goals as goal
 
@@ -32,16 +32,6 @@ returns-clause-into c =
     into_is _ _ _ _ (met_is _ c.in_ok-matches.matches c.in-Some.name.now (rows_of (found_of c.in-Some.inner.now))
     c.in_ok-matches.ensures.found c.in-Some.ensures.name c.in-Some.ensures.rows)
     c.read_into-into.ensures
-
-pub returns-clause-rebuild : goal.returns-clause-rebuild
-returns-clause-rebuild c is =
-    rebuild_into _ c.in-Some.name.now (rows_of (found_of c.in-Some.inner.now)) c.in-Some-read_task.task c.read_into-into.result
-    (sym c.in-Some-read_task.ensures) is c.read_into-into.ensures
-
-pub returns-clause-pack : goal.returns-clause-pack
-returns-clause-pack c is =
-    pack_into _ c.in-Some.name.now (rows_of (found_of c.in-Some.inner.now)) c.in-Some-read_task.task c.read_into-into.result
-    (sym c.in-Some-read_task.ensures) is c.read_into-into.ensures
 
 pub returns-clause-apart : goal.returns-clause-apart
 returns-clause-apart c =
