@@ -1,11 +1,12 @@
 -- Connections one after the other.
 use Rattle.std.proofs.Common.{ℕ, ◌+◌, List, [], ◌∷◌, ◌++◌, refl, sym, subst, arith, length-append, ◌∙◌}
-use Rattle.std.specs.Prelude.{Option, Result, Ok, Err}
+use Rattle.std.specs.Prelude.{Result, Ok, Err}
 use Rattle.sqlite.specs.Store.{Ghosts}
 use Rattle.kcr_store.specs.Register.{RegisterState}
 use Rattle.kcr_desk.specs.Answers.{RegisterHistory, AreOfMachine, AreRegisters, IsAnswer, IsReply, history_of}
 use Rattle.kcr_desk.specs.Connections.{Connects, Ends, Leads, Runs}
 use Rattle.kcr_desk.specs.Run.{Request, Exchange, Run}
+use Rattle.kcr_desk.specs.Streams.{Streams}
 use Rattle.kcr_desk.specs.Texts.{ResponseValue}
 use Rattle.kcr_desk.specs.declared.fault.DeskFault.{DeskFault}
 use Rattle.kcr_desk.specs.declared.stream.Served.{Served}
@@ -27,9 +28,9 @@ module _ {S : Type 0} (step : S → Request → ResponseValue → S → Type 0) 
   pub leads_unread : (s : S) → Leads step s s 1
   leads_unread s = ([] ∷ [], refl, (s, refl, refl))
 
-  pub leads_one : (input old new : Option (List ℕ)) (a b : S) (result : Result Served DeskFault) → Ends step input old new a b result → Leads step a b 1
-  leads_one input old new a b (Ok served) ends = (ends.exchanges ∷ [], refl, (b, ends.run, refl))
-  leads_one input old new a b (Err fault) ends = (ends.exchanges ∷ [], refl, (b, ends.run, refl))
+  pub leads_one : {R W : Type 0} (s : Streams R W) (a b : S) (result : Result Served DeskFault) → Ends step s a b result → Leads step a b 1
+  leads_one s a b (Ok served) ends = (ends.exchanges ∷ [], refl, (b, ends.run, refl))
+  leads_one s a b (Err fault) ends = (ends.exchanges ∷ [], refl, (b, ends.run, refl))
 
 module _ {S : Type 0} (g : Ghosts S) where
   -- no connection was served

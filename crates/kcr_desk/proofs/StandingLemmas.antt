@@ -1,14 +1,18 @@
 -- From runs over registers to runs over their histories.
-use Rattle.std.proofs.Common.{◌≡◌, ℕ, List, [], ◌∷◌, ap, ◌∙◌, subst, sym}
-use Rattle.std.specs.Prelude.{Option, IsTrue, Result, Ok, Err, IfOk, OnErr}
+use Rattle.std.proofs.Common.{◌≡◌, ◌+◌, ◌<◌, ◌⊎◌, ℕ, List, [], ◌∷◌, refl, ap, ◌∙◌, subst, sym}
+use Rattle.std.specs.Prelude.{Option, IsTrue, IsErrOf, Result, Ok, Err, IfErr}
+use Rattle.kcr_base.specs.Counted.{failures_of, nonempty_reads_of}
 use Rattle.sqlite.specs.Held.{state}
 use Rattle.sqlite.specs.State.{HasCleanDisk}
 use Rattle.sqlite.specs.Store.{Ghosts}
 use Rattle.kcr_store.specs.Register.{RegisterState}
 use Rattle.kcr_desk.specs.declared.fault.DeskFault.{DeskFault}
+use Rattle.kcr_desk.specs.declared.fault.DeskFault.TheVariants.{Read, Write, Memory}
 use Rattle.kcr_desk.specs.declared.stream.Served.{Served}
 use Rattle.kcr_desk.specs.Answers.{history_of, Answers, IsAnswer, IsReply}
+use Rattle.kcr_desk.specs.Connections.{Ends}
 use Rattle.kcr_desk.specs.Run.{Request, Exchange, Run, IsServed, IsServedInPart}
+use Rattle.kcr_desk.specs.Streams.{Streams, BreaksStream}
 use Rattle.kcr_desk.specs.Texts.{ResponseValue}
 
 module _ {S : Type 0} (g : Ghosts S) where
@@ -53,8 +57,23 @@ module _ {S R : Type 0} {step : S → Request → ResponseValue → S → Type 0
   broken_by s = record { exchanges = s.exchanges; next = s.next; begins = s.begins; run = leads s.exchanges s.run; written = s.written }
 
 -- the run of a stream that was served whole or in part
-pub ran : {S : Type 0} (step : S → Request → ResponseValue → S → Type 0) (input a b : Option (List ℕ)) (before after : S) (result : Result Served DeskFault)
-    → IfOk result (λ served. IsServed step input a b before after served.requests) → OnErr result (IsServedInPart step input a b before after)
-    → (xs : List Exchange) × Run step before xs after
-ran step input a b before after (Ok served) is broken = (is.exchanges, is.run)
-ran step input a b before after (Err fault) is broken = (broken.exchanges, broken.run)
+pub ran : {S R W : Type 0} (step : S → Request → ResponseValue → S → Type 0) (s : Streams R W) (before after : S) (result : Result Served DeskFault)
+    → Ends step s before after result → (xs : List Exchange) × Run step before xs after
+ran step s before after (Ok served) ends = (ends.exchanges, ends.run)
+ran step s before after (Err fault) ends = (ends.exchanges, ends.run)
+
+-- a stream ended by these steps, and so by others
+pub ends_by : {S T R W : Type 0} (step : S → Request → ResponseValue → S → Type 0) (other : T → Request → ResponseValue → T → Type 0) (s : Streams R W)
+    (before after : S) (first last : T) (result : Result Served DeskFault) → ((xs : List Exchange) → Run step before xs after → Run other first xs last)
+    → Ends step s before after result → Ends other s first last result
+ends_by step other s before after first last (Ok served) leads ends = served_by leads ends
+ends_by step other s before after first last (Err fault) leads ends = broken_by leads ends
+
+-- what the counts of the reader and of the writer tell of a fault
+pub broken_stream : {T R W : Type 0} (s : Streams R W) (result : Result T DeskFault)
+    → (IsErrOf result Read → (failures_of s.before < failures_of s.after) ⊎ (nonempty_reads_of s.after ≡ nonempty_reads_of s.before + 1000000))
+    → (IsErrOf result Write → failures_of s.output.before < failures_of s.output.after) → IfErr result (BreaksStream s)
+broken_stream s (Ok value) read write = tt
+broken_stream s (Err Read) read write = read refl
+broken_stream s (Err Write) read write = write refl
+broken_stream s (Err Memory) read write = tt

@@ -1,10 +1,10 @@
 -- Answers that wait, and are written one after the other.
 use Rattle.std.proofs.Common.{◌≡◌, ℕ, List, [], ◌++◌, length, refl, sym, ap, ◌∙◌, subst, append_assoc}
-use Rattle.std.specs.Prelude.{Option, Result, Ok, Err}
+use Rattle.std.specs.Prelude.{Option, Result, Ok, Err, MatchResult}
 use Rattle.std.specs.Io.KnownBytes.{Appends}
 use Rattle.std.proofs.lemmas.List.{append-nil}
 use Rattle.std.proofs.Math.Seq.{take-length}
-use Rattle.kcr_desk.specs.Output.{IsQueued, Enqueues}
+use Rattle.kcr_desk.specs.Output.{IsQueued}
 use Rattle.kcr_print.specs.Written.{WritesPrefix, Writes}
 use Rattle.kcr_print.proofs.WrittenLemmas.{appends_both, appends_nothing, front_both}
 
@@ -43,13 +43,17 @@ sent_on {a} {b} {c} {x} p q = record {
   rest = simp append_assoc (ap (λ t. p.sent ++ t) q.rest ∙ p.rest);
 }
 
+-- of all a prefix was sent and the rest waits, or after a fault a prefix was written
+abbrev pub EnqueuesTo : {T E : Type 0} → Result T E → Option (List ℕ) → Option (List ℕ) → List ℕ → List ℕ → Type 0
+EnqueuesTo r a b x w = MatchResult r (λ _. IsQueued a b x w) (λ _. WritesPrefix a b x)
+
 -- likewise after Ok, and after a fault
 pub gathers_on : {T E : Type 0} (r : Result T E) {a b : Option (List ℕ)} (c : Option (List ℕ)) {x w : List ℕ} (v : List ℕ)
-    → IsQueued a b x w → Enqueues r b c w v → Enqueues r a c x v
+    → IsQueued a b x w → EnqueuesTo r b c w v → EnqueuesTo r a c x v
 gathers_on (Ok t) c v p q = sent_on p q
 gathers_on (Err e) c v p q = sent_front c p q
 
 -- if nothing waits behind it all was written
-pub gathers_written : {T E : Type 0} (r : Result T E) (a b : Option (List ℕ)) (x : List ℕ) → Writes r a b x → Enqueues r a b x []
+pub gathers_written : {T E : Type 0} (r : Result T E) (a b : Option (List ℕ)) (x : List ℕ) → Writes r a b x → EnqueuesTo r a b x []
 gathers_written (Ok v) a b x p = record { sent = x; written = p; rest = append-nil x }
 gathers_written (Err e) a b x p = p

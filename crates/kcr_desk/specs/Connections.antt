@@ -1,22 +1,24 @@
 -- How a connection ends, and what connections make of a register.
-use Rattle.std.specs.Prelude.{◌≡◌, ℕ, List, [], ◌∷◌, length, Option, Result, MatchResult, IsTrue}
+use Rattle.std.specs.Prelude.{◌≡◌, ℕ, List, [], ◌∷◌, length, Result, MatchResult, IsTrue}
 use Rattle.sqlite.specs.Held.{state}
 use Rattle.sqlite.specs.State.{HasCleanDisk}
 use Rattle.sqlite.specs.Store.{Ghosts}
 use Rattle.kcr_store.specs.Register.{RegisterState}
 use Rattle.kcr_desk.specs.Answers.{IsAnswer, IsReply, history_of}
 use Rattle.kcr_desk.specs.Run.{Request, Exchange, Run, IsServed, IsServedInPart}
+use Rattle.kcr_desk.specs.Streams.{Streams, input_of, bytes_before, bytes_after}
 use Rattle.kcr_desk.specs.Texts.{ResponseValue}
 use Rattle.kcr_desk.specs.declared.fault.DeskFault.{DeskFault}
 use Rattle.kcr_desk.specs.declared.stream.Served.{Served}
 
 -- a stream was answered whole, or a prefix of it before a fault
 abbrev pub Ends
-    : {S : Type 0} → (S → Request → ResponseValue → S → Type 0) → Option (List ℕ) → Option (List ℕ) → Option (List ℕ) → S → S
-    → Result Served DeskFault → Type 0
-Ends step input old new before after result =
-    MatchResult result (λ served. IsServed step input old new before after served.requests)
-    (λ _. IsServedInPart step input old new before after)
+    : {S R W : Type 0} → (S → Request → ResponseValue → S → Type 0) → Streams R W → S → S → Result Served DeskFault
+    → Type 0
+Ends step s before after result =
+    MatchResult result
+    (λ served. IsServed step (input_of s) (bytes_before s.output) (bytes_after s.output) before after served.requests)
+    (λ _. IsServedInPart step (input_of s) (bytes_before s.output) (bytes_after s.output) before after)
 
 -- runs over the messages of connections, a list for each connection, one run after the other
 abbrev pub Runs : {S : Type 0} → (S → Request → ResponseValue → S → Type 0) → S → List (List Exchange) → S → Type 0

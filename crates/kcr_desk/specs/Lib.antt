@@ -8,6 +8,7 @@ pub mod BlankRest
 pub mod Run
 pub mod Texts
 pub mod Responses
+pub mod Streams
 pub mod Output
 pub mod NextItem
 pub mod Answers

@@ -11,6 +11,9 @@ use Rattle.kcr_desk.specs.NextHead.{IsReady, EndsAs}
 use Rattle.kcr_desk.specs.Texts.{continue_text}
 use Rattle.kcr_desk.specs.Run.{Request, ending_text, IsNextOutput}
 use Rattle.kcr_desk.specs.Output.{IsQueued}
+use Rattle.kcr_desk.specs.Input.{left, unread}
+use Rattle.kcr_desk.specs.Streams.{Streams, bytes_before, bytes_after}
+use Rattle.kcr_desk.specs.declared.input_buffer.InputBuffer.{InputBuffer}
 use Rattle.kcr_print.specs.Written.{WritesPrefix}
 
 -- left is what is known of the stream, buf the bytes that were taken in, and waited what waited to be written before
@@ -27,11 +30,12 @@ pub record BreaksItem (left old_contents new_contents : Option (List ℕ)) (wait
   pub written : WritesPrefix old_contents new_contents (waited ++ next)
 
 -- the turn, or how far it was answered if a fault came
-abbrev pub EndsItem : Result NextItem DeskFault → Option (List ℕ) → List ℕ → Option (List ℕ) → Option (List ℕ)
-    → List ℕ → List ℕ → Type 0
-EndsItem result left buf old_contents new_contents waited queue =
-    MatchResult result (IsNextItem left buf old_contents new_contents waited queue)
-    (λ _. BreaksItem left old_contents new_contents waited)
+abbrev pub EndsItem : {R W : Type 0} → Streams R W → InputBuffer → InputBuffer → List ℕ → List ℕ
+    → Result NextItem DeskFault → Type 0
+EndsItem s old new waited queue result =
+    MatchResult result
+    (IsNextItem (left s.remaining old s.before) (unread new) (bytes_before s.output) (bytes_after s.output) waited queue)
+    (λ _. BreaksItem (left s.remaining old s.before) (bytes_before s.output) (bytes_after s.output) waited)
 
 -- what the register is asked by the message that buf begins with
 abbrev pub request_of_buffer : List ℕ → RequestSpans → Framing → Request

@@ -1,11 +1,12 @@
 //! One connection.
-ghost use Rattle.std.specs.Prelude.{◌≡◌, ◌+◌, ◌<◌, ◌≤◌, ◌⊎◌, ◌↔◌, ℕ, IsErrOf, IsSome, IsTrue};
+ghost use Rattle.std.specs.Prelude.{◌+◌, ◌≤◌, ◌↔◌, ℕ, IfErr, IsSome, IsTrue};
 ghost use Rattle.sqlite.specs.Held.{state};
 ghost use Rattle.sqlite.specs.State.{HasCleanDisk};
-ghost use Rattle.kcr_base.specs.Counted.{inner_of, failures_of, nonempty_reads_of};
+ghost use Rattle.kcr_base.specs.Counted.{nonempty_reads_of};
 ghost use Rattle.kcr_store.specs.Register.{IsConsistent};
 ghost use Rattle.kcr_desk.specs.Answers.{RegisterHistory, AreOfMachine, AreRegisters, IsAnswer, IsReply, history_of};
 ghost use Rattle.kcr_desk.specs.Connections.{Connects, Ends, Leads};
+ghost use Rattle.kcr_desk.specs.Streams.{BreaksStream, streams};
 
 use crate::desk::serve;
 use crate::fault::DeskFault;
@@ -36,15 +37,17 @@ pub fn one<R: Read, W: Write, S: Alter>(
     // The bytes written are the answers of the messages of the input, by a run of the machine, or a prefix of them
     // after a fault. The register has the commands of this run and no other.
     ensures answered { IsTrue register.old.is_genuine → HasCleanDisk (state S.Store register.new.conn)
-        → Ends IsAnswer (R.remaining (inner_of reader.old)) (W.contents (inner_of writer.old))
-        (W.contents (inner_of writer.new)) (history_of register.old) (history_of register.new) result.stream }
+        → Ends IsAnswer (streams R.remaining W.contents reader.old reader.new writer.old writer.new)
+        (history_of register.old) (history_of register.new) result.stream }
 
     // Whatever the database held, each message gets one reply, in their order.
-    ensures replied { Ends IsReply (R.remaining (inner_of reader.old)) (W.contents (inner_of writer.old))
-        (W.contents (inner_of writer.new)) (history_of register.old) (history_of register.new) result.stream }
-    ensures read_fault { IsErrOf result.stream DeskFault.Read
-        → (failures_of reader.old < failures_of reader.new) ⊎ (nonempty_reads_of reader.new ≡ nonempty_reads_of reader.old + 1000000) }
-    ensures write_fault { IsErrOf result.stream DeskFault.Write → failures_of writer.old < failures_of writer.new }
+    ensures replied { Ends IsReply (streams R.remaining W.contents reader.old reader.new writer.old writer.new)
+        (history_of register.old) (history_of register.new) result.stream }
+
+    // The stream ends by `Read` only if a read failed or 1,000,000 reads gave a byte, and by `Write` only if a write
+    // failed.
+    ensures cause { IfErr result.stream (BreaksStream
+        (streams R.remaining W.contents reader.old reader.new writer.old writer.new)) }
     ensures bound { nonempty_reads_of reader.new ≤ nonempty_reads_of reader.old + 1000000 }
     ensures broken { IsTrue result.is_broken ↔ IsSome register.new.in_doubt }
     ensures connects { Connects S.Store register.old register.new 1 }

@@ -1,14 +1,16 @@
 //! The desk over a register.
-ghost use Rattle.std.specs.Prelude.{◌≡◌, ◌+◌, ◌<◌, ◌≤◌, ◌⊎◌, ℕ, List, Option, IfOk, OnErr, IsErrOf, IsTrue, false};
+ghost use Rattle.std.specs.Prelude.{◌≡◌, ◌+◌, ◌≤◌, List, IfErr, IsTrue, false};
 ghost use Rattle.sqlite.specs.Held.{state};
 ghost use Rattle.sqlite.specs.State.{HasCleanDisk};
-ghost use Rattle.kcr_base.specs.Counted.{inner_of, failures_of, nonempty_reads_of};
+ghost use Rattle.kcr_base.specs.Counted.{nonempty_reads_of};
 ghost use Rattle.kcr_base.specs.declared.refusal.Refusal.{Refusal};
 ghost use Rattle.kcr_history.specs.Refusals.{carries, refusal_text};
 ghost use Rattle.kcr_store.specs.Register.{IsConsistent};
 ghost use Rattle.kcr_desk.specs.Answers.{RegisterHistory, IsAnswer, IsReply, history_of};
 ghost use Rattle.kcr_desk.specs.Answers.{AreRegisters, AreOfMachine, AreOfValues};
-ghost use Rattle.kcr_desk.specs.Run.{IsServed, IsServedInPart};
+ghost use Rattle.kcr_desk.specs.Connections.{Ends};
+ghost use Rattle.kcr_desk.specs.Run.{Exchange, Run};
+ghost use Rattle.kcr_desk.specs.Streams.{BreaksStream, streams};
 ghost use Rattle.kcr_desk.specs.Texts.{plain_text};
 
 use crate::fault::DeskFault;
@@ -31,33 +33,25 @@ pub fn serve<R: Read, W: Write, S: Alter>(
     writer: &mut Counted<W>,
     register: &mut Register<S>,
 ) -> Result<Served, DeskFault>
-    // The bytes written are exactly the answers of the messages of the input, by a run of the machine.
-    ensures served { IsTrue register.old.is_genuine → HasCleanDisk (state S.Store register.new.conn)
-        → IfOk result (λ served.
-        IsServed IsAnswer (R.remaining (inner_of reader.old)) (W.contents (inner_of writer.old))
-        (W.contents (inner_of writer.new)) (history_of register.old) (history_of register.new) served.requests) }
-
-    // After a fault they are a beginning of those, and the register stands after the commands that it took.
-    ensures broken { IsTrue register.old.is_genuine → HasCleanDisk (state S.Store register.new.conn) → OnErr result
-        (IsServedInPart IsAnswer (R.remaining (inner_of reader.old)) (W.contents (inner_of writer.old))
-        (W.contents (inner_of writer.new)) (history_of register.old) (history_of register.new)) }
+    // The bytes written are exactly the answers of the messages of the input, by a run of the machine. After a fault
+    // they are a prefix of those, and the register stands after the commands that it took.
+    ensures answered { IsTrue register.old.is_genuine → HasCleanDisk (state S.Store register.new.conn)
+        → Ends IsAnswer (streams R.remaining W.contents reader.old reader.new writer.old writer.new)
+        (history_of register.old) (history_of register.new) result }
 
     // Whatever the database held and whatever its disk does, each message gets one answer, in their order, and it is a
-    // reply to it.
-    ensures answered { IfOk result (λ served.
-        IsServed IsReply (R.remaining (inner_of reader.old)) (W.contents (inner_of writer.old))
-        (W.contents (inner_of writer.new)) (history_of register.old) (history_of register.new) served.requests) }
-    ensures answered_in_part { OnErr result
-        (IsServedInPart IsReply (R.remaining (inner_of reader.old)) (W.contents (inner_of writer.old))
-        (W.contents (inner_of writer.new)) (history_of register.old) (history_of register.new)) }
+    // reply to it. After a fault a prefix of such replies was written.
+    ensures replied { Ends IsReply (streams R.remaining W.contents reader.old reader.new writer.old writer.new)
+        (history_of register.old) (history_of register.new) result }
 
     // The register is whole, and stays as founded as it was. A disk that is clean at the end was so at the beginning.
     ensures kept { IsConsistent S.Store register.new }
     ensures founded { register.new.is_genuine ≡ register.old.is_genuine }
     ensures clean { HasCleanDisk (state S.Store register.new.conn) → HasCleanDisk (state S.Store register.old.conn) }
-    ensures read_fault { IsErrOf result DeskFault.Read
-        → (failures_of reader.old < failures_of reader.new) ⊎ (nonempty_reads_of reader.new ≡ nonempty_reads_of reader.old + 1000000) }
-    ensures write_fault { IsErrOf result DeskFault.Write → failures_of writer.old < failures_of writer.new }
+
+    // The fault is `Read` only if a read failed or 1,000,000 reads gave a byte, and `Write` only if a write failed.
+    ensures cause { IfErr result (BreaksStream
+        (streams R.remaining W.contents reader.old reader.new writer.old writer.new)) }
     ensures bound { nonempty_reads_of reader.new ≤ nonempty_reads_of reader.old + 1000000 }
 {
     let result = serve_stream(alloc, reader, writer, register);
@@ -72,22 +66,16 @@ pub fn refusal_text_is_unique()
     ensures { (r : Refusal) → carries r ≡ false → plain_text r ≡ refusal_text r }
 {}
 
-/// Every stream leads from registers to registers, whether it was served whole or in part. So what holds of every
+/// Every run leads from registers to registers, also that of a stream that was served in part. So what holds of every
 /// register holds of the history that a stream leaves, and of the one that a crash may leave in its place. Where the
 /// machine leads to the histories before, it leads to those after; and if the parts of their commands are values of
 /// their types, so are those of the commands after. So of the tables that a stream leaves of a new register a
 /// verification says that nothing differs.
 pub fn streams_keep_registers()
-    ensures served { (input old new : Option (List ℕ)) (before after : RegisterHistory) (count : ℕ) → AreRegisters before →
-        IsServed IsAnswer input old new before after count → AreRegisters after }
-    ensures broken { (input old new : Option (List ℕ)) (before after : RegisterHistory) → AreRegisters before →
-        IsServedInPart IsAnswer input old new before after → AreRegisters after }
-    ensures led { (input old new : Option (List ℕ)) (before after : RegisterHistory) (count : ℕ) → AreOfMachine before →
-        IsServed IsAnswer input old new before after count → AreOfMachine after }
-    ensures led_in_part { (input old new : Option (List ℕ)) (before after : RegisterHistory) → AreOfMachine before →
-        IsServedInPart IsAnswer input old new before after → AreOfMachine after }
-    ensures values { (input old new : Option (List ℕ)) (before after : RegisterHistory) (count : ℕ) → AreOfValues before →
-        IsServed IsAnswer input old new before after count → AreOfValues after }
-    ensures values_in_part { (input old new : Option (List ℕ)) (before after : RegisterHistory) → AreOfValues before →
-        IsServedInPart IsAnswer input old new before after → AreOfValues after }
+    ensures registers { (before after : RegisterHistory) (exchanges : List Exchange) → AreRegisters before
+        → Run IsAnswer before exchanges after → AreRegisters after }
+    ensures led { (before after : RegisterHistory) (exchanges : List Exchange) → AreOfMachine before
+        → Run IsAnswer before exchanges after → AreOfMachine after }
+    ensures values { (before after : RegisterHistory) (exchanges : List Exchange) → AreOfValues before
+        → Run IsAnswer before exchanges after → AreOfValues after }
 {}

@@ -1,9 +1,10 @@
 //! The bytes of a stream that were read and are no whole message yet.
-ghost use Rattle.std.specs.Prelude.{◌≡◌, ℕ, ◌+◌, ◌*◌, drop, ◌<◌, ◌≤◌, ◌⊎◌, ◌++◌, List, [], Some, Bool, true, false};
-ghost use Rattle.std.specs.Prelude.{length, vec_len, OnOk, IfOk, IsErrOf};
-ghost use Rattle.std.specs.Io.KnownBytes.{prepend_known, IsAtEnd};
-ghost use Rattle.kcr_base.specs.Counted.{inner_of, failures_of, nonempty_reads_of};
+ghost use Rattle.std.specs.Prelude.{◌≡◌, ℕ, ◌+◌, drop, ◌<◌, ◌≤◌, ◌++◌, List, [], true, false};
+ghost use Rattle.std.specs.Prelude.{length, vec_len, OnOk, IfOk};
+ghost use Rattle.std.specs.Io.KnownBytes.{IsAtEnd};
+ghost use Rattle.kcr_base.specs.Counted.{inner_of};
 ghost use Rattle.kcr_desk.specs.Output.{Enqueues};
+ghost use Rattle.kcr_desk.specs.Streams.{streams, written};
 ghost use Rattle.kcr_desk.specs.declared.input_buffer.TheConstants.{MAX_READS};
 
 use crate::fault::DeskFault;
@@ -86,15 +87,13 @@ impl InputBuffer {
         queue: &mut OutputBuffer,
     ) -> Result<bool, DeskFault>
         ensures sent { OnOk result (queue.new.items ≡ []) }
-        ensures takes { TakesIn R.remaining self.old self.new reader.old reader.new result }
+        ensures takes { TakesIn (streams R.remaining W.contents reader.old reader.new writer.old writer.new)
+            self.old self.new result }
         ensures grown { IfOk result (λ more. more ≡ true → (self.new.reads ≡ self.old.reads + 1)
             × ((bytes : List ℕ) × (unread self.new ≡ unread self.old ++ bytes) × (length bytes ≤ 4096))) }
         ensures ended { IfOk result (λ more. more ≡ false → (self.new.reads ≡ self.old.reads)
             × (unread self.new ≡ unread self.old) × IsAtEnd (R.remaining (inner_of reader.new))) }
-        ensures gathered { Enqueues result (W.contents (inner_of writer.old)) (W.contents (inner_of writer.new))
-            queue.old.items queue.new.items }
-        ensures calm { OnOk result (failures_of writer.new ≡ failures_of writer.old) }
-        ensures write_fault { IsErrOf result DeskFault.Write → failures_of writer.old < failures_of writer.new }
+        ensures gathered { Enqueues result (written W.contents writer.old writer.new) queue.old.items queue.new.items }
     {
         flush(writer, queue)?;
         if self.reads == MAX_READS {
@@ -122,12 +121,10 @@ impl InputBuffer {
         writer: &mut Counted<W>,
         queue: &mut OutputBuffer,
     ) -> Result<NextHead, DeskFault>
-        ensures takes { TakesIn R.remaining self.old self.new reader.old reader.new result }
+        ensures takes { TakesIn (streams R.remaining W.contents reader.old reader.new writer.old writer.new)
+            self.old self.new result }
         ensures found { IfOk result (IsNextHead (R.remaining (inner_of reader.new)) (unread self.new)) }
-        ensures gathered { Enqueues result (W.contents (inner_of writer.old)) (W.contents (inner_of writer.new))
-            queue.old.items queue.new.items }
-        ensures calm { OnOk result (failures_of writer.new ≡ failures_of writer.old) }
-        ensures write_fault { IsErrOf result DeskFault.Write → failures_of writer.old < failures_of writer.new }
+        ensures gathered { Enqueues result (written W.contents writer.old writer.new) queue.old.items queue.new.items }
     {
         'head: loop {
             match parse_head(self.unread()) {
@@ -156,15 +153,13 @@ impl InputBuffer {
         queue: &mut OutputBuffer,
         end: usize,
     ) -> Result<bool, DeskFault>
-        ensures takes { TakesIn R.remaining self.old self.new reader.old reader.new result }
+        ensures takes { TakesIn (streams R.remaining W.contents reader.old reader.new writer.old writer.new)
+            self.old self.new result }
         ensures grown { OnOk result ((bytes : List ℕ) × (unread self.new ≡ unread self.old ++ bytes)) }
         ensures enough { IfOk result (λ enough. enough ≡ true → end ≤ length (unread self.new)) }
         ensures ended { IfOk result (λ enough. enough ≡ false → (length (unread self.new) < end)
             × IsAtEnd (R.remaining (inner_of reader.new))) }
-        ensures gathered { Enqueues result (W.contents (inner_of writer.old)) (W.contents (inner_of writer.new))
-            queue.old.items queue.new.items }
-        ensures calm { OnOk result (failures_of writer.new ≡ failures_of writer.old) }
-        ensures write_fault { IsErrOf result DeskFault.Write → failures_of writer.old < failures_of writer.new }
+        ensures gathered { Enqueues result (written W.contents writer.old writer.new) queue.old.items queue.new.items }
     {
         'body: while self.unread().len() < end {
             if !self.fill(reader, writer, queue)? {

@@ -1,9 +1,8 @@
 //! Answers wait in a page and go out together: before more is read, at the end, and if the page is full.
-ghost use Rattle.std.specs.Prelude.{◌≡◌, ◌<◌, ◌≤◌, ◌+◌, ◌++◌, [], OnErr, OnOk};
+ghost use Rattle.std.specs.Prelude.{◌≡◌, ◌≤◌, ◌+◌, ◌++◌, [], OnOk};
 ghost use Rattle.arrayvec.specs.ArrayVec.{array_vec_len};
-ghost use Rattle.kcr_base.specs.Counted.{inner_of, failures_of};
-ghost use Rattle.kcr_desk.specs.Output.{Enqueues};
-ghost use Rattle.kcr_print.specs.Written.{Writes};
+ghost use Rattle.kcr_desk.specs.Output.{Puts, Queues};
+ghost use Rattle.kcr_desk.specs.Streams.{written};
 
 use crate::fault::DeskFault;
 use crate::output_buffer::{OUTPUT_BUFFER_SIZE, OutputBuffer, add};
@@ -12,9 +11,7 @@ use std::io::Write;
 
 /// Writes the whole piece. After a fault a prefix of it was written.
 fn put<W: Write>(writer: &mut Counted<W>, piece: &[u8]) -> Result<(), DeskFault>
-    ensures written { Writes result (W.contents (inner_of writer.old)) (W.contents (inner_of writer.new)) piece.now }
-    ensures calm { OnOk result (failures_of writer.new ≡ failures_of writer.old) }
-    ensures fault { OnErr result ((result ≡ Err DeskFault.Write) × (failures_of writer.old < failures_of writer.new)) }
+    ensures { Puts (written W.contents writer.old writer.new) piece.now result }
 {
     kcr_print::write_whole(writer, piece)?;
     Ok(())
@@ -25,11 +22,8 @@ pub(crate) fn flush<W: Write>(
     writer: &mut Counted<W>,
     queue: &mut OutputBuffer,
 ) -> Result<(), DeskFault>
-    ensures written { Writes result (W.contents (inner_of writer.old)) (W.contents (inner_of writer.new))
-        queue.old.items }
+    ensures written { Puts (written W.contents writer.old writer.new) queue.old.items result }
     ensures sent { OnOk result (queue.new.items ≡ []) }
-    ensures calm { OnOk result (failures_of writer.new ≡ failures_of writer.old) }
-    ensures fault { OnErr result ((result ≡ Err DeskFault.Write) × (failures_of writer.old < failures_of writer.new)) }
 {
     put(writer, queue.as_slice())?;
     queue.clear();
@@ -43,11 +37,8 @@ pub(crate) fn reserve<W: Write>(
     length: usize,
 ) -> Result<(), DeskFault>
     requires { length ≤ OUTPUT_BUFFER_SIZE }
-    ensures gathered { Enqueues result (W.contents (inner_of writer.old)) (W.contents (inner_of writer.new))
-        queue.old.items queue.new.items }
+    ensures queued { Queues (written W.contents writer.old writer.new) queue.old.items queue.new.items result }
     ensures room { OnOk result (array_vec_len queue.new + length ≤ OUTPUT_BUFFER_SIZE) }
-    ensures calm { OnOk result (failures_of writer.new ≡ failures_of writer.old) }
-    ensures fault { OnErr result ((result ≡ Err DeskFault.Write) × (failures_of writer.old < failures_of writer.new)) }
 {
     if length > OUTPUT_BUFFER_SIZE - queue.len() {
         flush(writer, queue)?;
@@ -62,10 +53,7 @@ pub(crate) fn enqueue<W: Write>(
     queue: &mut OutputBuffer,
     piece: &[u8],
 ) -> Result<(), DeskFault>
-    ensures gathered { Enqueues result (W.contents (inner_of writer.old)) (W.contents (inner_of writer.new))
-        (queue.old.items ++ piece.now) queue.new.items }
-    ensures calm { OnOk result (failures_of writer.new ≡ failures_of writer.old) }
-    ensures fault { OnErr result ((result ≡ Err DeskFault.Write) × (failures_of writer.old < failures_of writer.new)) }
+    ensures { Queues (written W.contents writer.old writer.new) (queue.old.items ++ piece.now) queue.new.items result }
 {
     if piece.len() > OUTPUT_BUFFER_SIZE {
         flush(writer, queue)?;

@@ -1,13 +1,13 @@
 //! Replies, and the bytes of an answer.
-ghost use Rattle.std.specs.Prelude.{◌≡◌, ◌<◌, ◌≤◌, ◌+◌, ◌++◌, length, codes, OnOk, OnErr, true};
+ghost use Rattle.std.specs.Prelude.{◌≡◌, ◌≤◌, ◌+◌, ◌++◌, length, codes, true};
 ghost use Rattle.std.specs.Fmt.{decimal};
 ghost use Rattle.arrayvec.specs.ArrayVec.{array_vec_len};
-ghost use Rattle.kcr_base.specs.Counted.{inner_of, failures_of};
 ghost use Rattle.kcr_base.specs.Refusal.{status_of};
 ghost use Rattle.kcr_desk.specs.Texts.{phrase_of, kind_text, line, field, allow_line, close_text, head_text};
 ghost use Rattle.kcr_desk.specs.Texts.{shown_text, answer, plain_text, continue_text, fault_response};
 ghost use Rattle.kcr_desk.specs.Responses.{response_value};
-ghost use Rattle.kcr_desk.specs.Output.{Enqueues};
+ghost use Rattle.kcr_desk.specs.Output.{Queues};
+ghost use Rattle.kcr_desk.specs.Streams.{written};
 ghost use Rattle.kcr_desk.specs.declared.response.MediaType.TheVariants.{Json};
 
 use crate::fault::DeskFault;
@@ -193,11 +193,8 @@ fn enqueue_parts<W: Write>(
     head_only: bool,
     closes: bool,
 ) -> Result<(), DeskFault>
-    ensures gathered { Enqueues result (W.contents (inner_of writer.old)) (W.contents (inner_of writer.new))
-        (queue.old.items ++ answer head_only closes (record { heading = heading; body = body.now }))
-        queue.new.items }
-    ensures calm { OnOk result (failures_of writer.new ≡ failures_of writer.old) }
-    ensures fault { OnErr result ((result ≡ Err DeskFault.Write) × (failures_of writer.old < failures_of writer.new)) }
+    ensures { Queues (written W.contents writer.old writer.new)
+        (queue.old.items ++ answer head_only closes (record { heading = heading; body = body.now })) queue.new.items result }
 {
     reserve(writer, queue, MAX_RESPONSE_HEAD)?;
     add_head(queue, heading, body.len(), closes);
@@ -212,10 +209,8 @@ pub(crate) fn enqueue_response<W: Write>(
     head_only: bool,
     closes: bool,
 ) -> Result<(), DeskFault>
-    ensures gathered { Enqueues result (W.contents (inner_of writer.old)) (W.contents (inner_of writer.new))
-        (queue.old.items ++ answer head_only closes (response_value reply.now)) queue.new.items }
-    ensures calm { OnOk result (failures_of writer.new ≡ failures_of writer.old) }
-    ensures fault { OnErr result ((result ≡ Err DeskFault.Write) × (failures_of writer.old < failures_of writer.new)) }
+    ensures { Queues (written W.contents writer.old writer.new)
+        (queue.old.items ++ answer head_only closes (response_value reply.now)) queue.new.items result }
 {
     let body = match &reply.body {
         Body::Made(text) => text.as_bytes(),
@@ -232,10 +227,8 @@ pub(crate) fn enqueue_refusal<W: Write>(
     refusal: Refusal,
     head_only: bool,
 ) -> Result<(), DeskFault>
-    ensures gathered { Enqueues result (W.contents (inner_of writer.old)) (W.contents (inner_of writer.new))
-        (queue.old.items ++ answer head_only true (fault_response refusal)) queue.new.items }
-    ensures calm { OnOk result (failures_of writer.new ≡ failures_of writer.old) }
-    ensures fault { OnErr result ((result ≡ Err DeskFault.Write) × (failures_of writer.old < failures_of writer.new)) }
+    ensures { Queues (written W.contents writer.old writer.new)
+        (queue.old.items ++ answer head_only true (fault_response refusal)) queue.new.items result }
 {
     let heading = refusal_heading(&refusal, None);
     let body = refusal_body(&refusal);
@@ -259,10 +252,8 @@ pub(crate) fn enqueue_continue<W: Write>(
     queue: &mut OutputBuffer,
     plan: Framing,
 ) -> Result<(), DeskFault>
-    ensures gathered { Enqueues result (W.contents (inner_of writer.old)) (W.contents (inner_of writer.new))
-        (queue.old.items ++ continue_text plan) queue.new.items }
-    ensures calm { OnOk result (failures_of writer.new ≡ failures_of writer.old) }
-    ensures fault { OnErr result ((result ≡ Err DeskFault.Write) × (failures_of writer.old < failures_of writer.new)) }
+    ensures { Queues (written W.contents writer.old writer.new)
+        (queue.old.items ++ continue_text plan) queue.new.items result }
 {
     enqueue(writer, queue, continue_lines(plan))
 }

@@ -1,17 +1,17 @@
 //! Streams of messages.
-ghost use Rattle.std.specs.Prelude.{◌≡◌, ℕ, List, ◌++◌, ◌+◌, ◌*◌, ◌<◌, ◌≤◌, ◌⊎◌, vec_len, IfOk, OnOk, OnErr, IsErrOf};
-ghost use Rattle.std.specs.Io.KnownBytes.{Appends, prepend_known};
-ghost use Rattle.kcr_base.specs.Counted.{inner_of, failures_of, nonempty_reads_of};
-ghost use Rattle.kcr_desk.specs.Input.{TakesIn, unread, left};
-ghost use Rattle.kcr_desk.specs.NextHead.{IsReady, HasFraming};
-ghost use Rattle.kcr_desk.specs.Framing.{is_head};
-ghost use Rattle.kcr_desk.specs.Texts.{ResponseValue, answer};
-ghost use Rattle.kcr_desk.specs.Output.{Enqueues};
-ghost use Rattle.kcr_print.specs.Written.{WritesPrefix};
-ghost use Rattle.kcr_desk.specs.Run.{IsServed, IsServedInPart, Exchange, Begins, messages_of, exchange_text, output};
+ghost use Rattle.std.specs.Prelude.{◌≡◌, ℕ, List, ◌++◌, ◌+◌, ◌<◌, ◌≤◌, ◌⊎◌, OnErr, IsErrOf, MatchResult};
 ghost use Rattle.std.specs.List.{flat_map};
-ghost use Rattle.kcr_desk.specs.Stream.{Message, Ending, AreMessages};
+ghost use Rattle.kcr_base.specs.Counted.{failures_of, nonempty_reads_of};
+ghost use Rattle.kcr_desk.specs.Connections.{Ends};
+ghost use Rattle.kcr_desk.specs.Framing.{is_head};
+ghost use Rattle.kcr_desk.specs.Input.{TakesIn, unread};
+ghost use Rattle.kcr_desk.specs.NextHead.{IsReady, HasFraming};
 ghost use Rattle.kcr_desk.specs.NextItem.{EndsItem, request_of_buffer};
+ghost use Rattle.kcr_desk.specs.Output.{Queues};
+ghost use Rattle.kcr_desk.specs.Run.{Exchange, Begins, messages_of, exchange_text, output};
+ghost use Rattle.kcr_desk.specs.Stream.{Message, Ending, AreMessages};
+ghost use Rattle.kcr_desk.specs.Streams.{WritesPart, WritesText, streams, written};
+ghost use Rattle.kcr_desk.specs.Texts.{ResponseValue, answer};
 
 use crate::fault::DeskFault;
 use crate::head::{Framing, is_head_method};
@@ -52,11 +52,10 @@ fn read_message<R: Read, W: Write>(
     plan: Framing,
 ) -> Result<NextItem, DeskFault>
     requires { HasFraming (unread intake.old) spans plan }
-    ensures turn { EndsItem result (left R.remaining intake.old reader.old) (unread intake.new)
-        (W.contents (inner_of writer.old)) (W.contents (inner_of writer.new)) queue.old.items queue.new.items }
-    ensures takes { TakesIn R.remaining intake.old intake.new reader.old reader.new result }
-    ensures calm { OnOk result (failures_of writer.new ≡ failures_of writer.old) }
-    ensures write_fault { IsErrOf result DeskFault.Write → failures_of writer.old < failures_of writer.new }
+    ensures turn { EndsItem (streams R.remaining W.contents reader.old reader.new writer.old writer.new)
+        intake.old intake.new queue.old.items queue.new.items result }
+    ensures takes { TakesIn (streams R.remaining W.contents reader.old reader.new writer.old writer.new)
+        intake.old intake.new result }
 {
     enqueue_continue(writer, queue, plan)?;
     if intake.read_body(reader, writer, queue, spans.len + plan.length)? {
@@ -74,11 +73,10 @@ fn next_item<R: Read, W: Write>(
     writer: &mut Counted<W>,
     queue: &mut OutputBuffer,
 ) -> Result<NextItem, DeskFault>
-    ensures turn { EndsItem result (left R.remaining intake.old reader.old) (unread intake.new)
-        (W.contents (inner_of writer.old)) (W.contents (inner_of writer.new)) queue.old.items queue.new.items }
-    ensures takes { TakesIn R.remaining intake.old intake.new reader.old reader.new result }
-    ensures calm { OnOk result (failures_of writer.new ≡ failures_of writer.old) }
-    ensures write_fault { IsErrOf result DeskFault.Write → failures_of writer.old < failures_of writer.new }
+    ensures turn { EndsItem (streams R.remaining W.contents reader.old reader.new writer.old writer.new)
+        intake.old intake.new queue.old.items queue.new.items result }
+    ensures takes { TakesIn (streams R.remaining W.contents reader.old reader.new writer.old writer.new)
+        intake.old intake.new result }
 {
     match intake.read_head(reader, writer, queue)? {
         NextHead::Quiet => Ok(NextItem::Ended),
@@ -104,11 +102,9 @@ fn answer_front<W: Write, G: Responder>(
     requires { IsReady (unread intake.now) spans plan }
     ensures answered { (reply : ResponseValue)
         × G.step responder.old (request_of_buffer (unread intake.now) spans plan) reply responder.new
-        × Enqueues result (W.contents (inner_of writer.old)) (W.contents (inner_of writer.new)) (queue.old.items
+        × Queues (written W.contents writer.old writer.new) (queue.old.items
         ++ answer (is_head (request_of_buffer (unread intake.now) spans plan).method) plan.closes reply)
-        queue.new.items }
-    ensures calm { OnOk result (failures_of writer.new ≡ failures_of writer.old) }
-    ensures fault { OnErr result ((result ≡ Err DeskFault.Write) × (failures_of writer.old < failures_of writer.new)) }
+        queue.new.items result }
 {
     let buffer = intake.unread();
     let asked = Request {
@@ -127,10 +123,9 @@ fn finish<W: Write>(
     queue: &mut OutputBuffer,
     requests: u64,
 ) -> Result<Served, DeskFault>
-    ensures served { IfOk result (λ served. (served.requests ≡ requests)
-        × Appends (W.contents (inner_of writer.old)) (W.contents (inner_of writer.new)) queue.old.items) }
-    ensures broken { OnErr result
-        (WritesPrefix (W.contents (inner_of writer.old)) (W.contents (inner_of writer.new)) queue.old.items) }
+    ensures ended { MatchResult result
+        (λ served. (served.requests ≡ requests) × WritesText (written W.contents writer.old writer.new) queue.old.items)
+        (λ _. WritesPart (written W.contents writer.old writer.new) queue.old.items) }
     ensures fault { OnErr result ((result ≡ Err DeskFault.Write) × (failures_of writer.old < failures_of writer.new)) }
 {
     flush(writer, queue)?;
@@ -145,14 +140,10 @@ pub(crate) fn serve_stream<R: Read, W: Write, G: Responder>(
     writer: &mut Counted<W>,
     responder: &mut G,
 ) -> Result<Served, DeskFault>
-    // The bytes written are those that the messages of the bytes read ask for, by a run of the machine.
-    ensures served { IfOk result (λ served. IsServed G.step (R.remaining (inner_of reader.old))
-        (W.contents (inner_of writer.old)) (W.contents (inner_of writer.new))
-        responder.old responder.new served.requests) }
-
-    // After a fault they are a beginning of those, and the register stands after the commands that it took.
-    ensures broken { OnErr result (IsServedInPart G.step (R.remaining (inner_of reader.old))
-        (W.contents (inner_of writer.old)) (W.contents (inner_of writer.new)) responder.old responder.new) }
+    // The bytes written are those that the messages of the bytes read ask for, by a run of the machine. After a fault
+    // they are a prefix of those, and the register stands after the commands that it took.
+    ensures served { Ends G.step (streams R.remaining W.contents reader.old reader.new writer.old writer.new)
+        responder.old responder.new result }
     ensures read_fault { IsErrOf result DeskFault.Read
         → (failures_of reader.old < failures_of reader.new) ⊎ (nonempty_reads_of reader.new ≡ nonempty_reads_of reader.old + 1000000) }
     ensures write_fault { IsErrOf result DeskFault.Write → failures_of writer.old < failures_of writer.new }

@@ -1,33 +1,46 @@
-use Rattle.std.proofs.lemmas.Result.{IfOk-weaker, on_err_weaker}
-use Rattle.kcr_desk.proofs.StandingLemmas.{run_clean, run_founded, run_replies, run_answers, served_by, broken_by, ran}
+use Rattle.kcr_desk.specs.Answers.{Answers, IsAnswer, IsReply, history_of}
+use Rattle.kcr_desk.specs.Streams.{streams}
+use Rattle.kcr_desk.proofs.StandingLemmas.{run_clean, run_founded, run_replies, run_answers, broken_stream, ends_by, ran}
 use Rattle.kcr_desk.proofs.desk.serve.Goals as goal
 
-pub returns-clause-served : goal.returns-clause-served
-returns-clause-served g c founded clean =
-    let leads = run_answers g.S.Store c.args.register.now c.serve_stream-result.new.responder founded clean in
-    IfOk-weaker c.serve_stream-result.result _ _ (λ served is. served_by leads is) c.serve_stream-result.ensures.served
-
-pub returns-clause-broken : goal.returns-clause-broken
-returns-clause-broken g c founded clean =
-    let leads = run_answers g.S.Store c.args.register.now c.serve_stream-result.new.responder founded clean in
-    on_err_weaker c.serve_stream-result.result (λ is. broken_by leads is) c.serve_stream-result.ensures.broken
-
 pub returns-clause-answered : goal.returns-clause-answered
-returns-clause-answered g c =
-    let leads = run_replies g.S.Store c.args.register.now c.serve_stream-result.new.responder in
-    IfOk-weaker c.serve_stream-result.result _ _ (λ served is. served_by leads is) c.serve_stream-result.ensures.served
+returns-clause-answered g c founded clean =
+    let s = streams g.R.Read.remaining g.W.Write.contents c.args.reader.now c.serve_stream-result.new.reader c.args.writer.now
+    c.serve_stream-result.new.writer in
+    let before = c.args.register.now in
+    let after = c.serve_stream-result.new.responder in
+    ends_by (Answers g.S.Store) IsAnswer s before after (history_of before) (history_of after) c.serve_stream-result.result
+    (run_answers g.S.Store before after founded clean) c.serve_stream-result.ensures.served
 
-pub returns-clause-answered_in_part : goal.returns-clause-answered_in_part
-returns-clause-answered_in_part g c =
-    let leads = run_replies g.S.Store c.args.register.now c.serve_stream-result.new.responder in
-    on_err_weaker c.serve_stream-result.result (λ is. broken_by leads is) c.serve_stream-result.ensures.broken
+pub returns-clause-replied : goal.returns-clause-replied
+returns-clause-replied g c =
+    let s = streams g.R.Read.remaining g.W.Write.contents c.args.reader.now c.serve_stream-result.new.reader c.args.writer.now
+    c.serve_stream-result.new.writer in
+    let before = c.args.register.now in
+    let after = c.serve_stream-result.new.responder in
+    ends_by (Answers g.S.Store) IsReply s before after (history_of before) (history_of after) c.serve_stream-result.result
+    (run_replies g.S.Store before after) c.serve_stream-result.ensures.served
 
 pub returns-clause-founded : goal.returns-clause-founded
 returns-clause-founded g c =
-    let run = ran _ _ _ _ _ _ c.serve_stream-result.result c.serve_stream-result.ensures.served c.serve_stream-result.ensures.broken in
-    run_founded g.S.Store c.args.register.now c.serve_stream-result.new.responder run.0 run.1
+    let s = streams g.R.Read.remaining g.W.Write.contents c.args.reader.now c.serve_stream-result.new.reader c.args.writer.now
+    c.serve_stream-result.new.writer in
+    let before = c.args.register.now in
+    let after = c.serve_stream-result.new.responder in
+    let run = ran (Answers g.S.Store) s before after c.serve_stream-result.result c.serve_stream-result.ensures.served in
+    run_founded g.S.Store before after run.0 run.1
 
 pub returns-clause-clean : goal.returns-clause-clean
 returns-clause-clean g c =
-    let run = ran _ _ _ _ _ _ c.serve_stream-result.result c.serve_stream-result.ensures.served c.serve_stream-result.ensures.broken in
-    run_clean g.S.Store c.args.register.now c.serve_stream-result.new.responder run.0 run.1
+    let s = streams g.R.Read.remaining g.W.Write.contents c.args.reader.now c.serve_stream-result.new.reader c.args.writer.now
+    c.serve_stream-result.new.writer in
+    let before = c.args.register.now in
+    let after = c.serve_stream-result.new.responder in
+    let run = ran (Answers g.S.Store) s before after c.serve_stream-result.result c.serve_stream-result.ensures.served in
+    run_clean g.S.Store before after run.0 run.1
+
+pub returns-clause-cause : goal.returns-clause-cause
+returns-clause-cause g c =
+    let s = streams g.R.Read.remaining g.W.Write.contents c.args.reader.now c.serve_stream-result.new.reader c.args.writer.now
+    c.serve_stream-result.new.writer in
+    broken_stream s c.serve_stream-result.result c.serve_stream-result.ensures.read_fault c.serve_stream-result.ensures.write_fault

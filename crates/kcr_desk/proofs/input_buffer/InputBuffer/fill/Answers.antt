@@ -18,4 +18,6 @@ returns-clause-takes g c =
       calm = search rules;
       counted = search rules;
       fault = search rules;
+      calm_writer = search rules;
+      write_fault = search rules;
     }
