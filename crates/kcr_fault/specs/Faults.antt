@@ -1,12 +1,10 @@
 -- Why a task was not done to its end, and what is told of it.
 use Rattle.std.specs.Fmt.{decimal}
-use Rattle.std.specs.Prelude.{◌≡◌, ◌≢◌, ◌+◌, ◌<◌, ◌⊎◌, ℕ, List, ◌++◌, codes, Option, Some, None, IsSome}
-use Rattle.kcr_base.specs.Counted.{failures_of, nonempty_reads_of}
+use Rattle.std.specs.Prelude.{◌≡◌, ◌≢◌, ◌⊎◌, ℕ, List, ◌++◌, codes, Option, Some, None, IsSome}
 use Rattle.kcr_base.specs.Refusal.{number_of, word_of, thing_text}
-use Rattle.kcr_base.specs.declared.counted.Counted.{Counted}
 use Rattle.kcr_base.specs.declared.refusal.Refusal.{Refusal}
 use Rattle.kcr_base.specs.declared.refusal.Refusal.TheVariants as refusal
-use Rattle.kcr_desk.specs.declared.fault.DeskFault.{DeskFault}
+use Rattle.kcr_desk.specs.Streams.{Streams, Written, BreaksStream, HasFailed, IsUntouched, WritesNothing}
 use Rattle.kcr_desk.specs.declared.fault.DeskFault.TheVariants as stream
 use Rattle.kcr_print.specs.declared.fault.PrintFault.{PrintFault}
 use Rattle.kcr_print.specs.declared.fault.PrintFault.TheVariants as print
@@ -25,8 +23,8 @@ use Rattle.kcr_fault.specs.declared.fault.Fault.TheVariants.{Open, File, Log, No
 use Rattle.kcr_fault.specs.declared.fault.Fault.TheVariants.{Unwritten, Net, Lost, Words}
 use Rattle.kcr_fault.specs.declared.fault.Call.TheVariants as call
 use Rattle.kcr_words.specs.declared.words.Task.{Task}
-use Rattle.kcr_words.specs.declared.words.Task.TheVariants.{Run, Serve, Print, Attendance, Custody, Export, Journal, Audit}
-use Rattle.kcr_words.specs.declared.words.Task.TheVariants.{Verify, Rebuild, Pack}
+use Rattle.kcr_words.specs.declared.words.Report.TheVariants.{Print, Attendance}
+use Rattle.kcr_words.specs.declared.words.Task.TheVariants.{Run, Serve, Write, Verify, Rebuild, Pack}
 
 -- what a refusal names, and the end of its line
 abbrev pub named : Refusal → List ℕ
@@ -93,37 +91,19 @@ abbrev pub fault_of_print : PrintFault → Fault
 fault_of_print (print.Refused r) = Refused r
 fault_of_print print.Write = Unwritten
 
--- nothing was read and nothing was written
-abbrev pub IsUntouched : {R W : Type 0} → Counted R → Counted R → Counted W → Counted W → Type 0
-IsUntouched old_input new_input old_output new_output = (new_input ≡ old_input) × (new_output ≡ old_output)
-
 -- the refusals of a task, if nothing broke the register before: out of memory and an I/O error; of a report of
 -- a ceremony, that this ceremony is unknown; of a port, that a connection broke the register. A stream has its refusals
 -- as answers
 abbrev pub MayMeet : Task → Refusal → Type 0
 MayMeet Run met = ⊥
 MayMeet (Serve port connections idle) met = (met ≡ refusal.Memory) ⊎ (met ≡ refusal.Broken)
-MayMeet (Print ceremony) met = MayHaveNoRow ceremony met
-MayMeet (Attendance ceremony) met = MayHaveNoRow ceremony met
-MayMeet Custody met = IsFault met
-MayMeet (Export after until) met = IsFault met
-MayMeet (Journal ceremony) met = IsFault met
-MayMeet Audit met = IsFault met
-MayMeet Verify met = IsFault met
-MayMeet Rebuild met = IsFault met
-MayMeet Pack met = IsFault met
+MayMeet (Write (Print ceremony)) met = MayHaveNoRow ceremony met
+MayMeet (Write (Attendance ceremony)) met = MayHaveNoRow ceremony met
+MayMeet other met = IsFault met
 
 -- a refusal that a call may give, or, over a register that was broken before, that it is broken
 abbrev pub MeetsOver : {S : Type 0} → RegisterState S → (Refusal → Type 0) → Refusal → Type 0
 MeetsOver register May met = May met ⊎ ((met ≡ refusal.Broken) × IsSome register.in_doubt)
-
--- why a stream was not answered to its end: a read failed, or 1,000,000 reads gave a byte; a write failed; or memory
--- ran out
-abbrev pub BreaksStream : {R W : Type 0} → DeskFault → Counted R → Counted R → Counted W → Counted W → Type 0
-BreaksStream stream.Read old_input new_input old_output new_output =
-    (failures_of old_input < failures_of new_input) ⊎ (nonempty_reads_of new_input ≡ nonempty_reads_of old_input + 1000000)
-BreaksStream stream.Write old_input new_input old_output new_output = failures_of old_output < failures_of new_output
-BreaksStream stream.Memory old_input new_input old_output new_output = Unit {0}
 
 -- the task is to listen on a port
 abbrev pub IsServe : Task → Type 0
@@ -132,19 +112,17 @@ IsServe task = (port : ℕ) × (connections : ℕ) × (idle : ℕ) × (task ≡ 
 -- what caused the fault of a task over a register that was opened: each fault comes only from a task that can have it.
 -- That memory ran out, that the device failed, that the port is taken and that the file is gone has no further cause
 -- here
-abbrev pub StopsTask : {R W : Type 0} → Task → Counted R → Counted R → Counted W → Counted W → Fault → Type 0
-StopsTask task old_input new_input old_output new_output (Stream fault) =
-    (task ≡ Run) × BreaksStream fault old_input new_input old_output new_output
-StopsTask task old_input new_input old_output new_output (Refused met) = MayMeet task met
-StopsTask task old_input new_input old_output new_output Unwritten = failures_of old_output < failures_of new_output
-StopsTask task old_input new_input old_output new_output (Net call) = IsServe task
-StopsTask task old_input new_input old_output new_output Lost = IsServe task
-StopsTask task old_input new_input old_output new_output other = ⊥
+abbrev pub StopsTask : {R W : Type 0} → Task → Streams R W → Fault → Type 0
+StopsTask task s (Stream fault) = (task ≡ Run) × BreaksStream s fault
+StopsTask task s (Refused met) = MayMeet task met
+StopsTask task s Unwritten = HasFailed s.output
+StopsTask task s (Net call) = IsServe task
+StopsTask task s Lost = IsServe task
+StopsTask task s other = ⊥
 
 -- the task is known, and its fault has this cause
-abbrev pub StopsKnown : {R W : Type 0} → Option Task → Counted R → Counted R → Counted W → Counted W → Fault → Type 0
-StopsKnown task old_input new_input old_output new_output why =
-    (known : Task) × (task ≡ Some known) × StopsTask known old_input new_input old_output new_output why
+abbrev pub StopsKnown : {R W : Type 0} → Option Task → Streams R W → Fault → Type 0
+StopsKnown task s why = (known : Task) × (task ≡ Some known) × StopsTask known s why
 
 -- the task makes a new file of a register
 abbrev pub IsMaking : Option Task → Type 0
@@ -157,37 +135,27 @@ WantsCommands task = (task ≡ Some Verify) ⊎ IsMaking task
 -- what caused the fault of a task over the file, if one is named. A register that is not opened, a damaged log, one
 -- without commands where some are wanted, a new register that cannot be made, and words for which there is no memory:
 -- then nothing was read or written. Without a file an opening fails only for memory, and no file or log fails
-abbrev pub HasCause
-    : {R W : Type 0} → Option Task → Option (List ℕ) → Fault → Counted R → Counted R → Counted W → Counted W → Type 0
-HasCause task file (Open fault) old_input new_input old_output new_output =
-    (file ≡ None → fault ≡ opening.Memory) × IsUntouched old_input new_input old_output new_output
-HasCause task file (File step) old_input new_input old_output new_output =
-    IsSome file × IsUntouched old_input new_input old_output new_output
-HasCause task file (Log log) old_input new_input old_output new_output =
-    (log ≢ logs.Sound) × IsSome file × IsUntouched old_input new_input old_output new_output
-HasCause task file (Nothing missing) old_input new_input old_output new_output =
-    WantsCommands task × IsMissing file missing × IsUntouched old_input new_input old_output new_output
-HasCause task file (Into fault) old_input new_input old_output new_output =
-    IsMaking task × IsUntouched old_input new_input old_output new_output
-HasCause task file (IntoFile step) old_input new_input old_output new_output =
-    IsMaking task × IsUntouched old_input new_input old_output new_output
-HasCause task file Words old_input new_input old_output new_output =
-    IsUntouched old_input new_input old_output new_output
-HasCause task file other old_input new_input old_output new_output =
-    StopsKnown task old_input new_input old_output new_output other
+abbrev pub HasCause : {R W : Type 0} → Option Task → Option (List ℕ) → Streams R W → Fault → Type 0
+HasCause task file s (Open fault) = (file ≡ None → fault ≡ opening.Memory) × IsUntouched s
+HasCause task file s (File step) = IsSome file × IsUntouched s
+HasCause task file s (Log log) = (log ≢ logs.Sound) × IsSome file × IsUntouched s
+HasCause task file s (Nothing missing) = WantsCommands task × IsMissing file missing × IsUntouched s
+HasCause task file s (Into fault) = IsMaking task × IsUntouched s
+HasCause task file s (IntoFile step) = IsMaking task × IsUntouched s
+HasCause task file s Words = IsUntouched s
+HasCause task file s other = StopsKnown task s other
 
 -- why a stream of requests was not answered to its end
-abbrev pub StopsStream : {R W : Type 0} → Counted R → Counted R → Counted W → Counted W → Fault → Type 0
-StopsStream old_input new_input old_output new_output (Stream fault) =
-    BreaksStream fault old_input new_input old_output new_output
-StopsStream old_input new_input old_output new_output other = ⊥
+abbrev pub StopsStream : {R W : Type 0} → Streams R W → Fault → Type 0
+StopsStream s (Stream fault) = BreaksStream s fault
+StopsStream s other = ⊥
 
 -- why a report, an audit or a line was not written whole: a refusal that may be met, or a failed write, which the
 -- writer's count tells
-abbrev pub StopsReport : {W : Type 0} → (Refusal → Type 0) → Counted W → Counted W → Fault → Type 0
-StopsReport May old_output new_output (Refused met) = May met
-StopsReport May old_output new_output Unwritten = failures_of old_output < failures_of new_output
-StopsReport May old_output new_output other = ⊥
+abbrev pub StopsReport : {W : Type 0} → (Refusal → Type 0) → Written W → Fault → Type 0
+StopsReport May w (Refused met) = May met
+StopsReport May w Unwritten = HasFailed w
+StopsReport May w other = ⊥
 
 -- why a register in a file was not opened, nor a copy of it: it is none, or its file or its log is not sound
 abbrev pub StopsOpening : Fault → Type 0
@@ -204,9 +172,9 @@ StopsReading other = StopsOpening other
 
 -- why a replay stopped: as a report does, or there was nothing to replay or no new register could be made, and then
 -- nothing was written
-abbrev pub StopsReplay : {W : Type 0} → Counted W → Counted W → Fault → Type 0
-StopsReplay old_output new_output (Nothing missing) = IsUnfilled missing × (new_output ≡ old_output)
-StopsReplay old_output new_output other = StopsReport IsFault old_output new_output other
+abbrev pub StopsReplay : {W : Type 0} → Written W → Fault → Type 0
+StopsReplay w (Nothing missing) = IsUnfilled missing × WritesNothing w
+StopsReplay w other = StopsReport IsFault w other
 
 -- why no new register was made
 abbrev pub StopsMaking : Fault → Type 0
@@ -215,10 +183,10 @@ StopsMaking (IntoFile step) = Unit {0}
 StopsMaking other = ⊥
 
 -- the same for a task that makes one
-abbrev pub StopsRebuild : {W : Type 0} → Counted W → Counted W → Fault → Type 0
-StopsRebuild old_output new_output (Into fault) = new_output ≡ old_output
-StopsRebuild old_output new_output (IntoFile step) = new_output ≡ old_output
-StopsRebuild old_output new_output other = StopsReplay old_output new_output other
+abbrev pub StopsRebuild : {W : Type 0} → Written W → Fault → Type 0
+StopsRebuild w (Into fault) = WritesNothing w
+StopsRebuild w (IntoFile step) = WritesNothing w
+StopsRebuild w other = StopsReplay w other
 
 -- why a port is left before all connections were served: none could be accepted, none can be read for lack of memory,
 -- the file is gone, or the register is broken now
@@ -228,7 +196,7 @@ StopsListening register fault =
     ⊎ ((fault ≡ Refused refusal.Memory) ⊎ ((fault ≡ Refused refusal.Broken) × IsSome register.in_doubt)))
 
 -- the same for the whole task of listening, which binds the port and writes a line first
-abbrev pub StopsServing : {S W : Type 0} → RegisterState S → Counted W → Counted W → Fault → Type 0
-StopsServing register old_output new_output fault =
+abbrev pub StopsServing : {S W : Type 0} → RegisterState S → Written W → Fault → Type 0
+StopsServing register w fault =
     (fault ≡ Net call.Binding)
-    ⊎ (StopsListening register fault ⊎ StopsReport (λ met. met ≡ refusal.Memory) old_output new_output fault)
+    ⊎ (StopsListening register fault ⊎ StopsReport (λ met. met ≡ refusal.Memory) w fault)

@@ -4,8 +4,9 @@ use Rattle.kcr_print.specs.Written.{WritesPrefix}
 use Rattle.kcr_fault.specs.Lines.{missing_line}
 use Rattle.kcr_fault.specs.declared.fault.Missing.{Missing}
 use Rattle.kcr_fault.specs.declared.fault.Missing.TheVariants.{Unnamed, Absent, Empty}
-use Rattle.kcr_words.specs.Tasks.{IsReport}
+use Rattle.kcr_words.specs.declared.words.Report.{Report}
 use Rattle.kcr_words.specs.declared.words.Task.{Task}
+use Rattle.kcr_words.specs.declared.words.Task.TheVariants.{Write}
 
 -- the words name no file, or one that is not there or has no command
 abbrev pub IsMissing : Option (List ℕ) → Missing → Type 0
@@ -30,4 +31,4 @@ IsNotedOf file old new =
 -- it is as it was, or a report has told that the register is missing
 abbrev pub IsNoted : Option Task → Option (List ℕ) → Option (List ℕ) → Option (List ℕ) → Type 0
 IsNoted task file old new =
-    (new ≡ old) ⊎ ((report : Task) × (task ≡ Some report) × IsReport report × IsNotedOf file old new)
+    (new ≡ old) ⊎ ((report : Report) × (task ≡ Some (Write report)) × IsNotedOf file old new)

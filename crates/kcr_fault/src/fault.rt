@@ -3,6 +3,7 @@ ghost use Rattle.std.specs.Prelude.{◌≡◌, ℕ, List, Some, IfOk, option_map
 ghost use Rattle.kcr_print.specs.Written.{WritesPrefix};
 ghost use Rattle.kcr_fault.specs.Faults.{IsLineOf, refusal_line, reason_of, line_of, port_of};
 ghost use Rattle.kcr_fault.specs.Notes.{IsTold};
+ghost use Rattle.kcr_words.specs.Tasks.{file_in, into_in};
 ghost use Rattle.kcr_fault.specs.Lines.{damage_lines, log_line, name_of, missing_line, open_head, into_head, net_head};
 
 use crate::lines::{around, numbered};
@@ -181,7 +182,7 @@ fn damaged(alloc: Global, log: &Log) -> Result<String, AllocError>
 }
 
 /// A name that was given, or nothing.
-fn name_of(name: Option<&str>) -> &str
+pub fn name_of(name: Option<&str>) -> &str
     ensures { result.now ≡ name_of (option_map (λ n. n.now) name.entry) }
 {
     match name {
@@ -246,7 +247,7 @@ fn port_of(task: Task) -> u16
 /// The line of a fault, with what the words name. The error is out of memory.
 fn lines(alloc: Global, order: &Order<'_>, fault: &Fault) -> Result<String, AllocError>
     ensures { IfOk result (λ lines. string_bytes lines ≡ line_of (Some order.now.task)
-        (option_map (λ n. n.now) order.now.file) (option_map (λ n. n.now) order.now.into) fault.now) }
+        (file_in order.now) (into_in order.now) fault.now) }
 {
     match fault {
         Fault::Refused(refusal) => refused(alloc, refusal),
@@ -316,8 +317,7 @@ pub fn write_missing<F: Write>(alloc: Global, faults: &mut F, kind: Missing, fil
 
 /// Writes the lines of a fault, as far as they can be written. If no memory is found for them, the one that needs none.
 pub fn write_fault<F: Write>(alloc: Global, faults: &mut F, order: &Order<'_>, fault: &Fault)
-    ensures { (line : List ℕ) × IsLineOf (Some order.now.task) (option_map (λ n. n.now) order.now.file)
-        (option_map (λ n. n.now) order.now.into) fault.now line
+    ensures { (line : List ℕ) × IsLineOf (Some order.now.task) (file_in order.now) (into_in order.now) fault.now line
         × WritesPrefix (F.contents faults.old) (F.contents faults.new) line }
 {
     match lines(alloc, order, fault) {

@@ -4,5 +4,5 @@
 mod fault;
 mod lines;
 
-pub use fault::{Call, Fault, Missing, Step, write_fault, write_line, write_missing};
+pub use fault::{Call, Fault, Missing, Step, name_of, write_fault, write_line, write_missing};
 pub use lines::{around, numbered};
