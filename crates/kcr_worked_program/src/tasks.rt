@@ -7,6 +7,7 @@ ghost use Rattle.kcr_history.specs.declared.views.Finding.TheVariants as Finding
 ghost use Rattle.kcr_log.specs.declared.judgement.Log.TheVariants as Logs;
 ghost use Rattle.kcr_store.specs.declared.«open».OpenFault.TheVariants as Openings;
 ghost use Rattle.kcr_verify.specs.declared.new_register.CreateFault.TheVariants as Creations;
+ghost use Rattle.kcr_words.specs.declared.words.Report.TheVariants as Reports;
 ghost use Rattle.kcr_words.specs.declared.words.Task.TheVariants as Tasks;
 ghost use Rattle.kcr_fault.specs.declared.fault.Call.TheVariants as Calls;
 ghost use Rattle.kcr_fault.specs.declared.fault.Fault.TheVariants as Faults;
@@ -55,9 +56,9 @@ pub fn lines_of_missing_registers()
 
 /// The lines of faults, with the file, the new file and the port that the words name.
 pub fn lines_of_faults()
-    ensures unknown { line_of (Some (Tasks.Print 61)) None None
+    ensures unknown { line_of (Some (Tasks.Write (Reports.Print 61))) None None
         (Faults.Refused (Refusals.Unknown (Things.Ceremony 61))) ≡ codes "refused: 12 unknown ceremony 61\n" }
-    ensures broken { line_of (Some Tasks.Custody) None None (Faults.Refused Refusals.Broken) ≡
+    ensures broken { line_of (Some (Tasks.Write Reports.Custody)) None None (Faults.Refused Refusals.Broken) ≡
         codes "refused: 35 broken\n" }
     ensures file { line_of (Some Tasks.Run) (Some (codes "register.db")) None (Faults.File Steps.Locking) ≡
         codes "open: disk\nlocking: register.db\n" }
