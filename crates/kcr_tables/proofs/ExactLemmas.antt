@@ -14,8 +14,8 @@ use Rattle.kcr_history.specs.declared.views.Selection.TheVariants.{Matching, All
 use Rattle.kcr_rows.specs.Keyed.{TableLayout}
 use Rattle.kcr_rows.proofs.FailLemmas.{if_ok}
 use Rattle.kcr_rows.proofs.PutLemmas.{has_same, mapped_from}
-use Rattle.kcr_tables.specs.Selected.{asked_once, is_under_any}
-use Rattle.kcr_tables.specs.Exact.{rows_at, AreShown, SelectedAreRead, AllAreRead, IsOneOf}
+use Rattle.kcr_tables.specs.Selected.{asked_once, is_under_any, asked_of, asked_all}
+use Rattle.kcr_tables.specs.Exact.{rows_at, AreShown, IsOneOf}
 use Rattle.kcr_tables.proofs.HasLemmas.{has_left, has_right, filter_from, filter_to, filter_is}
 
 module _ {X : Type 0} (row_of : X → Row) where
@@ -40,18 +40,21 @@ module _ {X : Type 0} (row_of : X → Row) where
 
   pub under_asked : {K : Type 0} (place : TableLayout) (is_under : K → Row → Bool) (asked : Selection K) (db : Trees) (key : K) → asked ≡ Matching key
       → (r : Result (Vec X Global) Refusal) → IfOk r (λ all. IsPermutation (filter (is_under key) (rows_at place db)) (map row_of all.items))
-      → IfOk r (λ all. SelectedAreRead row_of place is_under asked all.items db)
-  under_asked place is_under asked db key is r h = subst (λ q. IfOk r (λ all. SelectedAreRead row_of place is_under q all.items db)) (sym is) (shown_in _ r h)
+      → IfOk r (λ all. AreShown row_of all.items (asked_of is_under asked (rows_at place db)))
+  under_asked place is_under asked db key is r h = subst (λ q. IfOk r (λ all. AreShown row_of all.items
+      (asked_of is_under q (rows_at place db)))) (sym is) (shown_in _ r h)
 
   pub all_asked : {K : Type 0} (place : TableLayout) (is_under : K → Row → Bool) (asked : Selection K) (db : Trees) → asked ≡ All
       → (r : Result (Vec X Global) Refusal) → IfOk r (λ all. IsPermutation (rows_at place db) (map row_of all.items))
-      → IfOk r (λ all. SelectedAreRead row_of place is_under asked all.items db)
-  all_asked place is_under asked db is r h = subst (λ q. IfOk r (λ all. SelectedAreRead row_of place is_under q all.items db)) (sym is) (shown_in _ r h)
+      → IfOk r (λ all. AreShown row_of all.items (asked_of is_under asked (rows_at place db)))
+  all_asked place is_under asked db is r h = subst (λ q. IfOk r (λ all. AreShown row_of all.items
+      (asked_of is_under q (rows_at place db)))) (sym is) (shown_in _ r h)
 
   pub whole_asked : (place : TableLayout) (asked : Bool) (db : Trees) → asked ≡ true
       → (r : Result (Vec X Global) Refusal) → IfOk r (λ all. IsPermutation (rows_at place db) (map row_of all.items))
-      → IfOk r (λ all. AllAreRead row_of place asked all.items db)
-  whole_asked place asked db is r h = subst (λ q. IfOk r (λ all. AllAreRead row_of place q all.items db)) (sym is) (shown_in _ r h)
+      → IfOk r (λ all. AreShown row_of all.items (asked_all asked (rows_at place db)))
+  whole_asked place asked db is r h = subst (λ q. IfOk r (λ all. AreShown row_of all.items
+      (asked_all q (rows_at place db)))) (sym is) (shown_in _ r h)
 
   -- ---- rows found by a list of keys, of which some may be the same
 

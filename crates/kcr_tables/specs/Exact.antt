@@ -100,14 +100,6 @@ is_stay_row asked row = is_lasting_row asked.ceremony asked.at row
 
 -- ---- the rows asked for
 
--- of a table those under a key, or all
-abbrev pub SelectedAreRead : {X K : Type 0} → (X → Row) → TableLayout → (K → Row → Bool) → Selection K → List X → Trees → Type 0
-SelectedAreRead row_of place is_under asked shown db = AreShown row_of shown (asked_of is_under asked (rows_at place db))
-
--- of a table all
-abbrev pub AllAreRead : {X : Type 0} → (X → Row) → TableLayout → Bool → List X → Trees → Type 0
-AllAreRead row_of place asked shown db = AreShown row_of shown (asked_all asked (rows_at place db))
-
 -- the appointments to a place, and those of a person
 abbrev pub rows_to : Custodian → Trees → List Row
 rows_to place db = filter (has_text 0 (place_text place)) (rows_at appointments_place db)
@@ -152,23 +144,27 @@ StepsAreShown (Some asked) seatings steps db =
 
 -- of people's offices
 pub record StaffIsShown (asks : Asks) (db : Trees) (rows : StaffRows) : Type 0 where
-  pub trainings : SelectedAreRead training_row trainings_place is_training_row asks.trainings rows.trainings.items db
-  pub withdrawals : SelectedAreRead withdrawal_row withdrawals_place (has_text 0) asks.withdrawals rows.withdrawals.items db
+  pub trainings : AreShown training_row rows.trainings.items
+      (asked_of is_training_row asks.trainings (rows_at trainings_place db))
+  pub withdrawals : AreShown withdrawal_row rows.withdrawals.items
+      (asked_of (has_text 0) asks.withdrawals (rows_at withdrawals_place db))
   pub appointments : AppointmentsAreShown asks.appointments rows.appointments.items db
 
 -- of what is kept in the safes
 pub record CustodyIsShown (asks : Asks) (db : Trees) (rows : CustodyRows) : Type 0 where
-  pub boxes : AllAreRead box_row boxes_place asks.boxes rows.boxes.items db
-  pub safes : AllAreRead safe_row safes_place asks.safes rows.safes.items db
-  pub bags : SelectedAreRead bag_row bags_place (has_text 0) asks.bags rows.bags.items db
-  pub items : SelectedAreRead item_row items_place is_item_row asks.items rows.items.items db
+  pub boxes : AreShown box_row rows.boxes.items (asked_all asks.boxes (rows_at boxes_place db))
+  pub safes : AreShown safe_row rows.safes.items (asked_all asks.safes (rows_at safes_place db))
+  pub bags : AreShown bag_row rows.bags.items (asked_of (has_text 0) asks.bags (rows_at bags_place db))
+  pub items : AreShown item_row rows.items.items (asked_of is_item_row asks.items (rows_at items_place db))
 
 -- of ceremonies
 pub record CeremoniesAreShown (asks : Asks) (db : Trees) (rows : CeremonyRows) : Type 0 where
-  pub ceremonies : SelectedAreRead ceremony_row ceremonies_place (has_number 0) asks.ceremonies rows.ceremonies.items db
-  pub marks : SelectedAreRead mark_row marks_place (has_number 0) asks.marks rows.marks.items db
+  pub ceremonies : AreShown ceremony_row rows.ceremonies.items
+      (asked_of (has_number 0) asks.ceremonies (rows_at ceremonies_place db))
+  pub marks : AreShown mark_row rows.marks.items (asked_of (has_number 0) asks.marks (rows_at marks_place db))
   pub steps : StepsAreShown asks.steps rows.seatings.items rows.steps.items db
-  pub exceptions : SelectedAreRead exception_row exceptions_place (has_number 0) asks.exceptions rows.exceptions.items db
+  pub exceptions : AreShown exception_row rows.exceptions.items
+      (asked_of (has_number 0) asks.exceptions (rows_at exceptions_place db))
 
 -- the parts of a view that are read together
 abbrev pub staff_of : View → StaffRows
@@ -187,9 +183,9 @@ ceremonies_of view = record {
 }
 
 -- every row asked for, of each table, is the row of a value in the view; of the stays those of the ceremony
-pub record HasNoInvalidRow (asks : Asks) (view : View) (db : Trees) : Type 0 where
-  pub people : SelectedAreRead person_row people_place (has_any 0) asks.people view.people.items db
+pub record HasNoInvalidRow (asks : Asks) (db : Trees) (view : View) : Type 0 where
+  pub people : AreShown person_row view.people.items (asked_of (has_any 0) asks.people (rows_at people_place db))
   pub staff : StaffIsShown asks db (staff_of view)
   pub custody : CustodyIsShown asks db (custody_of view)
   pub ceremonies : CeremoniesAreShown asks db (ceremonies_of view)
-  pub stays : SelectedAreRead stay_row stays_place is_stay_row asks.stays view.stays.items db
+  pub stays : AreShown stay_row view.stays.items (asked_of is_stay_row asks.stays (rows_at stays_place db))

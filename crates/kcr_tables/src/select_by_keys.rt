@@ -7,8 +7,8 @@ ghost use Rattle.std.proofs.lemmas.Slice.Eq.{bytes_eq-Decides};
 ghost use Rattle.kcr_base.specs.Same.{same_text};
 ghost use Rattle.kcr_history.specs.Views.{Includes, is_of_people, is_item_of};
 ghost use Rattle.kcr_rows.specs.Rows.{person_row, item_row};
-ghost use Rattle.kcr_tables.specs.Selected.{asked_once, is_under_any};
-ghost use Rattle.kcr_tables.specs.Exact.{rows_at, has_key, has_any, is_item_row, AreShown, SelectedAreRead};
+ghost use Rattle.kcr_tables.specs.Selected.{asked_once, is_under_any, asked_of};
+ghost use Rattle.kcr_tables.specs.Exact.{rows_at, has_key, has_any, is_item_row, AreShown};
 ghost use Rattle.kcr_tables.specs.StoredTables.{people_place, items_place};
 ghost use Rattle.kcr_tables.specs.Frame.{OfTables, OfTrees, Reads};
 
@@ -112,7 +112,7 @@ pub fn select_people<S: Alter>(
     ensures rows { OfTables S.Store tx.old tx.new result
         (λ t all. Includes is_of_people asked.now t.rows.people all.items) }
     ensures exact { OfTrees S.Store tx.old tx.new result
-        (λ db all. SelectedAreRead person_row people_place (has_any 0) asked.now all.items db) }
+        (λ db all. AreShown person_row all.items (asked_of (has_any 0) asked.now (rows_at people_place db))) }
     ensures frame { Reads S.Store tx.old tx.new result }
 {
     match asked {
@@ -131,7 +131,7 @@ pub fn select_items<S: Alter>(
     ensures rows { OfTables S.Store tx.old tx.new result
         (λ t all. Includes is_item_of asked.now t.rows.items all.items) }
     ensures exact { OfTrees S.Store tx.old tx.new result
-        (λ db all. SelectedAreRead item_row items_place is_item_row asked.now all.items db) }
+        (λ db all. AreShown item_row all.items (asked_of is_item_row asked.now (rows_at items_place db))) }
     ensures frame { Reads S.Store tx.old tx.new result }
 {
     match asked {

@@ -9,7 +9,8 @@ ghost use Rattle.kcr_room.specs.Requests.{stay_count};
 ghost use Rattle.kcr_room.specs.Stays.{stay_reaches};
 ghost use Rattle.kcr_rows.specs.Greatest.{IsGreatest};
 ghost use Rattle.kcr_rows.specs.Rows.{stay_row};
-ghost use Rattle.kcr_tables.specs.Exact.{rows_at, is_lasting_row, is_stay_row, AreShown, SelectedAreRead};
+ghost use Rattle.kcr_tables.specs.Selected.{asked_of};
+ghost use Rattle.kcr_tables.specs.Exact.{rows_at, is_lasting_row, is_stay_row, AreShown};
 ghost use Rattle.kcr_tables.specs.StoredTables.{stays_place};
 ghost use Rattle.kcr_tables.specs.Frame.{OfTables, OfTrees, Reads};
 
@@ -96,7 +97,7 @@ pub fn select_stays<S: Alter>(
 ) -> Result<Vec<Stay>, Refusal>
     ensures rows { OfTables S.Store tx.old tx.new result (λ t all. IncludesStays asked.now t.rows.stays all.items) }
     ensures exact { OfTrees S.Store tx.old tx.new result
-        (λ db all. SelectedAreRead stay_row stays_place is_stay_row asked.now all.items db) }
+        (λ db all. AreShown stay_row all.items (asked_of is_stay_row asked.now (rows_at stays_place db))) }
     ensures frame { Reads S.Store tx.old tx.new result }
 {
     match asked {

@@ -3,7 +3,8 @@
 ghost use Rattle.std.specs.Prelude.{filter, map, IsPermutation};
 ghost use Rattle.kcr_history.specs.Views.{Includes, is_training_asked, training_reaches};
 ghost use Rattle.kcr_rows.specs.Rows.{training_row};
-ghost use Rattle.kcr_tables.specs.Exact.{rows_at, has_from, is_training_row, SelectedAreRead};
+ghost use Rattle.kcr_tables.specs.Selected.{asked_of};
+ghost use Rattle.kcr_tables.specs.Exact.{rows_at, has_from, is_training_row, AreShown};
 ghost use Rattle.kcr_tables.specs.StoredTables.{trainings_place};
 ghost use Rattle.kcr_tables.specs.Frame.{OfTables, OfTrees, Reads};
 
@@ -49,7 +50,7 @@ pub fn select_trainings<S: Alter>(
     ensures rows { OfTables S.Store tx.old tx.new result
         (λ t all. Includes is_training_asked asked.now t.rows.trainings all.items) }
     ensures exact { OfTrees S.Store tx.old tx.new result
-        (λ db all. SelectedAreRead training_row trainings_place is_training_row asked.now all.items db) }
+        (λ db all. AreShown training_row all.items (asked_of is_training_row asked.now (rows_at trainings_place db))) }
     ensures frame { Reads S.Store tx.old tx.new result }
 {
     match asked {

@@ -11,7 +11,7 @@ ghost use Rattle.kcr_rows.proofs.FilterLemmas.{has_value};
 ghost use Rattle.kcr_rows.specs.Frame.{ImpliesOpen, StaysInTransaction};
 ghost use Rattle.kcr_tables.specs.Frame.{OfTables, OfMachineTables, OfTrees, ChangesTables, Reads};
 ghost use Rattle.kcr_tables.specs.Selected.{asked_of, asked_all};
-ghost use Rattle.kcr_tables.specs.Exact.{rows_at, SelectedAreRead, AllAreRead};
+ghost use Rattle.kcr_tables.specs.Exact.{rows_at, AreShown};
 ghost use Rattle.kcr_tables.specs.Statements.{InsertsRow, UpdatesRow};
 ghost use Rattle.kcr_tables.specs.Table.{TableSpec, IsTable, LookupSpec, IsLookup, with_put, machine_rows};
 
@@ -166,8 +166,8 @@ pub fn select_rows<S: Alter, K: AsCell, T: LookupBy<K>>(
     ensures rows { OfTables S.Store tx.old tx.new result
         (λ t all. all.items ≡ asked_of T.lookup_spec.is_under asked.now (T.table.rows_in t)) }
     ensures exact { OfTrees S.Store tx.old tx.new result
-        (λ db all. SelectedAreRead T.row_of T.table.place (λ key. has_value T.lookup_spec.column (K.value_of key)) asked.now
-        all.items db) }
+        (λ db all. AreShown T.row_of all.items
+        (asked_of (λ key. has_value T.lookup_spec.column (K.value_of key)) asked.now (rows_at T.table.place db))) }
     ensures frame { Reads S.Store tx.old tx.new result }
 {
     match asked {
@@ -185,7 +185,7 @@ pub fn select_all<S: Alter, T: TableRow>(
 ) -> Result<Vec<T>, Refusal>
     ensures rows { OfTables S.Store tx.old tx.new result (λ t all. all.items ≡ asked_all asked (T.table.rows_in t)) }
     ensures exact { OfTrees S.Store tx.old tx.new result
-        (λ db all. AllAreRead T.row_of T.table.place asked all.items db) }
+        (λ db all. AreShown T.row_of all.items (asked_all asked (rows_at T.table.place db))) }
     ensures frame { Reads S.Store tx.old tx.new result }
 {
     if asked {

@@ -143,7 +143,7 @@ pub fn read_early_rows<S: Alter>(
     asks: &Asks,
 ) -> Result<View, Refusal>
     ensures view { OfMachineTables S.Store tx.old tx.new result (IsViewOf (early_asks asks.now)) }
-    ensures exact { OfTrees S.Store tx.old tx.new result (λ db view. HasNoInvalidRow (early_asks asks.now) view db) }
+    ensures exact { OfTrees S.Store tx.old tx.new result (HasNoInvalidRow (early_asks asks.now)) }
     ensures frame { Reads S.Store tx.old tx.new result }
 {
     let people = select_people(alloc, tx, &asks.people)?;
@@ -180,7 +180,7 @@ pub fn read_remaining_rows<S: Alter>(
         (λ m view. IsViewOf (early_asks asks.now) m front → IsViewOf asks.now m view) }
     ensures completes { IfOk result (Completes front) }
     ensures exact { OfTrees S.Store tx.old tx.new result
-        (λ db view. HasNoInvalidRow (early_asks asks.now) front db → HasNoInvalidRow asks.now view db) }
+        (λ db view. HasNoInvalidRow (early_asks asks.now) db front → HasNoInvalidRow asks.now db view) }
     ensures frame { Reads S.Store tx.old tx.new result }
 {
     let staff = staff_rows(alloc, tx, asks)?;
@@ -205,7 +205,7 @@ pub fn rows_of<S: Alter>(
     asks: &Asks,
 ) -> Result<View, Refusal>
     ensures view { OfMachineTables S.Store tx.old tx.new result (IsViewOf asks.now) }
-    ensures exact { OfTrees S.Store tx.old tx.new result (λ db view. HasNoInvalidRow asks.now view db) }
+    ensures exact { OfTrees S.Store tx.old tx.new result (HasNoInvalidRow asks.now) }
     ensures frame { Reads S.Store tx.old tx.new result }
 {
     let front = read_early_rows(alloc, tx, asks)?;

@@ -8,7 +8,8 @@ use Rattle.kcr_history.specs.declared.views.ItemFilter.TheVariants.{Codes, Bag}
 use Rattle.kcr_custody.specs.declared.Item.{Item}
 use Rattle.sqlite.specs.Held.{state}
 use Rattle.kcr_rows.specs.Rows.{item_row}
-use Rattle.kcr_tables.specs.Exact.{rows_at, has_any, is_item_row, AreShown, SelectedAreRead}
+use Rattle.kcr_tables.specs.Selected.{asked_of}
+use Rattle.kcr_tables.specs.Exact.{rows_at, has_any, is_item_row, AreShown}
 use Rattle.kcr_tables.specs.StoredTables.{items_place}
 use Rattle.kcr_tables.proofs.ExactLemmas.{under_asked, all_asked}
 use Rattle.kcr_rows.proofs.FailLemmas.{if_ok}
@@ -38,7 +39,7 @@ pub returns-in-Matching-Codes-clause-exact : goal.returns-in-Matching-Codes-clau
 returns-in-Matching-Codes-clause-exact g c clean has =
     let inner : c.in-Matching-Codes.field-0 ≡ Codes c.in-Matching-Codes.codes = search rules in
     subst (λ (q : Selection ItemFilter). IfOk c.rows_named.result
-    (λ all. SelectedAreRead item_row items_place is_item_row q all.items (state g.S.Store c.args.tx.now.conn.now).now.trees))
+    (λ all. AreShown item_row all.items (asked_of is_item_row q (rows_at items_place (state g.S.Store c.args.tx.now.conn.now).now.trees))))
     (ap Matching (sym inner) ∙ sym c.in-Matching-Codes.is)
     (subst (λ (ks : List (List ℕ)). IfOk c.rows_named.result
     (λ all. AreShown item_row all.items (filter (has_any 0 ks) (rows_at items_place (state g.S.Store c.args.tx.now.conn.now).now.trees))))

@@ -3,7 +3,8 @@ use Rattle.kcr_history.specs.Views.{is_of_people, Includes}
 use Rattle.kcr_history.specs.declared.views.Selection.{Selection}
 use Rattle.sqlite.specs.Held.{state}
 use Rattle.kcr_rows.specs.Rows.{person_row}
-use Rattle.kcr_tables.specs.Exact.{rows_at, has_any, AreShown, SelectedAreRead}
+use Rattle.kcr_tables.specs.Selected.{asked_of}
+use Rattle.kcr_tables.specs.Exact.{rows_at, has_any, AreShown}
 use Rattle.kcr_tables.specs.StoredTables.{people_place}
 use Rattle.kcr_tables.proofs.ExactLemmas.{all_asked}
 use Rattle.kcr_rows.proofs.FailLemmas.{if_ok}
@@ -20,7 +21,8 @@ returns-in-Matching-clause-rows g c clean t held =
 pub returns-in-Matching-clause-exact : goal.returns-in-Matching-clause-exact
 returns-in-Matching-clause-exact g c clean has =
     let db = (state g.S.Store c.args.tx.now.conn.now).now.trees in
-    subst (λ (q : Selection (List (List ℕ))). IfOk c.rows_named.result (λ all. SelectedAreRead person_row people_place (has_any 0) q all.items db))
+    subst (λ (q : Selection (List (List ℕ))). IfOk c.rows_named.result (λ all. AreShown person_row all.items
+    (asked_of (has_any 0) q (rows_at people_place db))))
     (sym c.in-Matching.is)
     (subst (λ (ks : List (List ℕ)). IfOk c.rows_named.result (λ all. AreShown person_row all.items (filter (has_any 0 ks) (rows_at people_place db))))
     c.as_slice.ensures (c.rows_named.ensures.exact clean has))

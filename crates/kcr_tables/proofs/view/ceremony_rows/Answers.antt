@@ -2,7 +2,8 @@ use Rattle.sqlite.specs.Held.{state}
 use Rattle.sqlite.specs.State.{HasCleanDisk}
 use Rattle.kcr_rows.specs.Rows.{mark_row, exception_row}
 use Rattle.kcr_rows.proofs.FrameLemmas.{clean_before}
-use Rattle.kcr_tables.specs.Exact.{has_number, SelectedAreRead, StepsAreShown}
+use Rattle.kcr_tables.specs.Selected.{asked_of}
+use Rattle.kcr_tables.specs.Exact.{has_number, StepsAreShown, rows_at, AreShown}
 use Rattle.kcr_tables.specs.StoredTables.{marks_place, exceptions_place}
 use Rattle.kcr_tables.proofs.FrameLemmas.{reads_on, fails_as, reads_to, read_later}
 use Rattle.kcr_tables.proofs.view.ceremony_rows.Goals as goal
@@ -40,11 +41,12 @@ returns g c =
       exact = λ clean has.
           let asks = c.args.asks.now in record {
             ceremonies = c.in_ok-ceremonies.ensures.exact (clean0 clean) has;
-            marks = read_later (SelectedAreRead mark_row marks_place (has_number 0) asks.marks c.in_ok-marks.marks.items)
+            marks = read_later (λ db. AreShown mark_row c.in_ok-marks.marks.items (asked_of (has_number 0) asks.marks (rows_at marks_place db)))
                 to0 (clean0 clean) has (c.in_ok-marks.ensures.exact (clean1 clean));
             steps = read_later (StepsAreShown asks.steps c.in_ok-script.script.seatings.items c.in_ok-script.script.steps.items)
                 to1 (clean1 clean) has (c.in_ok-script.ensures.exact (clean2 clean));
-            exceptions = read_later (SelectedAreRead exception_row exceptions_place (has_number 0) asks.exceptions c.in_ok-exceptions.exceptions.items)
+            exceptions = read_later (λ db. AreShown exception_row c.in_ok-exceptions.exceptions.items
+                (asked_of (has_number 0) asks.exceptions (rows_at exceptions_place db)))
                 to2 (clean2 clean) has (c.in_ok-exceptions.ensures.exact clean);
           };
       frame = reads_to tt (reads_on to2 c.in_ok-exceptions.ensures.frame);

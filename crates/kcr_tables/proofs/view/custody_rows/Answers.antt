@@ -2,7 +2,8 @@ use Rattle.sqlite.specs.Held.{state}
 use Rattle.sqlite.specs.State.{HasCleanDisk}
 use Rattle.kcr_rows.specs.Rows.{safe_row, bag_row, item_row}
 use Rattle.kcr_rows.proofs.FrameLemmas.{clean_before}
-use Rattle.kcr_tables.specs.Exact.{has_text, is_item_row, SelectedAreRead, AllAreRead}
+use Rattle.kcr_tables.specs.Selected.{asked_of, asked_all}
+use Rattle.kcr_tables.specs.Exact.{has_text, is_item_row, rows_at, AreShown}
 use Rattle.kcr_tables.specs.StoredTables.{safes_place, bags_place, items_place}
 use Rattle.kcr_tables.proofs.FrameLemmas.{reads_on, fails_as, reads_to, read_later}
 use Rattle.kcr_tables.proofs.view.custody_rows.Goals as goal
@@ -39,11 +40,11 @@ returns g c =
       exact = λ clean has.
           let asks = c.args.asks.now in record {
             boxes = c.in_ok-boxes.ensures.exact (clean0 clean) has;
-            safes = read_later (AllAreRead safe_row safes_place asks.safes c.in_ok-safes.safes.items)
+            safes = read_later (λ db. AreShown safe_row c.in_ok-safes.safes.items (asked_all asks.safes (rows_at safes_place db)))
                 to0 (clean0 clean) has (c.in_ok-safes.ensures.exact (clean1 clean));
-            bags = read_later (SelectedAreRead bag_row bags_place (has_text 0) asks.bags c.in_ok-bags.bags.items)
+            bags = read_later (λ db. AreShown bag_row c.in_ok-bags.bags.items (asked_of (has_text 0) asks.bags (rows_at bags_place db)))
                 to1 (clean1 clean) has (c.in_ok-bags.ensures.exact (clean2 clean));
-            items = read_later (SelectedAreRead item_row items_place is_item_row asks.items c.in_ok-items.items.items)
+            items = read_later (λ db. AreShown item_row c.in_ok-items.items.items (asked_of is_item_row asks.items (rows_at items_place db)))
                 to2 (clean2 clean) has (c.in_ok-items.ensures.exact clean);
           };
       frame = reads_to tt (reads_on to2 c.in_ok-items.ensures.frame);

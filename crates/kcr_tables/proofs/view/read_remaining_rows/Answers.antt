@@ -4,7 +4,8 @@ use Rattle.sqlite.specs.State.{HasCleanDisk}
 use Rattle.kcr_history.specs.Views.{is_training_asked, is_withdrawal_of}
 use Rattle.kcr_rows.specs.Rows.{stay_row}
 use Rattle.kcr_rows.proofs.FrameLemmas.{clean_before}
-use Rattle.kcr_tables.specs.Exact.{is_stay_row, SelectedAreRead}
+use Rattle.kcr_tables.specs.Selected.{asked_of}
+use Rattle.kcr_tables.specs.Exact.{is_stay_row, rows_at, AreShown}
 use Rattle.kcr_tables.specs.StoredTables.{stays_place}
 use Rattle.kcr_tables.proofs.AppointmentLemmas.{appointments_shown}
 use Rattle.kcr_tables.proofs.FrameLemmas.{reads_on, fails_as, reads_to, read_later}
@@ -65,7 +66,7 @@ returns g c =
             staff = c.in_ok-staff.ensures.exact (clean1 clean) has;
             custody = custody_whole front.custody;
             ceremonies = ceremonies_whole front.ceremonies;
-            stays = read_later (SelectedAreRead stay_row stays_place is_stay_row asks.stays c.in_ok-stays.stays.items)
+            stays = read_later (λ db. AreShown stay_row c.in_ok-stays.stays.items (asked_of is_stay_row asks.stays (rows_at stays_place db)))
                 to1 (clean1 clean) has (c.in_ok-stays.ensures.exact (clean2 clean));
           };
       frame = reads_to tt (reads_on to2 c.in_ok-entries.ensures.frame);

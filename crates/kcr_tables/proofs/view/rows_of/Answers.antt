@@ -28,8 +28,8 @@ returns g c =
       exact = λ clean has.
           let is = front.frame.same (clean1 clean) has in
           if-told _ _ (λ view shown.
-          subst (λ (db : Database). HasNoInvalidRow asks view db.trees) is
-          (shown (subst (λ (db : Database). HasNoInvalidRow (early_asks asks) c.in_ok-front.front db.trees) (sym is) (front.exact (clean1 clean) has))))
+          subst (λ (db : Database). HasNoInvalidRow asks db.trees view) is
+          (shown (subst (λ (db : Database). HasNoInvalidRow (early_asks asks) db.trees c.in_ok-front.front) (sym is) (front.exact (clean1 clean) has))))
           c.read_remaining_rows.result (rest.exact clean (ap (λ (db : Database). db.schema) is ∙ has));
       frame = reads_on front.frame rest.frame;
     }

@@ -2,7 +2,8 @@ use Rattle.sqlite.specs.Held.{state}
 use Rattle.sqlite.specs.State.{HasCleanDisk}
 use Rattle.kcr_rows.specs.Rows.{withdrawal_row}
 use Rattle.kcr_rows.proofs.FrameLemmas.{clean_before}
-use Rattle.kcr_tables.specs.Exact.{has_text, SelectedAreRead, AppointmentsAreShown}
+use Rattle.kcr_tables.specs.Selected.{asked_of}
+use Rattle.kcr_tables.specs.Exact.{has_text, AppointmentsAreShown, rows_at, AreShown}
 use Rattle.kcr_tables.specs.StoredTables.{withdrawals_place}
 use Rattle.kcr_tables.proofs.FrameLemmas.{reads_on, fails_as, reads_to, read_later}
 use Rattle.kcr_tables.proofs.view.staff_rows.Goals as goal
@@ -33,7 +34,8 @@ returns g c =
       exact = λ clean has.
           let asks = c.args.asks.now in record {
             trainings = c.in_ok-trainings.ensures.exact (clean0 clean) has;
-            withdrawals = read_later (SelectedAreRead withdrawal_row withdrawals_place (has_text 0) asks.withdrawals c.in_ok-withdrawals.withdrawals.items)
+            withdrawals = read_later (λ db. AreShown withdrawal_row c.in_ok-withdrawals.withdrawals.items
+                (asked_of (has_text 0) asks.withdrawals (rows_at withdrawals_place db)))
                 to0 (clean0 clean) has (c.in_ok-withdrawals.ensures.exact (clean1 clean));
             appointments = read_later (AppointmentsAreShown asks.appointments c.in_ok-appointments.appointments.items)
                 to1 (clean1 clean) has (c.in_ok-appointments.ensures.exact clean);
