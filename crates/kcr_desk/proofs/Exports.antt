@@ -1,10 +1,10 @@
 -- The requests of commands are messages, and a run over those of a register leads to the register.
-use Rattle.std.proofs.Common.{◌≡◌, ◌≢◌, ◌⊎◌, ℕ, ◌≤◌, ◌<◌, Bool, true, false, not, nat_lt, eqb, List, [], ◌∷◌, ◌++◌, length, map, codes, inl, inr, Option, Some, None, Result, Ok, Err, IsTrue, refl, sym, ap, ◌∙◌, subst, arith, All, append_assoc}
-use Rattle.std.specs.Prelude.{MatchOption, MatchResult, IsSome, ◌↔◌, unwrap_or}
-use Rattle.std.specs.List.{flat_map, AllByRecursion}
+use Rattle.std.proofs.Common.{◌≡◌, ◌≢◌, ℕ, Bool, true, false, List, [], ◌∷◌, ◌++◌, length, map, codes, inl, inr, Option, Some, None, Result, Ok, Err, IsTrue, refl, sym, ap, ◌∙◌, subst, arith, append_assoc}
+use Rattle.std.specs.Prelude.{MatchResult, IsSome, ◌↔◌}
+use Rattle.std.specs.List.{AllByRecursion}
 use Rattle.std.proofs.lemmas.Bool.Decides.{nat_tests}
 use Rattle.std.proofs.lemmas.List.Elements.{All-weaker}
-use Rattle.httparse.specs.Grammar.{AllPass, is_uri_byte}
+use Rattle.httparse.specs.Grammar.{is_uri_byte}
 use Rattle.kcr_base.specs.declared.refusal.Refusal.{Refusal}
 use Rattle.kcr_base.specs.declared.refusal.Refusal.TheVariants.{Memory, Disk}
 use Rattle.kcr_history.specs.History.{History, pushed_onto, entry_of}
@@ -27,9 +27,9 @@ use Rattle.kcr_export.specs.Requests.{head_text, request_text}
 use Rattle.kcr_export.proofs.Again.{told_again}
 use Rattle.kcr_export.proofs.Paths.{act-path}
 use Rattle.kcr_export.proofs.Pieces.{IsPathByte, path-utf8}
-use Rattle.kcr_desk.specs.Answers.{RegisterHistory, method_of, AnswersBy, IsAnswer, TakesCommand, AppliesAsMachine, refusal_response, reply_response, json_response}
+use Rattle.kcr_desk.specs.Answers.{RegisterHistory, method_of, AnswersBy, IsAnswer, TakesCommand, RespondsUnread, AppliesAsMachine, refusal_response, reply_response, json_response}
 use Rattle.kcr_desk.specs.Export.{message_of, IsSendable, requests_text, whole, HadNoFault, kept_reply, commands_of, AreSendable}
-use Rattle.kcr_desk.specs.Run.{Request, request_of, Exchange, messages_of, Run}
+use Rattle.kcr_desk.specs.Run.{request_of, Exchange, messages_of, Run}
 use Rattle.kcr_desk.specs.Stream.{IsMessage, AreMessages, Message, clean_end, is_blank_rest}
 use Rattle.kcr_desk.specs.Texts.{ResponseValue}
 use Rattle.kcr_desk.proofs.Posted.{message}
@@ -73,31 +73,30 @@ not-in_doubt (Some A) r breaks = absurd (let both = breaks.0 refl in cc)
 
 -- what a command is told by a register that is not broken, if memory is not wanting
 answered : {G : Type 0} (x : Command) (B : History) (told : ResponseValue) (after : RegisterHistory) → IsSendable x
-    → told ≢ refusal_response (path_text x.act) Memory → IsAnswer (whole B) (request_of (message_of x)) told after
-    → ((result : Result Reply Refusal) → told ≡ reply_response (path_text x.act) result → AppliesAsMachine B x result after → G) → G
+    → told ≢ refusal_response None Memory → IsAnswer (whole B) (request_of (message_of x)) told after
+    → ((result : Result Reply Refusal) → told ≡ reply_response result → AppliesAsMachine B x result after → G) → G
 answered x B told after is no_memory (inl refused) next = absurd (no_memory refused.0)
 answered x B told after is no_memory (inr answers) next =
     let path = path_text x.act in
     let by_post : AnswersBy Post (whole B) (request_of (message_of x)) told after =
     subst (λ (m : Method). AnswersBy m (whole B) (request_of (message_of x)) told after) posts answers in
-    let by_command : TakesCommand (whole B) path told after x =
-    subst (λ (r : Result Command Refusal). MatchResult r (TakesCommand (whole B) path told after)
-    (λ refusal. (told ≡ refusal_response path refusal) × (after ≡ whole B))) (told_again x is.key is.act) by_post in
+    let by_command : TakesCommand (whole B) told after x =
+    subst (λ (r : Result Command Refusal). MatchResult r (TakesCommand (whole B) told after) (RespondsUnread (whole B) path told after)) (told_again x is.key is.act) by_post in
     next by_command.0 by_command.1 by_command.2
 
 -- an accepted command leads to the history with it, and gets its reply
 module _ (entry : Entry) (B : History) (step : machine B entry.command (Accepts entry.reply) (entry ∷ B)) where
-  performed : (target : List ℕ) (told : ResponseValue) (after : RegisterHistory) (result : Result Reply Refusal)
-      → told ≢ refusal_response target Memory → told ≢ refusal_response target Disk
-      → told ≡ reply_response target result → AppliesAsMachine B entry.command result after → (after ≡ whole (entry ∷ B)) × (told ≡ kept_reply entry)
-  performed target told after (Ok reply) no_memory no_disk is p =
+  performed : (told : ResponseValue) (after : RegisterHistory) (result : Result Reply Refusal)
+      → told ≢ refusal_response None Memory → told ≢ refusal_response None Disk
+      → told ≡ reply_response result → AppliesAsMachine B entry.command result after → (after ≡ whole (entry ∷ B)) × (told ≡ kept_reply entry)
+  performed told after (Ok reply) no_memory no_disk is p =
       let fixed = accepted_fixed B entry.command entry.reply p.step.0 (entry ∷ B) after.accepted step p.step.1 in (
         whole-is (entry ∷ B) after after.in_doubt refl (not-in_doubt after.in_doubt reply p.breaks) fixed.1,
         is ∙ ap json_response (p.step.2 ∙ ap reply_text (sym fixed.0)),
       )
-  performed target told after (Err refusal) no_memory no_disk is p =
-      let memory : refusal ≢ Memory = λ e. no_memory (is ∙ ap (refusal_response target) e) in
-      let disk : refusal ≢ Disk = λ e. no_disk (is ∙ ap (refusal_response target) e) in
+  performed told after (Err refusal) no_memory no_disk is p =
+      let memory : refusal ≢ Memory = λ e. no_memory (is ∙ ap (refusal_response None) e) in
+      let disk : refusal ≢ Disk = λ e. no_disk (is ∙ ap (refusal_response None) e) in
       absurd (never_both B entry.command entry.reply refusal (entry ∷ B) after.accepted step (p.step.1 memory disk))
 
 -- a command that the register has changes nothing, and gets its kept reply
@@ -108,17 +107,17 @@ module _ (entry : Entry) (B : History) (found : entry_of B entry.command.key ≡
   again : (outcome : Outcome) (after : History) → machine B entry.command outcome after → (outcome ≡ Accepts entry.reply) × (after ≡ B)
   again outcome after m = repeated B entry.command entry found (same-itself (command_text entry.command.act)) outcome after m
 
-  performed-again : (target : List ℕ) (told : ResponseValue) (after : RegisterHistory) (result : Result Reply Refusal)
-      → told ≢ refusal_response target Memory → told ≢ refusal_response target Disk
-      → told ≡ reply_response target result → AppliesAsMachine B entry.command result after → (after ≡ whole B) × (told ≡ kept_reply entry)
-  performed-again target told after (Ok reply) no_memory no_disk is p =
+  performed-again : (told : ResponseValue) (after : RegisterHistory) (result : Result Reply Refusal)
+      → told ≢ refusal_response None Memory → told ≢ refusal_response None Disk
+      → told ≡ reply_response result → AppliesAsMachine B entry.command result after → (after ≡ whole B) × (told ≡ kept_reply entry)
+  performed-again told after (Ok reply) no_memory no_disk is p =
       let kept = again (Accepts p.step.0) after.accepted p.step.1 in (
         whole-is B after after.in_doubt refl (not-in_doubt after.in_doubt reply p.breaks) (sym kept.1),
         is ∙ ap json_response (p.step.2 ∙ ap reply_text (same-answer p.step.0 kept.0)),
       )
-  performed-again target told after (Err refusal) no_memory no_disk is p =
-      let memory : refusal ≢ Memory = λ e. no_memory (is ∙ ap (refusal_response target) e) in
-      let disk : refusal ≢ Disk = λ e. no_disk (is ∙ ap (refusal_response target) e) in
+  performed-again told after (Err refusal) no_memory no_disk is p =
+      let memory : refusal ≢ Memory = λ e. no_memory (is ∙ ap (refusal_response None) e) in
+      let disk : refusal ≢ Disk = λ e. no_disk (is ∙ ap (refusal_response None) e) in
       let kept = again (Refuses refusal) after.accepted (p.step.1 memory disk) in
       absurd (let apart : Refuses refusal ≡ Accepts entry.reply = kept.0 in cc)
 
@@ -134,22 +133,16 @@ same-head x xs m ms e = (let head : x.message ≡ m = cc in head, let tail : mes
 -- how a run's first exchange is answered, by the message of its command
 module _ (entry : Entry) (B : History) (x : Exchange) (next : RegisterHistory) (is : IsSendable entry.command) (same : x.message ≡ message_of entry.command)
     (faults : HadNoFault x) (answer : IsAnswer (whole B) (request_of x.message) x.reply next) where
-  no-memory : x.reply ≢ refusal_response (path_text entry.command.act) Memory
-  no-memory e = faults.0 (e ∙ ap (λ (m : Message). refusal_response m.head.target Memory) (sym same))
-
-  no-disk : x.reply ≢ refusal_response (path_text entry.command.act) Disk
-  no-disk e = faults.1 (e ∙ ap (λ (m : Message). refusal_response m.head.target Disk) (sym same))
-
   asked : IsAnswer (whole B) (request_of (message_of entry.command)) x.reply next
   asked = subst (λ (m : Message). IsAnswer (whole B) (request_of m) x.reply next) same answer
 
   one : machine B entry.command (Accepts entry.reply) (entry ∷ B) → (next ≡ whole (entry ∷ B)) × (x.reply ≡ kept_reply entry)
-  one step = answered entry.command B x.reply next is no-memory asked (λ result told p.
-      performed entry B step (path_text entry.command.act) x.reply next result no-memory no-disk told p)
+  one step = answered entry.command B x.reply next is faults.0 asked (λ result told p.
+      performed entry B step x.reply next result faults.0 faults.1 told p)
 
   one-again : entry_of B entry.command.key ≡ Some entry → (next ≡ whole B) × (x.reply ≡ kept_reply entry)
-  one-again found = answered entry.command B x.reply next is no-memory asked (λ result told p.
-      performed-again entry B found (path_text entry.command.act) x.reply next result no-memory no-disk told p)
+  one-again found = answered entry.command B x.reply next is faults.0 asked (λ result told p.
+      performed-again entry B found x.reply next result faults.0 faults.1 told p)
 
 pub run_leads : (entries : List Entry) (B : History) (xs : List Exchange) (after : RegisterHistory) → IsOfMachine (pushed_onto entries B) → AreSendable entries
     → messages_of xs ≡ map message_of (commands_of entries) → AllByRecursion HadNoFault xs → Run IsAnswer (whole B) xs after

@@ -1,5 +1,5 @@
 -- A request with a path and a body is a whole message.
-use Rattle.std.proofs.Common.{◌≡◌, ℕ, ◌+◌, ◌<◌, ◌≤◌, ◌==◌, ◌&&◌, Bool, true, false, List, [], ◌∷◌, ◌++◌, length, map, reverse, codes, Ok, IsTrue, refl, sym, ap, ◌∙◌, subst, arith, rules, All, append_assoc, append-nil, length-append}
+use Rattle.std.proofs.Common.{◌≡◌, ℕ, ◌<◌, ◌≤◌, ◌&&◌, Bool, true, false, List, [], ◌∷◌, ◌++◌, length, reverse, codes, Ok, IsTrue, refl, sym, ap, arith, append_assoc, append-nil, length-append}
 use Rattle.std.proofs.lemmas.List.{length-reverse}
 use Rattle.std.specs.Prelude.{nat_lt, ◌^◌}
 use Rattle.std.specs.Char.{is_ascii_digit}
@@ -9,15 +9,14 @@ use Rattle.std.specs.Str.{IsUtf8}
 use Rattle.std.specs.Str.Parse.{AllDigits, digits_value}
 use Rattle.std.proofs.lemmas.Bool.Decides.{nat_tests}
 use Rattle.std.proofs.lemmas.Fmt.{decimal_is_IsNumeral, length-decimal-le}
-use Rattle.std.proofs.lemmas.List.Elements.{All-nil, All-cons, All-append, All-weaker, All-from_recursion}
+use Rattle.std.proofs.lemmas.List.Elements.{All-nil, All-cons, All-from_recursion}
 use Rattle.std.proofs.lemmas.List.Sums.{AllPass-from_list_all, list_all-from_AllPass}
 use Rattle.std.proofs.lemmas.Str.Parse.{digit_at}
 use Rattle.std.proofs.lemmas.Bool.{and_parts, lt-ltb, le-ltb}
-use Rattle.httparse.specs.Grammar.{RequestHead, IsRequestHead, ReadsRequest, print_request, AllPass, IsToken, IsField, is_uri_byte, is_value_byte, is_token_byte, trim_ows, skip_ows, is_ows}
-use Rattle.httparse.specs.Spans.{name_and_value}
+use Rattle.httparse.specs.Grammar.{IsRequestHead, print_request, AllPass, IsField, is_uri_byte, is_value_byte, is_token_byte, trim_ows, skip_ows, is_ows}
 use Rattle.httparse.proofs.TrimLemmas.{trim_ows_space, AllPass-reverse}
 use Rattle.kcr_desk.specs.Framing.{planned, is_number}
-use Rattle.kcr_desk.specs.Stream.{HasHead, IsMessage, framing_of}
+use Rattle.kcr_desk.specs.Stream.{IsMessage, framing_of}
 use Rattle.kcr_desk.specs.Export.{posted_head, posted_message}
 use Rattle.kcr_export.specs.Requests.{crlf, head_text}
 

@@ -20,7 +20,7 @@ use Rattle.kcr_wire.specs.declared.question.Inquiry.{Inquiry}
 use Rattle.kcr_wire.specs.declared.question.Inquiry.TheVariants as inquiry
 use Rattle.kcr_wire.specs.declared.method.Method.{Method}
 use Rattle.kcr_wire.specs.declared.method.Method.TheVariants.{Post}
-use Rattle.kcr_desk.specs.Answers.{RegisterHistory, AreRegisters, AreOfMachine, AreOfValues, RespondsRefusal, TakesReading, TakesCommand, TakesInquiry, AnswersBy, IsAnswer, method_of}
+use Rattle.kcr_desk.specs.Answers.{RegisterHistory, AreRegisters, AreOfMachine, AreOfValues, RespondsRefusal, RespondsUnread, TakesReading, TakesCommand, TakesInquiry, AnswersBy, IsAnswer, method_of}
 use Rattle.kcr_desk.specs.Run.{Request, request_of, Exchange, Run}
 use Rattle.kcr_desk.specs.Texts.{ResponseValue}
 
@@ -65,29 +65,29 @@ module _ (P : History → Type 0) (grown : (A : History) (x : Command) (answer :
   HoldsOf s = P s.accepted × P (unwrap_or s.in_doubt s.accepted)
 
   module _ (before after : RegisterHistory) (asked : Request) (told : ResponseValue) (are : HoldsOf before) where
-    refused_keeps : (refusal : Refusal) → RespondsRefusal before asked.target told after refusal → HoldsOf after
-    refused_keeps refusal h = subst HoldsOf (sym h.1) are
+    refused_keeps : {Tells : Type 0} → Tells × (after ≡ before) → HoldsOf after
+    refused_keeps h = subst HoldsOf (sym h.1) are
 
     -- a register that is not broken keeps it, and a broken one stays as it was
     whole_keeps : {Does : Type 0} (in_doubt : Option History) → (Does → HoldsOf after)
-        → MatchOption in_doubt Does (λ _. RespondsRefusal before asked.target told after Refusals.Broken) → HoldsOf after
+        → MatchOption in_doubt Does (λ _. RespondsRefusal before told after Refusals.Broken) → HoldsOf after
     whole_keeps None keeps h = keeps h
-    whole_keeps (Some t) keeps h = refused_keeps Refusals.Broken h
+    whole_keeps (Some t) keeps h = refused_keeps h
 
-    command_keeps : (x : Command) → TakesCommand before asked.target told after x → HoldsOf after
+    command_keeps : (x : Command) → TakesCommand before told after x → HoldsOf after
     command_keeps x = whole_keeps before.in_doubt (λ h. (
       taken_keeps before.accepted x h.0 after.accepted h.2.values are.0 h.2.step,
       tried_keeps before.accepted x (unwrap_or after.in_doubt after.accepted) h.2.values are.0 h.2.tried,
     ))
 
     reading_keeps : {Value : Type 0} (told_by : Result Value Refusal → ResponseValue) (Says : History → Result Value Refusal → Type 0)
-        → TakesReading told_by Says before asked.target told after → HoldsOf after
+        → TakesReading told_by Says before told after → HoldsOf after
     reading_keeps told_by Says = whole_keeps before.in_doubt (λ h. (
       stays before.accepted after.accepted are.0 h.2.same,
       stays before.accepted (unwrap_or after.in_doubt after.accepted) are.0 h.2.tried,
     ))
 
-    inquiry_keeps : (inquiry : Inquiry) → TakesInquiry before asked.target told after inquiry → HoldsOf after
+    inquiry_keeps : (inquiry : Inquiry) → TakesInquiry before told after inquiry → HoldsOf after
     inquiry_keeps (inquiry.Question question) h = reading_keeps _ _ h
     inquiry_keeps (inquiry.Script ceremony) h = reading_keeps _ _ h
     inquiry_keeps (inquiry.Attendance ceremony) h = reading_keeps _ _ h
@@ -95,16 +95,16 @@ module _ (P : History → Type 0) (grown : (A : History) (x : Command) (answer :
     inquiry_keeps (inquiry.Commands after) h = reading_keeps _ _ h
 
     read_keeps : {Request : Type 0} (Takes : Request → Type 0) → ((request : Request) → Takes request → HoldsOf after)
-        → (expected : Result Request Refusal) → MatchResult expected Takes (RespondsRefusal before asked.target told after) → HoldsOf after
+        → (expected : Result Request Refusal) → MatchResult expected Takes (RespondsUnread before asked.target told after) → HoldsOf after
     read_keeps Takes keeps (Ok request) h = keeps request h
-    read_keeps Takes keeps (Err refusal) h = refused_keeps refusal h
+    read_keeps Takes keeps (Err refusal) h = refused_keeps h
 
     message_keeps : (method : Method) → AnswersBy method before asked told after → HoldsOf after
     message_keeps Post h = read_keeps _ command_keeps (command_of asked.target asked.body) h
     message_keeps method h = read_keeps _ inquiry_keeps (question_of method asked.target) h
 
     answer_keeps : IsAnswer before asked told after → HoldsOf after
-    answer_keeps (inl h) = refused_keeps Refusals.Memory h
+    answer_keeps (inl h) = refused_keeps h
     answer_keeps (inr h) = message_keeps (method_of asked.method) h
 
   -- A STREAM

@@ -54,12 +54,12 @@ may_fail may (Err Write) text h = may Refusals.Memory (inl (inl refl))
 
 -- what was printed into memory, of which this can be said
 module _ {S W : Type 0} (g : Ghosts S) {contents : W → Option (List ℕ)} {before after : RegisterState S} {x y : Counted W} {outcome : Result ⊤ PrintFault}
-    (target : List ℕ) (told : ResponseValue) (kind : MediaType) (text : List ℕ) where
+    (told : ResponseValue) (kind : MediaType) (text : List ℕ) where
   says_answered : {D : History → Refusal → Type 0} {t : History → List ℕ} (MayDeny MayFail : Refusal → Type 0) (Says : History → Result (List ℕ) Refusal → Type 0)
       → ((r : Refusal) → IsFault r ⊎ MayDeny r → MayFail r) → Prints g contents before after x y outcome D MayDeny t
       → OfHistory g before after (λ A. Says A (outcome_of outcome text))
-      → RespondsOrMemory (report_response kind target) target (outcome_of outcome text) told
-      → AnswersReading g before target told after (report_response kind target) (λ result. IfErr result MayFail) Says
+      → RespondsOrMemory (report_response kind) (outcome_of outcome text) told
+      → AnswersReading g before told after (report_response kind) (λ result. IfErr result MayFail) Says
   says_answered MayDeny MayFail Says may prints says =
       let disk = disk_outcome outcome text in
       let leaves = prints.leaves in
@@ -73,7 +73,7 @@ module _ {S W : Type 0} (g : Ghosts S) {contents : W → Option (List ℕ)} {bef
         clean = prints.clean;
         kept = prints.kept;
       } in
-      reading_answered g before after target told (report_response kind target) (λ r. refl) (outcome_of outcome text) Says
+      reading_answered g before after told (report_response kind) (λ r. refl) (outcome_of outcome text) Says
       (λ result. IfErr result MayFail) (may Refusals.Memory (inl (inl refl))) looks.cause looks says
 
   -- a report of a ceremony
@@ -81,8 +81,8 @@ module _ {S W : Type 0} (g : Ghosts S) {contents : W → Option (List ℕ)} {bef
       → Prints g contents before after x y outcome D (NamesCeremony ceremony) t
       → OfHistory g before after (λ A. IsPrinted (IsNotPlanned A ceremony) (report A ceremony) outcome (Some []) (Some text))
       → OfHistory g before after (λ A. OnOk outcome (IsTrue (is_ceremony A ceremony)))
-      → RespondsOrMemory (report_response kind target) target (outcome_of outcome text) told
-      → AnswersReading g before target told after (report_response kind target) (MayBeReported ceremony) (IsReported report ceremony)
+      → RespondsOrMemory (report_response kind) (outcome_of outcome text) told
+      → AnswersReading g before told after (report_response kind) (MayBeReported ceremony) (IsReported report ceremony)
   report_answered report ceremony prints printed planned =
       says_answered (NamesCeremony ceremony) (MayHaveNoRow ceremony) (IsReported report ceremony) (λ r h. h) prints
       (λ f none c. reported report ceremony before.accepted outcome text (printed f none c) (planned f none c))
@@ -91,8 +91,8 @@ module _ {S W : Type 0} (g : Ghosts S) {contents : W → Option (List ℕ)} {bef
   pub text_answered : {D : History → Refusal → Type 0} {t : History → List ℕ} (text_of : History → List ℕ)
       → Prints g contents before after x y outcome D (λ _. ⊥) t
       → OfHistory g before after (λ A. IsPrinted (λ _. ⊥) (text_of A) outcome (Some []) (Some text))
-      → RespondsOrMemory (report_response kind target) target (outcome_of outcome text) told
-      → AnswersReading g before target told after (report_response kind target) MayBeText (IsText text_of)
+      → RespondsOrMemory (report_response kind) (outcome_of outcome text) told
+      → AnswersReading g before told after (report_response kind) MayBeText (IsText text_of)
   text_answered text_of prints printed =
       says_answered (λ _. ⊥) IsFault (IsText text_of) (λ r h. undenied r h) prints
       (λ f none c. is_text text_of before.accepted outcome text (printed f none c))
@@ -100,8 +100,8 @@ module _ {S W : Type 0} (g : Ghosts S) {contents : W → Option (List ℕ)} {bef
   -- the feed
   pub feed_answered : {n u : ℕ} (number : ℕ) → Exports g contents before after x y outcome n u
       → OfHistory g before after (λ A. AreValues A → IsPrinted (λ _. ⊥) (feed number A) outcome (Some []) (Some text))
-      → RespondsOrMemory (report_response kind target) target (outcome_of outcome text) told
-      → AnswersReading g before target told after (report_response kind target) MayBeText (IsFeed number)
+      → RespondsOrMemory (report_response kind) (outcome_of outcome text) told
+      → AnswersReading g before told after (report_response kind) MayBeText (IsFeed number)
   feed_answered number exports requests =
       says_answered (λ _. ⊥) IsFault (IsFeed number) (λ r h. undenied r h) exports.prints
       (λ f none c values. is_text (feed number) before.accepted outcome text (requests f none c values))

@@ -27,7 +27,7 @@ use Rattle.kcr_history.specs.declared.questions.Shown.{Shown}
 use Rattle.kcr_wire.specs.Commands.{command_of}
 use Rattle.kcr_wire.specs.Questions.{question_of}
 use Rattle.kcr_wire.specs.ShownJson.{shown_text}
-use Rattle.kcr_wire.specs.Endpoints.{allow_of}
+use Rattle.kcr_wire.specs.Endpoints.{allow_of, if_method}
 use Rattle.kcr_wire.specs.declared.allow.Allow.{Allow}
 use Rattle.kcr_wire.specs.declared.question.Inquiry.{Inquiry}
 use Rattle.kcr_wire.specs.declared.question.Inquiry.TheVariants as inquiry
@@ -69,32 +69,27 @@ ok_response kind text = record { heading = record { status = 200; kind = kind; a
 abbrev pub json_response : List ℕ → ResponseValue
 json_response text = ok_response Json text
 
--- the methods of a path, if the method of a message is not one of them
-abbrev pub allowed : List ℕ → Refusal → Option Allow
-allowed target Refusals.Method = allow_of target
-allowed target refusal = None
-
--- a refusal of a message with this target
-abbrev pub refusal_response : List ℕ → Refusal → ResponseValue
-refusal_response target refusal = record {
-  heading = record { status = status_of refusal; kind = Json; allow = allowed target refusal };
+-- a refusal, with the methods of the path if the message is refused for its method
+abbrev pub refusal_response : Option Allow → Refusal → ResponseValue
+refusal_response allow refusal = record {
+  heading = record { status = status_of refusal; kind = Json; allow = allow };
   body = refusal_text refusal;
 }
 
 -- what a command is told
-abbrev pub reply_response : List ℕ → Result Reply Refusal → ResponseValue
-reply_response target (Ok reply) = json_response reply.text
-reply_response target (Err refusal) = refusal_response target refusal
+abbrev pub reply_response : Result Reply Refusal → ResponseValue
+reply_response (Ok reply) = json_response reply.text
+reply_response (Err refusal) = refusal_response None refusal
 
 -- what a question is told
-abbrev pub shown_response : List ℕ → Result Shown Refusal → ResponseValue
-shown_response target (Ok shown) = json_response (shown_text shown)
-shown_response target (Err refusal) = refusal_response target refusal
+abbrev pub shown_response : Result Shown Refusal → ResponseValue
+shown_response (Ok shown) = json_response (shown_text shown)
+shown_response (Err refusal) = refusal_response None refusal
 
 -- what a report is told
-abbrev pub report_response : MediaType → List ℕ → Result (List ℕ) Refusal → ResponseValue
-report_response kind target (Ok text) = ok_response kind text
-report_response kind target (Err refusal) = refusal_response target refusal
+abbrev pub report_response : MediaType → Result (List ℕ) Refusal → ResponseValue
+report_response kind (Ok text) = ok_response kind text
+report_response kind (Err refusal) = refusal_response None refusal
 
 -- a register that is not broken takes the command, whose parts are values of their types, as the machine does. A fault
 -- of the device breaks it, and then a crash may have left the history with the command
@@ -130,51 +125,56 @@ abbrev pub IsFeed : ℕ → History → Result (List ℕ) Refusal → Type 0
 IsFeed after A result = AreValues A → IsText (feed after) A result
 
 -- the refusal is told, and the register stays as it was
-abbrev pub RespondsRefusal : RegisterHistory → List ℕ → ResponseValue → RegisterHistory → Refusal → Type 0
-RespondsRefusal before target told after refusal = (told ≡ refusal_response target refusal) × (after ≡ before)
+abbrev pub RespondsRefusal : RegisterHistory → ResponseValue → RegisterHistory → Refusal → Type 0
+RespondsRefusal before told after refusal = (told ≡ refusal_response None refusal) × (after ≡ before)
+
+-- the same of a message that could not be read
+abbrev pub RespondsUnread : RegisterHistory → List ℕ → ResponseValue → RegisterHistory → Refusal → Type 0
+RespondsUnread before target told after refusal =
+    (told ≡ refusal_response (if_method refusal (allow_of target)) refusal) × (after ≡ before)
 
 -- a command: a broken register says so, and stays as it was
-abbrev pub TakesCommand : RegisterHistory → List ℕ → ResponseValue → RegisterHistory → Command → Type 0
-TakesCommand before target told after x =
+abbrev pub TakesCommand : RegisterHistory → ResponseValue → RegisterHistory → Command → Type 0
+TakesCommand before told after x =
     MatchOption before.in_doubt
-    ((result : Result Reply Refusal) × (told ≡ reply_response target result) × AppliesAsMachine before.accepted x result after)
-    (λ _. RespondsRefusal before target told after Refusals.Broken)
+    ((result : Result Reply Refusal) × (told ≡ reply_response result) × AppliesAsMachine before.accepted x result after)
+    (λ _. RespondsRefusal before told after Refusals.Broken)
 
 -- the same for a call that only reads
 abbrev pub TakesReading : {Value : Type 0} → (Result Value Refusal → ResponseValue) → (History → Result Value Refusal → Type 0)
-    → RegisterHistory → List ℕ → ResponseValue → RegisterHistory → Type 0
-TakesReading {Value} told_by Says before target told after =
+    → RegisterHistory → ResponseValue → RegisterHistory → Type 0
+TakesReading {Value} told_by Says before told after =
     MatchOption before.in_doubt
     ((result : Result Value Refusal) × (told ≡ told_by result) × ReadsAsHistory Says before.accepted result after)
-    (λ _. RespondsRefusal before target told after Refusals.Broken)
+    (λ _. RespondsRefusal before told after Refusals.Broken)
 
 -- a question, or a report
-abbrev pub TakesInquiry : RegisterHistory → List ℕ → ResponseValue → RegisterHistory → Inquiry → Type 0
-TakesInquiry before target told after (inquiry.Question question) =
-    TakesReading (shown_response target) (λ A result. IsQuestionResult A question result) before target told after
-TakesInquiry before target told after (inquiry.Script ceremony) =
-    TakesReading (report_response Text target) (IsReported annotated ceremony) before target told after
-TakesInquiry before target told after (inquiry.Attendance ceremony) =
-    TakesReading (report_response Csv target) (IsReported attendance ceremony) before target told after
-TakesInquiry before target told after inquiry.Custody =
-    TakesReading (report_response Text target) (IsText custody) before target told after
-TakesInquiry before target told after (inquiry.Commands count) =
-    TakesReading (report_response Text target) (IsFeed count) before target told after
+abbrev pub TakesInquiry : RegisterHistory → ResponseValue → RegisterHistory → Inquiry → Type 0
+TakesInquiry before told after (inquiry.Question question) =
+    TakesReading shown_response (λ A result. IsQuestionResult A question result) before told after
+TakesInquiry before told after (inquiry.Script ceremony) =
+    TakesReading (report_response Text) (IsReported annotated ceremony) before told after
+TakesInquiry before told after (inquiry.Attendance ceremony) =
+    TakesReading (report_response Csv) (IsReported attendance ceremony) before told after
+TakesInquiry before told after inquiry.Custody =
+    TakesReading (report_response Text) (IsText custody) before told after
+TakesInquiry before told after (inquiry.Commands count) =
+    TakesReading (report_response Text) (IsFeed count) before told after
 
 -- a POST is a command, and all else asks for something, or is refused for its path, its method, its text or its form
 abbrev pub AnswersBy : Method → RegisterHistory → Request → ResponseValue → RegisterHistory → Type 0
 AnswersBy Post before asked told after =
     MatchResult (command_of asked.target asked.body)
-    (TakesCommand before asked.target told after) (RespondsRefusal before asked.target told after)
+    (TakesCommand before told after) (RespondsUnread before asked.target told after)
 AnswersBy method before asked told after =
     MatchResult (question_of method asked.target)
-    (TakesInquiry before asked.target told after) (RespondsRefusal before asked.target told after)
+    (TakesInquiry before told after) (RespondsUnread before asked.target told after)
 
 -- what a message is told, and what it leaves. Any message may be told that memory runs out, and then the register
 -- stays as it was
 abbrev pub IsAnswer : RegisterHistory → Request → ResponseValue → RegisterHistory → Type 0
 IsAnswer before asked told after =
-    RespondsRefusal before asked.target told after Refusals.Memory
+    RespondsRefusal before told after Refusals.Memory
     ⊎ AnswersBy (method_of asked.method) before asked told after
 
 -- WHATEVER THE REGISTER IS
@@ -194,40 +194,40 @@ MayBeText result = IfErr result IsFault
 -- a request that could be read is told its result, one that it may get, and an I/O error alone breaks the
 -- register; of its history nothing is said. A broken one says so, and stays as it was
 abbrev pub Replies : {Value : Type 0} → (Result Value Refusal → ResponseValue) → (Result Value Refusal → Type 0) → RegisterHistory
-    → List ℕ → ResponseValue → RegisterHistory → Type 0
-Replies {Value} told_by MayBe before target told after =
+    → ResponseValue → RegisterHistory → Type 0
+Replies {Value} told_by MayBe before told after =
     MatchOption before.in_doubt
     ((result : Result Value Refusal) × (told ≡ told_by result)
     × (MayBe result × (IsSome after.in_doubt ↔ (result ≡ Err Refusals.Disk))))
-    (λ _. RespondsRefusal before target told after Refusals.Broken)
+    (λ _. RespondsRefusal before told after Refusals.Broken)
 
 -- a question, or a report
-abbrev pub RepliesInquiry : RegisterHistory → List ℕ → ResponseValue → RegisterHistory → Inquiry → Type 0
-RepliesInquiry before target told after (inquiry.Question question) =
-    Replies (shown_response target) (MayBeShown question) before target told after
-RepliesInquiry before target told after (inquiry.Script ceremony) =
-    Replies (report_response Text target) (MayBeReported ceremony) before target told after
-RepliesInquiry before target told after (inquiry.Attendance ceremony) =
-    Replies (report_response Csv target) (MayBeReported ceremony) before target told after
-RepliesInquiry before target told after inquiry.Custody =
-    Replies (report_response Text target) MayBeText before target told after
-RepliesInquiry before target told after (inquiry.Commands count) =
-    Replies (report_response Text target) MayBeText before target told after
+abbrev pub RepliesInquiry : RegisterHistory → ResponseValue → RegisterHistory → Inquiry → Type 0
+RepliesInquiry before told after (inquiry.Question question) =
+    Replies shown_response (MayBeShown question) before told after
+RepliesInquiry before told after (inquiry.Script ceremony) =
+    Replies (report_response Text) (MayBeReported ceremony) before told after
+RepliesInquiry before told after (inquiry.Attendance ceremony) =
+    Replies (report_response Csv) (MayBeReported ceremony) before told after
+RepliesInquiry before told after inquiry.Custody =
+    Replies (report_response Text) MayBeText before told after
+RepliesInquiry before told after (inquiry.Commands count) =
+    Replies (report_response Text) MayBeText before told after
 
 -- a POST is a command, and all else asks for something, or is refused for its path, its method, its text or its form
 abbrev pub RepliesBy : Method → RegisterHistory → Request → ResponseValue → RegisterHistory → Type 0
 RepliesBy Post before asked told after =
     MatchResult (command_of asked.target asked.body)
-    (λ x. Replies (reply_response asked.target) (MayBeReplied x) before asked.target told after)
-    (RespondsRefusal before asked.target told after)
+    (λ x. Replies reply_response (MayBeReplied x) before told after)
+    (RespondsUnread before asked.target told after)
 RepliesBy method before asked told after =
     MatchResult (question_of method asked.target)
-    (RepliesInquiry before asked.target told after) (RespondsRefusal before asked.target told after)
+    (RepliesInquiry before told after) (RespondsUnread before asked.target told after)
 
 -- what a message is told by any register, whatever its database holds and whatever its disk does
 abbrev pub IsReply : RegisterHistory → Request → ResponseValue → RegisterHistory → Type 0
 IsReply before asked told after =
-    RespondsRefusal before asked.target told after Refusals.Memory
+    RespondsRefusal before told after Refusals.Memory
     ⊎ RepliesBy (method_of asked.method) before asked told after
 
 -- REGISTERS
@@ -247,36 +247,36 @@ AreOfValues s = AreValues s.accepted × AreValues (unwrap_or s.in_doubt s.accept
 -- a message is answered by a register: in any case a reply; and over a database that was empty or a register's at
 -- first, as long as its disk is clean, the answer
 pub record Answered
-    {S : Type 0} (g : Ghosts S) (before : RegisterState S) (target : List ℕ) (told : ResponseValue) (after : RegisterState S)
+    {S : Type 0} (g : Ghosts S) (before : RegisterState S) (told : ResponseValue) (after : RegisterState S)
     (Answer Reply : RegisterHistory → RegisterHistory → Type 0) : Type 0 where
   pub founded : after.is_genuine ≡ before.is_genuine
   pub clean : HasCleanDisk (state g after.conn) → HasCleanDisk (state g before.conn)
-  pub reply : RespondsRefusal (history_of before) target told (history_of after) Refusals.Memory
+  pub reply : RespondsRefusal (history_of before) told (history_of after) Refusals.Memory
       ⊎ Reply (history_of before) (history_of after)
   pub answer : IsTrue before.is_genuine → HasCleanDisk (state g after.conn)
-      → RespondsRefusal (history_of before) target told (history_of after) Refusals.Memory
+      → RespondsRefusal (history_of before) told (history_of after) Refusals.Memory
       ⊎ Answer (history_of before) (history_of after)
 
 -- a command
-abbrev pub AnswersCommand : {S : Type 0} → Ghosts S → RegisterState S → List ℕ → ResponseValue → RegisterState S → Command → Type 0
-AnswersCommand g before target told after x =
-    Answered g before target told after
-    (λ old new. TakesCommand old target told new x)
-    (λ old new. Replies (reply_response target) (MayBeReplied x) old target told new)
+abbrev pub AnswersCommand : {S : Type 0} → Ghosts S → RegisterState S → ResponseValue → RegisterState S → Command → Type 0
+AnswersCommand g before told after x =
+    Answered g before told after
+    (λ old new. TakesCommand old told new x)
+    (λ old new. Replies reply_response (MayBeReplied x) old told new)
 
 -- what only reads: how its result is told, what it may get, and what it says of the history
-abbrev pub AnswersReading : {S Value : Type 0} → Ghosts S → RegisterState S → List ℕ → ResponseValue → RegisterState S
+abbrev pub AnswersReading : {S Value : Type 0} → Ghosts S → RegisterState S → ResponseValue → RegisterState S
     → (Result Value Refusal → ResponseValue) → (Result Value Refusal → Type 0) → (History → Result Value Refusal → Type 0)
     → Type 0
-AnswersReading g before target told after told_by MayBe Says =
-    Answered g before target told after
-    (λ old new. TakesReading told_by Says old target told new) (λ old new. Replies told_by MayBe old target told new)
+AnswersReading g before told after told_by MayBe Says =
+    Answered g before told after
+    (λ old new. TakesReading told_by Says old told new) (λ old new. Replies told_by MayBe old told new)
 
 -- a question, or a report
-abbrev pub AnswersInquiry : {S : Type 0} → Ghosts S → RegisterState S → List ℕ → ResponseValue → RegisterState S → Inquiry → Type 0
-AnswersInquiry g before target told after inquiry =
-    Answered g before target told after
-    (λ old new. TakesInquiry old target told new inquiry) (λ old new. RepliesInquiry old target told new inquiry)
+abbrev pub AnswersInquiry : {S : Type 0} → Ghosts S → RegisterState S → ResponseValue → RegisterState S → Inquiry → Type 0
+AnswersInquiry g before told after inquiry =
+    Answered g before told after
+    (λ old new. TakesInquiry old told new inquiry) (λ old new. RepliesInquiry old told new inquiry)
 
 -- why a report was not printed whole into memory, if a write fails because memory ran out
 abbrev pub refusal_of : PrintFault → Refusal
@@ -289,16 +289,15 @@ outcome_of (Ok done) text = Ok text
 outcome_of (Err fault) text = Err (refusal_of fault)
 
 -- a result is told, or out of memory in the place of one that is no fault of the device and not of a broken register
-abbrev pub RespondsOrMemory : {Value : Type 0} → (Result Value Refusal → ResponseValue) → List ℕ → Result Value Refusal → ResponseValue
-    → Type 0
-RespondsOrMemory {Value} told_by target result told =
+abbrev pub RespondsOrMemory : {Value : Type 0} → (Result Value Refusal → ResponseValue) → Result Value Refusal → ResponseValue → Type 0
+RespondsOrMemory {Value} told_by result told =
     (told ≡ told_by result)
-    ⊎ ((told ≡ refusal_response target Refusals.Memory) × (result ≢ Err Refusals.Disk) × (result ≢ Err Refusals.Broken))
+    ⊎ ((told ≡ refusal_response None Refusals.Memory) × (result ≢ Err Refusals.Disk) × (result ≢ Err Refusals.Broken))
 
 -- a message by its method
 abbrev pub AnswersAs : {S : Type 0} → Method → Ghosts S → RegisterState S → Request → ResponseValue → RegisterState S → Type 0
 AnswersAs method g before asked told after =
-    Answered g before asked.target told after
+    Answered g before told after
     (λ old new. AnswersBy method old asked told new) (λ old new. RepliesBy method old asked told new)
 
 abbrev pub Answers : {S : Type 0} → Ghosts S → RegisterState S → Request → ResponseValue → RegisterState S → Type 0

@@ -1,5 +1,5 @@
 -- The requests of commands as the messages of a stream, and what a register makes of its own commands.
-use Rattle.std.specs.Prelude.{◌≡◌, ◌≢◌, ℕ, ◌≤◌, false, List, [], ◌∷◌, length, map, codes, None}
+use Rattle.std.specs.Prelude.{◌≢◌, ℕ, ◌≤◌, false, List, [], ◌∷◌, length, map, codes, None}
 use Rattle.std.specs.List.{flat_map, AllByRecursion}
 use Rattle.std.specs.Fmt.{decimal}
 use Rattle.httparse.specs.Grammar.{RequestHead, crlf}
@@ -60,8 +60,7 @@ whole A = record { accepted = A; in_doubt = None }
 
 -- nobody was told that memory ran out or that the disk failed
 abbrev pub HadNoFault : Exchange → Type 0
-HadNoFault x =
-    (x.reply ≢ refusal_response x.message.head.target Memory) × (x.reply ≢ refusal_response x.message.head.target Disk)
+HadNoFault x = (x.reply ≢ refusal_response None Memory) × (x.reply ≢ refusal_response None Disk)
 
 -- what an accepted command was told
 abbrev pub kept_reply : Entry → ResponseValue

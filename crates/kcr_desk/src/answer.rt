@@ -1,5 +1,5 @@
 //! What the register is asked by a message, and what the message is told.
-ghost use Rattle.std.specs.Prelude.{◌≡◌, ◌⊎◌, ℕ, List, IsTrue, MatchResult};
+ghost use Rattle.std.specs.Prelude.{◌≡◌, ◌⊎◌, None, IsTrue, MatchResult};
 ghost use Rattle.sqlite.specs.Held.{state};
 ghost use Rattle.sqlite.specs.State.{HasCleanDisk};
 ghost use Rattle.kcr_wire.specs.Commands.{command_of};
@@ -10,7 +10,7 @@ ghost use Rattle.kcr_history.specs.Refusals.{carries};
 ghost use Rattle.kcr_base.specs.declared.refusal.Refusal.TheVariants as Refusals;
 ghost use Rattle.kcr_desk.specs.Answers.{Answers, AnswersAs, Answered, AnswersCommand, AnswersReading, AnswersInquiry};
 ghost use Rattle.kcr_desk.specs.Answers.{IsReported, method_of, json_response, refusal_response, shown_response, report_response};
-ghost use Rattle.kcr_desk.specs.Answers.{allowed, RespondsRefusal, TakesInquiry, RepliesInquiry, RespondsOrMemory, refusal_of};
+ghost use Rattle.kcr_desk.specs.Answers.{RespondsUnread, TakesInquiry, RepliesInquiry, RespondsOrMemory, refusal_of};
 ghost use Rattle.kcr_desk.specs.Answers.{outcome_of, MayBeReported, MayBeShown, MayBeText, IsText};
 ghost use Rattle.kcr_desk.specs.Answers.{IsFeed};
 ghost use Rattle.kcr_desk.specs.declared.response.MediaType.TheVariants as kinds;
@@ -59,19 +59,9 @@ fn json_response(text: Text) -> Response
     }
 }
 
-/// The methods of a path, if the method of a message is not one of them.
-fn allowed(paths: &RouteTable, target: &[u8], refusal: &Refusal) -> Option<Allow>
-    ensures { result ≡ allowed target.now refusal.now }
-{
-    match refusal {
-        Refusal::Method => paths.allow(target),
-        _ => None,
-    }
-}
-
 /// Out of memory, which takes none.
 fn memory_response() -> Response
-    ensures { (target : List ℕ) → response_value result ≡ refusal_response target Refusals.Memory }
+    ensures { response_value result ≡ refusal_response None Refusals.Memory }
 {
     let Some(text) = fixed_text(&Refusal::Memory) else {
         unreachable!()
@@ -82,12 +72,13 @@ fn memory_response() -> Response
     }
 }
 
-/// A refusal of a message. Where it carries something, out of memory may be told in its place.
-fn refusal_response(alloc: Global, paths: &RouteTable, target: &[u8], refusal: &Refusal) -> Response
-    ensures { (response_value result ≡ refusal_response target.now refusal.now)
-        ⊎ (IsTrue (carries refusal.now) × (response_value result ≡ refusal_response target.now Refusals.Memory)) }
+/// A refusal, with the methods of the path if it is for the method. Where it carries something, out of memory may be
+/// told in its place.
+fn refusal_response(alloc: Global, allow: Option<Allow>, refusal: &Refusal) -> Response
+    ensures { (response_value result ≡ refusal_response allow refusal.now)
+        ⊎ (IsTrue (carries refusal.now) × (response_value result ≡ refusal_response None Refusals.Memory)) }
 {
-    let heading = refusal_heading(refusal, allowed(paths, target, refusal));
+    let heading = refusal_heading(refusal, allow);
     if let Some(text) = fixed_text(refusal) {
         return Response {
             heading,
@@ -109,16 +100,14 @@ fn refusal_response(alloc: Global, paths: &RouteTable, target: &[u8], refusal: &
 fn answer_command<S: Alter>(
     alloc: Global,
     register: &mut Register<S>,
-    paths: &RouteTable,
-    target: &[u8],
     command: &Command,
 ) -> Response
-    ensures { AnswersCommand S.Store register.old target.now (response_value result) register.new command.now }
+    ensures { AnswersCommand S.Store register.old (response_value result) register.new command.now }
 {
     acts_are_values(&command.act);
     match register.apply(command) {
         Ok(reply) => json_response(reply.text),
-        Err(refusal) => refusal_response(alloc, paths, target, &refusal),
+        Err(refusal) => refusal_response(alloc, None, &refusal),
     }
 }
 
@@ -126,12 +115,10 @@ fn answer_command<S: Alter>(
 fn answer_question<S: Alter>(
     alloc: Global,
     register: &mut Register<S>,
-    paths: &RouteTable,
-    target: &[u8],
     question: &Question,
 ) -> Response
-    ensures { AnswersReading S.Store register.old target.now (response_value result) register.new
-        (shown_response target.now) (MayBeShown question.now) (λ A shown. IsQuestionResult A question.now shown) }
+    ensures { AnswersReading S.Store register.old (response_value result) register.new
+        shown_response (MayBeShown question.now) (λ A shown. IsQuestionResult A question.now shown) }
 {
     match register.look(question) {
         Ok(shown) => {
@@ -140,7 +127,7 @@ fn answer_question<S: Alter>(
                 Err(_) => memory_response(),
             }
         }
-        Err(refusal) => refusal_response(alloc, paths, target, &refusal),
+        Err(refusal) => refusal_response(alloc, None, &refusal),
     }
 }
 
@@ -157,13 +144,11 @@ fn refusal_of(fault: PrintFault) -> Refusal
 /// Tells a report of this kind that was printed into memory, or why it was not printed whole.
 fn report_response(
     alloc: Global,
-    paths: &RouteTable,
-    target: &[u8],
     kind: MediaType,
     text: Vec<u8>,
     outcome: Result<(), PrintFault>,
 ) -> Response
-    ensures { RespondsOrMemory (report_response kind target.now) target.now (outcome_of outcome text.items) (response_value result) }
+    ensures { RespondsOrMemory (report_response kind) (outcome_of outcome text.items) (response_value result) }
 {
     match outcome {
         Ok(()) => {
@@ -176,7 +161,7 @@ fn report_response(
                 body: Body::Printed(text),
             }
         }
-        Err(fault) => refusal_response(alloc, paths, target, &refusal_of(fault)),
+        Err(fault) => refusal_response(alloc, None, &refusal_of(fault)),
     }
 }
 
@@ -184,91 +169,68 @@ fn report_response(
 fn answer_script<S: Alter>(
     alloc: Global,
     register: &mut Register<S>,
-    paths: &RouteTable,
-    target: &[u8],
     ceremony: CeremonyNumber,
 ) -> Response
-    ensures { AnswersReading S.Store register.old target.now (response_value result) register.new
-        (report_response kinds.Text target.now) (MayBeReported ceremony) (IsReported prints.annotated ceremony) }
+    ensures { AnswersReading S.Store register.old (response_value result) register.new
+        (report_response kinds.Text) (MayBeReported ceremony) (IsReported prints.annotated ceremony) }
 {
     let mut page = Counted::new(Vec::new(alloc));
     let outcome = annotated(alloc, register, ceremony, &mut page);
     let text = page.into_inner();
-    report_response(alloc, paths, target, MediaType::Text, text, outcome)
+    report_response(alloc, MediaType::Text, text, outcome)
 }
 
 /// Prints the attendance of a ceremony into memory, and tells it.
 fn answer_attendance<S: Alter>(
     alloc: Global,
     register: &mut Register<S>,
-    paths: &RouteTable,
-    target: &[u8],
     ceremony: CeremonyNumber,
 ) -> Response
-    ensures { AnswersReading S.Store register.old target.now (response_value result) register.new
-        (report_response kinds.Csv target.now) (MayBeReported ceremony) (IsReported prints.attendance ceremony) }
+    ensures { AnswersReading S.Store register.old (response_value result) register.new
+        (report_response kinds.Csv) (MayBeReported ceremony) (IsReported prints.attendance ceremony) }
 {
     let mut page = Counted::new(Vec::new(alloc));
     let outcome = attendance_csv(alloc, register, ceremony, &mut page);
     let text = page.into_inner();
-    report_response(alloc, paths, target, MediaType::Csv, text, outcome)
+    report_response(alloc, MediaType::Csv, text, outcome)
 }
 
 /// Prints custody into memory, and tells it.
-fn answer_custody<S: Alter>(
-    alloc: Global,
-    register: &mut Register<S>,
-    paths: &RouteTable,
-    target: &[u8],
-) -> Response
-    ensures { AnswersReading S.Store register.old target.now (response_value result) register.new
-        (report_response kinds.Text target.now) MayBeText (IsText prints.custody) }
+fn answer_custody<S: Alter>(alloc: Global, register: &mut Register<S>) -> Response
+    ensures { AnswersReading S.Store register.old (response_value result) register.new
+        (report_response kinds.Text) MayBeText (IsText prints.custody) }
 {
     let mut page = Counted::new(Vec::new(alloc));
     let outcome = custody(alloc, register, &mut page);
     let text = page.into_inner();
-    report_response(alloc, paths, target, MediaType::Text, text, outcome)
+    report_response(alloc, MediaType::Text, text, outcome)
 }
 
 /// The most commands of one answer.
 const MAX_FEED_COMMANDS: u32 = 1_000;
 
 /// Writes the requests of the commands behind those that the client has into memory, and tells them.
-fn answer_commands<S: Alter>(
-    alloc: Global,
-    register: &mut Register<S>,
-    paths: &RouteTable,
-    target: &[u8],
-    after: After,
-) -> Response
-    ensures { AnswersReading S.Store register.old target.now (response_value result) register.new
-        (report_response kinds.Text target.now) MayBeText (IsFeed after) }
+fn answer_commands<S: Alter>(alloc: Global, register: &mut Register<S>, after: After) -> Response
+    ensures { AnswersReading S.Store register.old (response_value result) register.new
+        (report_response kinds.Text) MayBeText (IsFeed after) }
 {
     let after = after.get();
     let mut page = Counted::new(Vec::new(alloc));
     let outcome = export(alloc, register, after, after + MAX_FEED_COMMANDS, &mut page);
     let text = page.into_inner();
-    report_response(alloc, paths, target, MediaType::Text, text, outcome)
+    report_response(alloc, MediaType::Text, text, outcome)
 }
 
 /// Asks the register for what a GET or HEAD asks for, and tells it.
-fn answer_get<S: Alter>(
-    alloc: Global,
-    register: &mut Register<S>,
-    paths: &RouteTable,
-    target: &[u8],
-    inquiry: Inquiry,
-) -> Response
-    ensures { AnswersInquiry S.Store register.old target.now (response_value result) register.new inquiry }
+fn answer_get<S: Alter>(alloc: Global, register: &mut Register<S>, inquiry: Inquiry) -> Response
+    ensures { AnswersInquiry S.Store register.old (response_value result) register.new inquiry }
 {
     match inquiry {
-        Inquiry::Question(question) => answer_question(alloc, register, paths, target, &question),
-        Inquiry::Script(ceremony) => answer_script(alloc, register, paths, target, ceremony),
-        Inquiry::Attendance(ceremony) => answer_attendance(
-            alloc, register, paths, target, ceremony,
-        ),
-        Inquiry::Custody => answer_custody(alloc, register, paths, target),
-        Inquiry::Commands(after) => answer_commands(alloc, register, paths, target, after),
+        Inquiry::Question(question) => answer_question(alloc, register, &question),
+        Inquiry::Script(ceremony) => answer_script(alloc, register, ceremony),
+        Inquiry::Attendance(ceremony) => answer_attendance(alloc, register, ceremony),
+        Inquiry::Custody => answer_custody(alloc, register),
+        Inquiry::Commands(after) => answer_commands(alloc, register, after),
     }
 }
 
@@ -281,10 +243,9 @@ fn answer_post<S: Alter>(
 ) -> Response
     ensures { AnswersAs Post S.Store register.old asked.now (response_value result) register.new }
 {
-    let target = asked.target;
-    match paths.read_command(alloc, target, asked.body) {
-        Ok(command) => answer_command(alloc, register, paths, target, &command),
-        Err(refusal) => refusal_response(alloc, paths, target, &refusal),
+    match paths.read_command(alloc, asked.target, asked.body) {
+        Ok(command) => answer_command(alloc, register, &command),
+        Err(unread) => refusal_response(alloc, unread.allow, &unread.refusal),
     }
 }
 
@@ -296,15 +257,17 @@ fn answer_inquiry<S: Alter>(
     method: Method,
     target: &[u8],
 ) -> Response
-    ensures { Answered S.Store register.old target.now (response_value result) register.new
+    ensures { Answered S.Store register.old (response_value result) register.new
         (λ before after. MatchResult (question_of method target.now)
-        (TakesInquiry before target.now (response_value result) after) (RespondsRefusal before target.now (response_value result) after))
+        (TakesInquiry before (response_value result) after)
+        (RespondsUnread before target.now (response_value result) after))
         (λ before after. MatchResult (question_of method target.now)
-        (RepliesInquiry before target.now (response_value result) after) (RespondsRefusal before target.now (response_value result) after)) }
+        (RepliesInquiry before (response_value result) after)
+        (RespondsUnread before target.now (response_value result) after)) }
 {
     match paths.read_question(method, target) {
-        Ok(inquiry) => answer_get(alloc, register, paths, target, inquiry),
-        Err(refusal) => refusal_response(alloc, paths, target, &refusal),
+        Ok(inquiry) => answer_get(alloc, register, inquiry),
+        Err(unread) => refusal_response(alloc, unread.allow, &unread.refusal),
     }
 }
 

@@ -5,7 +5,7 @@ use Rattle.std.specs.Char.{is_ascii}
 use Rattle.std.specs.Fmt.{decimal}
 use Rattle.std.specs.List.{list_all, position}
 use Rattle.std.specs.Option.{ok_or, option_map_or}
-use Rattle.std.specs.Result.{result_ok}
+use Rattle.std.specs.Result.{result_map_both, result_ok}
 use Rattle.matchit.specs.Params.{named, walk}
 use Rattle.matchit.specs.Router.{RouteOf}
 use Rattle.matchit.specs.Seek.{first}
@@ -25,6 +25,7 @@ use Rattle.kcr_wire.specs.declared.endpoint.Endpoint.TheVariants as target
 use Rattle.kcr_wire.specs.declared.question.Inquiry.TheVariants as inquiry
 use Rattle.kcr_wire.specs.declared.route.Route.{Route}
 use Rattle.kcr_wire.specs.declared.route.Route.TheVariants as route
+use Rattle.kcr_wire.specs.declared.unread.Unread.{Unread}
 
 -- the target up to the first question mark, or all of it
 abbrev pub path_of : List ℕ → List ℕ
@@ -127,9 +128,18 @@ allow_of_endpoint (target.Post post.People) = allow.GetHeadPost
 allow_of_endpoint (target.Post _) = allow.Post
 allow_of_endpoint (target.Ask _) = allow.GetHead
 
+-- these methods, if a request is refused for its method
+abbrev pub if_method : Refusal → Option Allow → Option Allow
+if_method refusal.Method allow = allow
+if_method _ allow = None
+
 -- the methods that a target takes, if it is a path of the register
 unfoldable pub allow_of : List ℕ → Option Allow
 allow_of target = option_map allow_of_endpoint (result_ok (target_of target))
+
+-- what was read, or its refusal alone
+abbrev pub refusal_alone : {V : Type 0} → Result V Unread → Result V Refusal
+refusal_alone result = result_map_both (λ v. v) (λ e. e.refusal) result
 
 -- the list of them in an answer
 abbrev pub allow_text : Allow → List ℕ

@@ -26,6 +26,10 @@ is_read_method method.Head = true
 is_read_method method.Post = false
 is_read_method method.Other = false
 
+-- the inquiry that a method asks for at a path
+abbrev pub question_at : Method → Endpoint → Result Inquiry Refusal
+question_at m t = if is_read_method m then question_by t else Err refusal.Method
+
 -- the inquiry that a method and a target are
 unfoldable pub question_of : Method → List ℕ → Result Inquiry Refusal
-question_of m target = and_then (target_of target) (λ t. if is_read_method m then question_by t else Err refusal.Method)
+question_of m target = and_then (target_of target) (question_at m)

@@ -1,10 +1,13 @@
 //! Commands, read off the target and the body of a POST.
+ghost use Rattle.std.specs.Prelude.{◌≡◌, IfErr};
 ghost use Rattle.serde_json.specs.View.{view};
 ghost use Rattle.kcr_forms.specs.OrMemory.{OrMemory};
-ghost use Rattle.kcr_wire.specs.Commands.{command_by, command_of};
+ghost use Rattle.kcr_wire.specs.Commands.{command_by, command_of, posted};
+ghost use Rattle.kcr_wire.specs.Endpoints.{allow_of, if_method, refusal_alone};
 
 use crate::body::{Body, read_body, text_member};
 use crate::endpoint::{Endpoint, RouteTable};
+use crate::unread::Unread;
 use kcr_base::{Member, Refusal};
 use kcr_forms::{Post, act_at};
 use kcr_history::Command;
@@ -20,28 +23,39 @@ fn command_at(alloc: Global, post: Post, body: &Value) -> Result<Command, Refusa
     Ok(Command { key, act })
 }
 
+// The command of a body that is posted to a path, or the refusal of a path that takes no POST.
+fn posted(alloc: Global, endpoint: Endpoint, body: &[u8]) -> Result<Command, Refusal>
+    ensures { OrMemory result (posted endpoint body.now) }
+{
+    match endpoint {
+        Endpoint::Post(post) => {
+            let value = read_body(alloc, body)?;
+            command_at(alloc, post, &value)
+        }
+        Endpoint::Ask(_) => Err(Refusal::Method),
+    }
+}
+
 impl RouteTable {
     /// The command that a POST is, or the first of the refusals that hold: `Path`, `Method` (the path
-    /// is known and takes no POST), `ToJson`, `Form` with the first member that is missing or not of its
+    /// is known and takes no POST), `Json`, `Form` with the first member that is missing or not of its
     /// form. `Memory` may come in the place of any answer. `target` is the whole target of the request
     /// line; its query is cut off. Members that the command does not name are ignored, and of a member
     /// given twice the last one counts.
-    #[tactic(auto, unfolding(crate::specs::Commands::command_of))]
-    pub fn read_command(
-        &self,
-        alloc: Global,
-        target: &[u8],
-        body: &[u8],
-    ) -> Result<Command, Refusal>
-        ensures { OrMemory result (command_of target.now body.now) }
+    #[tactic(auto, unfolding(crate::specs::Commands::command_of, crate::specs::Endpoints::allow_of))]
+    pub fn read_command(&self, alloc: Global, target: &[u8], body: &[u8]) -> Result<Command, Unread>
+        ensures command { OrMemory (refusal_alone result) (command_of target.now body.now) }
+        ensures allow { IfErr result (λ e. e.allow ≡ if_method e.refusal (allow_of target.now)) }
     {
         match self.resolve(target) {
-            Ok(Endpoint::Post(post)) => {
-                let value = read_body(alloc, body)?;
-                command_at(alloc, post, &value)
+            Ok(endpoint) => {
+                let allow = endpoint.allow();
+                match posted(alloc, endpoint, body) {
+                    Ok(command) => Ok(command),
+                    Err(refusal) => Err(Unread::new(refusal, allow)),
+                }
             }
-            Ok(Endpoint::Ask(_)) => Err(Refusal::Method),
-            Err(refusal) => Err(refusal),
+            Err(refusal) => Err(refusal.into()),
         }
     }
 }

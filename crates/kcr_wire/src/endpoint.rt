@@ -2,7 +2,7 @@
 ghost use Rattle.std.specs.Prelude.{◌≡◌, ◌==◌, ◌<◌, length, position, option_map, IfErr, IfSome};
 ghost use Rattle.matchit.specs.Params.{AllText, named};
 ghost use Rattle.kcr_wire.specs.Endpoints.{path_of, ascii_in, parts_of, initials_in, place_in, ceremony_in, serial_in};
-ghost use Rattle.kcr_wire.specs.Endpoints.{target_by, target_of, allow_of_endpoint, allow_of};
+ghost use Rattle.kcr_wire.specs.Endpoints.{target_by, target_of, allow_of_endpoint};
 
 use crate::after::After;
 use crate::allow::Allow;
@@ -185,23 +185,12 @@ impl RouteTable {
             Err(_) => Err(Refusal::Path),
         }
     }
-
-    /// The methods that a target takes, or `None` if it is no path of the register.
-    #[tactic(auto, unfolding(crate::specs::Endpoints::allow_of))]
-    pub fn allow(&self, target: &[u8]) -> Option<Allow>
-        ensures { result ≡ allow_of target.now }
-    {
-        match self.resolve(target) {
-            Ok(target) => Some(target.allow()),
-            Err(_) => None,
-        }
-    }
 }
 
 impl Endpoint {
-    /// The methods that the path takes.
-    pub fn allow(self) -> Allow
-        ensures { result ≡ allow_of_endpoint self }
+    // The methods that the path takes.
+    pub(crate) fn allow(&self) -> Allow
+        ensures { result ≡ allow_of_endpoint self.now }
     {
         match self {
             Endpoint::Post(Post::People) => Allow::GetHeadPost,

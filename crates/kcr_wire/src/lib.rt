@@ -11,6 +11,7 @@ pub mod method;
 pub mod question;
 pub mod route;
 pub mod shown_json;
+pub mod unread;
 
 pub use after::After;
 pub use allow::Allow;
@@ -18,3 +19,4 @@ pub use endpoint::RouteTable;
 pub use method::Method;
 pub use question::Inquiry;
 pub use shown_json::{write_refusal, write_shown};
+pub use unread::Unread;

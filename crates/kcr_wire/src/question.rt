@@ -1,10 +1,12 @@
 //! Inquiries, read off a method and a target.
-ghost use Rattle.std.specs.Prelude.{◌≡◌};
-ghost use Rattle.kcr_wire.specs.Questions.{question_by, question_of};
+ghost use Rattle.std.specs.Prelude.{◌≡◌, IfErr};
+ghost use Rattle.kcr_wire.specs.Endpoints.{allow_of, if_method, refusal_alone};
+ghost use Rattle.kcr_wire.specs.Questions.{question_at, question_of};
 
 use crate::after::After;
 use crate::endpoint::{Endpoint, RouteTable};
 use crate::method::Method;
+use crate::unread::Unread;
 use kcr_base::{CeremonyNumber, Refusal};
 use kcr_forms::Post;
 use kcr_history::Question;
@@ -25,14 +27,16 @@ pub enum Inquiry {
     Commands(After),
 }
 
-// The inquiry that a path takes, or the refusal of a path that takes commands alone.
-fn question_at(target: Endpoint) -> Result<Inquiry, Refusal>
-    ensures { result ≡ question_by target }
+// The inquiry that a method asks for at a path, or the refusal of a method that the path does not take.
+fn question_at(method: Method, endpoint: Endpoint) -> Result<Inquiry, Refusal>
+    ensures { result ≡ question_at method endpoint }
 {
-    match target {
-        Endpoint::Ask(inquiry) => Ok(inquiry),
-        Endpoint::Post(Post::People) => Ok(Inquiry::Question(Question::People)),
-        Endpoint::Post(_) => Err(Refusal::Method),
+    match (method, endpoint) {
+        (Method::Get | Method::Head, Endpoint::Ask(inquiry)) => Ok(inquiry),
+        (Method::Get | Method::Head, Endpoint::Post(Post::People)) => {
+            Ok(Inquiry::Question(Question::People))
+        }
+        _ => Err(Refusal::Method),
     }
 }
 
@@ -40,14 +44,20 @@ impl RouteTable {
     /// The inquiry that a request is, or the first of the refusals that hold: `Path`, `Method` (the
     /// path is known and takes commands alone, or the method is neither GET nor HEAD). It takes no
     /// memory. `target` is the whole target of the request line; its query is cut off.
-    #[tactic(auto, unfolding(crate::specs::Questions::question_of))]
-    pub fn read_question(&self, method: Method, target: &[u8]) -> Result<Inquiry, Refusal>
-        ensures { result ≡ question_of method target.now }
+    #[tactic(auto, unfolding(crate::specs::Questions::question_of, crate::specs::Endpoints::allow_of))]
+    pub fn read_question(&self, method: Method, target: &[u8]) -> Result<Inquiry, Unread>
+        ensures question { refusal_alone result ≡ question_of method target.now }
+        ensures allow { IfErr result (λ e. e.allow ≡ if_method e.refusal (allow_of target.now)) }
     {
-        match (self.resolve(target), method) {
-            (Ok(endpoint), Method::Get | Method::Head) => question_at(endpoint),
-            (Ok(_), Method::Post | Method::Other) => Err(Refusal::Method),
-            (Err(refusal), _) => Err(refusal),
+        match self.resolve(target) {
+            Ok(endpoint) => {
+                let allow = endpoint.allow();
+                match question_at(method, endpoint) {
+                    Ok(inquiry) => Ok(inquiry),
+                    Err(refusal) => Err(Unread::new(refusal, allow)),
+                }
+            }
+            Err(refusal) => Err(refusal.into()),
         }
     }
 }

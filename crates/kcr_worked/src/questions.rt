@@ -7,7 +7,7 @@ ghost use Rattle.kcr_wire.specs.declared.allow.Allow.TheVariants as Allows;
 ghost use Rattle.kcr_wire.specs.declared.method.Method.TheVariants as Methods;
 ghost use Rattle.kcr_wire.specs.declared.question.Inquiry.TheVariants as Inquiries;
 ghost use Rattle.kcr_wire.specs.Commands.{command_of};
-ghost use Rattle.kcr_wire.specs.Endpoints.{allow_of, allow_text};
+ghost use Rattle.kcr_wire.specs.Endpoints.{allow_of, allow_text, if_method};
 ghost use Rattle.kcr_wire.specs.Questions.{question_of};
 ghost use Rattle.kcr_laws.specs.Examples.{AA, bag_7};
 ghost use Rattle.kcr_worked.specs.Acts.{first_day, ninth_second};
@@ -39,5 +39,7 @@ pub fn inquiries()
     ensures takes_both { allow_of (codes "/people") ≡ Some Allows.GetHeadPost }
     ensures takes_commands { allow_of (codes "/boxes") ≡ Some Allows.Post }
     ensures takes_nothing { allow_of (codes "/nowhere") ≡ None }
+    ensures of_a_method { if_method Refusals.Method (Some Allows.Post) ≡ Some Allows.Post }
+    ensures of_a_path { if_method Refusals.Path (Some Allows.Post) ≡ None }
     ensures both { allow_text Allows.GetHeadPost ≡ codes "GET, HEAD, POST" }
 {}

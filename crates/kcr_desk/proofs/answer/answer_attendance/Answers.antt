@@ -7,5 +7,5 @@ use Rattle.kcr_desk.proofs.answer.answer_attendance.Goals as goal
 pub returns : goal.returns
 returns g c =
     let e = c.attendance_csv-outcome.ensures in
-    report_answered g.S.Store c.args.target.now _ Csv c.into_inner-text.result.items attendance c.args.ceremony
+    report_answered g.S.Store _ Csv c.into_inner-text.result.items attendance c.args.ceremony
     e.prints (λ founded whole clean. search (rules, e.prints.printed founded whole clean)) e.planned c.report_response.ensures

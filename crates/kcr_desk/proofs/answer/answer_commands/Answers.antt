@@ -6,5 +6,5 @@ use Rattle.kcr_desk.proofs.answer.answer_commands.Goals as goal
 pub returns : goal.returns
 returns g c =
     let e = rw c.get-after.ensures.value at c.export-outcome.ensures in
-    feed_answered g.S.Store c.args.target.now _ Text c.into_inner-text.result.items c.args.after
+    feed_answered g.S.Store _ Text c.into_inner-text.result.items c.args.after
     e (λ founded whole clean values. search (rules, e.requests founded whole clean values)) c.report_response.ensures

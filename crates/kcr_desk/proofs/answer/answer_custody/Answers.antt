@@ -7,5 +7,5 @@ use Rattle.kcr_desk.proofs.answer.answer_custody.Goals as goal
 pub returns : goal.returns
 returns g c =
     let e = c.custody-outcome.ensures in
-    text_answered g.S.Store c.args.target.now _ Text c.into_inner-text.result.items custody
+    text_answered g.S.Store _ Text c.into_inner-text.result.items custody
     e (λ founded whole clean. search (rules, e.printed founded whole clean)) c.report_response.ensures

@@ -7,5 +7,5 @@ use Rattle.kcr_desk.proofs.answer.answer_script.Goals as goal
 pub returns : goal.returns
 returns g c =
     let e = c.annotated-outcome.ensures in
-    report_answered g.S.Store c.args.target.now _ Text c.into_inner-text.result.items annotated c.args.ceremony
+    report_answered g.S.Store _ Text c.into_inner-text.result.items annotated c.args.ceremony
     e.prints (λ founded whole clean. search (rules, e.prints.printed founded whole clean)) e.planned c.report_response.ensures

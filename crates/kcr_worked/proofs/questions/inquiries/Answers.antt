@@ -36,5 +36,7 @@ returns c = record {
   takes_both = refl;
   takes_commands = refl;
   takes_nothing = refl;
+  of_a_method = refl;
+  of_a_path = refl;
   both = refl;
 }

@@ -4,4 +4,4 @@ use Rattle.kcr_desk.proofs.answer.RegisterResponder.respond.Goals as goal
 
 pub returns-in-None : goal.returns-in-None
 returns-in-None g c =
-    memory_answered g.S.Store c.args.self.now c.args.asked.now.target (response_value c.memory_response.result) _ _ (c.memory_response.ensures c.args.asked.now.target)
+    memory_answered g.S.Store c.args.self.now (response_value c.memory_response.result) _ _ c.memory_response.ensures
