@@ -176,16 +176,16 @@ use Rattle.kcr_tables.proofs.HoldLemmas.{held_of, tables_of}
     out += """
 
 -- the changes one after the other
-pub all_stand : (list : List Change) (m : machine.Tables) (t : StoredTables) → Rises t.rows → SameRows m t → SameRows (changes.changed_by list m) (changed_all list t)
+pub all_stand : (list : List Change) (m : machine.Tables) (t : StoredTables) → Rises t.rows → SameRows m t → SameRows (changes.all_changed list m) (changed_all list t)
 all_stand [] m t r s = s
 all_stand (c ∷ more) m t r s =
     all_stand more (changes.changed c m) (changed c t) (after_rises c t.rows r) (record { rows = after_same c m t.rows r s.rows; versions = s.versions })
 
 -- ---- what the store holds
 
-pub changes_hold : (list : List Change) (m : machine.Tables) (old new : Database) (h : HoldsTables m old) → Holds new (changed_all list h.tables.t) → HoldsTables (changes.changed_by list m) new
+pub changes_hold : (list : List Change) (m : machine.Tables) (old new : Database) (h : HoldsTables m old) → Holds new (changed_all list h.tables.t) → HoldsTables (changes.all_changed list m) new
 changes_hold list m old new h held =
-    tables_of (changes.changed_by list m) new (changed_all list h.tables.t) (all_stand list m h.tables.t (kept_rises old.trees h.tables.t h.tables.kept) h.tables.stands) held
+    tables_of (changes.all_changed list m) new (changed_all list h.tables.t) (all_stand list m h.tables.t (kept_rises old.trees h.tables.t h.tables.kept) h.tables.stands) held
 
 same_itself : (t : machine.Tables) → machine.SameTables t t
 same_itself t = search (rules, IsPermutation-refl)

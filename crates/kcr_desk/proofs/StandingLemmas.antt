@@ -63,11 +63,11 @@ ran step s before after (Ok served) ends = (ends.exchanges, ends.run)
 ran step s before after (Err fault) ends = (ends.exchanges, ends.run)
 
 -- a stream ended by these steps, and so by others
-pub ends_by : {S T R W : Type 0} (step : S → Request → ResponseValue → S → Type 0) (other : T → Request → ResponseValue → T → Type 0) (s : Streams R W)
+pub is_open_stay_of : {S T R W : Type 0} (step : S → Request → ResponseValue → S → Type 0) (other : T → Request → ResponseValue → T → Type 0) (s : Streams R W)
     (before after : S) (first last : T) (result : Result Served DeskFault) → ((xs : List Exchange) → Run step before xs after → Run other first xs last)
     → Ends step s before after result → Ends other s first last result
-ends_by step other s before after first last (Ok served) leads ends = served_by leads ends
-ends_by step other s before after first last (Err fault) leads ends = broken_by leads ends
+is_open_stay_of step other s before after first last (Ok served) leads ends = served_by leads ends
+is_open_stay_of step other s before after first last (Err fault) leads ends = broken_by leads ends
 
 -- what the counts of the reader and of the writer tell of a fault
 pub broken_stream : {T R W : Type 0} (s : Streams R W) (result : Result T DeskFault)

@@ -19,7 +19,7 @@ use Rattle.kcr_base.proofs.FormLemmas.{key-read}
 use Rattle.kcr_forms.proofs.FormLemmas.{number-new, listed_new}
 use Rattle.kcr_forms.proofs.Formed.{days, moments, roles, facilities, ways, places-read, initials, serials, names, remarks, scripts, destinations}
 use Rattle.kcr_forms.proofs.Readers.{Reads}
-use Rattle.kcr_wire.specs.Commands.{command_by}
+use Rattle.kcr_wire.specs.Commands.{posted_command}
 use Rattle.kcr_wire.specs.Members.{json_of, each_in}
 use Rattle.kcr_wire.proofs.Json.{json-some}
 use Rattle.kcr_history.specs.Texts.{members_of}
@@ -48,7 +48,7 @@ each-again IsValue form reads (text ∷ list) each =
 listed-again : (limit : ℕ) (list : List (List ℕ)) → IsListed limit list → listed_of limit (λ texts. texts) list ≡ Some list
 listed-again limit list is = sym (listed_new limit (λ texts. texts) list (Some list) (is, refl))
 
-pub command-again : (key : List ℕ) (act : Act) → IsKey key → IsAct act → command_by (post_of act) (data_of key act) ≡ Ok (record { key = key; act = act })
+pub command-again : (key : List ℕ) (act : Act) → IsKey key → IsAct act → posted_command (post_of act) (data_of key act) ≡ Ok (record { key = key; act = act })
 command-again key (Enter who name) is_key is = rw (key-again key is_key, initials.reads.again who is.0, names.again name is.1) refl
 command-again key (Train who role since until) is_key is =
     rw (key-again key is_key, roles.reads.again role tt, days.reads.again since is.1, days.reads.again until is.2) refl

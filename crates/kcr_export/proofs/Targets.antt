@@ -28,7 +28,7 @@ use Rattle.kcr_forms.specs.Posts.{post_of}
 use Rattle.kcr_forms.specs.declared.post.Post.{Post}
 use Rattle.kcr_forms.specs.declared.post.Post.TheVariants as post
 use Rattle.kcr_wire.specs.Routes.{table, add_all, add}
-use Rattle.kcr_wire.specs.Endpoints.{Parts, parts_in, target_by, target_at, target_of, with_parts}
+use Rattle.kcr_wire.specs.Endpoints.{Parts, parts_in, endpoint_of, target_at, target_of, with_parts}
 use Rattle.kcr_wire.specs.declared.route.Route.{Route}
 use Rattle.kcr_wire.specs.declared.route.Route.TheVariants as route
 use Rattle.kcr_wire.specs.declared.endpoint.Endpoint.{Endpoint}
@@ -160,16 +160,16 @@ safe2-in = refl
 
 by-route : (path : List ℕ) (r : Route) (pattern : List ℕ) (names : List (List ℕ)) (t : Endpoint) (found : Option (RouteOf Route))
     → option_map sight found ≡ Some (r, (pattern, names))
-    → ((text : List ℕ) (places : List (ℕ × ℕ)) → names_in text places ≡ names → target_by r (walk pattern text path places 0 0) ≡ Some t)
-    → option_and_then (λ (f : RouteOf Route). target_by f.value (parts_in f path)) found ≡ Some t
+    → ((text : List ℕ) (places : List (ℕ × ℕ)) → names_in text places ≡ names → endpoint_of r (walk pattern text path places 0 0) ≡ Some t)
+    → option_and_then (λ (f : RouteOf Route). endpoint_of f.value (parts_in f path)) found ≡ Some t
 by-route path r pattern names t None e asks = cc
 by-route path r pattern names t (Some f) e asks =
     let same : sight f ≡ (r, (pattern, names)) = cc in
-    (λ i. target_by (same i).0 (walk (same i).1.0 f.text path f.names 0 0)) ∙ asks f.text f.names (ap (λ (s : Sight). s.1.1) same)
+    (λ i. endpoint_of (same i).0 (walk (same i).1.0 f.text path f.names 0 0)) ∙ asks f.text f.names (ap (λ (s : Sight). s.1.1) same)
 
 found-target : (path : List ℕ) (r : Route) (pattern : List ℕ) (names : List (List ℕ)) (t : Endpoint) → All IsPathByte path
     → option_map sight (first table path) ≡ Some (r, (pattern, names))
-    → ((text : List ℕ) (places : List (ℕ × ℕ)) → names_in text places ≡ names → target_by r (walk pattern text path places 0 0) ≡ Some t)
+    → ((text : List ℕ) (places : List (ℕ × ℕ)) → names_in text places ≡ names → endpoint_of r (walk pattern text path places 0 0) ≡ Some t)
     → target_of path ≡ Ok t
 unfolding target_of
 found-target path r pattern names t bytes routed asks =
@@ -190,7 +190,7 @@ number n is = number-word 9999 n (omega arith) is
 
 -- one part in braces
 module _ {V : Type 0} (make : V → Endpoint) (read : List ℕ → Option V) (r : Route) (name : List ℕ)
-    (asks : (w : List ℕ) → target_by r ((name, w) ∷ []) ≡ option_map make (read w)) where
+    (asks : (w : List ℕ) → endpoint_of r ((name, w) ∷ []) ≡ option_map make (read w)) where
   one-part : (front back w : List ℕ) (v : V) → All IsPathByte front → All IsKeyByte back → IsWord w → read w ≡ Some v
       → OneIn front name back r → target_of (front ++ (w ++ 47 ∷ back)) ≡ Ok (make v)
   one-part front back w v h g is same is_in =
@@ -199,7 +199,7 @@ module _ {V : Type 0} (make : V → Endpoint) (read : List ℕ → Option V) (r 
       found-target path r pattern (name ∷ []) (make v) (with-piece front w back h is.bytes (word-bytes back g))
       (piece-route sight front back table (r, (pattern, name ∷ [])) is_in w (word-piece w is))
       (λ text places named.
-      ap (target_by r) (one-taken front w (path-small front h) (word-slash w is.bytes) back text back name places named)
+      ap (endpoint_of r) (one-taken front w (path-small front h) (word-slash w is.bytes) back text back name places named)
       ∙ asks w ∙ ap (option_map make) same)
 
 -- two parts in braces, the first of them a ceremony
@@ -210,8 +210,8 @@ ceremonies-bytes : All IsPathByte in_ceremonies
 ceremonies-bytes = path-literal in_ceremonies refl
 
 module _ {V : Type 0} (make : ℕ → V → Endpoint) (read : List ℕ → Option V) (r : Route) (name middle : List ℕ)
-    (asks : (n w : List ℕ) → target_by r ((codes "ceremony", n) ∷ (name, w) ∷ []) ≡ with_parts make (ceremony_of n) (read w)) where
-  both : (n : ℕ) (w : List ℕ) (v : V) → IsNumber 9999 n → read w ≡ Some v → target_by r ((codes "ceremony", decimal n) ∷ (name, w) ∷ []) ≡ Some (make n v)
+    (asks : (n w : List ℕ) → endpoint_of r ((codes "ceremony", n) ∷ (name, w) ∷ []) ≡ with_parts make (ceremony_of n) (read w)) where
+  both : (n : ℕ) (w : List ℕ) (v : V) → IsNumber 9999 n → read w ≡ Some v → endpoint_of r ((codes "ceremony", decimal n) ∷ (name, w) ∷ []) ≡ Some (make n v)
   both n w v is same = asks (decimal n) w ∙ (λ i. with_parts make (ceremonies.reads.again n is i) (same i))
 
   two-part : (back : List ℕ) (n : ℕ) (w : List ℕ) (v : V) → All IsPathByte middle → All IsKeyByte back → IsNumber 9999 n → IsWord w → read w ≡ Some v
@@ -225,7 +225,7 @@ module _ {V : Type 0} (make : ℕ → V → Endpoint) (read : List ℕ → Optio
       found-target path r pattern (codes "ceremony" ∷ name ∷ []) (make n v) bytes
       (pieces-route sight in_ceremonies middle back table (r, (pattern, codes "ceremony" ∷ name ∷ [])) is_in (decimal n) w (word-piece (decimal n) word) (word-piece w is_word))
       (λ text places named.
-      ap (target_by r) (two-taken in_ceremonies (decimal n) (path-small in_ceremonies ceremonies-bytes) (word-slash (decimal n) word.bytes) (omega arith)
+      ap (endpoint_of r) (two-taken in_ceremonies (decimal n) (path-small in_ceremonies ceremonies-bytes) (word-slash (decimal n) word.bytes) (omega arith)
       middle (path-small (47 ∷ middle) (All-cons IsPathByte 47 middle (inr refl) h)) text (codes "ceremony") name back w back (word-slash w is_word.bytes) places named)
       ∙ both n w v is same)
 
@@ -239,18 +239,18 @@ module _ {V : Type 0} (make : ℕ → V → Endpoint) (read : List ℕ → Optio
       found-target path r pattern (codes "ceremony" ∷ name ∷ []) (make n v) bytes
       (tail-route sight in_ceremonies (middle ++ w) table (r, (pattern, codes "ceremony" ∷ name ∷ [])) is_in (decimal n) (word-piece (decimal n) word))
       (λ text places named.
-      ap (target_by r) (last-taken in_ceremonies (decimal n) (path-small in_ceremonies ceremonies-bytes) (word-slash (decimal n) word.bytes) (omega arith)
+      ap (endpoint_of r) (last-taken in_ceremonies (decimal n) (path-small in_ceremonies ceremonies-bytes) (word-slash (decimal n) word.bytes) (omega arith)
       middle (path-small (47 ∷ middle) (All-cons IsPathByte 47 middle (inr refl) h)) text (codes "ceremony") name w places named)
       ∙ both n w v is same)
 
 -- ---- each path
 
-list-target : (path : List ℕ) (r : Route) (t : Endpoint) → All IsPathByte path → NoneIn path r → ((parts : Parts) → target_by r parts ≡ Some t) → target_of path ≡ Ok t
+list-target : (path : List ℕ) (r : Route) (t : Endpoint) → All IsPathByte path → NoneIn path r → ((parts : Parts) → endpoint_of r parts ≡ Some t) → target_of path ≡ Ok t
 list-target path r t bytes is_in asks =
     found-target path r path [] t bytes (literal-route sight path table (r, (path, [])) is_in) (λ text places named. asks (walk path text path places 0 0))
 
 person-target : (make : List ℕ → Post) (r : Route)
-    → ((w : List ℕ) → target_by r ((codes "who", w) ∷ []) ≡ option_map (λ who. target.Post (make who)) (initials_of w))
+    → ((w : List ℕ) → endpoint_of r ((codes "who", w) ∷ []) ≡ option_map (λ who. target.Post (make who)) (initials_of w))
     → (back : List ℕ) → All IsKeyByte back → OneIn (codes "/people/") (codes "who") back r → (who : List ℕ) → IsInitials who
     → target_of (at_person who back) ≡ Ok (target.Post (make who))
 person-target make r asks back h is_in who is =
@@ -259,7 +259,7 @@ person-target make r asks back h is_in who is =
     (initials-word who is) (initials.reads.again who is) is_in)
 
 place-target : (make : Place → Post) (r : Route)
-    → ((w : List ℕ) → target_by r ((codes "place", w) ∷ []) ≡ option_map (λ place. target.Post (make place)) (place_of w))
+    → ((w : List ℕ) → endpoint_of r ((codes "place", w) ∷ []) ≡ option_map (λ place. target.Post (make place)) (place_of w))
     → (back : List ℕ) → All IsKeyByte back → OneIn (codes "/custodians/") (codes "place") back r → (place : Place) → IsPlace place
     → target_of (at_place (place_text place) back) ≡ Ok (target.Post (make place))
 place-target make r asks back h is_in place is =
@@ -269,7 +269,7 @@ place-target make r asks back h is_in place is =
     (place-word place is) (places-read.reads.again place is) is_in)
 
 ceremony-target : (make : ℕ → Post) (r : Route)
-    → ((w : List ℕ) → target_by r ((codes "ceremony", w) ∷ []) ≡ option_map (λ n. target.Post (make n)) (ceremony_of w))
+    → ((w : List ℕ) → endpoint_of r ((codes "ceremony", w) ∷ []) ≡ option_map (λ n. target.Post (make n)) (ceremony_of w))
     → (back : List ℕ) → All IsKeyByte back → OneIn (codes "/ceremonies/") (codes "ceremony") back r → (n : ℕ) → IsNumber 9999 n
     → target_of (at_ceremony n back) ≡ Ok (target.Post (make n))
 ceremony-target make r asks back h is_in n is =
@@ -278,7 +278,7 @@ ceremony-target make r asks back h is_in n is =
     (number n is) (ceremonies.reads.again n is) is_in)
 
 bag-target : (make : ℕ → List ℕ → Post) (r : Route)
-    → ((n w : List ℕ) → target_by r ((codes "ceremony", n) ∷ (codes "serial", w) ∷ []) ≡ with_parts (λ n v. target.Post (make n v)) (ceremony_of n) (serial_of w))
+    → ((n w : List ℕ) → endpoint_of r ((codes "ceremony", n) ∷ (codes "serial", w) ∷ []) ≡ with_parts (λ n v. target.Post (make n v)) (ceremony_of n) (serial_of w))
     → (back : List ℕ) → All IsKeyByte back → TwoIn (codes "bags/") (codes "serial") back r → (n : ℕ) (serial : List ℕ) → IsNumber 9999 n → IsSerial serial
     → target_of (at_bag n serial back) ≡ Ok (target.Post (make n serial))
 bag-target make r asks back h is_in n serial is is_serial =

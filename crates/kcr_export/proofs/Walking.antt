@@ -112,11 +112,11 @@ walk-two front middle back text w v rest first second small short small_middle l
     ∙ wild-after (47 ∷ middle) back (length path) (length front + 1) (length front + length w) small_middle (omega (arith, of_passed, of_piece, length-append passed (v ++ rest), ap length path_is))
     ∙ (λ i. (at_token i, at_path i)) in
     let parts : walk pattern text path (second ∷ []) (after_token (length front)) (length front + length w) ≡ (part_of text second.0 second.1, v) ∷ [] =
-        ap (λ n. walk pattern text path (second ∷ []) n (length front + length w)) token
-        ∙ walk-next pattern text path second [] (length front + 1) (length front + length w) (length done) (length passed) (length passed + length v) found
-        ((λ i. wild_stop (pattern_is i) (length done) (path_is i) (length passed)) ∙ ends)
-        ∙ ap (λ part. (part_of text second.0 second.1, part) ∷ [])
-        (ap (λ t. part_of t (length passed) (length passed + length v)) path_is ∙ part-between passed v rest) in
+    ap (λ n. walk pattern text path (second ∷ []) n (length front + length w)) token
+    ∙ walk-next pattern text path second [] (length front + 1) (length front + length w) (length done) (length passed) (length passed + length v) found
+    ((λ i. wild_stop (pattern_is i) (length done) (path_is i) (length passed)) ∙ ends)
+    ∙ ap (λ part. (part_of text second.0 second.1, part) ∷ [])
+    (ap (λ t. part_of t (length passed) (length passed + length v)) path_is ∙ part-between passed v rest) in
     walk-first front (middle ++ 256 ∷ back) text w (middle ++ (v ++ rest)) first (second ∷ []) small lacks
     ∙ ap (λ t. (part_of text first.0 first.1, w) ∷ t) parts
 

@@ -88,7 +88,11 @@ impl Teller for BodyText {
         self.push(name, &value)
     }
 
-    fn list<T: ListElement>(&mut self, name: Member, value: &DistinctList<T>) -> Result<(), AllocError> {
+    fn list<T: ListElement>(
+        &mut self,
+        name: Member,
+        value: &DistinctList<T>,
+    ) -> Result<(), AllocError> {
         let values = code_values(self.alloc, value.as_slice())?;
         let value = array_value(self.alloc, values)?;
         self.push(name, &value)

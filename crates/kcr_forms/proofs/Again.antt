@@ -23,7 +23,7 @@ use Rattle.kcr_forms.specs.Acts.{IsAct}
 use Rattle.kcr_forms.specs.ActTexts.{of_part, of_collection, of_person, of_place, of_bag, of_ceremony, of_step, in_ceremony, on_ceremony, in_collection, post_at}
 use Rattle.kcr_forms.specs.ActTexts.{after_slash, act_told, if_told, act_of}
 use Rattle.kcr_forms.specs.Lines.{lines}
-use Rattle.kcr_forms.specs.Posts.{post_of, act_by}
+use Rattle.kcr_forms.specs.Posts.{post_of, posted_act}
 use Rattle.kcr_forms.specs.declared.post.Post.{Post}
 use Rattle.kcr_forms.specs.declared.post.Post.TheVariants as post
 use Rattle.kcr_forms.proofs.Cutting.{Lacks, lacks-literal, IsWord, word, cut-again, cut-none}
@@ -181,9 +181,9 @@ told-again does is =
     let whole : command_text does ≡ (47 ∷ q.path) ++ 10 ∷ values =
     in-lines (members_of does) (path_text does) (some-member does) ∙ ap (λ (path : List ℕ). path ++ 10 ∷ values) q.is in
     ap act_told whole
-    ∙ ap (option_and_then (λ (p : List ℕ × List ℕ). option_and_then (λ path. option_and_then (λ post. result_ok (act_by lines post p.1)) (post_at path)) (after_slash p.0)))
+    ∙ ap (option_and_then (λ (p : List ℕ × List ℕ). option_and_then (λ path. option_and_then (λ post. result_ok (posted_act lines post p.1)) (post_at path)) (after_slash p.0)))
     (cut-again 10 (47 ∷ q.path) values (All-cons (λ b. eqb b 10 ≡ false) 47 q.path refl q.plain))
-    ∙ ap (option_and_then (λ post. result_ok (act_by lines post values))) q.read
+    ∙ ap (option_and_then (λ post. result_ok (posted_act lines post values))) q.read
     ∙ ap result_ok (lines-told does is)
 
 pub act-again : (does : Act) → IsAct does → act_of (command_text does) ≡ Some does

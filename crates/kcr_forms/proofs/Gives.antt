@@ -21,7 +21,7 @@ use Rattle.kcr_forms.specs.Acts.{IsAct}
 use Rattle.kcr_forms.specs.Forms.{initials_of, item_of, name_of, remark_of, day_of, moment_of, place_of, facility_of, role_of, way_of, destination_of}
 use Rattle.kcr_forms.specs.Forms.{ceremony_of, script_of, truth_of, number_of, listed_of}
 use Rattle.kcr_forms.specs.Lines.{each_of, between_commas, lines, on_line}
-use Rattle.kcr_forms.specs.Posts.{post_of, act_by}
+use Rattle.kcr_forms.specs.Posts.{post_of, posted_act}
 use Rattle.kcr_forms.specs.Reading.{Reading}
 use Rattle.kcr_forms.proofs.Cutting.{Lacks, cut-again}
 use Rattle.kcr_forms.proofs.FormLemmas.{listed_new}
@@ -57,7 +57,7 @@ codes-again most IsValue read reads list is each =
 -- ---- the law
 
 module _ {S : Type 0} (r : Reading S) where
-  pub act-given : (does : Act) (s : S) → IsAct does → Gives r (members_of does) s → act_by r (post_of does) s ≡ Ok does
+  pub act-given : (does : Act) (s : S) → IsAct does → Gives r (members_of does) s → posted_act r (post_of does) s ≡ Ok does
   act-given (act.Enter who name) s is g =
       rw (g.0.word initials_of who refl ∙ initials.reads.again who is.0, g.1.word name_of name refl ∙ names.again name is.1) refl
   act-given (act.Train who role since until) s is g =
@@ -221,5 +221,5 @@ are-plain (act.Take ceremony serial at) is = tt
 are-plain (act.Put ceremony serial to at) is = (no-feed destinations to is.2, tt)
 are-plain (act.Cut ceremony serial at) is = tt
 
-pub lines-told : (does : Act) → IsAct does → act_by lines (post_of does) (lines_text (members_of does)) ≡ Ok does
+pub lines-told : (does : Act) → IsAct does → posted_act lines (post_of does) (lines_text (members_of does)) ≡ Ok does
 lines-told does is = act-given lines does (lines_text (members_of does)) is (lines-give (members_of does) (are-plain does is))

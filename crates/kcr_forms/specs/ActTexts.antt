@@ -7,7 +7,7 @@ use Rattle.kcr_base.specs.Same.{same_text}
 use Rattle.kcr_base.specs.declared.place.Place.{Place}
 use Rattle.kcr_forms.specs.Forms.{initials_of, place_of, serial_of, ceremony_of, step_of, safe_of}
 use Rattle.kcr_forms.specs.Lines.{lines}
-use Rattle.kcr_forms.specs.Posts.{act_by}
+use Rattle.kcr_forms.specs.Posts.{posted_act}
 use Rattle.kcr_forms.specs.Split.{Reader, split_at_byte}
 use Rattle.kcr_forms.specs.declared.post.Post.{Post}
 use Rattle.kcr_forms.specs.declared.post.Post.TheVariants as post
@@ -98,7 +98,7 @@ after_slash (b ∷ bytes) = if b == 47 then Some bytes else None
 unfoldable pub act_told : Reader Act
 act_told text =
     option_and_then (λ p. option_and_then (λ path.
-    option_and_then (λ post. result_ok (act_by lines post p.1)) (post_at path)) (after_slash p.0)) (split_at_byte 10 text)
+    option_and_then (λ post. result_ok (posted_act lines post p.1)) (post_at path)) (after_slash p.0)) (split_at_byte 10 text)
 
 -- the act, if this is its text
 abbrev pub if_told : Act → List ℕ → Option Act

@@ -63,40 +63,40 @@ abbrev pub at_last : {S B : Type 0} → Reading S → S → (ℕ → B) → Resu
 at_last r s make = last r member.At moment_of s make
 
 -- the act of a path and its members: each of its form, or the refusal of the first one that is not
-abbrev pub act_by : {S : Type 0} → Reading S → Post → S → Result Act Refusal
-act_by r post.People s = word r member.Who initials_of s (λ who s. last r member.Name name_of s (act.Enter who))
-act_by r (post.Roles who) s =
+abbrev pub posted_act : {S : Type 0} → Reading S → Post → S → Result Act Refusal
+posted_act r post.People s = word r member.Who initials_of s (λ who s. last r member.Name name_of s (act.Enter who))
+posted_act r (post.Roles who) s =
     word r member.Role role_of s (λ role s. word r member.From day_of s (λ since s.
     last r member.Until day_of s (act.Train who role since)))
-act_by r (post.Withdrawals who) s = word r member.Role role_of s (λ role s. last r member.Day day_of s (act.Withdraw who role))
-act_by r post.Custodians s =
+posted_act r (post.Withdrawals who) s = word r member.Role role_of s (λ role s. last r member.Day day_of s (act.Withdraw who role))
+posted_act r post.Custodians s =
     word r member.Place place_of s (λ place s. word r member.Who initials_of s (λ who s.
     last r member.Day day_of s (act.Appoint place who)))
-act_by r (post.Replacement place) s = word r member.Who initials_of s (λ who s. last r member.Day day_of s (act.Replace place who))
-act_by r (post.Release place) s = last r member.Day day_of s (act.Release place)
-act_by r post.Boxes s =
+posted_act r (post.Replacement place) s = word r member.Who initials_of s (λ who s. last r member.Day day_of s (act.Replace place who))
+posted_act r (post.Release place) s = last r member.Day day_of s (act.Release place)
+posted_act r post.Boxes s =
     word r member.Facility facility_of s (λ facility s. number r member.Box s (λ n s.
     last r member.Place place_of s (act.AddBox facility n)))
-act_by r post.Items s =
+posted_act r post.Items s =
     number r member.Ceremony s (λ ceremony s. word r member.Item item_of s (λ item s. at_last r s (act.AddItem ceremony item)))
-act_by r post.Ceremonies s =
+posted_act r post.Ceremonies s =
     number r member.Number s (λ n s. word r member.Facility facility_of s (λ facility s. word r member.Day day_of s (λ day s.
     last r member.Script script_of s (act.Plan n facility day))))
-act_by r (post.Opening ceremony) s = at_last r s (act.Open ceremony)
-act_by r (post.Closing ceremony) s = at_last r s (act.Close ceremony)
-act_by r (post.Sheet ceremony) s =
+posted_act r (post.Opening ceremony) s = at_last r s (act.Open ceremony)
+posted_act r (post.Closing ceremony) s = at_last r s (act.Close ceremony)
+posted_act r (post.Sheet ceremony) s =
     word r member.Way way_of s (λ way s. list r member.Who 32 initials_of s (λ who s.
     at_last r s (act.RecordSheet ceremony way who)))
-act_by r (post.Signature ceremony step) s = at_last r s (act.Sign ceremony step)
-act_by r (post.Exceptions ceremony) s =
+posted_act r (post.Signature ceremony step) s = at_last r s (act.Sign ceremony step)
+posted_act r (post.Exceptions ceremony) s =
     word r member.Text remark_of s (λ text s. truth r member.Pass s (λ pass s.
     at_last r s (act.RecordException ceremony text pass)))
-act_by r (post.Safe ceremony safe) s =
+posted_act r (post.Safe ceremony safe) s =
     truth r member.Open s (λ is_open s. word r member.By initials_of s (λ by s.
     at_last r s (act.SetSafe ceremony safe is_open by)))
-act_by r (post.Seal ceremony serial) s =
+posted_act r (post.Seal ceremony serial) s =
     list r member.Items 64 item_of s (λ items s. at_last r s (act.Seal ceremony serial items))
-act_by r (post.Take ceremony serial) s = at_last r s (act.Take ceremony serial)
-act_by r (post.Put ceremony serial) s =
+posted_act r (post.Take ceremony serial) s = at_last r s (act.Take ceremony serial)
+posted_act r (post.Put ceremony serial) s =
     word r member.To destination_of s (λ to s. at_last r s (act.Put ceremony serial to))
-act_by r (post.Cut ceremony serial) s = at_last r s (act.Cut ceremony serial)
+posted_act r (post.Cut ceremony serial) s = at_last r s (act.Cut ceremony serial)

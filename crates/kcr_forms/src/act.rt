@@ -1,6 +1,6 @@
 //! The act that a path and its members are.
 ghost use Rattle.kcr_forms.specs.OrMemory.{OrMemory};
-ghost use Rattle.kcr_forms.specs.Posts.{act_by};
+ghost use Rattle.kcr_forms.specs.Posts.{posted_act};
 ghost use Rattle.kcr_forms.specs.declared.post.Post.TheVariants as Posts;
 
 use crate::members::Members;
@@ -11,7 +11,7 @@ use kcr_history::Act;
 use std::alloc::Global;
 
 fn train<M: Members>(alloc: Global, who: Initials, given: &mut M) -> Result<Act, Refusal>
-    ensures { OrMemory result (act_by M.reading (Posts.Roles who) (M.given given.old)) }
+    ensures { OrMemory result (posted_act M.reading (Posts.Roles who) (M.given given.old)) }
 {
     Ok(Act::Train {
         who,
@@ -22,7 +22,7 @@ fn train<M: Members>(alloc: Global, who: Initials, given: &mut M) -> Result<Act,
 }
 
 fn appoint<M: Members>(alloc: Global, given: &mut M) -> Result<Act, Refusal>
-    ensures { OrMemory result (act_by M.reading Posts.Custodians (M.given given.old)) }
+    ensures { OrMemory result (posted_act M.reading Posts.Custodians (M.given given.old)) }
 {
     Ok(Act::Appoint {
         place: given.word(alloc, Member::Place)?,
@@ -32,7 +32,7 @@ fn appoint<M: Members>(alloc: Global, given: &mut M) -> Result<Act, Refusal>
 }
 
 fn add_box<M: Members>(alloc: Global, given: &mut M) -> Result<Act, Refusal>
-    ensures { OrMemory result (act_by M.reading Posts.Boxes (M.given given.old)) }
+    ensures { OrMemory result (posted_act M.reading Posts.Boxes (M.given given.old)) }
 {
     Ok(Act::AddBox {
         facility: given.word(alloc, Member::Facility)?,
@@ -42,7 +42,7 @@ fn add_box<M: Members>(alloc: Global, given: &mut M) -> Result<Act, Refusal>
 }
 
 fn add_item<M: Members>(alloc: Global, given: &mut M) -> Result<Act, Refusal>
-    ensures { OrMemory result (act_by M.reading Posts.Items (M.given given.old)) }
+    ensures { OrMemory result (posted_act M.reading Posts.Items (M.given given.old)) }
 {
     Ok(Act::AddItem {
         ceremony: given.number(Member::Ceremony)?,
@@ -52,7 +52,7 @@ fn add_item<M: Members>(alloc: Global, given: &mut M) -> Result<Act, Refusal>
 }
 
 fn plan<M: Members>(alloc: Global, given: &mut M) -> Result<Act, Refusal>
-    ensures { OrMemory result (act_by M.reading Posts.Ceremonies (M.given given.old)) }
+    ensures { OrMemory result (posted_act M.reading Posts.Ceremonies (M.given given.old)) }
 {
     Ok(Act::Plan {
         number: given.number(Member::Number)?,
@@ -67,7 +67,7 @@ fn record_sheet<M: Members>(
     ceremony: CeremonyNumber,
     given: &mut M,
 ) -> Result<Act, Refusal>
-    ensures { OrMemory result (act_by M.reading (Posts.Sheet ceremony) (M.given given.old)) }
+    ensures { OrMemory result (posted_act M.reading (Posts.Sheet ceremony) (M.given given.old)) }
 {
     Ok(Act::RecordSheet {
         ceremony,
@@ -82,7 +82,7 @@ fn record_exception<M: Members>(
     ceremony: CeremonyNumber,
     given: &mut M,
 ) -> Result<Act, Refusal>
-    ensures { OrMemory result (act_by M.reading (Posts.Exceptions ceremony) (M.given given.old)) }
+    ensures { OrMemory result (posted_act M.reading (Posts.Exceptions ceremony) (M.given given.old)) }
 {
     Ok(Act::RecordException {
         ceremony,
@@ -98,7 +98,7 @@ fn set_safe<M: Members>(
     safe: SafeNumber,
     given: &mut M,
 ) -> Result<Act, Refusal>
-    ensures { OrMemory result (act_by M.reading (Posts.Safe ceremony safe) (M.given given.old)) }
+    ensures { OrMemory result (posted_act M.reading (Posts.Safe ceremony safe) (M.given given.old)) }
 {
     Ok(Act::SetSafe {
         ceremony,
@@ -112,7 +112,7 @@ fn set_safe<M: Members>(
 /// The act that is posted to a path with these members, or the refusal of the first member that is missing or not of its
 /// form. `Memory` may come in the place of any answer.
 pub fn act_at<M: Members>(alloc: Global, post: Post, given: &mut M) -> Result<Act, Refusal>
-    ensures { OrMemory result (act_by M.reading post (M.given given.old)) }
+    ensures { OrMemory result (posted_act M.reading post (M.given given.old)) }
 {
     match post {
         Post::People => Ok(Act::Enter {

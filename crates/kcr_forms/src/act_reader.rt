@@ -6,7 +6,7 @@ ghost use Rattle.kcr_forms.specs.Acts.{IsAct};
 ghost use Rattle.kcr_forms.specs.ActTexts.{act_told, if_told, act_of};
 ghost use Rattle.kcr_forms.specs.Lines.{lines};
 ghost use Rattle.kcr_forms.specs.OrMemory.{OrMemory};
-ghost use Rattle.kcr_forms.specs.Posts.{act_by};
+ghost use Rattle.kcr_forms.specs.Posts.{posted_act};
 
 use crate::act::act_at;
 use crate::lines::Lines;
@@ -19,7 +19,7 @@ use std::alloc::{AllocError, Global};
 
 /// The act of a path with these lines.
 fn act_of_lines(alloc: Global, post: Post, text: &[u8]) -> Result<Act, Refusal>
-    ensures { OrMemory result (act_by lines post text.now) }
+    ensures { OrMemory result (posted_act lines post text.now) }
 {
     act_at(alloc, post, &mut Lines { text })
 }

@@ -160,27 +160,27 @@ asks_sealed ceremony serial codes at = asks_items ceremony serial (Items.Codes c
 
 -- of people those that the command names; of trainings and appointments theirs, or in a room those that last to the day
 -- of the act; presence is read from the stays that last to its moment; a ceremony's own rows by its number
-abbrev pub asks_by : Act → Asks
-asks_by (Enter who name) = asks_person who
-asks_by (Train who role since until) = asks_to_train who
-asks_by (Withdraw who role day) = asks_to_withdraw who
-asks_by (Appoint place who day) = asks_to_appoint place who
-asks_by (Replace place who day) = asks_to_appoint place who
-asks_by (Release place day) = asks_to_release place
-asks_by (AddBox facility number place) = asks_boxes
-asks_by (AddItem ceremony item at) = asks_to_add ceremony item at
-asks_by (Plan number facility day script) = asks_ceremonies (Matching number)
-asks_by (Open ceremony at) = asks_ceremonies All
-asks_by (Close ceremony at) = asks_to_close ceremony at
-asks_by (RecordSheet ceremony way people at) = asks_sheet ceremony way people at
-asks_by (Sign ceremony step at) = asks_to_sign ceremony step at
-asks_by (RecordException ceremony text pass at) = asks_to_except ceremony at
-asks_by (SetSafe ceremony safe state by at) = asks_to_turn ceremony by at
-asks_by (Seal ceremony serial items at) = asks_sealed ceremony serial items at
-asks_by (Take ceremony serial at) = asks_bag ceremony serial at
-asks_by (Put ceremony serial to at) = asks_bag ceremony serial at
-asks_by (Cut ceremony serial at) = asks_items ceremony serial (Items.Bag serial) at
+abbrev pub asks_of_act : Act → Asks
+asks_of_act (Enter who name) = asks_person who
+asks_of_act (Train who role since until) = asks_to_train who
+asks_of_act (Withdraw who role day) = asks_to_withdraw who
+asks_of_act (Appoint place who day) = asks_to_appoint place who
+asks_of_act (Replace place who day) = asks_to_appoint place who
+asks_of_act (Release place day) = asks_to_release place
+asks_of_act (AddBox facility number place) = asks_boxes
+asks_of_act (AddItem ceremony item at) = asks_to_add ceremony item at
+asks_of_act (Plan number facility day script) = asks_ceremonies (Matching number)
+asks_of_act (Open ceremony at) = asks_ceremonies All
+asks_of_act (Close ceremony at) = asks_to_close ceremony at
+asks_of_act (RecordSheet ceremony way people at) = asks_sheet ceremony way people at
+asks_of_act (Sign ceremony step at) = asks_to_sign ceremony step at
+asks_of_act (RecordException ceremony text pass at) = asks_to_except ceremony at
+asks_of_act (SetSafe ceremony safe state by at) = asks_to_turn ceremony by at
+asks_of_act (Seal ceremony serial items at) = asks_sealed ceremony serial items at
+asks_of_act (Take ceremony serial at) = asks_bag ceremony serial at
+asks_of_act (Put ceremony serial to at) = asks_bag ceremony serial at
+asks_of_act (Cut ceremony serial at) = asks_items ceremony serial (Items.Bag serial) at
 
 -- what the decision of a command reads
 abbrev pub asks_of : Command → Asks
-asks_of x = asks_by x.act
+asks_of x = asks_of_act x.act

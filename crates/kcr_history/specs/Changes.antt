@@ -85,6 +85,6 @@ changed (PutKey row) t = record t { keys = put same_key_row row t.keys }
 -- end: written by tools/tables.py
 
 -- the changes one after the other
-abbrev pub changed_by : List Change → Tables → Tables
-changed_by [] t = t
-changed_by (change ∷ changes) t = changed_by changes (changed change t)
+abbrev pub all_changed : List Change → Tables → Tables
+all_changed [] t = t
+all_changed (change ∷ changes) t = all_changed changes (changed change t)

@@ -17,7 +17,7 @@ use Rattle.kcr_history.specs.Ceremonies.{steps_of, next_step, exceptions_of}
 use Rattle.kcr_history.specs.Seating.{is_seating, IsFirst, IsLeast}
 use Rattle.kcr_history.specs.Texts.{same_command, reply_text}
 use Rattle.kcr_history.specs.Tables.{tables, seats_at, SameTables}
-use Rattle.kcr_history.specs.Changes.{changed_by}
+use Rattle.kcr_history.specs.Changes.{all_changed}
 use Rattle.kcr_history.specs.Conditions.{fault}
 
 -- what is answered
@@ -131,7 +131,7 @@ IsRegister (entry ∷ A) = CanFollow A entry × IsRegister A
 -- order of rows; its reply is the text of it
 pub record IsAcceptance (A : History) (x : Command) (verdict : Verdict) (new_reply : ReplyData) : Type 0 where
   pub step : machine A x (Accepts new_reply) (with_command A x new_reply)
-  pub tables : SameTables (changed_by verdict.changes.items (tables A)) (tables (with_command A x new_reply))
+  pub tables : SameTables (all_changed verdict.changes.items (tables A)) (tables (with_command A x new_reply))
   pub reply : verdict.reply.text ≡ reply_text new_reply
 
 -- the verdict gives the reply that was kept of an earlier command under the same key: it changes nothing

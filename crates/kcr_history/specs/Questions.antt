@@ -102,12 +102,12 @@ abbrev pub holder_shown : Option (List ℕ) → Place → Option HolderShown
 holder_shown holds place = option_map (λ who. record { place = place; who = who }) holds
 
 -- the places that are held, in their order, with their holders
-abbrev pub holders_by : (Place → Option (List ℕ)) → List HolderShown
-holders_by holds = filter_map (λ place. holder_shown (holds place) place) all_places
+abbrev pub holders_from : (Place → Option (List ℕ)) → List HolderShown
+holders_from holds = filter_map (λ place. holder_shown (holds place) place) all_places
 
 -- those that are held on the day
 abbrev pub holders_on : History → ℕ → List HolderShown
-holders_on A day = holders_by (λ place. holder A place day)
+holders_on A day = holders_from (λ place. holder A place day)
 
 -- who holds which place on the day
 pub record AreCustodiansShown (A : History) (asked : ℕ) (shown : CustodiansShown) : Type 0 where

@@ -297,8 +297,8 @@ fn asks_sealed(
 }
 
 /// What an act asks for.
-fn asks_by(alloc: Global, act: &Act) -> Result<Asks, AllocError>
-    ensures { IfOk result (λ asks. asks ≡ AsksByKind.asks_by act.now) }
+fn asks_of_act(alloc: Global, act: &Act) -> Result<Asks, AllocError>
+    ensures { IfOk result (λ asks. asks ≡ AsksByKind.asks_of_act act.now) }
 {
     match act {
         Act::Enter { who, .. } => asks_person(alloc, *who),
@@ -361,5 +361,5 @@ fn asks_by(alloc: Global, act: &Act) -> Result<Asks, AllocError>
 pub fn asks(alloc: Global, command: &Command) -> Result<Asks, AllocError>
     ensures { IfOk result (λ asks. asks ≡ AsksByKind.asks_of command.now) }
 {
-    asks_by(alloc, &command.act)
+    asks_of_act(alloc, &command.act)
 }

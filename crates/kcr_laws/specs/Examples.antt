@@ -158,19 +158,19 @@ abbrev pub leave : List (List ℕ) → ℕ → Act
 leave people at = RecordSheet 61 Ways.Leave people at
 
 -- the same, with these people in the room since 20:05:00
-abbrev pub attended_by : List ℕ → List (List ℕ) → History
-attended_by script people = with_act (opened_with script) (come people (clock 20 5 0)) None
+abbrev pub opened_with_people : List ℕ → List (List ℕ) → History
+opened_with_people script people = with_act (opened_with script) (come people (clock 20 5 0)) None
 
 -- after AA and BB have signed the only step, BB as CA and AA as IW
 abbrev pub signed_by_two : History
 signed_by_two =
-    with_act (attended_by (script_of_one (codes "CA;IW")) (AA ∷ BB ∷ [])) (Sign 61 1 (clock 20 10 0))
+    with_act (opened_with_people (script_of_one (codes "CA;IW")) (AA ∷ BB ∷ [])) (Sign 61 1 (clock 20 10 0))
     (Some (BB ∷ AA ∷ []))
 
 -- after two Crypto Officers have signed it, if the second seat wants the holder of place 5
 abbrev pub signed_by_officers : History
 signed_by_officers =
-    with_act (attended_by (script_of_one (codes "CO;CO/5")) (EE ∷ EB ∷ [])) (Sign 61 1 (clock 20 10 0))
+    with_act (opened_with_people (script_of_one (codes "CO;CO/5")) (EE ∷ EB ∷ [])) (Sign 61 1 (clock 20 10 0))
     (Some (EB ∷ EE ∷ []))
 
 -- after the first of three steps was signed, the second passed over and the third signed
@@ -178,20 +178,20 @@ abbrev pub three_steps_done : History
 three_steps_done =
     with_act
     (with_act
-    (with_act (attended_by (script_of_three (codes "CA;IW")) (AA ∷ BB ∷ [])) (Sign 61 1 (clock 20 10 0))
+    (with_act (opened_with_people (script_of_three (codes "CA;IW")) (AA ∷ BB ∷ [])) (Sign 61 1 (clock 20 10 0))
     (Some (BB ∷ AA ∷ []))) (RecordException 61 (codes "Read twice") true (clock 20 12 0)) (Some (BB ∷ AA ∷ [])))
     (Sign 61 3 (clock 20 13 0)) (Some (BB ∷ AA ∷ []))
 
 -- after four came, and two of them left, the second one's row handed in first
 abbrev pub two_left : History
 two_left =
-    with_acts (attended_by (script_of_one (codes "CA;IW")) (AA ∷ BB ∷ CC ∷ EA ∷ []))
+    with_acts (opened_with_people (script_of_one (codes "CA;IW")) (AA ∷ BB ∷ CC ∷ EA ∷ []))
     (leave (CC ∷ []) (clock 20 30 0) ∷ leave (BB ∷ []) (clock 20 20 0) ∷ [])
 
 -- after the first of two steps was signed in the last second of the day
 abbrev pub signed_at_midnight : History
 signed_at_midnight =
-    with_act (attended_by (script_of_two (codes "IW")) (AA ∷ BB ∷ [])) (Sign 61 1 (clock 23 59 59)) (Some (AA ∷ []))
+    with_act (opened_with_people (script_of_two (codes "IW")) (AA ∷ BB ∷ [])) (Sign 61 1 (clock 23 59 59)) (Some (AA ∷ []))
 
 -- then AA is trained anew, and that training is withdrawn from the day on
 abbrev pub withdrawn_from : ℕ → History
@@ -213,7 +213,7 @@ abbrev pub bag_on_table : History
 bag_on_table =
     with_act
     (with_act
-    (with_acts (attended_by (script_of_one (codes "IW")) (AA ∷ BB ∷ []))
+    (with_acts (opened_with_people (script_of_one (codes "IW")) (AA ∷ BB ∷ []))
     (AddItem 61 HSM4 (clock 20 6 0)
     ∷ Seal 61 bag_7 (HSM4 ∷ []) (clock 20 7 0)
     ∷ Cut 61 bag_7 (clock 20 8 0)
@@ -267,7 +267,7 @@ three_planned =
 abbrev pub closed_in_order : History
 closed_in_order =
     with_acts
-    (with_act (attended_by (script_of_one (codes "IW")) (AA ∷ BB ∷ [])) (Sign 61 1 (clock 20 10 0)) (Some (AA ∷ [])))
+    (with_act (opened_with_people (script_of_one (codes "IW")) (AA ∷ BB ∷ [])) (Sign 61 1 (clock 20 10 0)) (Some (AA ∷ [])))
     (leave (AA ∷ BB ∷ []) (clock 20 15 0) ∷ Close 61 (clock 20 15 0) ∷ [])
 
 -- a person, and nothing else

@@ -37,7 +37,7 @@ ghost use Rattle.kcr_history.specs.Texts.{reply_text, command_text};
 ghost use Rattle.kcr_laws.specs.Examples.{AA, BB, CC, DD, EA, EB, EE, WC, new_year, that_day, february, march, june};
 ghost use Rattle.kcr_laws.specs.Examples.{december, clock, come, leave, new_command, with_act, with_acts, lines};
 ghost use Rattle.kcr_laws.specs.Examples.{AreAnswered, accepted_from, script_of_one, script_of_two, script_of_three};
-ghost use Rattle.kcr_laws.specs.Examples.{opening_acts, opened_with, attended_by, signed_by_two, signed_by_officers};
+ghost use Rattle.kcr_laws.specs.Examples.{opening_acts, opened_with, opened_with_people, signed_by_two, signed_by_officers};
 ghost use Rattle.kcr_laws.specs.Examples.{three_steps_done, two_left, signed_at_midnight, withdrawn_from, bag_7, bag_8};
 ghost use Rattle.kcr_laws.specs.Examples.{HSM4, bag_on_table, bag_sealed, bag_in_box, one_officer, another_officer};
 ghost use Rattle.kcr_laws.specs.Examples.{three_planned, closed_in_order, entered};
@@ -102,7 +102,7 @@ pub fn one_person_for_two_seats()
         ((come (AA ∷ CC ∷ []) (clock 20 5 0), codes "{\"accepted\":17}")
         ∷ (Sign 61 1 (clock 20 10 0), codes "{\"number\":32,\"refusal\":\"short\",\"seats\":[1,2]}")
         ∷ [])
-        (attended_by (script_of_one (codes "CA;IW")) (AA ∷ CC ∷ [])) }
+        (opened_with_people (script_of_one (codes "CA;IW")) (AA ∷ CC ∷ [])) }
 {}
 
 /// A Crypto Officer of the other facility counts for no seat.
@@ -111,7 +111,7 @@ pub fn officer_of_the_other_facility()
         ((come (EA ∷ EB ∷ WC ∷ []) (clock 20 5 0), codes "{\"accepted\":17}")
         ∷ (Sign 61 1 (clock 20 10 0), codes "{\"number\":32,\"refusal\":\"short\",\"seats\":[1,2,3]}")
         ∷ [])
-        (attended_by (script_of_one (codes "CO*3")) (EA ∷ EB ∷ WC ∷ [])) }
+        (opened_with_people (script_of_one (codes "CO*3")) (EA ∷ EB ∷ WC ∷ [])) }
 {}
 
 /// The holder of place 5 is left for the seat that wants place 5.
@@ -157,14 +157,14 @@ pub fn sheet_row_at_the_mark()
 
 /// Nobody is left alone in the room: two of three do not go, all three do.
 pub fn all_leave_together()
-    ensures { AreAnswered (attended_by (script_of_one (codes "CA;IW")) (AA ∷ BB ∷ CC ∷ []))
+    ensures { AreAnswered (opened_with_people (script_of_one (codes "CA;IW")) (AA ∷ BB ∷ CC ∷ []))
         ((
           leave (AA ∷ BB ∷ []) (clock 20 20 0),
           codes "{\"moment\":\"2025-02-13T20:20:00Z\",\"number\":26,\"refusal\":\"lone\"}",
         )
         ∷ (leave (AA ∷ BB ∷ CC ∷ []) (clock 20 20 0), codes "{\"accepted\":18}")
         ∷ [])
-        (with_act (attended_by (script_of_one (codes "CA;IW")) (AA ∷ BB ∷ CC ∷ []))
+        (with_act (opened_with_people (script_of_one (codes "CA;IW")) (AA ∷ BB ∷ CC ∷ []))
         (leave (AA ∷ BB ∷ CC ∷ []) (clock 20 20 0)) None) }
 {}
 
@@ -182,7 +182,7 @@ pub fn signed_before_they_left()
 
 /// Training ends with its last day, at midnight.
 pub fn training_ends_at_midnight()
-    ensures { AreAnswered (attended_by (script_of_two (codes "IW")) (AA ∷ BB ∷ []))
+    ensures { AreAnswered (opened_with_people (script_of_two (codes "IW")) (AA ∷ BB ∷ []))
         ((Sign 61 1 (clock 23 59 59), codes "{\"accepted\":18,\"seating\":[\"AA\"],\"step\":1}")
         ∷ (Sign 61 2 (clock 24 0 0), codes "{\"number\":32,\"refusal\":\"short\",\"seats\":[1]}")
         ∷ [])
@@ -200,7 +200,7 @@ pub fn replacement_after_the_settled_day()
 
 /// A serial is used once; and a ceremony does not close while a bag lies on its table.
 pub fn bag_left_on_the_table()
-    ensures { AreAnswered (attended_by (script_of_one (codes "IW")) (AA ∷ BB ∷ []))
+    ensures { AreAnswered (opened_with_people (script_of_one (codes "IW")) (AA ∷ BB ∷ []))
         ((AddItem 61 HSM4 (clock 20 6 0), codes "{\"accepted\":18}")
         ∷ (Seal 61 bag_7 (HSM4 ∷ []) (clock 20 7 0), codes "{\"accepted\":19}")
         ∷ (Cut 61 bag_7 (clock 20 8 0), codes "{\"accepted\":20}")
@@ -291,9 +291,9 @@ pub fn the_room()
         )
         ∷ [])
         (opened_with (script_of_one (codes "CA;IW"))) }
-    ensures twice { AreAnswered (attended_by (script_of_one (codes "CA;IW")) (AA ∷ BB ∷ []))
+    ensures twice { AreAnswered (opened_with_people (script_of_one (codes "CA;IW")) (AA ∷ BB ∷ []))
         ((come (AA ∷ []) (clock 20 6 0), codes "{\"number\":24,\"refusal\":\"turn\",\"who\":\"AA\"}") ∷ [])
-        (attended_by (script_of_one (codes "CA;IW")) (AA ∷ BB ∷ [])) }
+        (opened_with_people (script_of_one (codes "CA;IW")) (AA ∷ BB ∷ [])) }
 {}
 
 /// Nothing is signed before the mark; an exception that passes no step needs nobody.
@@ -312,27 +312,27 @@ pub fn first_seatings()
         ((come (EE ∷ EB ∷ EA ∷ []) (clock 20 5 0), codes "{\"accepted\":17}")
         ∷ (Sign 61 1 (clock 20 10 0), codes "{\"accepted\":18,\"seating\":[\"EA\"],\"step\":1}")
         ∷ [])
-        (with_act (attended_by (script_of_one (codes "CO")) (EE ∷ EB ∷ EA ∷ [])) (Sign 61 1 (clock 20 10 0))
+        (with_act (opened_with_people (script_of_one (codes "CO")) (EE ∷ EB ∷ EA ∷ [])) (Sign 61 1 (clock 20 10 0))
         (Some (EA ∷ []))) }
     ensures two_seats { AreAnswered (opened_with (script_of_one (codes "CO;CO/1")))
         ((come (EA ∷ EB ∷ EE ∷ []) (clock 20 5 0), codes "{\"accepted\":17}")
         ∷ (Sign 61 1 (clock 20 10 0), codes "{\"accepted\":18,\"seating\":[\"EB\",\"EA\"],\"step\":1}")
         ∷ [])
-        (with_act (attended_by (script_of_one (codes "CO;CO/1")) (EA ∷ EB ∷ EE ∷ [])) (Sign 61 1 (clock 20 10 0))
+        (with_act (opened_with_people (script_of_one (codes "CO;CO/1")) (EA ∷ EB ∷ EE ∷ [])) (Sign 61 1 (clock 20 10 0))
         (Some (EB ∷ EA ∷ []))) }
 {}
 
 /// A shortage names no seat too many. Where two are least either may be named.
 pub fn least_shortages()
-    ensures first_seat { AreAnswered (attended_by (script_of_one (codes "CA;IW;CO")) (CC ∷ EA ∷ []))
+    ensures first_seat { AreAnswered (opened_with_people (script_of_one (codes "CA;IW;CO")) (CC ∷ EA ∷ []))
         ((Sign 61 1 (clock 20 10 0), codes "{\"number\":32,\"refusal\":\"short\",\"seats\":[1]}") ∷ [])
-        (attended_by (script_of_one (codes "CA;IW;CO")) (CC ∷ EA ∷ [])) }
-    ensures second_seat { AreAnswered (attended_by (script_of_one (codes "CA;IW;CO")) (CC ∷ EA ∷ []))
+        (opened_with_people (script_of_one (codes "CA;IW;CO")) (CC ∷ EA ∷ [])) }
+    ensures second_seat { AreAnswered (opened_with_people (script_of_one (codes "CA;IW;CO")) (CC ∷ EA ∷ []))
         ((Sign 61 1 (clock 20 10 0), codes "{\"number\":32,\"refusal\":\"short\",\"seats\":[2]}") ∷ [])
-        (attended_by (script_of_one (codes "CA;IW;CO")) (CC ∷ EA ∷ [])) }
-    ensures not_both { let A : History = attended_by (script_of_one (codes "CA;IW;CO")) (CC ∷ EA ∷ []) in
+        (opened_with_people (script_of_one (codes "CA;IW;CO")) (CC ∷ EA ∷ [])) }
+    ensures not_both { let A : History = opened_with_people (script_of_one (codes "CA;IW;CO")) (CC ∷ EA ∷ []) in
         IsLeast A 61 (clock 20 10 0) (seats_at (steps_of A 61) 1) (0 ∷ 1 ∷ []) → ⊥ }
-    ensures not_the_officer { let A : History = attended_by (script_of_one (codes "CA;IW;CO")) (CC ∷ EA ∷ []) in
+    ensures not_the_officer { let A : History = opened_with_people (script_of_one (codes "CA;IW;CO")) (CC ∷ EA ∷ []) in
         IsLeast A 61 (clock 20 10 0) (seats_at (steps_of A 61) 1) (0 ∷ 2 ∷ []) → ⊥ }
 {}
 

@@ -7,7 +7,7 @@ use Rattle.kcr_log.specs.declared.frames.Header.{Header}
 use Rattle.kcr_log.specs.declared.judgement.Log.{Log}
 use Rattle.kcr_log.specs.declared.judgement.Log.TheVariants.{Sound, WrongHead, WrongFrame, NoFile}
 use Rattle.kcr_log.specs.Frames.{header_of, is_signed, frame_count, frame_of, carries, checks, commits, commits_from}
-use Rattle.kcr_log.specs.Damage.{shut_byte, is_shut, commits_behind, header_by, page_size_of, IsWrongFrame, IsWithoutFile, IsWrongHead, IsDamage}
+use Rattle.kcr_log.specs.Damage.{shut_byte, is_shut, commits_behind, told_header, page_size_of, IsWrongFrame, IsWithoutFile, IsWrongHead, IsDamage}
 use Rattle.kcr_log.specs.Stop.{IsCutShort}
 use Rattle.kcr_log.proofs.Counting.{carried, checked, none-more, not-carried, one-at-most, at-most-one}
 
@@ -134,8 +134,8 @@ none-carried header log i short h =
 pub sound-short : (file log : List ℕ) → length log < 56 → (damage : Log) → ¬ IsDamage file log damage
 sound-short file log short Sound damage = damage
 sound-short file log short (WrongHead ended) damage =
-    let small = header_by false (page_size_of file log) log in
-    let big = header_by true (page_size_of file log) log in
+    let small = told_header false (page_size_of file log) log in
+    let big = told_header true (page_size_of file log) log in
     elim (or_cases (checks small log 1) (checks big log 1) damage.agree) [
       | inl h ↦ none-carried small log 1 short (checked small log 1 h)
       | inr h ↦ none-carried big log 1 short (checked big log 1 h)

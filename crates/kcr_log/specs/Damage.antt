@@ -45,16 +45,16 @@ page_size_of file log =
     if nat_lt (length file) 18 then be32 log 8 else (if named == 1 then 65536 else named)
 
 -- a head as the first frame tells it
-abbrev pub header_by : Bool → ℕ → List ℕ → Header
-header_by big size log = record { big = big; page_size = size; salt = be32 log 40; second_salt = be32 log 44 }
+abbrev pub told_header : Bool → ℕ → List ℕ → Header
+told_header big size log = record { big = big; page_size = size; salt = be32 log 40; second_salt = be32 log 44 }
 
 -- The head does not check and is not being written anew, since its first byte is not 0, and yet the second frame goes on from the first. This many
 -- transactions end in the frames with the salts of the first.
 pub record IsWrongHead (file log : List ℕ) (ended : ℕ) : Type 0 where
   pub wrong : is_signed log ≡ false
   pub not_begun : 0x100_0000 ≤ be32 log 0
-  pub agree : (checks (header_by false (page_size_of file log) log) log 1 || checks (header_by true (page_size_of file log) log) log 1) ≡ true
-  pub ended_is : let header = header_by false (page_size_of file log) log in
+  pub agree : (checks (told_header false (page_size_of file log) log) log 1 || checks (told_header true (page_size_of file log) log) log 1) ≡ true
+  pub ended_is : let header = told_header false (page_size_of file log) log in
       ended ≡ commits_from header log 0 (frame_count header log - 0)
   pub some : 0 < ended
 

@@ -2,7 +2,7 @@
 ghost use Rattle.std.specs.Prelude.{◌≡◌, ◌<◌, ◌≤◌, ℕ, true, false, length};
 ghost use Rattle.sqlite_wal.specs.Format.{be32};
 ghost use Rattle.kcr_log.specs.Frames.{header_of, is_signed, frame_count, checks};
-ghost use Rattle.kcr_log.specs.Damage.{shut_byte, is_shut, commits_behind, page_size_of, header_by, IsJudged};
+ghost use Rattle.kcr_log.specs.Damage.{shut_byte, is_shut, commits_behind, page_size_of, told_header, IsJudged};
 ghost use Rattle.kcr_log.specs.Stop.{IsCutShort, IsLeftByStop};
 
 use crate::frames::{Header, is_signed, number, read_header};
@@ -86,9 +86,9 @@ fn page_size(file: &[u8], log: &[u8]) -> u32
 }
 
 /// The head of a log as its first frame tells it.
-fn header_by(big: bool, page_size: u32, log: &[u8]) -> Header
+fn told_header(big: bool, page_size: u32, log: &[u8]) -> Header
     requires { 48 ≤ length log.now }
-    ensures { result ≡ header_by big page_size log.now }
+    ensures { result ≡ told_header big page_size log.now }
 {
     Header {
         big,
@@ -106,8 +106,8 @@ fn judge_head(file: &[u8], log: &[u8]) -> Log
     ensures begun { be32 log.now 0 < 0x100_0000 → result ≡ Log.Sound }
 {
     let size = page_size(file, log);
-    let small = header_by(false, size, log);
-    let big = header_by(true, size, log);
+    let small = told_header(false, size, log);
+    let big = told_header(true, size, log);
     let agree = small.checks(log, 1) || big.checks(log, 1);
     let ended = small.commits_from(log, 0);
     if number(log, 0) >= 0x100_0000 && agree && ended > 0 {

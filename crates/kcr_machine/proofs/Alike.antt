@@ -7,7 +7,7 @@ use Rattle.kcr_history.specs.declared.commands.Entry.{Entry}
 use Rattle.kcr_history.specs.declared.views.Change.{Change}
 use Rattle.kcr_history.specs.declared.views.Verdict.{Verdict}
 use Rattle.kcr_history.specs.History.{History}
-use Rattle.kcr_history.specs.Changes.{changed_by}
+use Rattle.kcr_history.specs.Changes.{all_changed}
 use Rattle.kcr_history.specs.Tables.{tables, SameTables}
 use Rattle.kcr_history.specs.Texts.{reply_text}
 use Rattle.kcr_history.specs.Machine.{Accepts, machine, with_command, IsAcceptance, IsRepeat, IsDecision}
@@ -25,8 +25,8 @@ module _ (A : History) (x : Command) where
   Accepted v o = MatchOption o ((kept : Entry) × IsRepeat A x v kept) (IsAcceptance A x v)
 
   -- no change leaves the tables
-  kept-tables : (changes : List Change) → changes ≡ [] → SameTables (changed_by changes (tables A)) (tables A)
-  kept-tables changes none = same-tables _ _ (ap (λ all. changed_by all (tables A)) none)
+  kept-tables : (changes : List Change) → changes ≡ [] → SameTables (all_changed changes (tables A)) (tables A)
+  kept-tables changes none = same-tables _ _ (ap (λ all. all_changed all (tables A)) none)
 
   accepted-alike : (v w : Verdict) (o p : Option ReplyData) → v.new_reply ≡ o → w.new_reply ≡ p → Accepted v o → Accepted w p → AcceptAlike A v w
   accepted-alike v w None None e f g h =
@@ -45,7 +45,7 @@ module _ (A : History) (x : Command) where
         new_reply = e ∙ ap (λ z. Some z) same ∙ sym f;
         tables = (
           with_command A x b,
-          subst (λ (z : ReplyData). SameTables (changed_by v.changes.items (tables A)) (tables (with_command A x z))) same g.tables,
+          subst (λ (z : ReplyData). SameTables (all_changed v.changes.items (tables A)) (tables (with_command A x z))) same g.tables,
           h.tables,
         );
       }

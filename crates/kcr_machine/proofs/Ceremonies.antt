@@ -27,7 +27,7 @@ use Rattle.kcr_history.specs.Ceremonies.{is_ceremony, facility_of, opening_momen
 use Rattle.kcr_history.specs.Ceremonies.{planned_as, plan_of}
 use Rattle.kcr_history.specs.Tables.{planned_number, ceremony_row, ceremonies, mark_row, marks, tables, sealed_serial, bag_row, bags, numbered, step_keys}
 use Rattle.kcr_history.specs.Tables.{step_row, steps, step_result, Tables, step_done}
-use Rattle.kcr_history.specs.Changes.{same_ceremony, same_mark, changed_by, same_step}
+use Rattle.kcr_history.specs.Changes.{same_ceremony, same_mark, all_changed, same_step}
 use Rattle.kcr_history.specs.Views.{is_of_number}
 use Rattle.kcr_history.specs.Conditions.{conditions, fault}
 use Rattle.kcr_history.specs.Machine.{IsRegister, with_command}
@@ -230,11 +230,11 @@ not-planned o b imp e = none-there o (false_from_ne_true (is_some o) (λ i. true
 -- rows of steps that are all new are put in front, one planned_now the other
 put-steps : (c i : ℕ) (ss : List Step) (rest : List Change) (t : Tables)
     → ((j : ℕ) → i ≤ j → list_any (λ row. eqb row.ceremony c && eqb row.step j) t.steps ≡ false)
-    → changed_by (map PutStep (planned_step_rows c i ss) ++ rest) t ≡ changed_by rest (record t { steps = pushed_onto (planned_step_rows c i ss) t.steps })
+    → all_changed (map PutStep (planned_step_rows c i ss) ++ rest) t ≡ all_changed rest (record t { steps = pushed_onto (planned_step_rows c i ss) t.steps })
 put-steps c i [] rest t not_known = refl
 put-steps c i (s ∷ ss) rest t not_known =
     let row : StepRow = planned_step_row c i s in
-    ap (λ rows. changed_by (map PutStep (planned_step_rows c (i + 1) ss) ++ rest) (record t { steps = rows }))
+    ap (λ rows. all_changed (map PutStep (planned_step_rows c (i + 1) ss) ++ rest) (record t { steps = rows }))
     (put-new same_step row t.steps (not_known i (omega arith)))
     ∙ put-steps c (i + 1) ss rest (record t { steps = row ∷ t.steps })
     (λ j l. rw (and_right (eqb c c) (eqb i j) (ne_eqb i j (λ e. omega (arith, e, l))), not_known j (omega (arith, l))) refl)
@@ -299,6 +299,6 @@ module _ (A : History) (h : IsRegister A) (key : List ℕ) (answer : ReplyData) 
   pub plan-leads : (view : View) → entry_of A key ≡ None → Leads A view (command_of key (Plan c facility day script)) answer
   plan-leads view k =
       let rest : List Change = PutKey (new_key_row (command_of key (Plan c facility day script)) answer) ∷ [] in
-      ap (λ rows. changed_by (map PutStep (planned_step_rows c 1 its_steps) ++ rest) (record (tables A) { ceremonies = rows })) ceremonies-planned
+      ap (λ rows. all_changed (map PutStep (planned_step_rows c 1 its_steps) ++ rest) (record (tables A) { ceremonies = rows })) ceremonies-planned
       ∙ put-steps c 1 its_steps rest (record (tables A) { ceremonies = ceremonies planned_now }) (λ j l. new_steps j)
       ∙ rw (steps-put, new_key A (command_of key (Plan c facility day script)) answer k) refl

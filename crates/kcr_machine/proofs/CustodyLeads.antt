@@ -35,7 +35,7 @@ use Rattle.kcr_laws.proofs.Stored.{sealed_somewhere, box-there, items_known}
 use Rattle.kcr_custody.specs.declared.Bag.{Bag}
 use Rattle.kcr_history.specs.declared.views.Change.{Change}
 use Rattle.kcr_history.specs.declared.views.Change.TheVariants.{PutBag, PutItem, PutMark, PutKey}
-use Rattle.kcr_history.specs.Changes.{changed, changed_by, same_safe_row}
+use Rattle.kcr_history.specs.Changes.{changed, all_changed, same_safe_row}
 use Rattle.kcr_machine.specs.RowDecision.{new_key_row}
 use Rattle.kcr_custody.specs.declared.SafeNumber.{SafeNumber}
 use Rattle.kcr_custody.specs.declared.SafeNumber.TheVariants.{One, Two}
@@ -46,7 +46,7 @@ use Rattle.kcr_room.proofs.Lists.{map-same, map-map}
 use Rattle.kcr_base.specs.declared.refusal.Thing.TheVariants as Things
 use Rattle.kcr_machine.proofs.BagsWords.{added_rest}
 use Rattle.kcr_machine.proofs.Keyed.{Shown, put-at, put-first, put-new, put-rows}
-use Rattle.kcr_machine.proofs.Leads.{LeadsOn, changed_by-rows, command_of, entry_as, new_key}
+use Rattle.kcr_machine.proofs.Leads.{LeadsOn, all_changed-rows, command_of, entry_as, new_key}
 use Rattle.kcr_base.proofs.Members.{IsIn, filter-in, in-any, in-filter, in-map, in-order, map-in, map-same-in, same-answers, listed-in, in-listed}
 use Rattle.kcr_machine.proofs.Scenes.{facility-shown, marks-put}
 
@@ -301,8 +301,8 @@ put-leads A h c t to at key view answer v k f =
 
 -- the rows of items put one after the other
 items-changed : (rows : List Item) (rest : List Change) (t : Tables)
-    → changed_by (map PutItem rows ++ rest) t ≡ changed_by rest (record t { items = put_all same_item rows t.items })
-items-changed rows rest t = changed_by-rows PutItem same_item (λ rows t. record t { items = rows }) (λ row rows t. refl) rows t.items rest t
+    → all_changed (map PutItem rows ++ rest) t ≡ all_changed rest (record t { items = put_all same_item rows t.items })
+items-changed rows rest t = all_changed-rows PutItem same_item (λ rows t. record t { items = rows }) (λ row rows t. refl) rows t.items rest t
 
 -- the tables with the bag's row and the mark's
 abbrev with_bag : Bag → ℕ → ℕ → Tables → Tables
@@ -314,7 +314,7 @@ seal-leads A h c t codes at key view answer v k f =
     let here = facility_of A c in
     let n = none_holds (conditions A act) f in
     let tell = PutKey (new_key_row (command_of key act) answer) ∷ [] in
-    ap (λ facility. changed_by (map PutItem (sealed_items t codes) ++ tell) (with_bag (record { serial = t; spot = Table facility }) c at (tables A)))
+    ap (λ facility. all_changed (map PutItem (sealed_items t codes) ++ tell) (with_bag (record { serial = t; spot = Table facility }) c at (tables A)))
     (facility-shown A c view.ceremonies.items v.ceremonies)
     ∙ items-changed (sealed_items t codes) tell (with_bag (record { serial = t; spot = Table here }) c at (tables A))
     ∙ rw (
@@ -331,7 +331,7 @@ cut-leads A h c t at key view answer v k f =
     let here = facility_of A c in
     let tell = PutKey (new_key_row (command_of key act) answer) ∷ [] in
     let bag : Bag = record { serial = t; spot = Spent } in
-    ap (λ facility. changed_by (map PutItem (loose_items view.items.items t facility) ++ tell) (with_bag bag c at (tables A)))
+    ap (λ facility. all_changed (map PutItem (loose_items view.items.items t facility) ++ tell) (with_bag bag c at (tables A)))
     (facility-shown A c view.ceremonies.items v.ceremonies)
     ∙ items-changed (loose_items view.items.items t here) tell (with_bag bag c at (tables A))
     ∙ rw (

@@ -20,7 +20,7 @@ use Rattle.kcr_history.specs.Seating.{IsFirst, IsLeast}
 use Rattle.kcr_history.specs.Tables.{keys, key_row, tables, SameTables, people}
 use Rattle.kcr_history.specs.declared.row_types.KeyRow.{KeyRow}
 use Rattle.kcr_history.specs.Views.{row_of_key, greatest_number, IsViewOf}
-use Rattle.kcr_history.specs.AsksByKind.{asks_by, asks_of}
+use Rattle.kcr_history.specs.AsksByKind.{asks_of_act, asks_of}
 use Rattle.kcr_history.specs.Early.{early_asks}
 use Rattle.kcr_history.specs.Conditions.{fault, is_full, conditions, by_history, early_conditions, late_conditions}
 use Rattle.kcr_history.specs.Machine.{Accepts, Refuses, SeatRequest, seat_request, reply_to, with_command, IsAcceptedWith, seats, DecidesNew, IsRegister, IsAcceptance}
@@ -63,7 +63,7 @@ early-shown A h (Cut ceremony serial at) view v = cut-early A h ceremony serial 
 early-shown A h act view v = refl
 
 -- of an act that is cleared
-late-shown : (A : History) → IsRegister A → (act : Act) (view : View) → IsViewOf (asks_by act) (tables A) view → first_of (early_conditions (by_history A) act) ≡ None
+late-shown : (A : History) → IsRegister A → (act : Act) (view : View) → IsViewOf (asks_of_act act) (tables A) view → first_of (early_conditions (by_history A) act) ≡ None
     → late_refusal_by view (is_full A) act ≡ first_of (late_conditions (by_history A) act)
 late-shown A h (Enter who name) view v e = enter-late A who name view v
 late-shown A h (Train who role since until) view v e = train-late A h who role since until view v
@@ -97,13 +97,13 @@ late_first (None ∷ os) xs h = late_first os xs h
 late_first (Some s ∷ os) xs h = absurd (none-some s (sym h))
 
 -- an act that is cleared by the rows after the command of this number is so by the history
-cleared-shown : (A : History) → IsRegister A → (act : Act) (view : View) (last : ℕ) → last ≡ length A → IsViewOf (early_asks (asks_by act)) (tables A) view
+cleared-shown : (A : History) → IsRegister A → (act : Act) (view : View) (last : ℕ) → last ≡ length A → IsViewOf (early_asks (asks_of_act act)) (tables A) view
     → IsCleared view (is_full_by last) act → first_of (early_conditions (by_history A) act) ≡ None
 cleared-shown A h act view last e v cleared =
     sym (early-shown A h act view v) ∙ sym (ap (λ n. early_refusal_by view (nat_le 4000000000 n) act) e) ∙ cleared.0
 
 -- and the first of its other refusals is its fault
-fault-shown : (A : History) → IsRegister A → (act : Act) (view : View) (last : ℕ) → last ≡ length A → IsViewOf (asks_by act) (tables A) view
+fault-shown : (A : History) → IsRegister A → (act : Act) (view : View) (last : ℕ) → last ≡ length A → IsViewOf (asks_of_act act) (tables A) view
     → first_of (early_conditions (by_history A) act) ≡ None → late_refusal_by view (is_full_by last) act ≡ fault A act
 fault-shown A h act view last e v none =
     ap (λ n. late_refusal_by view (nat_le 4000000000 n) act) e ∙ late-shown A h act view v none
@@ -112,7 +112,7 @@ fault-shown A h act view last e v none =
 -- SEATS
 
 -- the seats that an act needs by the rows are those by the history
-sitting-shown : (A : History) → IsRegister A → (act : Act) (view : View) → IsViewOf (asks_by act) (tables A) view
+sitting-shown : (A : History) → IsRegister A → (act : Act) (view : View) → IsViewOf (asks_of_act act) (tables A) view
     → fault A act ≡ None → seat_request_by view act ≡ seat_request A act
 sitting-shown A h (Sign c k at) view v none =
     ap (λ seats. Some (record { ceremony = c; at = at; seats = seats }))
@@ -126,7 +126,7 @@ abbrev Lacks : History → SeatRequest → Refusal → Type 0
 Lacks A s refusal = (positions : List ℕ) × IsLeast A s.ceremony s.at s.seats positions × (refusal ≡ Short (map suc positions))
 
 -- the rows tell of no more steps done than a script has
-not_overdone-shown : (A : History) → IsRegister A → (act : Act) (view : View) → IsViewOf (early_asks (asks_by act)) (tables A) view
+not_overdone-shown : (A : History) → IsRegister A → (act : Act) (view : View) → IsViewOf (early_asks (asks_of_act act)) (tables A) view
     → has_too_many_steps view act ≡ false
 not_overdone-shown A h (Sign c k at) view v = not_overdone A h _ view v.steps
 not_overdone-shown A h (RecordException c text pass at) view v = not_overdone A h _ view v.steps
@@ -135,7 +135,7 @@ not_overdone-shown A h act view v = refl
 -- ANSWERS
 
 -- the answer by the rows is the one by the history
-answer-shown : (A : History) → IsRegister A → (act : Act) (view : View) → IsViewOf (asks_by act) (tables A) view → (last : ℕ) → last ≡ length A
+answer-shown : (A : History) → IsRegister A → (act : Act) (view : View) → IsViewOf (asks_of_act act) (tables A) view → (last : ℕ) → last ≡ length A
     → (people : Option (List (List ℕ))) → IsSeatedFor view (seat_request_by view act) people → reply_by view last act people ≡ reply_to A act people
 answer-shown A h (Sign c k at) view v last e people g = rw e refl
 answer-shown A h (RecordException c text true at) view v last e people g =
@@ -147,7 +147,7 @@ answer-shown A h act view v last e people g = rw (e, g) refl
 
 -- the changes of an act that has no fault, with those of its seats, lead from the tables before it to those after it
 leads : (A : History) → IsRegister A → (key : List ℕ) (act : Act) (view : View) (seats : Option (List (List ℕ))) (answer : ReplyData)
-    → IsViewOf (asks_by act) (tables A) view → entry_of A key ≡ None → fault A act ≡ None
+    → IsViewOf (asks_of_act act) (tables A) view → entry_of A key ≡ None → fault A act ≡ None
     → IsSeatedFor view (seat_request_by view act) seats → answer ≡ reply_to A act seats
     → SameTables (changed_with (all_changes_by view act seats) (command_of key act) answer (tables A)) (tables (with_command A (command_of key act) answer))
 leads A h key (Enter who name) view seats answer v k f g e = same-tables _ _ (enter-leads A who name key view answer v k f)

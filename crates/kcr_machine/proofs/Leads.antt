@@ -19,10 +19,10 @@ use Rattle.kcr_history.specs.declared.views.Change.TheVariants.{PutKey}
 use Rattle.kcr_history.specs.declared.views.View.{View}
 use Rattle.kcr_history.specs.History.{History, entry_of}
 use Rattle.kcr_history.specs.Tables.{Tables, SameTables, keys, key_row, tables}
-use Rattle.kcr_history.specs.Changes.{changed, changed_by, same_key_row}
+use Rattle.kcr_history.specs.Changes.{changed, all_changed, same_key_row}
 use Rattle.kcr_history.specs.Machine.{with_command, reply_to}
 use Rattle.kcr_history.specs.Views.{is_of_key, IsViewOf}
-use Rattle.kcr_history.specs.AsksByKind.{asks_by}
+use Rattle.kcr_history.specs.AsksByKind.{asks_of_act}
 use Rattle.kcr_history.specs.Early.{early_asks}
 use Rattle.kcr_history.specs.Conditions.{fault, is_full, by_history, early_conditions, late_conditions}
 use Rattle.kcr_history.proofs.Words.{row_of_key-keys}
@@ -40,7 +40,7 @@ entry_as key act answer = record { command = command_of key act; reply = answer 
 
 -- the tables with the changes, and with the row of the command's key
 abbrev pub changed_with : List Change → Command → ReplyData → Tables → Tables
-changed_with changes x answer t = changed_by (changes ++ PutKey (new_key_row x answer) ∷ []) t
+changed_with changes x answer t = all_changed (changes ++ PutKey (new_key_row x answer) ∷ []) t
 
 -- the changes of the act and its row of a key, made in the tables, give those of the history with the command
 abbrev pub Leads : History → View → Command → ReplyData → Type 0
@@ -69,22 +69,22 @@ front-of asks t view v =
 -- by the rows of that part alone the first of the act's early refusals is the history's
 abbrev pub EarlyShown : History → Act → Type 0
 EarlyShown A act =
-    (view : View) → IsViewOf (early_asks (asks_by act)) (tables A) view → early_refusal_by view (is_full A) act ≡ first_of (early_conditions (by_history A) act)
+    (view : View) → IsViewOf (early_asks (asks_of_act act)) (tables A) view → early_refusal_by view (is_full A) act ≡ first_of (early_conditions (by_history A) act)
 
 -- by the rows of any view of what the act asks for so is the first of the others
 abbrev pub LateShown : History → Act → Type 0
-LateShown A act = (view : View) → IsViewOf (asks_by act) (tables A) view → late_refusal_by view (is_full A) act ≡ first_of (late_conditions (by_history A) act)
+LateShown A act = (view : View) → IsViewOf (asks_of_act act) (tables A) view → late_refusal_by view (is_full A) act ≡ first_of (late_conditions (by_history A) act)
 
 -- and if it has none, its changes lead on
 abbrev pub LeadsOn : History → Act → Type 0
 LeadsOn A act =
-    (key : List ℕ) (view : View) (answer : ReplyData) → IsViewOf (asks_by act) (tables A) view → entry_of A key ≡ None → fault A act ≡ None
+    (key : List ℕ) (view : View) (answer : ReplyData) → IsViewOf (asks_of_act act) (tables A) view → entry_of A key ≡ None → fault A act ≡ None
     → Leads A view (command_of key act) answer
 
 -- the same of an act with those who fill its seats
 abbrev pub SeatsLeadOn : History → Act → Option (List (List ℕ)) → Type 0
 SeatsLeadOn A act people =
-    (key : List ℕ) (view : View) (answer : ReplyData) → IsViewOf (asks_by act) (tables A) view → entry_of A key ≡ None → fault A act ≡ None
+    (key : List ℕ) (view : View) (answer : ReplyData) → IsViewOf (asks_of_act act) (tables A) view → entry_of A key ≡ None → fault A act ≡ None
     → answer ≡ reply_to A act people
     → changed_with (all_changes_by view act people) (command_of key act) answer (tables A) ≡ tables (with_command A (command_of key act) answer)
 
@@ -96,18 +96,18 @@ new_key A x answer k =
 
 -- CHANGES ONE AFTER THE OTHER
 
-pub changed-append : (xs ys : List Change) (t : Tables) → changed_by (xs ++ ys) t ≡ changed_by ys (changed_by xs t)
+pub changed-append : (xs ys : List Change) (t : Tables) → all_changed (xs ++ ys) t ≡ all_changed ys (all_changed xs t)
 changed-append [] ys t = refl
 changed-append (x ∷ xs) ys t = changed-append xs ys (changed x t)
 
 -- rows of one table, if `to` is the change that puts one and `with_rows` gives the table other rows
-pub changed_by-rows : {X : Type 0} (to : X → Change) (same : X → X → Bool) (with_rows : List X → Tables → Tables)
+pub all_changed-rows : {X : Type 0} (to : X → Change) (same : X → X → Bool) (with_rows : List X → Tables → Tables)
     → ((row : X) (rows : List X) (t : Tables) → changed (to row) (with_rows rows t) ≡ with_rows (put same row rows) t)
     → (xs rows : List X) (rest : List Change) (t : Tables)
-    → changed_by (map to xs ++ rest) (with_rows rows t) ≡ changed_by rest (with_rows (put_all same xs rows) t)
-changed_by-rows to same with_rows one [] rows rest t = refl
-changed_by-rows to same with_rows one (x ∷ xs) rows rest t =
-    ap (changed_by (map to xs ++ rest)) (one x rows t) ∙ changed_by-rows to same with_rows one xs (put same x rows) rest t
+    → all_changed (map to xs ++ rest) (with_rows rows t) ≡ all_changed rest (with_rows (put_all same xs rows) t)
+all_changed-rows to same with_rows one [] rows rest t = refl
+all_changed-rows to same with_rows one (x ∷ xs) rows rest t =
+    ap (all_changed (map to xs ++ rest)) (one x rows t) ∙ all_changed-rows to same with_rows one xs (put same x rows) rest t
 
 -- THE SAME ROWS IN ANOTHER ORDER
 

@@ -21,7 +21,7 @@ use Rattle.kcr_history.specs.declared.views.View.{View}
 use Rattle.kcr_history.specs.History.{History, has_command, entry_of}
 use Rattle.kcr_history.specs.Training.{is_person, ever_trained, is_training}
 use Rattle.kcr_history.specs.Tables.{people, trainings, withdrawals, appointments, tables, SameTables, ended}
-use Rattle.kcr_history.specs.AsksByKind.{asks_by}
+use Rattle.kcr_history.specs.AsksByKind.{asks_of_act}
 use Rattle.kcr_history.specs.Conditions.{conditions}
 use Rattle.kcr_history.specs.Machine.{IsRegister, with_command}
 use Rattle.kcr_history.proofs.Words.{is_person-people, ever_trained-trainings, is_training-trainings, ever_put-appointments}
@@ -44,7 +44,7 @@ use Rattle.kcr_history.proofs.Distinct.{trainings-apart}
 use Rattle.kcr_machine.specs.RowDecision.{new_key_row}
 use Rattle.kcr_machine.proofs.LastAppointments.{open-last, person-last, place-last, put-last}
 use Rattle.kcr_machine.proofs.Keyed.{Shown, any-shown, filter-shown, put-new}
-use Rattle.kcr_machine.proofs.Leads.{LateShown, LeadsOn, changed_by-rows, changed_with, command_of, new_key, other-order}
+use Rattle.kcr_machine.proofs.Leads.{LateShown, LeadsOn, all_changed-rows, changed_with, command_of, new_key, other-order}
 use Rattle.kcr_base.proofs.Members.{in-filter, map-same-in}
 
 -- WITHDRAWALS
@@ -213,7 +213,7 @@ withdrawals-put A h who role day us vs p q =
     (withdrawn_rows-apart (trainings A) (withdrawals A) who role day (trainings-apart A h)))
 
 pub withdraw-leads : (A : History) → IsRegister A → (key who : List ℕ) (role : Role) (day : ℕ) (view : View) (answer : ReplyData)
-    → IsViewOf (asks_by (Withdraw who role day)) (tables A) view → entry_of A key ≡ None
+    → IsViewOf (asks_of_act (Withdraw who role day)) (tables A) view → entry_of A key ≡ None
     → SameTables (changed_with (changes_by view (Withdraw who role day)) (command_of key (Withdraw who role day)) answer (tables A))
     (tables (with_command A (command_of key (Withdraw who role day)) answer))
 withdraw-leads A h key who role day view answer v k =
@@ -221,7 +221,7 @@ withdraw-leads A h key who role day view answer v k =
     let after = tables (with_command A x answer) in
     let rows = withdrawn_rows view.trainings.items view.withdrawals.items who role day in
     rw (
-      changed_by-rows PutWithdrawal same_withdrawn (λ rows t. record t { withdrawals = rows }) (λ row rows t. refl) rows (withdrawals A)
+      all_changed-rows PutWithdrawal same_withdrawn (λ rows t. record t { withdrawals = rows }) (λ row rows t. refl) rows (withdrawals A)
           (PutKey (new_key_row x answer) ∷ []) (tables A),
       new_key A x answer k,
     )

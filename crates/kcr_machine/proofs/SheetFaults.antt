@@ -38,7 +38,7 @@ use Rattle.kcr_history.specs.Room.{sheet, sheet_after}
 use Rattle.kcr_history.specs.Tables.{people, tables}
 use Rattle.kcr_history.specs.declared.views.View.{View}
 use Rattle.kcr_history.specs.Views.{IsViewOf, is_of_people, HasStayCount, ShowsLast, ShowsStaysOf}
-use Rattle.kcr_history.specs.AsksByKind.{asks_by, stay_count_asked}
+use Rattle.kcr_history.specs.AsksByKind.{asks_of_act, stay_count_asked}
 use Rattle.kcr_history.specs.Conditions.{by_history, early_conditions, late_conditions, conditions, fault, is_full, out_of_turn_refusal}
 use Rattle.kcr_history.specs.Conditions.{crowd_refusal, lone_room_refusal, is_overfull, sheet_conditions, named_twice_refusal}
 use Rattle.kcr_history.specs.Machine.{IsRegister}
@@ -176,7 +176,7 @@ sheet-early A h c way all at view v =
 -- by the rows of a view a request is refused by its room as by the history, if it may be looked at
 pub sheet-late : (A : History) → IsRegister A → IsSheet (sheet A) → (c : ℕ) (way : Way) (all : List (List ℕ)) (at : ℕ)
     → first_of (early_conditions (by_history A) (RecordSheet c way all at)) ≡ None
-    → (view : View) → IsViewOf (asks_by (RecordSheet c way all at)) (tables A) view
+    → (view : View) → IsViewOf (asks_of_act (RecordSheet c way all at)) (tables A) view
     → late_refusal_by view (is_full A) (RecordSheet c way all at) ≡ first_of (late_conditions (by_history A) (RecordSheet c way all at))
 sheet-late A h s c way all at cleared view v = rw (mark-shown A h c view.marks.items v.marks) (by_mark (mark A c) refl)
   where

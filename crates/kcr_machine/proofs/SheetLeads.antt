@@ -17,7 +17,7 @@ use Rattle.kcr_room.specs.Room.{later_row, last_onto, last_row_of}
 use Rattle.kcr_room.specs.Stays.{stay_reaches, stays_by}
 use Rattle.kcr_base.specs.Lists.{is_among}
 use Rattle.kcr_room.specs.Requests.{has_no_end, is_inside, is_inside_of, is_out_of_turn_in, is_out_of_turn_by, new_row, new_stay, with_end}
-use Rattle.kcr_room.specs.Requests.{ends_by, changed_stays, reaches, turn_refusal}
+use Rattle.kcr_room.specs.Requests.{is_open_stay_of, changed_stays, reaches, turn_refusal}
 use Rattle.kcr_base.specs.Lists.{are_apart}
 use Rattle.kcr_base.proofs.SameLemmas.{same-is, same-itself, same-turned}
 use Rattle.kcr_room.specs.Laws.{IsSheet}
@@ -32,15 +32,15 @@ use Rattle.kcr_history.specs.declared.views.View.{View}
 use Rattle.kcr_history.specs.History.{History, entry_of}
 use Rattle.kcr_history.specs.Room.{sheet}
 use Rattle.kcr_history.specs.Tables.{Tables, SameTables, tables, withdrawals}
-use Rattle.kcr_history.specs.Changes.{same_sheet_row, same_stay, changed_by}
+use Rattle.kcr_history.specs.Changes.{same_sheet_row, same_stay, all_changed}
 use Rattle.kcr_history.specs.Views.{IsViewOf}
-use Rattle.kcr_history.specs.AsksByKind.{asks_by}
+use Rattle.kcr_history.specs.AsksByKind.{asks_of_act}
 use Rattle.kcr_history.specs.Conditions.{out_of_turn_refusal}
 use Rattle.kcr_history.specs.Machine.{with_command}
 use Rattle.kcr_rules.specs.SheetRows.{sheet_changes_by}
 use Rattle.kcr_machine.specs.RowDecision.{new_key_row}
 use Rattle.kcr_machine.proofs.Keyed.{Shown, put-rows}
-use Rattle.kcr_machine.proofs.Leads.{changed_by-rows, changed_with, command_of, new_key, other-order}
+use Rattle.kcr_machine.proofs.Leads.{all_changed-rows, changed_with, command_of, new_key, other-order}
 use Rattle.kcr_base.proofs.Members.{IsIn, any-in, filter-in, in-any, in-filter, in-order, map-same-in, none-in, none-passes}
 use Rattle.kcr_machine.proofs.SheetStays.{IsClear, before-enter, clear-order, clear-sheet}
 
@@ -150,10 +150,10 @@ module _ (all shown : List Stay) (c at : ℕ) (people : List (List ℕ)) (clear 
     (within : (x : Stay) → IsIn x shown → IsIn x all)
     (turns : (who : List ℕ) → IsIn who people → is_out_of_turn_in all c Leave at who ≡ false) where
   abbrev changed : List Stay
-  changed = filter (ends_by c people) shown
+  changed = filter (is_open_stay_of c people) shown
 
   changed-in : (x : Stay) → IsIn x changed → IsIn x all
-  changed-in x i = within x (in-filter (ends_by c people) x shown i).0
+  changed-in x i = within x (in-filter (is_open_stay_of c people) x shown i).0
 
   only-one : (x r : Stay) → IsIn x all → IsIn r all → same_stay x r ≡ true → x ≡ r
   only-one x r i j e =
@@ -177,10 +177,10 @@ module _ (all shown : List Stay) (c at : ℕ) (people : List (List ℕ)) (clear 
         | inr l ↦ sym (by_time s.0 r s.1 i (same-turned s.0.who r.who ∙ owner) b.1 l)
       ] in
       let here : (r.ceremony == c) ≡ true = rw is (grind arith) in
-      let fits : ends_by c people r ≡ true = grind arith in
+      let fits : is_open_stay_of c people r ≡ true = grind arith in
       let own : IsIn r (filter (stay_reaches c at) shown) = in-order r (filter (stay_reaches c at) shown) (filter (stay_reaches c at) all)
       (IsPermutation-sym (filter (stay_reaches c at) all) (filter (stay_reaches c at) shown) p) (filter-in (stay_reaches c at) r all i (open-lasts c at r here o)) in
-      in-any (λ x. same_stay x r) r changed (filter-in (ends_by c people) r shown (in-filter (stay_reaches c at) r shown own).0 fits) (same-stay r)
+      in-any (λ x. same_stay x r) r changed (filter-in (is_open_stay_of c people) r shown (in-filter (stay_reaches c at) r shown own).0 fits) (same-stay r)
     where
       by_time : (r s : Stay) → IsIn r all → IsIn s all → same_text r.who s.who ≡ true → has_no_end r.until ≡ true → r.since ≤ s.since → r ≡ s
       by_time r s i j e o l = elim (clear.apart r s i j e l) [ inl same ↦ same | inr q ↦ absurd (true≢false (sym o ∙ ap has_no_end q.1.1)) ]
@@ -227,14 +227,14 @@ stays-put rows s shown c way at people a p l h =
 
 -- THE TABLES
 
-pub changed_by-stays : (rows : List Stay) (rest : List Change) (t : Tables)
-    → changed_by (map PutStay rows ++ rest) t ≡ changed_by rest (record t { stays = put_all same_stay rows t.stays })
-changed_by-stays rows rest t = changed_by-rows PutStay same_stay (λ rows t. record t { stays = rows }) (λ row rows t. refl) rows t.stays rest t
+pub all_changed-stays : (rows : List Stay) (rest : List Change) (t : Tables)
+    → all_changed (map PutStay rows ++ rest) t ≡ all_changed rest (record t { stays = put_all same_stay rows t.stays })
+all_changed-stays rows rest t = all_changed-rows PutStay same_stay (λ rows t. record t { stays = rows }) (λ row rows t. refl) rows t.stays rest t
 
 -- if it is the turn of each of the people, the rows that a request puts lead to the tables after it
 pub sheet-leads : (A : History) → IsSheet (sheet A) → (key : List ℕ) (c : ℕ) (way : Way) (all : List (List ℕ)) (at : ℕ) → are_apart all ≡ true
     → (view : View) (answer : ReplyData)
-    → IsViewOf (asks_by (RecordSheet c way all at)) (tables A) view → entry_of A key ≡ None → out_of_turn_refusal A c way at all ≡ None
+    → IsViewOf (asks_of_act (RecordSheet c way all at)) (tables A) view → entry_of A key ≡ None → out_of_turn_refusal A c way at all ≡ None
     → SameTables (changed_with (sheet_changes_by view c way all at) (command_of key (RecordSheet c way all at)) answer (tables A))
     (tables (with_command A (command_of key (RecordSheet c way all at)) answer))
 sheet-leads A s key c way all at a view answer v k f =
@@ -244,9 +244,9 @@ sheet-leads A s key c way all at a view answer v k f =
     let rest = PutKey (new_key_row x answer) ∷ [] in
     rw (
       append_assoc (map PutSheet news) (map PutStay stays) rest,
-      changed_by-rows PutSheet same_sheet_row (λ rows t. record t { sheet = rows }) (λ row rows t. refl) news (reverse (sheet A)) (map PutStay stays ++ rest)
+      all_changed-rows PutSheet same_sheet_row (λ rows t. record t { sheet = rows }) (λ row rows t. refl) news (reverse (sheet A)) (map PutStay stays ++ rest)
           (tables A),
-      changed_by-stays stays rest (record (tables A) { sheet = put_all same_sheet_row news (reverse (sheet A)) }),
+      all_changed-stays stays rest (record (tables A) { sheet = put_all same_sheet_row news (reverse (sheet A)) }),
       new_key A x answer k,
     )
     (other-order (tables (with_command A x answer)) (withdrawals A) _ _ (IsPermutation-refl (withdrawals A)) (sheet-put (sheet A) c way at all a f)

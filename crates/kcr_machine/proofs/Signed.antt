@@ -29,9 +29,9 @@ use Rattle.kcr_history.specs.Room.{present}
 use Rattle.kcr_history.specs.Fitting.{fits_by}
 use Rattle.kcr_history.specs.Seating.{fits, IsFirst, IsLeast}
 use Rattle.kcr_history.specs.Tables.{Tables, tables, marks, steps, step_row, seatings, seat_rows, seats_at, exceptions, trainings, withdrawals, appointments}
-use Rattle.kcr_history.specs.Changes.{changed_by, same_step, same_mark, same_exception, changed}
+use Rattle.kcr_history.specs.Changes.{all_changed, same_step, same_mark, same_exception, changed}
 use Rattle.kcr_history.specs.Views.{IsViewOf, is_step_at, training_reaches}
-use Rattle.kcr_history.specs.AsksByKind.{asks_by}
+use Rattle.kcr_history.specs.AsksByKind.{asks_of_act}
 use Rattle.kcr_history.specs.Machine.{SeatRequest, reply_to, IsRegister, seat_request}
 use Rattle.kcr_rules.specs.CeremonyStatus.{ceremony_by, facility_of_row}
 use Rattle.kcr_rules.specs.Signing.{step_by, seats_by, next_step_by, on_seat, fits_of, room_by, IsSeatedBy, IsUnseatedBy, staff, mark_change}
@@ -123,7 +123,7 @@ pub record IsShown (A : History) (view : View) (s : SeatRequest) : Type 0 where
       → on_seat (by_view A view s) (slice_get s.seats k) who ≡ on_seat (fits A (facility_of A s.ceremony) (day_of s.at)) (slice_get s.seats k) who
 
 -- the sitting of an act is shown so
-sign-sitting : (A : History) → IsRegister A → (c k at : ℕ) (view : View) → IsViewOf (asks_by (Sign c k at)) (tables A) view
+sign-sitting : (A : History) → IsRegister A → (c k at : ℕ) (view : View) → IsViewOf (asks_of_act (Sign c k at)) (tables A) view
     → IsShown A view (record { ceremony = c; at = at; seats = seats_at (steps_of A c) k })
 sign-sitting A h c k at view v =
     record {
@@ -133,7 +133,7 @@ sign-sitting A h c k at view v =
     }
 
 pass-sitting : (A : History) → IsRegister A → (c : ℕ) (text : List ℕ) (at : ℕ) (view : View)
-    → IsViewOf (asks_by (RecordException c text true at)) (tables A) view → IsShown A view (record { ceremony = c; at = at; seats = staff })
+    → IsViewOf (asks_of_act (RecordException c text true at)) (tables A) view → IsShown A view (record { ceremony = c; at = at; seats = staff })
 pass-sitting A h c text at view v =
     record {
       facility = facility-shown A c view.ceremonies.items v.ceremonies;
@@ -141,7 +141,7 @@ pass-sitting A h c text at view v =
       fit = staff-shown A h view (day_of at) v.trainings v.withdrawals (facility_of A c);
     }
 
-pub sitting-is : (A : History) → IsRegister A → (act : Act) (view : View) → IsViewOf (asks_by act) (tables A) view → (s : SeatRequest)
+pub sitting-is : (A : History) → IsRegister A → (act : Act) (view : View) → IsViewOf (asks_of_act act) (tables A) view → (s : SeatRequest)
     → seat_request A act ≡ Some s → IsShown A view s
 sitting-is A h (Sign c k at) view v s e = subst (IsShown A view) (same_Some _ s e) (sign-sitting A h c k at view v)
 sitting-is A h (RecordException c text true at) view v s e = subst (IsShown A view) (same_Some _ s e) (pass-sitting A h c text at view v)
@@ -188,13 +188,13 @@ with_seats A c k at state people =
 -- by the rows of the view the step's row is that one
 seats-changed : (A : History) → IsRegister A → (view : View) → (c k at : ℕ) (state : StepState) (people : List (List ℕ))
     → Shown (is_step_at c k) (steps A) view.steps.items → is_some (step_at (steps_of A c) k) ≡ true → steps_done A c < k
-    → (rest : List Change) → changed_by (seat_changes view state c k at people ++ rest) (tables A) ≡ changed_by rest (with_seats A c k at state people)
+    → (rest : List Change) → all_changed (seat_changes view state c k at people ++ rest) (tables A) ≡ all_changed rest (with_seats A c k at state people)
 seats-changed A h view c k at state people p inside l rest =
     let t : Tables = record (tables A) { steps = put same_step (done_row A c k at state) (steps A) } in
     rw (step-shown A h c k view.steps.items p, inside)
     (changed-append (map PutSeating (seat_rows c k 0 people) ++ mark_change c at ∷ []) rest t
-    ∙ ap (changed_by rest) (changed-append (map PutSeating (seat_rows c k 0 people)) (mark_change c at ∷ []) t)
-    ∙ ap (λ t. changed_by rest (changed (mark_change c at) t)) (put-seats c k 0 people t (λ j m. fresh-seats A h c k j l)))
+    ∙ ap (all_changed rest) (changed-append (map PutSeating (seat_rows c k 0 people)) (mark_change c at ∷ []) t)
+    ∙ ap (λ t. all_changed rest (changed (mark_change c at) t)) (put-seats c k 0 people t (λ j m. fresh-seats A h c k j l)))
 
 -- a signature
 pub sign-leads : (A : History) → IsRegister A → (c k at : ℕ) (people : List (List ℕ)) → SeatsLeadOn A (Sign c k at) (Some people)

@@ -36,7 +36,7 @@ use Rattle.kcr_laws.proofs.Done.{one_more, count-cons, next_signed, done-after}
 use Rattle.kcr_history.specs.declared.commands.Entry.{Entry}
 use Rattle.kcr_history.specs.declared.row_types.SeatingRow.{SeatingRow}
 use Rattle.kcr_history.specs.declared.views.Change.TheVariants.{PutSeating}
-use Rattle.kcr_history.specs.Changes.{same_step, same_seating, changed_by}
+use Rattle.kcr_history.specs.Changes.{same_step, same_seating, all_changed}
 use Rattle.kcr_base.proofs.ListLemmas.{any-same, any-map, some_if, there}
 use Rattle.kcr_base.specs.declared.place.Facility.{Facility}
 use Rattle.kcr_room.proofs.Lists as RoomLists
@@ -251,11 +251,11 @@ abbrev is_seat_of : ℕ → ℕ → ℕ → SeatingRow → Bool
 is_seat_of c k j row = row.ceremony == c && row.step == k && row.seat == j
 
 pub put-seats : (c k i : ℕ) (people : List (List ℕ)) (t : Tables) → ((j : ℕ) → i < j → list_any (is_seat_of c k j) t.seatings ≡ false)
-    → changed_by (map PutSeating (seat_rows c k i people)) t ≡ record t { seatings = pushed_onto (seat_rows c k i people) t.seatings }
+    → all_changed (map PutSeating (seat_rows c k i people)) t ≡ record t { seatings = pushed_onto (seat_rows c k i people) t.seatings }
 put-seats c k i [] t fresh = refl
 put-seats c k i (who ∷ people) t fresh =
     let row : SeatingRow = record { ceremony = c; step = k; seat = suc i; who = who } in
-    ap (λ rows. changed_by (map PutSeating (seat_rows c k (suc i) people)) (record t { seatings = rows }))
+    ap (λ rows. all_changed (map PutSeating (seat_rows c k (suc i) people)) (record t { seatings = rows }))
     (put-new same_seating row t.seatings (fresh (suc i) (omega arith)))
     ∙ put-seats c k (suc i) people (record t { seatings = row ∷ t.seatings })
     (λ j l. or_from ((c == c && k == k) && suc i == j) _ (and_right (c == c && k == k) (suc i == j) (ne_eqb (suc i) j (λ e. omega (arith, e, l))))

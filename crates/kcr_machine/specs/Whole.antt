@@ -8,7 +8,7 @@ use Rattle.kcr_history.specs.declared.views.Verdict.{Verdict}
 use Rattle.kcr_history.specs.declared.views.FullView.{FullView}
 use Rattle.kcr_history.specs.History.{History}
 use Rattle.kcr_history.specs.AsksByKind.{asks_of}
-use Rattle.kcr_history.specs.Changes.{changed_by}
+use Rattle.kcr_history.specs.Changes.{all_changed}
 use Rattle.kcr_history.specs.Tables.{tables, SameTables}
 use Rattle.kcr_history.specs.Views.{IsViewOf, row_of_key, greatest_number}
 
@@ -26,8 +26,8 @@ pub record IsAsked (A : History) (x : Command) (view : FullView) : Type 0 where
 pub record AcceptAlike (A : History) (v w : Verdict) : Type 0 where
   pub reply : v.reply.text ≡ w.reply.text
   pub new_reply : v.new_reply ≡ w.new_reply
-  pub tables : (B : History) × SameTables (changed_by v.changes.items (tables A)) (tables B)
-      × SameTables (changed_by w.changes.items (tables A)) (tables B)
+  pub tables : (B : History) × SameTables (all_changed v.changes.items (tables A)) (tables B)
+      × SameTables (all_changed w.changes.items (tables A)) (tables B)
 
 -- the refusals are one, or both tell of a least shortage
 abbrev pub RefuseAlike : Refusal → Refusal → Type 0

@@ -16,12 +16,12 @@ use Rattle.kcr_room.specs.Room.{is_enter, following, Followed, followed_rows_beh
 use Rattle.kcr_room.specs.Stays.{stay_from, next_of, stays_of, stays_by}
 use Rattle.kcr_room.specs.Laws.{ShareNoMoment}
 use Rattle.kcr_room.proofs.Lists.{none-counted}
-use Rattle.kcr_history.specs.Changes.{same_stay, changed_by}
+use Rattle.kcr_history.specs.Changes.{same_stay, all_changed}
 use Rattle.kcr_history.specs.declared.views.Change.TheVariants.{PutStay}
 use Rattle.kcr_history.specs.History.{History}
 use Rattle.kcr_history.specs.Tables.{Tables, SameTables, tables}
 use Rattle.kcr_history.specs.Machine.{IsRegister}
-use Rattle.kcr_machine.proofs.SheetLeads.{IsFresh, put-fresh, changed_by-stays}
+use Rattle.kcr_machine.proofs.SheetLeads.{IsFresh, put-fresh, all_changed-stays}
 use Rattle.kcr_room.proofs.AnyOrder.{stays-order, sheet-shares, share-order}
 use Rattle.kcr_history.specs.Room.{sheet}
 use Rattle.kcr_machine.proofs.SheetFaults.{sheet-made}
@@ -114,11 +114,11 @@ other-stays t stays p = search (rules, IsPermutation-refl, p)
 
 -- the machine's tables but for the stays, and the stays of the sheet put into them: the machine's tables
 pub filled : (A : History) → IsRegister A → (rows : List SheetRow) → IsPermutation (tables A).sheet rows
-    → SameTables (changed_by (map PutStay (stays_by rows)) (record (tables A) { stays = [] })) (tables A)
+    → SameTables (all_changed (map PutStay (stays_by rows)) (record (tables A) { stays = [] })) (tables A)
 filled A h rows p =
     let bare : Tables = record (tables A) { stays = [] } in
-    let put_is : changed_by (map PutStay (stays_by rows)) bare ≡ record (tables A) { stays = put_all same_stay (stays_by rows) [] }
-    = ap (λ changes. changed_by changes bare) (sym (append-nil (map PutStay (stays_by rows)))) ∙ changed_by-stays (stays_by rows) [] bare in
+    let put_is : all_changed (map PutStay (stays_by rows)) bare ≡ record (tables A) { stays = put_all same_stay (stays_by rows) [] }
+    = ap (λ changes. all_changed changes bare) (sym (append-nil (map PutStay (stays_by rows)))) ∙ all_changed-stays (stays_by rows) [] bare in
     subst (λ (t : Tables). SameTables t (tables A)) (sym put_is)
     (other-stays (tables A) (put_all same_stay (stays_by rows) [])
     (IsPermutation-trans _ _ _ (stays-put rows (shared_none A h rows p)) (IsPermutation-sym _ _ (stays_meet A h rows p))))

@@ -61,13 +61,13 @@ stays_after_request stays ceremony Enter people at = filter (of_ceremony ceremon
 stays_after_request stays ceremony Leave people at = map (with_end people at) (filter (of_ceremony ceremony) stays)
 
 -- the ceremony's open stays of the people
-abbrev pub ends_by : ℕ → List (List ℕ) → Stay → Bool
-ends_by ceremony people stay = stay.ceremony == ceremony && is_among people stay.who && has_no_end stay.until
+abbrev pub is_open_stay_of : ℕ → List (List ℕ) → Stay → Bool
+is_open_stay_of ceremony people stay = stay.ceremony == ceremony && is_among people stay.who && has_no_end stay.until
 
 -- the stays that the request changes: new ones, or old ones with their end
 abbrev pub changed_stays : List Stay → ℕ → Way → List (List ℕ) → ℕ → List Stay
 changed_stays stays ceremony Enter people at = map (new_stay ceremony at) people
-changed_stays stays ceremony Leave people at = map (with_end people at) (filter (ends_by ceremony people) stays)
+changed_stays stays ceremony Leave people at = map (with_end people at) (filter (is_open_stay_of ceremony people) stays)
 
 -- the refusal of the first person whose turn it is not
 abbrev pub turn_refusal : Option (List ℕ) → Option Refusal

@@ -116,8 +116,8 @@ fn new_stay(ceremony: u32, at: Moment, who: Initials) -> Stay
     }
 }
 
-fn ends_by(ceremony: u32, people: &[Initials], stay: &Stay) -> bool
-    ensures { result ≡ Requests.ends_by ceremony people.now stay.now }
+fn is_open_stay_of(ceremony: u32, people: &[Initials], stay: &Stay) -> bool
+    ensures { result ≡ Requests.is_open_stay_of ceremony people.now stay.now }
 {
     stay.ceremony == ceremony && is_among(people, stay.who) && has_no_end(stay.until)
 }
@@ -189,11 +189,11 @@ fn ended_stays(
 ) -> Result<Vec<Stay>, AllocError>
     ensures { let asked : SheetRequest = request.now in IfOk result (λ changed.
         changed.items ≡ map (Requests.with_end asked.people.now asked.at)
-        (filter (Requests.ends_by asked.ceremony asked.people.now) stays.now)) }
+        (filter (Requests.is_open_stay_of asked.ceremony asked.people.now) stays.now)) }
 {
     stays
         .iter()
-        .filter(|stay| ends_by(request.ceremony, request.people, *stay))
+        .filter(|stay| is_open_stay_of(request.ceremony, request.people, *stay))
         .map(|stay| with_end(request.people, request.at, stay))
         .collect(alloc)
 }

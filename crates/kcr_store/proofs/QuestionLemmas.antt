@@ -40,7 +40,7 @@ use Rattle.kcr_tables.proofs.JointLemmas.{Rises}
 use Rattle.kcr_tables.proofs.NamedLemmas.{passing}
 use Rattle.kcr_tables.proofs.ViewLemmas.{asked_shows}
 use Rattle.kcr_history.specs.declared.questions.BagShown.{BagShown}
-use Rattle.kcr_history.specs.Questions.{holders_by, holders_on, IsBagShown, with_name}
+use Rattle.kcr_history.specs.Questions.{holders_from, holders_on, IsBagShown, with_name}
 use Rattle.kcr_history.proofs.Words.{planned-number}
 use Rattle.kcr_reading.specs.Remaining.{named_stays}
 use Rattle.kcr_reading.proofs.StayLemmas.{one_attendance}
@@ -97,10 +97,10 @@ passing_shown of xs ys rows same are =
 module _ (A : History) (register : IsRegister A) (t : Tables) (same : SameTables (tables A) t) where
   -- who holds which place on a day
   pub holders_shown : (day : ℕ) (rows : List Appointment) → IsPermutation (filter (lasts_beyond day) t.appointments) rows
-      → holders_by (λ place. holder_by rows place day) ≡ holders_on A day
+      → holders_from (λ place. holder_by rows place day) ≡ holders_on A day
   holders_shown day rows are =
       let shown = passing_shown (lasts_beyond day) (appointments A) t.appointments rows same.appointments are in
-      λ i. holders_by (λ place. holder-lasting A register rows day shown place i)
+      λ i. holders_from (λ place. holder-lasting A register rows day shown place i)
 
   -- where the bag lies
   pub spot_shown : (serial : List ℕ) (rows : List Bag) → rows ≡ filter (is_of_serial serial) t.bags → spot_by rows serial ≡ spot A serial

@@ -24,7 +24,7 @@ use Rattle.kcr_history.specs.declared.views.FullView.{FullView}
 use Rattle.kcr_history.specs.Audit.{IsAudit}
 use Rattle.kcr_history.specs.History.{History}
 use Rattle.kcr_history.specs.Tables.{Tables, SameTables, tables}
-use Rattle.kcr_history.specs.Changes.{changed_by}
+use Rattle.kcr_history.specs.Changes.{all_changed}
 use Rattle.kcr_history.specs.Machine.{IsRegister, IsAcceptance, IsRepeat, IsDecision}
 use Rattle.kcr_history.proofs.Steps.{follows, numbers}
 use Rattle.kcr_tables.specs.Keyed.{by_key}
@@ -65,13 +65,13 @@ module _ (A : History) (x : Command) (v : Verdict) where
   next_register None d r = r
 
   -- the tables with the changes are those of the history after the command, up to the order of their rows
-  next_holds : (answer : Option ReplyData) (new : Database) → Decides A x v answer → HoldsTables (changed_by v.changes.items (tables A)) new
+  next_holds : (answer : Option ReplyData) (new : Database) → Decides A x v answer → HoldsTables (all_changed v.changes.items (tables A)) new
       → HoldsTables (tables (with_reply A x answer)) new
-  next_holds (Some a) new d h = same_holds (changed_by v.changes.items (tables A)) (tables (with_reply A x (Some a))) new d.tables h
-  next_holds None new d h = subst (λ (l : List Change). HoldsTables (changed_by l (tables A)) new) d.1.changes h
+  next_holds (Some a) new d h = same_holds (all_changed v.changes.items (tables A)) (tables (with_reply A x (Some a))) new d.tables h
+  next_holds None new d h = subst (λ (l : List Change). HoldsTables (all_changed l (tables A)) new) d.1.changes h
 
   pub next_stores : (answer : Option ReplyData) (old new : Database) → Stores A old → Decides A x v answer
-      → HoldsTables (changed_by v.changes.items (tables A)) new → Stores (with_reply A x answer) new
+      → HoldsTables (all_changed v.changes.items (tables A)) new → Stores (with_reply A x answer) new
   next_stores answer old new s d h =
       let after = next_holds answer new d h in
       record { schema = after.schema; tables = record { register = next_register answer d s.tables.register; kept = after.tables } }

@@ -7,7 +7,7 @@ use Rattle.kcr_people.specs.declared.Withdrawal.{Withdrawal}
 use Rattle.kcr_people.specs.People.{holder_by}
 use Rattle.kcr_custody.specs.Custody.{spot_by, lies_in}
 use Rattle.kcr_room.specs.Stays.{present_in_by}
-use Rattle.kcr_history.specs.Questions.{is_role_before, roles_of, person_of, holders_by}
+use Rattle.kcr_history.specs.Questions.{is_role_before, roles_of, person_of, holders_from}
 use Rattle.kcr_history.specs.Tables.{Tables}
 use Rattle.kcr_history.specs.Views.{is_of_number}
 use Rattle.kcr_history.specs.declared.questions.Question.{Question}
@@ -34,7 +34,7 @@ pub record ArePeopleOf (m : Tables) (shown : List PersonShown) : Type 0 where
 -- who holds which place on the day that is asked for, by the rows
 pub record AreCustodiansOf (m : Tables) (asked : ℕ) (shown : CustodiansShown) : Type 0 where
   pub day : shown.day ≡ asked
-  pub holders : shown.holders.items ≡ holders_by (λ place. holder_by m.appointments place asked)
+  pub holders : shown.holders.items ≡ holders_from (λ place. holder_by m.appointments place asked)
 
 -- the bag that is asked for has a row that says where it lies, and these are the items within it, in the rows' order
 pub record IsBagOf (m : Tables) (asked : List ℕ) (shown : BagShown) : Type 0 where

@@ -177,7 +177,7 @@ pub(crate) fn custodians_shown(
 ) -> Result<CustodiansShown, AllocError>
     ensures day { IfOk result (λ shown. shown.day ≡ day) }
     ensures holders { IfOk result (λ shown.
-        shown.holders.items ≡ Questions.holders_by (λ place. holder_by appointments.now place day)) }
+        shown.holders.items ≡ Questions.holders_from (λ place. holder_by appointments.now place day)) }
 {
     let places = all_places(alloc)?;
     let holders = places

@@ -193,7 +193,7 @@ after_same (PutWithdrawal row) m t r s = search
 
 -- the changes one after the other
 pub all_stand : (list : List Change) (m : machine.Tables) (t : StoredTables) → Rises t.rows → SameRows m t
-    → SameRows (changes.changed_by list m) (changed_all list t)
+    → SameRows (changes.all_changed list m) (changed_all list t)
 all_stand [] m t r s = s
 all_stand (c ∷ more) m t r s =
     all_stand more (changes.changed c m) (changed c t) (after_rises c t.rows r) (record { rows = after_same c m t.rows r s.rows; versions = s.versions })
@@ -201,9 +201,9 @@ all_stand (c ∷ more) m t r s =
 -- ---- what the store holds
 
 pub changes_hold : (list : List Change) (m : machine.Tables) (old new : Database) (h : HoldsTables m old) → Holds new (changed_all list h.tables.t)
-    → HoldsTables (changes.changed_by list m) new
+    → HoldsTables (changes.all_changed list m) new
 changes_hold list m old new h held =
-    tables_of (changes.changed_by list m) new (changed_all list h.tables.t)
+    tables_of (changes.all_changed list m) new (changed_all list h.tables.t)
     (all_stand list m h.tables.t (kept_rises old.trees h.tables.t h.tables.kept) h.tables.stands) held
 
 same_itself : (t : machine.Tables) → machine.SameTables t t

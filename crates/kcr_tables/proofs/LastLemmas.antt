@@ -32,7 +32,7 @@ use Rattle.kcr_rows.specs.Rows.{stay_row, appointment_row, seating_row}
 use Rattle.kcr_room.specs.declared.Stay.{Stay}
 use Rattle.kcr_tables.specs.Schema.{register_schema}
 use Rattle.kcr_tables.specs.Exact.{rows_at, has_number, has_text, IsOneOf}
-use Rattle.kcr_tables.specs.Statements.{is_given, Choice, showing, showing_by}
+use Rattle.kcr_tables.specs.Statements.{is_given, Choice, showing, wanted_showing}
 use Rattle.kcr_tables.specs.StoredTables.{StoredTables, TreesHold, Holds, keys_place, stays_place, appointments_place, seatings_place}
 use Rattle.kcr_tables.specs.AppointmentsLaws as appointments
 use Rattle.kcr_tables.specs.KeysLaws as keys
@@ -54,7 +54,7 @@ pub record ShowsLast (place : TableLayout) (project : List Term) (names : List (
   pub test : List Term
   pub bare : IsPlain (understood register_schema sql)
   pub is : showing sql place params (by_number at passes) test (greatest place test project at)
-      ≡ showing_by place (by_number at passes) (greatest place test project at) names
+      ≡ wanted_showing place (by_number at passes) (greatest place test project at) names
 
 module _ {place : TableLayout} {project : List Term} {names : List (List ℕ)} {sql : List ℕ} {params : Row} {passes : Row → Bool} {at : ℕ}
     (s : ShowsLast place project names sql params passes at) where

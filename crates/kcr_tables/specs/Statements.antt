@@ -75,8 +75,8 @@ showing sql place params choice test query = record {
 }
 
 -- of one that chooses so
-abbrev pub showing_by : TableLayout → Choice → Query → List (List ℕ) → Showing
-showing_by place choice query names = record {
+abbrev pub wanted_showing : TableLayout → Choice → Query → List (List ℕ) → Showing
+wanted_showing place choice query names = record {
   command = Select (record { lets = []; body = query }) names;
   reads_catalog = false;
   is_far = false;
@@ -94,7 +94,7 @@ pub record Selects (sql : List ℕ) (place : TableLayout) (params : Row) (choice
   pub names : List (List ℕ)
   pub bare : IsPlain (understood register_schema sql)
   pub is : showing sql place params choice test (asking place.tree test project order limit)
-      ≡ showing_by place choice (asking place.tree test project order limit) names
+      ≡ wanted_showing place choice (asking place.tree test project order limit) names
 
 -- The text shows all rows that pass, in the order of their keys.
 abbrev pub SelectsRows : List ℕ → TableLayout → Row → (Row → Bool) → Type 0
@@ -120,8 +120,8 @@ passing sql place params test query = record {
 }
 
 -- of one that shows the rows that pass
-abbrev pub passing_by : TableLayout → (Row → Bool) → Query → List (List ℕ) → Passing
-passing_by place passes query names = record {
+abbrev pub wanted_passing : TableLayout → (Row → Bool) → Query → List (List ℕ) → Passing
+wanted_passing place passes query names = record {
   command = Select (record { lets = []; body = query }) names;
   reads_catalog = false;
   is_far = false;
@@ -137,7 +137,7 @@ pub record SelectsUnordered (sql : List ℕ) (place : TableLayout) (params : Row
   pub names : List (List ℕ)
   pub bare : IsPlain (understood register_schema sql)
   pub is : passing sql place params test (asking place.tree test project order (negsuc 0))
-      ≡ passing_by place passes (asking place.tree test project order (negsuc 0)) names
+      ≡ wanted_passing place passes (asking place.tree test project order (negsuc 0)) names
 
 -- ---- texts that put a row into a table
 

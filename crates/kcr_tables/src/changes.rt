@@ -1,7 +1,7 @@
 //! Changes of the tables.
 
 ghost use Rattle.kcr_history.specs.Changes as Changes;
-ghost use Rattle.kcr_history.specs.Changes.{changed_by};
+ghost use Rattle.kcr_history.specs.Changes.{all_changed};
 ghost use Rattle.kcr_rows.specs.Refusals.{IsFault};
 ghost use Rattle.kcr_rows.specs.Frame.{StaysInTransaction};
 ghost use Rattle.kcr_tables.specs.Changed.{changed, changed_all};
@@ -51,7 +51,7 @@ pub fn change_all<S: Alter>(
     changes: &[Change],
 ) -> Result<(), Refusal>
     ensures holds { ChangesTables S.Store tx.old tx.new result (changed_all changes.now) }
-    ensures tables { ChangesMachineTables S.Store tx.old tx.new result (changed_by changes.now) }
+    ensures tables { ChangesMachineTables S.Store tx.old tx.new result (all_changed changes.now) }
     ensures frame { StaysInTransaction S.Store IsFault tx.old tx.new result }
 {
     for change in changes {

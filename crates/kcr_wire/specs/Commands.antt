@@ -7,7 +7,7 @@ use Rattle.kcr_base.specs.declared.refusal.Refusal.{Refusal}
 use Rattle.kcr_base.specs.declared.refusal.Refusal.TheVariants as refusal
 use Rattle.kcr_forms.specs.Forms.{key_of}
 use Rattle.kcr_forms.specs.OrMemory.{and_then}
-use Rattle.kcr_forms.specs.Posts.{act_by}
+use Rattle.kcr_forms.specs.Posts.{posted_act}
 use Rattle.kcr_forms.specs.Reading.{formed}
 use Rattle.kcr_forms.specs.declared.post.Post.{Post}
 use Rattle.kcr_history.specs.declared.commands.Command.{Command}
@@ -21,12 +21,12 @@ abbrev pub key_at : Data → Result (List ℕ) Refusal
 key_at d = formed member.Key (option_and_then key_of (text_at member.Key d))
 
 -- the command of a path: its key, which is read before all other members, and its act
-abbrev pub command_by : Post → Data → Result Command Refusal
-command_by post d = and_then (key_at d) (λ key. and_then (act_by body post d) (λ does. Ok (record { key = key; act = does })))
+abbrev pub posted_command : Post → Data → Result Command Refusal
+posted_command post d = and_then (key_at d) (λ key. and_then (posted_act body post d) (λ does. Ok (record { key = key; act = does })))
 
 -- the command of a body that is posted to a path
 abbrev pub posted : Endpoint → List ℕ → Result Command Refusal
-posted (target.Post post) bytes = and_then (ok_or (json_of bytes) refusal.Json) (command_by post)
+posted (target.Post post) bytes = and_then (ok_or (json_of bytes) refusal.Json) (posted_command post)
 posted (target.Ask inquiry) bytes = Err refusal.Method
 
 -- the command that the target and the body of a POST are

@@ -85,38 +85,38 @@ abbrev pub in_ceremony : {V : Type 0} → (ℕ → V → Post) → Option V → 
 in_ceremony make other parts = with_parts (λ n v. target.Post (make n v)) (ceremony_in parts) other
 
 -- what a path of this route asks for, if each of its parts is of its form
-abbrev pub target_by : Route → Parts → Option Endpoint
-target_by route.People parts = Some (target.Post post.People)
-target_by route.Roles parts = on_person post.Roles parts
-target_by route.Withdrawals parts = on_person post.Withdrawals parts
-target_by route.Custodians parts = Some (target.Post post.Custodians)
-target_by route.Replacement parts = on_place post.Replacement parts
-target_by route.Release parts = on_place post.Release parts
-target_by route.Boxes parts = Some (target.Post post.Boxes)
-target_by route.Items parts = Some (target.Post post.Items)
-target_by route.Ceremonies parts = Some (target.Post post.Ceremonies)
-target_by route.Opening parts = on_ceremony post.Opening parts
-target_by route.Closing parts = on_ceremony post.Closing parts
-target_by route.Sheet parts = on_ceremony post.Sheet parts
-target_by route.Signature parts = in_ceremony post.Signature (part_as step_of (codes "step") parts) parts
-target_by route.Exceptions parts = on_ceremony post.Exceptions parts
-target_by route.Safes parts = in_ceremony post.Safe (part_as safe_of (codes "safe") parts) parts
-target_by route.Seal parts = in_ceremony post.Seal (serial_in parts) parts
-target_by route.Take parts = in_ceremony post.Take (serial_in parts) parts
-target_by route.Put parts = in_ceremony post.Put (serial_in parts) parts
-target_by route.Cut parts = in_ceremony post.Cut (serial_in parts) parts
-target_by route.CustodiansOn parts = option_map (λ day. target.Ask (inquiry.Question (question.Custodians day))) (part_as day_of (codes "day") parts)
-target_by route.Bag parts = option_map (λ serial. target.Ask (inquiry.Question (question.Bag serial))) (serial_in parts)
-target_by route.Room parts =
+abbrev pub endpoint_of : Route → Parts → Option Endpoint
+endpoint_of route.People parts = Some (target.Post post.People)
+endpoint_of route.Roles parts = on_person post.Roles parts
+endpoint_of route.Withdrawals parts = on_person post.Withdrawals parts
+endpoint_of route.Custodians parts = Some (target.Post post.Custodians)
+endpoint_of route.Replacement parts = on_place post.Replacement parts
+endpoint_of route.Release parts = on_place post.Release parts
+endpoint_of route.Boxes parts = Some (target.Post post.Boxes)
+endpoint_of route.Items parts = Some (target.Post post.Items)
+endpoint_of route.Ceremonies parts = Some (target.Post post.Ceremonies)
+endpoint_of route.Opening parts = on_ceremony post.Opening parts
+endpoint_of route.Closing parts = on_ceremony post.Closing parts
+endpoint_of route.Sheet parts = on_ceremony post.Sheet parts
+endpoint_of route.Signature parts = in_ceremony post.Signature (part_as step_of (codes "step") parts) parts
+endpoint_of route.Exceptions parts = on_ceremony post.Exceptions parts
+endpoint_of route.Safes parts = in_ceremony post.Safe (part_as safe_of (codes "safe") parts) parts
+endpoint_of route.Seal parts = in_ceremony post.Seal (serial_in parts) parts
+endpoint_of route.Take parts = in_ceremony post.Take (serial_in parts) parts
+endpoint_of route.Put parts = in_ceremony post.Put (serial_in parts) parts
+endpoint_of route.Cut parts = in_ceremony post.Cut (serial_in parts) parts
+endpoint_of route.CustodiansOn parts = option_map (λ day. target.Ask (inquiry.Question (question.Custodians day))) (part_as day_of (codes "day") parts)
+endpoint_of route.Bag parts = option_map (λ serial. target.Ask (inquiry.Question (question.Bag serial))) (serial_in parts)
+endpoint_of route.Room parts =
     with_parts (λ n at. target.Ask (inquiry.Question (question.Room n at))) (ceremony_in parts) (part_as moment_of (codes "at") parts)
-target_by route.Script parts = option_map (λ n. target.Ask (inquiry.Script n)) (ceremony_in parts)
-target_by route.Attendance parts = option_map (λ n. target.Ask (inquiry.Attendance n)) (ceremony_in parts)
-target_by route.Custody parts = Some (target.Ask inquiry.Custody)
-target_by route.Commands parts = option_map (λ after. target.Ask (inquiry.Commands after)) (part_as after_of (codes "after") parts)
+endpoint_of route.Script parts = option_map (λ n. target.Ask (inquiry.Script n)) (ceremony_in parts)
+endpoint_of route.Attendance parts = option_map (λ n. target.Ask (inquiry.Attendance n)) (ceremony_in parts)
+endpoint_of route.Custody parts = Some (target.Ask inquiry.Custody)
+endpoint_of route.Commands parts = option_map (λ after. target.Ask (inquiry.Commands after)) (part_as after_of (codes "after") parts)
 
 -- what a path asks for, by the route that the router finds for it and the parts that it takes
 abbrev pub target_at : List ℕ → Option Endpoint
-target_at path = option_and_then (λ found. target_by found.value (parts_in found path)) (first table path)
+target_at path = option_and_then (λ found. endpoint_of found.value (parts_in found path)) (first table path)
 
 -- what a target asks for, or that it is no path of the register
 unfoldable pub target_of : List ℕ → Result Endpoint Refusal

@@ -14,10 +14,10 @@ use Rattle.kcr_wire.specs.declared.endpoint.Endpoint.{Endpoint}
 use Rattle.kcr_wire.specs.declared.endpoint.Endpoint.TheVariants as target
 
 -- the question or the report that a path is asked for, or that it takes commands alone
-abbrev pub question_by : Endpoint → Result Inquiry Refusal
-question_by (target.Ask asked) = Ok asked
-question_by (target.Post post.People) = Ok (inquiry.Question question.People)
-question_by (target.Post _) = Err refusal.Method
+abbrev pub inquiry_of : Endpoint → Result Inquiry Refusal
+inquiry_of (target.Ask asked) = Ok asked
+inquiry_of (target.Post post.People) = Ok (inquiry.Question question.People)
+inquiry_of (target.Post _) = Err refusal.Method
 
 -- the method asks for something
 abbrev pub is_read_method : Method → Bool
@@ -28,7 +28,7 @@ is_read_method method.Other = false
 
 -- the inquiry that a method asks for at a path
 abbrev pub question_at : Method → Endpoint → Result Inquiry Refusal
-question_at m t = if is_read_method m then question_by t else Err refusal.Method
+question_at m t = if is_read_method m then inquiry_of t else Err refusal.Method
 
 -- the inquiry that a method and a target are
 unfoldable pub question_of : Method → List ℕ → Result Inquiry Refusal

@@ -2,7 +2,7 @@
 ghost use Rattle.std.specs.Prelude.{◌≡◌, IfErr};
 ghost use Rattle.serde_json.specs.View.{view};
 ghost use Rattle.kcr_forms.specs.OrMemory.{OrMemory};
-ghost use Rattle.kcr_wire.specs.Commands.{command_by, command_of, posted};
+ghost use Rattle.kcr_wire.specs.Commands.{posted_command, command_of, posted};
 ghost use Rattle.kcr_wire.specs.Endpoints.{allow_of, if_method, refusal_alone};
 
 use crate::body::{Body, read_body, text_member};
@@ -16,7 +16,7 @@ use std::alloc::Global;
 
 // The command that a body is at this path: its key, and then its act.
 fn command_at(alloc: Global, post: Post, body: &Value) -> Result<Command, Refusal>
-    ensures { OrMemory result (command_by post (view body.now)) }
+    ensures { OrMemory result (posted_command post (view body.now)) }
 {
     let key = text_member(alloc, body, Member::Key)?;
     let act = act_at(alloc, post, &mut Body { value: body })?;

@@ -2,7 +2,7 @@
 ghost use Rattle.std.specs.Prelude.{◌≡◌, ◌==◌, ◌<◌, length, position, option_map, IfErr, IfSome};
 ghost use Rattle.matchit.specs.Params.{AllText, named};
 ghost use Rattle.kcr_wire.specs.Endpoints.{path_of, ascii_in, parts_of, initials_in, place_in, ceremony_in, serial_in};
-ghost use Rattle.kcr_wire.specs.Endpoints.{target_by, target_of, allow_of_endpoint};
+ghost use Rattle.kcr_wire.specs.Endpoints.{endpoint_of, target_of, allow_of_endpoint};
 
 use crate::after::After;
 use crate::allow::Allow;
@@ -97,7 +97,7 @@ fn serial_in(parts: &Params<'_, '_>) -> Option<Serial>
 // What a path of this route asks for, if its parts have their forms.
 fn read_parts(route: Route, parts: &Params<'_, '_>) -> Option<Endpoint>
     requires { AllText (parts_of parts.now) }
-    ensures { result ≡ target_by route (parts_of parts.now) }
+    ensures { result ≡ endpoint_of route (parts_of parts.now) }
 {
     let target = match route {
         Route::People => Endpoint::Post(Post::People),

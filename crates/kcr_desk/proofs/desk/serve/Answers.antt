@@ -1,6 +1,6 @@
 use Rattle.kcr_desk.specs.Answers.{Answers, IsAnswer, IsReply, history_of}
 use Rattle.kcr_desk.specs.Streams.{streams}
-use Rattle.kcr_desk.proofs.StandingLemmas.{run_clean, run_founded, run_replies, run_answers, broken_stream, ends_by, ran}
+use Rattle.kcr_desk.proofs.StandingLemmas.{run_clean, run_founded, run_replies, run_answers, broken_stream, is_open_stay_of, ran}
 use Rattle.kcr_desk.proofs.desk.serve.Goals as goal
 
 pub returns-clause-answered : goal.returns-clause-answered
@@ -9,7 +9,7 @@ returns-clause-answered g c founded clean =
     c.serve_stream-result.new.writer in
     let before = c.args.register.now in
     let after = c.serve_stream-result.new.responder in
-    ends_by (Answers g.S.Store) IsAnswer s before after (history_of before) (history_of after) c.serve_stream-result.result
+    is_open_stay_of (Answers g.S.Store) IsAnswer s before after (history_of before) (history_of after) c.serve_stream-result.result
     (run_answers g.S.Store before after founded clean) c.serve_stream-result.ensures.served
 
 pub returns-clause-replied : goal.returns-clause-replied
@@ -18,7 +18,7 @@ returns-clause-replied g c =
     c.serve_stream-result.new.writer in
     let before = c.args.register.now in
     let after = c.serve_stream-result.new.responder in
-    ends_by (Answers g.S.Store) IsReply s before after (history_of before) (history_of after) c.serve_stream-result.result
+    is_open_stay_of (Answers g.S.Store) IsReply s before after (history_of before) (history_of after) c.serve_stream-result.result
     (run_replies g.S.Store before after) c.serve_stream-result.ensures.served
 
 pub returns-clause-founded : goal.returns-clause-founded

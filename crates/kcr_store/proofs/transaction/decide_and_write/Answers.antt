@@ -1,6 +1,6 @@
 use Rattle.std.proofs.Common.{List, subst, ◌∙◌}
 use Rattle.sqlite.specs.Held.{state}
-use Rattle.kcr_history.specs.Changes.{changed_by}
+use Rattle.kcr_history.specs.Changes.{all_changed}
 use Rattle.kcr_history.specs.declared.views.Change.{Change}
 use Rattle.kcr_history.specs.Tables.{tables}
 use Rattle.kcr_rows.proofs.FrameLemmas.{within_then, within_to, within_fails, clean_before}
@@ -66,6 +66,6 @@ returns-clause-by_row g c =
       told = λ clean m held. said.by_row.told (before clean) m held;
       same = λ clean m held some.
           let none = c.as_slice.ensures.value ∙ said.unchanging (before clean) m held some in
-          subst (λ (l : List Change). HoldsTables (changed_by l m) (state g.S.Store c.change_all.new.tx.conn.now).now) none
+          subst (λ (l : List Change). HoldsTables (all_changed l m) (state g.S.Store c.change_all.new.tx.conn.now).now) none
           (c.in_ok-change_all.ensures.tables clean m (said.by_row.same (before clean) m held some));
     }

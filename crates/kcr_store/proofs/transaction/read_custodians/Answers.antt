@@ -1,6 +1,6 @@
 use Rattle.std.proofs.Common.{◌∙◌, [], ap}
 use Rattle.kcr_people.specs.People.{holder_by}
-use Rattle.kcr_history.specs.Questions.{holders_by}
+use Rattle.kcr_history.specs.Questions.{holders_from}
 use Rattle.kcr_history.specs.Tables.{tables}
 use Rattle.kcr_store.proofs.QuestionLemmas.{holders_shown}
 use Rattle.kcr_store.proofs.StoreLemmas.{holds_in}
@@ -16,7 +16,7 @@ returns-clause-shown g c clean accepted had =
       day = c.in_ok-custodians_shown.ensures.day;
       holders =
           c.in_ok-custodians_shown.ensures.holders
-          ∙ ap (λ rows. holders_by (λ place. holder_by rows place c.args.day)) c.deref.ensures.value
+          ∙ ap (λ rows. holders_from (λ place. holder_by rows place c.args.day)) c.deref.ensures.value
           ∙ holders_shown accepted was.tables.register kept.t.rows kept.stands.rows c.args.day shown rows;
     }
 
@@ -27,6 +27,6 @@ returns-clause-by_rows g c = (
     day = c.in_ok-custodians_shown.ensures.day;
     holders =
         c.in_ok-custodians_shown.ensures.holders
-        ∙ ap (λ rows. holders_by (λ place. holder_by rows place c.args.day)) c.deref.ensures.value;
+        ∙ ap (λ rows. holders_from (λ place. holder_by rows place c.args.day)) c.deref.ensures.value;
   },
 )

@@ -5,7 +5,7 @@ use Rattle.kcr_base.specs.declared.refusal.Refusal.TheVariants.{Path}
 use Rattle.kcr_forms.specs.OrMemory.{and_then}
 use Rattle.kcr_history.specs.declared.questions.Question.TheVariants.{Room}
 use Rattle.kcr_wire.specs.Endpoints.{with_parts}
-use Rattle.kcr_wire.specs.Questions.{question_by}
+use Rattle.kcr_wire.specs.Questions.{inquiry_of}
 use Rattle.kcr_wire.specs.declared.endpoint.Endpoint.TheVariants.{Ask}
 use Rattle.kcr_wire.specs.declared.question.Inquiry.{Inquiry}
 use Rattle.kcr_wire.specs.declared.question.Inquiry.TheVariants.{Commands, Question}
@@ -15,10 +15,10 @@ use Rattle.kcr_worked.proofs.questions.inquiries.Goals as goal
 
 -- what is asked of a room, if this is the moment that was read, and of the commands behind these
 abbrev room_asked : Option ℕ → Result Inquiry Refusal
-room_asked at = and_then (ok_or (with_parts (λ n moment. Ask (Question (Room n moment))) (Some 61) at) Path) question_by
+room_asked at = and_then (ok_or (with_parts (λ n moment. Ask (Question (Room n moment))) (Some 61) at) Path) inquiry_of
 
 abbrev commands_asked : Option ℕ → Result Inquiry Refusal
-commands_asked after = and_then (ok_or (option_map (λ known. Ask (Commands known)) after) Path) question_by
+commands_asked after = and_then (ok_or (option_map (λ known. Ask (Commands known)) after) Path) inquiry_of
 
 pub returns : goal.returns
 unfolding requests_on_literals
