@@ -13,7 +13,8 @@ use Rattle.matchit.specs.declared.params.Params.{Params}
 use Rattle.kcr_base.specs.declared.place.Place.{Place}
 use Rattle.kcr_base.specs.declared.refusal.Refusal.{Refusal}
 use Rattle.kcr_base.specs.declared.refusal.Refusal.TheVariants as refusal
-use Rattle.kcr_forms.specs.Forms.{number_by_text, initials_of, day_of, moment_of, serial_of, ceremony_of, step_of, safe_of, place_of}
+use Rattle.kcr_forms.specs.Forms.{number_by_text, initials_of, day_of, moment_of, serial_of, ceremony_of, step_of}
+use Rattle.kcr_forms.specs.Forms.{safe_of, place_of}
 use Rattle.kcr_forms.specs.declared.post.Post.{Post}
 use Rattle.kcr_forms.specs.declared.post.Post.TheVariants as post
 use Rattle.kcr_history.specs.declared.questions.Question.TheVariants as question
@@ -105,14 +106,17 @@ endpoint_of route.Seal parts = in_ceremony post.Seal (serial_in parts) parts
 endpoint_of route.Take parts = in_ceremony post.Take (serial_in parts) parts
 endpoint_of route.Put parts = in_ceremony post.Put (serial_in parts) parts
 endpoint_of route.Cut parts = in_ceremony post.Cut (serial_in parts) parts
-endpoint_of route.CustodiansOn parts = option_map (λ day. target.Ask (inquiry.Question (question.Custodians day))) (part_as day_of (codes "day") parts)
+endpoint_of route.CustodiansOn parts =
+    option_map (λ day. target.Ask (inquiry.Question (question.Custodians day))) (part_as day_of (codes "day") parts)
 endpoint_of route.Bag parts = option_map (λ serial. target.Ask (inquiry.Question (question.Bag serial))) (serial_in parts)
 endpoint_of route.Room parts =
-    with_parts (λ n at. target.Ask (inquiry.Question (question.Room n at))) (ceremony_in parts) (part_as moment_of (codes "at") parts)
+    with_parts (λ n at. target.Ask (inquiry.Question (question.Room n at))) (ceremony_in parts)
+    (part_as moment_of (codes "at") parts)
 endpoint_of route.Script parts = option_map (λ n. target.Ask (inquiry.Script n)) (ceremony_in parts)
 endpoint_of route.Attendance parts = option_map (λ n. target.Ask (inquiry.Attendance n)) (ceremony_in parts)
 endpoint_of route.Custody parts = Some (target.Ask inquiry.Custody)
-endpoint_of route.Commands parts = option_map (λ after. target.Ask (inquiry.Commands after)) (part_as after_of (codes "after") parts)
+endpoint_of route.Commands parts =
+    option_map (λ after. target.Ask (inquiry.Commands after)) (part_as after_of (codes "after") parts)
 
 -- what a path asks for, by the route that the router finds for it and the parts that it takes
 abbrev pub target_at : List ℕ → Option Endpoint
