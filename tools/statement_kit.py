@@ -60,7 +60,7 @@ KIT = [
     ("std", "ok_or result_ok result_unwrap_or",
      "A value or else this error; the value of a result, if it is one; or else the value that is given."),
     ("std", "codes", "The bytes of an ASCII text."),
-    ("std", "string_bytes", "The bytes of a string."),
+    ("std", "String string_bytes", "A string, and its bytes."),
     ("std", "bytes_eq", "The test that two texts are the same bytes."),
     ("std", "IsUtf8 is_utf8", "The bytes are UTF-8, as a fact and as a test."),
     ("std", "is_ascii", "The byte or the character is ASCII: less than 128."),

@@ -24,16 +24,11 @@ EXAMPLES = [
 # A sentence for each clause that has no comment of its own in the sources. A comment there goes before a sentence here.
 SENTENCES = {
     "kcr_desk::serve": {
-        "answered_in_part": "After a fault a prefix of such replies was written.",
         "founded": "The register stays founded if it was, and not otherwise.",
         "clean": "A disk that is clean at the end was clean at the beginning.",
-        "read_fault": "`Read` is returned only if a read failed, or if 1,000,000 reads returned bytes.",
-        "write_fault": "`Write` is returned only if a write failed.",
         "bound": "At most 1,000,000 reads return bytes.",
     },
     "kcr_desk::one": {
-        "read_fault": "The stream ends by `Read` only if a read failed, or if 1,000,000 reads returned bytes.",
-        "write_fault": "It ends by `Write` only if a write failed.",
         "bound": "At most 1,000,000 reads return bytes.",
         "broken": "The answer says whether the register is broken.",
         "connects": "Nothing but the messages of this one connection changed the register.",
@@ -72,15 +67,6 @@ SENTENCES = {
         "told": "If the answer is `Whole`, the rows are the tables of a history that the machine reaches, with "
         "that many commands.",
         "cause": "The refusals are those for memory and for the device.",
-    },
-    "kcr_verify::rebuild": {
-        "intact": "The new register is founded, whole, and not broken.",
-        "empty": "The new register has no command.",
-        "cause": "The refusals are those for memory and for the device.",
-        "founded": "The new register stays founded.",
-        "in_doubt": "The new register is not broken if there is a result.",
-        "clean": "A disk that is clean at the end was clean at the beginning.",
-        "kept": "The new register is whole.",
     },
 }
 
@@ -121,7 +107,7 @@ PARTS = [
      "names stand in the parts below.",
      """kcr_desk/src/fault kcr_desk/src/stream kcr_desk/src/connection kcr_rows/Refusals kcr_store/Commands kcr_store/Rows
      kcr_print/Written
-     kcr_desk/Run kcr_desk/Answers kcr_desk/Connections kcr_machine/RowDecision kcr_rules/Refusals"""),
+     kcr_desk/Run kcr_desk/Answers kcr_desk/Streams kcr_desk/Connections kcr_machine/RowDecision kcr_rules/Refusals"""),
     ("The cut of the stream",
      "Which bytes are which messages, and how a stream ends.",
      """kcr_desk/src/head kcr_desk/Members kcr_desk/Framing kcr_desk/Stream"""),

@@ -1,23 +1,37 @@
 -- What the status of an audit says of its line.
-use Rattle.std.proofs.Common.{◌≡◌, ◌≤◌, inr, ℕ, List, Option, Some, None, refl, arith}
-use Rattle.std.specs.Io.KnownBytes.{Appends}
+use Rattle.std.proofs.Common.{◌≡◌, ◌⊎◌, inl, inr, ℕ, Option, Some, None, Result, Ok, Err, arith}
+use Rattle.std.specs.Prelude.{IfOk}
+use Rattle.kcr_desk.specs.Streams.{Written, WritesText}
+use Rattle.kcr_history.specs.History.{History}
 use Rattle.kcr_history.specs.declared.views.Finding.{Finding}
-use Rattle.kcr_tool.proofs.Causes.{whole_front}
-use Rattle.kcr_tool.specs.Audits.{WritesAudit, WritesFinding, WritesAuditPrefix}
-use Rattle.kcr_fault.specs.Lines.{clean_line, finding_line}
+use Rattle.kcr_tool.specs.Audits.{EndsAudit, WritesAudit, WritesFinding}
+use Rattle.kcr_tool.specs.Runs.{EndsReport, EndsReportBy}
+use Rattle.kcr_fault.specs.Lines.{clean_line}
+use Rattle.kcr_fault.specs.declared.fault.Fault.{Fault}
+use Rattle.kcr_words.specs.declared.words.Report.TheVariants.{Audit}
 
-pub clean_told : (found : Option Finding) (old new : Option (List ℕ)) (status : ℕ) → WritesAudit found old new status → status ≡ 0 → Appends old new clean_line
-clean_told found old new status told is = grind (arith, told, is)
+-- nothing was found, or a finding
+audit_told : {W : Type 0} (found : Option Finding) (w : Written W) (status : ℕ) → WritesAudit found w status
+    → ((status ≡ 0) × WritesText w clean_line) ⊎ ((status ≡ 1) × WritesFinding w)
+audit_told None w status told = inl told
+audit_told (Some finding) w status told = inr (told.0, (finding, told.1))
 
-pub finding_told : (found : Option Finding) (old new : Option (List ℕ)) (status : ℕ) → WritesAudit found old new status → status ≡ 1 → WritesFinding old new
-finding_told None old new status told is = absurd (omega (arith, told.0, is))
-finding_told (Some finding) old new status told is = (finding, told.1)
+-- an audit is a report of any register
+pub audit_ends : {W : Type 0} (Finds : Option Finding → Type 0) (w : Written W) (result : Result ℕ Fault) → EndsAudit Finds w result
+    → EndsReport Audit w result
+audit_ends Finds w (Ok status) told = audit_told told.0 w status told.2
+audit_ends Finds w (Err why) part = part
 
-pub status_told : (found : Option Finding) (old new : Option (List ℕ)) (status : ℕ) → WritesAudit found old new status → status ≤ 1
-status_told found old new status told = grind (arith, told)
+clean_by : {W : Type 0} (w : Written W) (status : ℕ) → status ≡ 0 → ((status ≡ 0) × WritesText w clean_line) ⊎ ((status ≡ 1) × WritesFinding w)
+    → (status ≡ 0) × WritesText w clean_line
+clean_by w status zero (inl clean) = clean
+clean_by w status zero (inr finding) = absurd (let one = finding.0 in omega (arith, zero, one))
 
-pub nothing_told : (found : Option Finding) (old new : Option (List ℕ)) (status : ℕ) → WritesAudit found old new status → found ≡ None → status ≡ 0
-nothing_told found old new status told is = grind (arith, told, is)
+-- and of one with a history, in whose tables it finds nothing
+pub audit_ends_by : {W : Type 0} (A : History) (Finds : Option Finding → Type 0) (w : Written W) (result : Result ℕ Fault) → EndsAudit Finds w result
+    → IfOk result (λ status. status ≡ 0) → EndsReportBy Audit A w result
+audit_ends_by A Finds w (Ok status) told zero = clean_by w status zero (audit_told told.0 w status told.2)
+audit_ends_by A Finds w (Err why) part zero = part
 
-pub finding_front : (old new : Option (List ℕ)) → WritesFinding old new → WritesAuditPrefix old new
-finding_front old new told = (finding_line told.0, inr (told.0, refl), whole_front old new (finding_line told.0) told.1)
+pub nothing_told : {W : Type 0} (found : Option Finding) (w : Written W) (status : ℕ) → WritesAudit found w status → found ≡ None → status ≡ 0
+nothing_told found w status told is = grind (arith, told, is)

@@ -1,7 +1,7 @@
 -- What the words name, and what is told of it.
 use Rattle.std.proofs.Common.{◌≡◌, ℕ, List, Option, Some, None, refl}
 use Rattle.std.specs.Prelude.{IsSome, option_map}
-use Rattle.kcr_base.specs.declared.counted.Counted.{Counted}
+use Rattle.kcr_desk.specs.Streams.{Streams}
 use Rattle.kcr_print.specs.Written.{WritesPrefix}
 use Rattle.kcr_fault.specs.Faults.{HasCause, IsLineOf, TellsFault}
 use Rattle.kcr_fault.specs.Notes.{IsNoted}
@@ -10,11 +10,11 @@ use Rattle.kcr_words.specs.declared.words.Task.{Task}
 
 -- the lines and the cause of a fault are those of the words that name this task and these files
 pub fault_told : {R W : Type 0} (said : Option Task) (file_said into_said : Option (List ℕ)) (task : Task) (file into : Option (List ℕ))
-    → said ≡ Some task → file_said ≡ file → into_said ≡ into → (why : Fault) (i j : Counted R) (o p : Counted W) (old between new : Option (List ℕ))
+    → said ≡ Some task → file_said ≡ file → into_said ≡ into → (why : Fault) (s : Streams R W) (old between new : Option (List ℕ))
     → IsNoted (Some task) file old between
-    → (line : List ℕ) × IsLineOf (Some task) file into why line × WritesPrefix between new line → HasCause (Some task) file why i j o p
-    → TellsFault said file_said into_said why old new × HasCause said file_said why i j o p
-fault_told said file_said into_said task file into t f n why i j o p old between new noted told cause =
+    → (line : List ℕ) × IsLineOf (Some task) file into why line × WritesPrefix between new line → HasCause (Some task) file s why
+    → TellsFault said file_said into_said why old new × HasCause said file_said s why
+fault_told said file_said into_said task file into t f n why s old between new noted told cause =
     rw (t, f, n) ((between, noted, told), cause)
 
 -- a file that is not unnamed is named

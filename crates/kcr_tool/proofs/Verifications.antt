@@ -1,42 +1,50 @@
 -- What the status of a verification says of its line.
-use Rattle.std.proofs.Common.{◌≡◌, ◌≤◌, ◌⊎◌, inl, inr, ℕ, List, Option, refl, sym, subst, arith}
-use Rattle.kcr_history.specs.History.{History}
-use Rattle.kcr_tool.proofs.Causes.{whole_front}
-use Rattle.kcr_tool.specs.Runs.{CompletesInPart, WritesProblem}
-use Rattle.kcr_words.specs.declared.words.Task.{Task}
-use Rattle.kcr_words.specs.declared.words.Task.TheVariants.{Rebuild}
-use Rattle.kcr_fault.specs.Lines.{difference_line, rebuilt_head, whole_line}
-use Rattle.kcr_print.specs.Written.{WritesPrefix}
-use Rattle.kcr_tool.specs.Verifications.{WritesVerification, WritesVerified, WritesDifference, WritesVerificationPrefix, TellsWholeFront, verified_line}
+use Rattle.std.proofs.Common.{◌≡◌, ◌⊎◌, inl, inr, ℕ, List, Result, Ok, Err, OnErr, refl}
+use Rattle.std.specs.Prelude.{IfOk}
+use Rattle.kcr_desk.specs.Streams.{Written, WritesNothing, WritesPart}
+use Rattle.kcr_fault.specs.Lines.{difference_line, whole_line}
+use Rattle.kcr_fault.specs.declared.fault.Fault.{Fault}
+use Rattle.kcr_tool.specs.Runs.{Finishes, FinishesOrFinds}
+use Rattle.kcr_tool.specs.Verifications.{EndsVerification, WritesVerification, WritesVerified, WritesDifference, WritesVerificationPrefix, TellsWholeFront, verified_line}
 use Rattle.kcr_verify.specs.declared.verification.Verification.{Verification}
 use Rattle.kcr_verify.specs.declared.verification.Verification.TheVariants.{Verified, Differs}
 
-pub whole_told : (head : List ℕ) (told : Verification) (old new : Option (List ℕ)) (status : ℕ) → WritesVerification head told old new status → status ≡ 0
-    → WritesVerified head old new
-whole_told head (Verified count) old new status t is = (count, t.1, t.2)
-whole_told head (Differs difference) old new status t is = absurd (omega (arith, t.0, is))
+module _ {W : Type 0} (head : List ℕ) (w : Written W) where
+  -- no difference, or one
+  verification_told : (told : Verification) (status : ℕ) → WritesVerification head told w status
+      → ((status ≡ 0) × WritesVerified head w) ⊎ ((status ≡ 1) × WritesDifference w)
+  verification_told (Verified count) status t = inl (t.0, (count, t.1, t.2))
+  verification_told (Differs difference) status t = inr (t.0, (difference, t.1))
 
-pub difference_told : (head : List ℕ) (told : Verification) (old new : Option (List ℕ)) (status : ℕ) → WritesVerification head told old new status → status ≡ 1
-    → WritesDifference old new
-difference_told head (Verified count) old new status t is = absurd (omega (arith, t.0, is))
-difference_told head (Differs difference) old new status t is = (difference, t.1)
+  -- what came of it is told with a status
+  pub told_ends : (Comes : Verification → Type 0) (result : Result ℕ Fault) → EndsVerification head Comes w result
+      → FinishesOrFinds (WritesVerified head w) (WritesDifference w) (WritesVerificationPrefix head w) w result
+  told_ends Comes (Ok status) told = verification_told told.0 status told.2
+  told_ends Comes (Err why) part = part
 
-pub status_told : (head : List ℕ) (told : Verification) (old new : Option (List ℕ)) (status : ℕ) → WritesVerification head told old new status → status ≤ 1
-status_told head told old new status t = grind (arith, t)
+  -- what was begun to be told is the beginning of a line
+  verified_front : (told : Verification) → WritesNothing w ⊎ WritesPart w (verified_line head told)
+      → WritesNothing w ⊎ WritesVerificationPrefix head w
+  verified_front told (inl same) = inl same
+  verified_front (Verified count) (inr front) = inr (whole_line head count, inl (count, refl), front)
+  verified_front (Differs difference) (inr front) = inr (difference_line difference, inr (difference, refl), front)
 
--- what was begun to be told is the beginning of a line
-pub verified_front : {X : Type 0} (head : List ℕ) (told : Verification) (old new : Option (List ℕ)) → X ⊎ WritesPrefix old new (verified_line head told)
-    → X ⊎ WritesVerificationPrefix head old new
-verified_front head told old new (inl same) = inl same
-verified_front head (Verified count) old new (inr front) = inr (whole_line head count, inl (count, refl), front)
-verified_front head (Differs difference) old new (inr front) = inr (difference_line difference, inr (difference, refl), front)
+  pub verification_ends : (Comes : Verification → Type 0) (told : Verification) (result : Result ℕ Fault) → Comes told
+      → IfOk result (WritesVerification head told w) → OnErr result (WritesNothing w ⊎ WritesPart w (verified_line head told))
+      → EndsVerification head Comes w result
+  verification_ends Comes told (Ok status) comes whole part = (told, comes, whole)
+  verification_ends Comes told (Err why) comes whole part = verified_front told part
 
--- a number of commands is told as that of a register that is whole
-pub packed_told : (head : List ℕ) (count : ℕ) (old new : Option (List ℕ)) (status : ℕ) → WritesVerification head (Verified count) old new status
-    → (status ≡ 0) × WritesVerified head old new
-packed_told head count old new status t = (t.0, (count, t.1, t.2))
+  -- a number of commands is told as that of a register that is whole
+  pub packed_ends : (count : ℕ) (result : Result ℕ Fault) → IfOk result (WritesVerification head (Verified count) w)
+      → OnErr result (WritesNothing w ⊎ WritesPart w (verified_line head (Verified count)))
+      → Finishes (WritesVerified head w) (TellsWholeFront head w) w result
+  packed_ends count (Ok status) t part = (t.0, (count, t.1, t.2))
+  packed_ends count (Err why) t (inl same) = inl same
+  packed_ends count (Err why) t (inr front) = inr (count, front)
 
-pub packed_front : {X : Type 0} (head : List ℕ) (count : ℕ) (old new : Option (List ℕ)) → X ⊎ WritesPrefix old new (verified_line head (Verified count))
-    → X ⊎ TellsWholeFront head old new
-packed_front head count old new (inl same) = inl same
-packed_front head count old new (inr front) = inr (count, front)
+-- what finds no problem
+pub finishes_ends : {W : Type 0} (Done Problem Part : Type 0) (w : Written W) (result : Result ℕ Fault) → Finishes Done Part w result
+    → FinishesOrFinds Done Problem Part w result
+finishes_ends Done Problem Part w (Ok status) done = inl done
+finishes_ends Done Problem Part w (Err why) part = part

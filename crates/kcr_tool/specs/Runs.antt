@@ -1,109 +1,156 @@
 -- What a task leaves on the output.
-use Rattle.std.specs.Prelude.{◌≡◌, ◌≤◌, ⊤, ℕ, List, length, Option, None, Result, MatchResult, IfErr, IsTrue, OnErr}
-use Rattle.std.specs.Prelude.{OnOk}
-use Rattle.std.specs.Io.KnownBytes.{Appends}
+use Rattle.std.specs.Prelude.{◌≡◌, ◌≤◌, ◌⊎◌, ⊤, ℕ, false, List, [], String, length, Some, None, Result, MatchResult, IfErr}
+use Rattle.std.specs.Prelude.{IsTrue, OnErr, OnOk}
 use Rattle.sqlite.specs.Held.{Held, state}
 use Rattle.sqlite.specs.State.{HasCleanDisk}
 use Rattle.sqlite.specs.Store.{Ghosts}
-use Rattle.kcr_base.specs.Counted.{inner_of}
-use Rattle.kcr_base.specs.declared.counted.Counted.{Counted}
 use Rattle.kcr_history.specs.Ceremonies.{is_ceremony}
 use Rattle.kcr_history.specs.History.{History}
 use Rattle.kcr_history.specs.Prints.{annotated, attendance, custody}
 use Rattle.kcr_store.specs.Register.{RegisterState}
-use Rattle.kcr_desk.specs.Run.{IsServed, IsServedInPart}
+use Rattle.kcr_desk.specs.Run.{Request, IsServed, IsServedInPart}
 use Rattle.kcr_desk.specs.Answers.{RegisterHistory, whole, IsAnswer, IsReply}
 use Rattle.kcr_desk.specs.Connections.{Connects}
+use Rattle.kcr_desk.specs.Streams.{Streams, Written, WritesNothing, WritesPart, WritesText, bytes_after, bytes_before}
+use Rattle.kcr_desk.specs.Streams.{input_of}
+use Rattle.kcr_desk.specs.Texts.{ResponseValue}
 use Rattle.kcr_forms.specs.Values.{AreValues}
 use Rattle.kcr_journal.specs.Journal.{journal}
 use Rattle.kcr_print.specs.Requests.{requests_between}
-use Rattle.kcr_print.specs.Written.{WritesPrefix}
 use Rattle.kcr_fault.specs.Faults.{MayMeet, MeetsOver, StopsReport}
 use Rattle.kcr_fault.specs.Lines.{clean_line, listening_line, verified_head, rebuilt_head, packed_head, whole_line}
 use Rattle.kcr_tool.specs.Audits.{WritesFinding, WritesAuditPrefix}
 use Rattle.kcr_tool.specs.Verifications.{WritesVerified, TellsWholeFront, WritesDifference, WritesVerificationPrefix}
 use Rattle.kcr_fault.specs.declared.fault.Fault.{Fault}
+use Rattle.kcr_words.specs.Tasks.{said, task_of}
+use Rattle.kcr_words.specs.declared.words.Report.{Report}
+use Rattle.kcr_words.specs.declared.words.Report.TheVariants.{Print, Attendance, Custody, Export, Journal, Audit}
 use Rattle.kcr_words.specs.declared.words.Task.{Task}
-use Rattle.kcr_words.specs.declared.words.Task.TheVariants.{Run, Serve, Print, Attendance, Custody, Export}
-use Rattle.kcr_words.specs.declared.words.Task.TheVariants.{Journal, Audit, Verify, Rebuild, Pack}
+use Rattle.kcr_words.specs.declared.words.Task.TheVariants.{Run, Serve, Write, Verify, Rebuild, Pack}
 
--- all of the input was answered: what was written is the answers of a run of the machine from this history
-abbrev pub AnswersAll : History → Option (List ℕ) → Option (List ℕ) → Option (List ℕ) → Type 0
-AnswersAll A input old new = (after : RegisterHistory) × (count : ℕ) × IsServed IsAnswer input old new (whole A) after count
+-- a register of whose history nothing is known, and that nothing has broken
+abbrev pub IsUnknown : {S : Type 0} → RegisterState S → Type 0
+IsUnknown register = (register.is_genuine ≡ false) × (register.accepted ≡ []) × (register.in_doubt ≡ None)
 
--- a prefix of it was answered: what was written begins those answers
-abbrev pub AnswersInPart : History → Option (List ℕ) → Option (List ℕ) → Option (List ℕ) → Type 0
-AnswersInPart A input old new = (after : RegisterHistory) × IsServedInPart IsAnswer input old new (whole A) after
+-- all of the input was answered by such steps: from a register that was like this before
+abbrev pub ServesAll : {R W : Type 0} → (RegisterHistory → Request → ResponseValue → RegisterHistory → Type 0)
+    → RegisterHistory → Streams R W → Type 0
+ServesAll step before s =
+    (after : RegisterHistory) × (count : ℕ)
+    × IsServed step (input_of s) (bytes_before s.output) (bytes_after s.output) before after count
 
--- a task over a register with this history went well: a run has answered all of its input, a report is written whole,
--- and so are the requests of the commands that are exported and the lines of the journal, an audit found nothing, a
--- verification no difference, of as many commands as the history has, nor did a rebuild, and a register was packed into
--- one file
-abbrev pub Completes : Task → History → Option (List ℕ) → Option (List ℕ) → Option (List ℕ) → Type 0
-Completes Run A input old new = AnswersAll A input old new
-Completes (Serve port connections idle) A input old new = Appends old new (listening_line port)
-Completes (Print ceremony) A input old new = IsTrue (is_ceremony A ceremony) × Appends old new (annotated A ceremony)
-Completes (Attendance ceremony) A input old new = IsTrue (is_ceremony A ceremony) × Appends old new (attendance A ceremony)
-Completes Custody A input old new = Appends old new (custody A)
-Completes (Export after until) A input old new = AreValues A → Appends old new (requests_between after until A)
-Completes (Journal ceremony) A input old new = AreValues A → Appends old new (journal ceremony A)
-Completes Audit A input old new = Appends old new clean_line
-Completes Verify A input old new = Appends old new (whole_line verified_head (length A))
-Completes Rebuild A input old new = WritesVerified rebuilt_head old new
-Completes Pack A input old new = WritesVerified packed_head old new
+-- a prefix of it was: what was written begins those answers
+abbrev pub ServesPart : {R W : Type 0} → (RegisterHistory → Request → ResponseValue → RegisterHistory → Type 0)
+    → RegisterHistory → Streams R W → Type 0
+ServesPart step before s =
+    (after : RegisterHistory)
+    × IsServedInPart step (input_of s) (bytes_before s.output) (bytes_after s.output) before after
+
+-- a report of a register with this history is written whole: so are the requests of the commands that are exported and
+-- the lines of the journal, and an audit found nothing
+abbrev pub WritesReport : {W : Type 0} → Report → History → Written W → Type 0
+WritesReport (Print ceremony) A w = IsTrue (is_ceremony A ceremony) × WritesText w (annotated A ceremony)
+WritesReport (Attendance ceremony) A w = IsTrue (is_ceremony A ceremony) × WritesText w (attendance A ceremony)
+WritesReport Custody A w = WritesText w (custody A)
+WritesReport (Export after until) A w = AreValues A → WritesText w (requests_between after until A)
+WritesReport (Journal ceremony) A w = AreValues A → WritesText w (journal ceremony A)
+WritesReport Audit A w = WritesText w clean_line
 
 -- it stopped before its end: what was written is a prefix of that
-abbrev pub CompletesInPart : Task → History → Option (List ℕ) → Option (List ℕ) → Option (List ℕ) → Type 0
-CompletesInPart Run A input old new = AnswersInPart A input old new
-CompletesInPart (Serve port connections idle) A input old new = WritesPrefix old new (listening_line port)
-CompletesInPart (Print ceremony) A input old new = WritesPrefix old new (annotated A ceremony)
-CompletesInPart (Attendance ceremony) A input old new = WritesPrefix old new (attendance A ceremony)
-CompletesInPart Custody A input old new = WritesPrefix old new (custody A)
-CompletesInPart (Export after until) A input old new = AreValues A → WritesPrefix old new (requests_between after until A)
-CompletesInPart (Journal ceremony) A input old new = AreValues A → WritesPrefix old new (journal ceremony A)
-CompletesInPart Audit A input old new = WritesAuditPrefix old new
-CompletesInPart Verify A input old new = WritesPrefix old new (whole_line verified_head (length A))
-CompletesInPart Rebuild A input old new = WritesVerificationPrefix rebuilt_head old new
-CompletesInPart Pack A input old new = TellsWholeFront packed_head old new
+abbrev pub WritesReportPart : {W : Type 0} → Report → History → Written W → Type 0
+WritesReportPart (Print ceremony) A w = WritesPart w (annotated A ceremony)
+WritesReportPart (Attendance ceremony) A w = WritesPart w (attendance A ceremony)
+WritesReportPart Custody A w = WritesPart w (custody A)
+WritesReportPart (Export after until) A w = AreValues A → WritesPart w (requests_between after until A)
+WritesReportPart (Journal ceremony) A w = AreValues A → WritesPart w (journal ceremony A)
+WritesReportPart Audit A w = WritesAuditPrefix w
+
+-- a task over a register with this history went well: the messages of a stream got the answers of a run of the machine,
+-- a report is written whole, a verification found no difference, of as many commands as the history has, nor did a
+-- rebuild, and a register was packed into one file
+abbrev pub Completes : {R W : Type 0} → Task → History → Streams R W → Type 0
+Completes Run A s = ServesAll IsAnswer (whole A) s
+Completes (Serve port connections idle) A s = WritesText s.output (listening_line port)
+Completes (Write report) A s = WritesReport report A s.output
+Completes Verify A s = WritesText s.output (whole_line verified_head (length A))
+Completes Rebuild A s = WritesVerified rebuilt_head s.output
+Completes Pack A s = WritesVerified packed_head s.output
+
+-- it stopped before its end
+abbrev pub CompletesInPart : {R W : Type 0} → Task → History → Streams R W → Type 0
+CompletesInPart Run A s = ServesPart IsAnswer (whole A) s
+CompletesInPart (Serve port connections idle) A s = WritesPart s.output (listening_line port)
+CompletesInPart (Write report) A s = WritesReportPart report A s.output
+CompletesInPart Verify A s = WritesPart s.output (whole_line verified_head (length A))
+CompletesInPart Rebuild A s = WritesVerificationPrefix rebuilt_head s.output
+CompletesInPart Pack A s = TellsWholeFront packed_head s.output
+
+-- the exit status is 0 and this was done; or a fault stopped it, after a part of this or before anything was written
+abbrev pub Finishes : {W : Type 0} → Type 0 → Type 0 → Written W → Result ℕ Fault → Type 0
+Finishes Done Part w result = MatchResult result (λ status. (status ≡ 0) × Done) (λ _. WritesNothing w ⊎ Part)
+
+-- how a task ends over a register with this history, in which nothing is wrong
+abbrev pub EndsTaskBy : {R W : Type 0} → Task → History → Streams R W → Result ℕ Fault → Type 0
+EndsTaskBy task A s result = Finishes (Completes task A s) (CompletesInPart task A s) s.output result
+
+abbrev pub EndsReportBy : {W : Type 0} → Report → History → Written W → Result ℕ Fault → Type 0
+EndsReportBy report A w result = Finishes (WritesReport report A w) (WritesReportPart report A w) w result
 
 -- WHATEVER THE DATABASE HELD
 
--- each message of the input got a reply, in their order, by a register that was like this before
-abbrev pub RepliesToAll : RegisterHistory → Option (List ℕ) → Option (List ℕ) → Option (List ℕ) → Type 0
-RepliesToAll before input old new = (after : RegisterHistory) × (count : ℕ) × IsServed IsReply input old new before after count
+-- a report of a register of whose history nothing is known: an audit found nothing, and of any other nothing is said
+abbrev pub WritesUnknown : {W : Type 0} → Report → Written W → Type 0
+WritesUnknown Audit w = WritesText w clean_line
+WritesUnknown report w = Unit {0}
 
--- a prefix of its messages got one, the last of them a beginning of one
-abbrev pub RepliesInPart : RegisterHistory → Option (List ℕ) → Option (List ℕ) → Option (List ℕ) → Type 0
-RepliesInPart before input old new = (after : RegisterHistory) × IsServedInPart IsReply input old new before after
+abbrev pub WritesUnknownPart : {W : Type 0} → Report → Written W → Type 0
+WritesUnknownPart Audit w = WritesAuditPrefix w
+WritesUnknownPart report w = Unit {0}
 
--- a task went well over a register of whose history nothing is known: each message got a reply, by a register that
--- nothing had broken before, and the lines of a port, of an audit, of a verification, of a rebuild and of a pack are written. Of a
--- report nothing is said
-abbrev pub CompletesUnknown : Task → Option (List ℕ) → Option (List ℕ) → Option (List ℕ) → Type 0
-CompletesUnknown Run input old new = (A : History) × RepliesToAll (whole A) input old new
-CompletesUnknown (Serve port connections idle) input old new = Appends old new (listening_line port)
-CompletesUnknown Audit input old new = Appends old new clean_line
-CompletesUnknown Verify input old new = WritesVerified verified_head old new
-CompletesUnknown Rebuild input old new = WritesVerified rebuilt_head old new
-CompletesUnknown Pack input old new = WritesVerified packed_head old new
-CompletesUnknown report input old new = Unit {0}
+-- a task went well over such a register: each message got a reply, in their order, by a register that nothing had
+-- broken before, and the lines of a port, of an audit, of a verification, of a rebuild and of a pack are written
+abbrev pub CompletesUnknown : {R W : Type 0} → Task → Streams R W → Type 0
+CompletesUnknown Run s = (A : History) × ServesAll IsReply (whole A) s
+CompletesUnknown (Serve port connections idle) s = WritesText s.output (listening_line port)
+CompletesUnknown (Write report) s = WritesUnknown report s.output
+CompletesUnknown Verify s = WritesVerified verified_head s.output
+CompletesUnknown Rebuild s = WritesVerified rebuilt_head s.output
+CompletesUnknown Pack s = WritesVerified packed_head s.output
 
 -- it stopped before its end
-abbrev pub CompletesUnknownInPart : Task → Option (List ℕ) → Option (List ℕ) → Option (List ℕ) → Type 0
-CompletesUnknownInPart Run input old new = (A : History) × RepliesInPart (whole A) input old new
-CompletesUnknownInPart (Serve port connections idle) input old new = WritesPrefix old new (listening_line port)
-CompletesUnknownInPart Audit input old new = WritesAuditPrefix old new
-CompletesUnknownInPart Verify input old new = WritesVerificationPrefix verified_head old new
-CompletesUnknownInPart Rebuild input old new = WritesVerificationPrefix rebuilt_head old new
-CompletesUnknownInPart Pack input old new = TellsWholeFront packed_head old new
-CompletesUnknownInPart report input old new = Unit {0}
+abbrev pub CompletesUnknownInPart : {R W : Type 0} → Task → Streams R W → Type 0
+CompletesUnknownInPart Run s = (A : History) × ServesPart IsReply (whole A) s
+CompletesUnknownInPart (Serve port connections idle) s = WritesPart s.output (listening_line port)
+CompletesUnknownInPart (Write report) s = WritesUnknownPart report s.output
+CompletesUnknownInPart Verify s = WritesVerificationPrefix verified_head s.output
+CompletesUnknownInPart Rebuild s = WritesVerificationPrefix rebuilt_head s.output
+CompletesUnknownInPart Pack s = TellsWholeFront packed_head s.output
 
 -- a task found something wrong, and told it whole
-abbrev pub WritesProblem : Task → Option (List ℕ) → Option (List ℕ) → Type 0
-WritesProblem Audit old new = WritesFinding old new
-WritesProblem Verify old new = WritesDifference old new
-WritesProblem Rebuild old new = WritesDifference old new
-WritesProblem other old new = ⊥
+abbrev pub WritesProblem : {W : Type 0} → Task → Written W → Type 0
+WritesProblem (Write Audit) w = WritesFinding w
+WritesProblem Verify w = WritesDifference w
+WritesProblem Rebuild w = WritesDifference w
+WritesProblem other w = ⊥
+
+-- the exit status is 0 and this was done, or it is 1 after a problem; or a fault stopped it, after a part of this or
+-- before anything was written
+abbrev pub FinishesOrFinds : {W : Type 0} → Type 0 → Type 0 → Type 0 → Written W → Result ℕ Fault → Type 0
+FinishesOrFinds Done Problem Part w result =
+    MatchResult result (λ status. ((status ≡ 0) × Done) ⊎ ((status ≡ 1) × Problem)) (λ _. WritesNothing w ⊎ Part)
+
+-- how a task ends over any register
+abbrev pub EndsTask : {R W : Type 0} → Task → Streams R W → Result ℕ Fault → Type 0
+EndsTask task s result =
+    FinishesOrFinds (CompletesUnknown task s) (WritesProblem task s.output) (CompletesUnknownInPart task s) s.output result
+
+abbrev pub EndsReport : {W : Type 0} → Report → Written W → Result ℕ Fault → Type 0
+EndsReport report w result =
+    FinishesOrFinds (WritesUnknown report w) (WritesProblem (Write report) w) (WritesUnknownPart report w) w result
+
+-- the words hold a task of which this is so
+abbrev pub OfTask : {Z : Type 0} → List (String Z) → (Task → Type 0) → Type 0
+OfTask words Says = (task : Task) × (task_of (said words) ≡ Some task) × Says task
 
 -- WHOSE HISTORY
 
@@ -113,14 +160,12 @@ OfHistory {S} g register Says =
     ((conn : Held S) → HasCleanDisk (state g conn)) → IsTrue register.is_genuine → register.in_doubt ≡ None
     → Says register.accepted
 
--- a task that reports: of a register with a history it is done, or in part if a fault stopped it
-pub record Reports {S W : Type 0} (g : Ghosts S) (contents : W → Option (List ℕ)) (task : Task) (register : RegisterState S)
-    (old new : Counted W) (result : Result ⊤ Fault) : Type 0 where
-  pub done : OfHistory g register
-      (λ A. OnOk result (Completes task A None (contents (inner_of old)) (contents (inner_of new))))
-  pub part : OfHistory g register
-      (λ A. OnErr result (CompletesInPart task A None (contents (inner_of old)) (contents (inner_of new))))
-  pub cause : IfErr result (StopsReport (MeetsOver register (MayMeet task)) old new)
+-- a report: of a register with a history it is done, or in part if a fault stopped it
+pub record Reports {S W : Type 0} (g : Ghosts S) (report : Report) (register : RegisterState S) (w : Written W)
+    (result : Result ⊤ Fault) : Type 0 where
+  pub done : OfHistory g register (λ A. OnOk result (WritesReport report A w))
+  pub part : OfHistory g register (λ A. OnErr result (WritesReportPart report A w))
+  pub cause : IfErr result (StopsReport (MeetsOver register (MayMeet (Write report))) w)
 
 -- CONNECTIONS
 

@@ -1,13 +1,12 @@
 //! The audit of a register, as lines.
-ghost use Rattle.std.specs.Prelude.{◌≡◌, ◌≤◌, ◌⊎◌, Option, None, IfOk, IfErr, OnErr, string_bytes};
+ghost use Rattle.std.specs.Prelude.{◌≡◌, ◌⊎◌, None, IfOk, IfErr, OnErr, string_bytes};
 ghost use Rattle.sqlite.specs.Held.{Held, state};
 ghost use Rattle.sqlite.specs.State.{HasCleanDisk};
-ghost use Rattle.kcr_base.specs.Counted.{inner_of};
+ghost use Rattle.kcr_desk.specs.Streams.{WritesNothing, written};
 ghost use Rattle.kcr_history.specs.Tables.{Tables};
-ghost use Rattle.kcr_history.specs.declared.views.Finding.{Finding as Found};
 ghost use Rattle.kcr_store.specs.FullView.{FindsIn};
 ghost use Rattle.kcr_tables.specs.MachineTables.{HoldsTables};
-ghost use Rattle.kcr_tool.specs.Audits.{WritesAudit, WritesAuditPrefix};
+ghost use Rattle.kcr_tool.specs.Audits.{EndsAudit, WritesAudit, WritesAuditPrefix};
 ghost use Rattle.kcr_tables.specs.Refusals.{IsFault};
 ghost use Rattle.kcr_fault.specs.Faults.{MeetsOver, StopsReport};
 ghost use Rattle.kcr_fault.specs.Lines.{clean_line, finding_line, found_line};
@@ -52,11 +51,10 @@ fn write_audit<W: Write>(
     found: &Option<Finding>,
     output: &mut Counted<W>,
 ) -> Result<u8, Fault>
-    ensures told { IfOk result
-        (WritesAudit found.now (W.contents (inner_of output.old)) (W.contents (inner_of output.new))) }
-    ensures part { OnErr result ((output.new ≡ output.old)
-        ⊎ WritesAuditPrefix (W.contents (inner_of output.old)) (W.contents (inner_of output.new))) }
-    ensures cause { IfErr result (StopsReport IsFault output.old output.new) }
+    ensures told { IfOk result (WritesAudit found.now (written W.contents output.old output.new)) }
+    ensures part { OnErr result (WritesNothing (written W.contents output.old output.new)
+        ⊎ WritesAuditPrefix (written W.contents output.old output.new)) }
+    ensures cause { IfErr result (StopsReport IsFault (written W.contents output.old output.new)) }
 {
     match found {
         None => match write_whole(output, b"audit: nothing found\n") {
@@ -78,27 +76,22 @@ fn write_audit<W: Write>(
 /// Audits all rows of a register: a line with the first finding of the first kind that has one, or that there is
 /// none, and the exit status, 1 after a finding. Out of memory is refused (33), as is an I/O error (34) and a
 /// broken register (35), and nothing is written then.
-#[tactic(auto, using(crate::proofs::Audits::status_told, crate::proofs::Audits::nothing_told))]
+#[tactic(auto, using(crate::proofs::Audits::nothing_told))]
 pub fn audit<S: Alter, W: Write>(
     alloc: Global,
     register: &mut Register<S>,
     output: &mut Counted<W>,
 ) -> Result<u8, Fault>
-    ensures status { IfOk result (λ status. status ≤ 1) }
-
     // What is told is what an audit of the tables that the database holds finds, whoever wrote them.
-    ensures told { IfOk result (λ status. (found : Option Found)
-        × WritesAudit found (W.contents (inner_of output.old)) (W.contents (inner_of output.new)) status) }
+    ensures ends { EndsAudit (λ _. Unit {0}) (written W.contents output.old output.new) result }
     ensures found { ((conn : Held S) → HasCleanDisk (state S.Store conn)) → register.old.in_doubt ≡ None
         → (m : Tables) → HoldsTables m (state S.Store register.old.conn).now
-        → IfOk result (λ status. (found : Option Found) × FindsIn m found
-        × WritesAudit found (W.contents (inner_of output.old)) (W.contents (inner_of output.new)) status) }
+        → EndsAudit (FindsIn m) (written W.contents output.old output.new) result }
 
     // In the tables of a history it finds nothing.
     ensures nothing { OfHistory S.Store register.old (λ A. IfOk result (λ status. status ≡ 0)) }
-    ensures part { OnErr result ((output.new ≡ output.old)
-        ⊎ WritesAuditPrefix (W.contents (inner_of output.old)) (W.contents (inner_of output.new))) }
-    ensures cause { IfErr result (StopsReport (MeetsOver register.old IsFault) output.old output.new) }
+    ensures cause { IfErr result (StopsReport (MeetsOver register.old IsFault)
+        (written W.contents output.old output.new)) }
 {
     match register.audit() {
         Ok(found) => write_audit(alloc, &found, output),

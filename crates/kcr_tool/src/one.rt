@@ -2,9 +2,10 @@
 ghost use Rattle.std.specs.Prelude.{◌≡◌, ◌+◌, ◌≤◌, ◌↔◌, IsSome, IsTrue, None, Result, IfSome, codes};
 ghost use Rattle.sqlite.specs.Held.{state};
 ghost use Rattle.sqlite.specs.State.{HasCleanDisk};
-ghost use Rattle.kcr_base.specs.Counted.{inner_of, nonempty_reads_of};
+ghost use Rattle.kcr_base.specs.Counted.{nonempty_reads_of};
 ghost use Rattle.kcr_desk.specs.Answers.{IsAnswer, IsReply, history_of};
 ghost use Rattle.kcr_desk.specs.Connections.{Connects, Ends};
+ghost use Rattle.kcr_desk.specs.Streams.{streams};
 ghost use Rattle.kcr_desk.specs.declared.fault.DeskFault.{DeskFault as HowNot};
 ghost use Rattle.kcr_desk.specs.declared.stream.Served.{Served as HowMany};
 ghost use Rattle.kcr_print.specs.Written.{WritesPrefix};
@@ -37,12 +38,12 @@ pub fn one<R: Read, W: Write, S: Alter, F: Write>(
 
     // The bytes written are the answers of the messages of the input, or a prefix of them after a fault.
     ensures answered { IsTrue register.old.is_genuine → HasCleanDisk (state S.Store register.new.conn)
-        → (stream : Result HowMany HowNot) × Ends IsAnswer (R.remaining (inner_of reader.old))
-        (W.contents (inner_of writer.old)) (W.contents (inner_of writer.new)) (history_of register.old)
-        (history_of register.new) stream }
-    ensures replied { (stream : Result HowMany HowNot) × Ends IsReply (R.remaining (inner_of reader.old))
-        (W.contents (inner_of writer.old)) (W.contents (inner_of writer.new)) (history_of register.old)
-        (history_of register.new) stream }
+        → (stream : Result HowMany HowNot)
+        × Ends IsAnswer (streams R.remaining W.contents reader.old reader.new writer.old writer.new)
+        (history_of register.old) (history_of register.new) stream }
+    ensures replied { (stream : Result HowMany HowNot)
+        × Ends IsReply (streams R.remaining W.contents reader.old reader.new writer.old writer.new)
+        (history_of register.old) (history_of register.new) stream }
     ensures bound { nonempty_reads_of reader.new ≤ nonempty_reads_of reader.old + 1000000 }
     ensures connects { Connects S.Store register.old register.new 1 }
 {

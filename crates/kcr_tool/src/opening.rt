@@ -1,9 +1,10 @@
 //! The register in a file: opened to be written, or read into memory.
-ghost use Rattle.std.specs.Prelude.{◌≡◌, [], false, None, IsTrue, IfOk, IfErr, IfSome};
+ghost use Rattle.std.specs.Prelude.{◌≡◌, false, IsTrue, IfOk, IfErr, IfSome};
 ghost use Rattle.sqlite_std_file.specs.File.{file_is_usable};
 ghost use Rattle.kcr_copy.specs.Unread.{IsCause};
 ghost use Rattle.kcr_fault.specs.Faults.{StopsOpening};
 ghost use Rattle.kcr_fault.specs.Notes.{IsUnfilled};
+ghost use Rattle.kcr_tool.specs.Runs.{IsUnknown};
 
 use kcr_base::Refusal;
 use kcr_copy::{Unread, connect, copy_of};
@@ -95,7 +96,7 @@ pub fn files_at<S: Start>(
 /// Takes the register of a database, of whose history no clause knows anything.
 pub fn take<S: Alter + Drop>(alloc: Global, connection: Connection<S>) -> Result<Register<S>, Fault>
     requires autocommit { connection.in_transaction ≡ false }
-    ensures unknown { IfOk result (λ r. (r.is_genuine ≡ false) × (r.accepted ≡ []) × (r.in_doubt ≡ None)) }
+    ensures unknown { IfOk result IsUnknown }
     ensures cause { IfErr result StopsOpening }
 {
     match Register::adopt(alloc, connection) {
@@ -108,7 +109,7 @@ pub fn take<S: Alter + Drop>(alloc: Global, connection: Connection<S>) -> Result
 /// what is refused is refused before a byte is written, and before a log is created. No clause knows what the file
 /// contained, so nothing is promised of its history.
 pub fn open_file(rt: &HostRuntime, path: &str) -> Result<FileRegister, Fault>
-    ensures unknown { IfOk result (λ r. (r.is_genuine ≡ false) × (r.accepted ≡ []) × (r.in_doubt ≡ None)) }
+    ensures unknown { IfOk result IsUnknown }
     ensures cause { IfErr result StopsOpening }
 {
     let (copy, _) = connect_to_copy(rt, path)?;
@@ -181,7 +182,7 @@ fn missing_of(is_there: bool, count: u32) -> Option<Missing>
 /// as they are: a register of an older version is migrated in memory only. No clause knows what a file contains, so
 /// nothing is promised of its history.
 pub fn open_copy(rt: &HostRuntime, path: &str) -> Result<(CopyRegister, Option<Missing>), Fault>
-    ensures unknown { IfOk result (λ o. (o.0.is_genuine ≡ false) × (o.0.accepted ≡ []) × (o.0.in_doubt ≡ None)) }
+    ensures unknown { IfOk result (λ o. IsUnknown o.0) }
     ensures missing { IfOk result (λ o. IfSome o.1 IsUnfilled) }
     ensures cause { IfErr result StopsOpening }
 {

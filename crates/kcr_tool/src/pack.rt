@@ -1,7 +1,8 @@
 //! A register's file and its log, packed into one file.
-ghost use Rattle.std.specs.Prelude.{◌≡◌, ◌⊎◌, IfOk, IfErr, OnErr};
-ghost use Rattle.kcr_base.specs.Counted.{inner_of};
+ghost use Rattle.std.specs.Prelude.{IfErr};
+ghost use Rattle.kcr_desk.specs.Streams.{written};
 ghost use Rattle.kcr_fault.specs.Faults.{StopsMaking, StopsOpening, StopsReading, StopsRebuild};
+ghost use Rattle.kcr_tool.specs.Runs.{Finishes};
 ghost use Rattle.kcr_fault.specs.Lines.{packed_head};
 ghost use Rattle.kcr_tool.specs.Verifications.{WritesVerified, TellsWholeFront};
 
@@ -116,12 +117,10 @@ pub fn pack<W: Write>(
     path: &str,
     output: &mut Counted<W>,
 ) -> Result<u8, Fault>
-    ensures status { IfOk result (λ status. status ≡ 0) }
-    ensures told { IfOk result (λ _. WritesVerified packed_head
-        (W.contents (inner_of output.old)) (W.contents (inner_of output.new))) }
-    ensures part { OnErr result ((output.new ≡ output.old)
-        ⊎ TellsWholeFront packed_head (W.contents (inner_of output.old)) (W.contents (inner_of output.new))) }
-    ensures cause { IfErr result (StopsRebuild output.old output.new) }
+    ensures ends { Finishes (WritesVerified packed_head (written W.contents output.old output.new))
+        (TellsWholeFront packed_head (written W.contents output.old output.new))
+        (written W.contents output.old output.new) result }
+    ensures cause { IfErr result (StopsRebuild (written W.contents output.old output.new)) }
 {
     make(rt, path, Unknown, packed.files.db.bytes())?;
     let whole = Verification::Verified(packed.count as usize);

@@ -1,9 +1,9 @@
 //! The tasks over a register that end by themselves.
-ghost use Rattle.std.specs.Prelude.{IfErr, OnOk, OnErr};
-ghost use Rattle.kcr_base.specs.Counted.{inner_of};
-ghost use Rattle.kcr_desk.specs.Answers.{history_of};
-ghost use Rattle.kcr_fault.specs.Faults.{StopsStream};
-ghost use Rattle.kcr_tool.specs.Runs.{AnswersAll, AnswersInPart, RepliesToAll, RepliesInPart, Reports, OfHistory};
+ghost use Rattle.std.specs.Prelude.{◌≡◌, None, IfErr};
+ghost use Rattle.kcr_desk.specs.Streams.{streams, written};
+ghost use Rattle.kcr_fault.specs.Faults.{StopsTask};
+ghost use Rattle.kcr_tool.specs.Runs.{EndsTask, EndsTaskBy, OfHistory, Reports};
+ghost use Rattle.kcr_words.specs.declared.words.Report.TheVariants as report;
 ghost use Rattle.kcr_words.specs.declared.words.Task.TheVariants as task;
 
 use kcr_base::{CeremonyNumber, Counted};
@@ -15,25 +15,22 @@ use sqlite::Alter;
 use std::alloc::Global;
 use std::io::{Read, Write};
 
-/// Answers the stream of requests by a register.
+/// Answers the stream of requests by a register that was just opened, and returns the exit status, 0.
 pub fn run<S: Alter, R: Read, W: Write>(
     alloc: Global,
     register: &mut Register<S>,
     input: &mut Counted<R>,
     output: &mut Counted<W>,
-) -> Result<(), Fault>
-    ensures done { OfHistory S.Store register.old (λ A. OnOk result (AnswersAll A
-        (R.remaining (inner_of input.old)) (W.contents (inner_of output.old)) (W.contents (inner_of output.new)))) }
-    ensures part { OfHistory S.Store register.old (λ A. OnErr result (AnswersInPart A
-        (R.remaining (inner_of input.old)) (W.contents (inner_of output.old)) (W.contents (inner_of output.new)))) }
-    ensures answered { OnOk result (RepliesToAll (history_of register.old)
-        (R.remaining (inner_of input.old)) (W.contents (inner_of output.old)) (W.contents (inner_of output.new))) }
-    ensures answered_in_part { OnErr result (RepliesInPart (history_of register.old)
-        (R.remaining (inner_of input.old)) (W.contents (inner_of output.old)) (W.contents (inner_of output.new))) }
-    ensures cause { IfErr result (StopsStream input.old input.new output.old output.new) }
+) -> Result<u8, Fault>
+    requires { register.old.in_doubt ≡ None }
+    ensures ends { EndsTask task.Run (streams R.remaining W.contents input.old input.new output.old output.new) result }
+    ensures own { OfHistory S.Store register.old (λ A. EndsTaskBy task.Run A
+        (streams R.remaining W.contents input.old input.new output.old output.new) result) }
+    ensures cause { IfErr result (StopsTask task.Run
+        (streams R.remaining W.contents input.old input.new output.old output.new)) }
 {
     match serve(alloc, input, output, register) {
-        Ok(_) => Ok(()),
+        Ok(_) => Ok(0),
         Err(fault) => Err(Fault::Stream(fault)),
     }
 }
@@ -45,7 +42,7 @@ pub fn print<S: Alter, W: Write>(
     ceremony: CeremonyNumber,
     output: &mut Counted<W>,
 ) -> Result<(), Fault>
-    ensures { Reports S.Store W.contents (task.Print ceremony) register.old output.old output.new result }
+    ensures { Reports S.Store (report.Print ceremony) register.old (written W.contents output.old output.new) result }
 {
     match annotated(alloc, register, ceremony, output) {
         Ok(()) => Ok(()),
@@ -60,7 +57,8 @@ pub fn attendance<S: Alter, W: Write>(
     ceremony: CeremonyNumber,
     output: &mut Counted<W>,
 ) -> Result<(), Fault>
-    ensures { Reports S.Store W.contents (task.Attendance ceremony) register.old output.old output.new result }
+    ensures { Reports S.Store (report.Attendance ceremony) register.old
+        (written W.contents output.old output.new) result }
 {
     match attendance_csv(alloc, register, ceremony, output) {
         Ok(()) => Ok(()),
@@ -74,7 +72,7 @@ pub fn custody_report<S: Alter, W: Write>(
     register: &mut Register<S>,
     output: &mut Counted<W>,
 ) -> Result<(), Fault>
-    ensures { Reports S.Store W.contents task.Custody register.old output.old output.new result }
+    ensures { Reports S.Store report.Custody register.old (written W.contents output.old output.new) result }
 {
     match custody(alloc, register, output) {
         Ok(()) => Ok(()),
@@ -90,7 +88,8 @@ pub fn export<S: Alter, W: Write>(
     until: u32,
     output: &mut Counted<W>,
 ) -> Result<(), Fault>
-    ensures { Reports S.Store W.contents (task.Export after until) register.old output.old output.new result }
+    ensures { Reports S.Store (report.Export after until) register.old
+        (written W.contents output.old output.new) result }
 {
     match kcr_print::export(alloc, register, after, until, output) {
         Ok(()) => Ok(()),
@@ -105,7 +104,7 @@ pub fn journal<S: Alter, W: Write>(
     ceremony: Option<CeremonyNumber>,
     output: &mut Counted<W>,
 ) -> Result<(), Fault>
-    ensures { Reports S.Store W.contents (task.Journal ceremony) register.old output.old output.new result }
+    ensures { Reports S.Store (report.Journal ceremony) register.old (written W.contents output.old output.new) result }
 {
     match kcr_print::journal(alloc, register, ceremony, output) {
         Ok(()) => Ok(()),

@@ -1,24 +1,20 @@
 //! The verification of a register and its rebuilding, as lines.
-ghost use Rattle.std.specs.Prelude.{◌≡◌, ◌<◌, ◌≤◌, ◌⊎◌, [], true, None, length, IfOk, IfErr, OnErr, string_bytes};
+ghost use Rattle.std.specs.Prelude.{◌≡◌, ◌⊎◌, length, IfOk, IfErr, OnErr, string_bytes};
+ghost use Rattle.sqlite.specs.Files.{over_files};
 ghost use Rattle.sqlite.specs.Held.{state};
 ghost use Rattle.sqlite.specs.State.{HasCleanDisk};
-ghost use Rattle.std.specs.Io.KnownBytes.{Appends};
-ghost use Rattle.kcr_base.specs.Counted.{failures_of, inner_of};
 ghost use Rattle.kcr_copy.specs.Image.{image};
+ghost use Rattle.kcr_desk.specs.Streams.{HasFailed, WritesNothing, WritesPart, WritesText, written};
 ghost use Rattle.kcr_history.specs.History.{History};
 ghost use Rattle.kcr_history.specs.Machine.{IsOfMachine};
 ghost use Rattle.kcr_history.specs.Tables.{tables};
-ghost use Rattle.kcr_print.specs.Written.{WritesPrefix};
-ghost use Rattle.sqlite.specs.Files.{over_files};
-ghost use Rattle.kcr_store.specs.Register.{IsConsistent};
 ghost use Rattle.kcr_store.specs.FullView.{IsListed};
 ghost use Rattle.kcr_store.specs.Opening.{FilesHoldHistory};
 ghost use Rattle.kcr_fault.specs.Faults.{StopsMaking, StopsReading, StopsReplay, StopsRebuild};
-ghost use Rattle.kcr_fault.specs.Lines.{difference_line, found_line, rebuilt_head, verified_head, whole_line};
-ghost use Rattle.kcr_tool.specs.Verifications.{WritesVerification, WritesVerificationPrefix, verified_line};
+ghost use Rattle.kcr_fault.specs.Lines.{difference_line, rebuilt_head, verified_head, whole_line};
+ghost use Rattle.kcr_tool.specs.Verifications.{EndsVerification, WritesVerification, verified_line};
 ghost use Rattle.kcr_forms.specs.Values.{AreValues};
-ghost use Rattle.kcr_verify.specs.Verification.{IsIntact, IsVerification};
-ghost use Rattle.kcr_verify.specs.declared.verification.Verification.{Verification as Told};
+ghost use Rattle.kcr_verify.specs.Verification.{IsFresh, IsVerification};
 
 use crate::opening::{connect_to, fault_of_reading, fault_of_taking};
 use itoa::Buffer;
@@ -76,13 +72,11 @@ fn line_of_verified(
 }
 
 /// Writes a line, and answers this status.
-fn written<W: Write>(output: &mut Counted<W>, line: &str, status: u8) -> Result<u8, Fault>
-    ensures told { IfOk result (λ s. (s ≡ status)
-        × Appends (W.contents (inner_of output.old)) (W.contents (inner_of output.new)) line.now) }
-    ensures part { OnErr result (WritesPrefix (W.contents (inner_of output.old))
-        (W.contents (inner_of output.new)) line.now) }
+fn write_status<W: Write>(output: &mut Counted<W>, line: &str, status: u8) -> Result<u8, Fault>
+    ensures told { IfOk result (λ s. (s ≡ status) × WritesText (written W.contents output.old output.new) line.now) }
+    ensures part { OnErr result (WritesPart (written W.contents output.old output.new) line.now) }
     ensures cause { IfErr result (λ why. (why ≡ Fault.Unwritten)
-        × (failures_of output.old < failures_of output.new)) }
+        × HasFailed (written W.contents output.old output.new)) }
 {
     match write_whole(output, line.as_bytes()) {
         Ok(()) => Ok(status),
@@ -99,10 +93,10 @@ pub fn write_verification<W: Write>(
     output: &mut Counted<W>,
 ) -> Result<u8, Fault>
     ensures told { IfOk result
-        (WritesVerification head.now verified.now (W.contents (inner_of output.old)) (W.contents (inner_of output.new))) }
-    ensures part { OnErr result ((output.new ≡ output.old) ⊎ WritesPrefix (W.contents (inner_of output.old))
-        (W.contents (inner_of output.new)) (verified_line head.now verified.now)) }
-    ensures cause { IfErr result (StopsReplay output.old output.new) }
+        (WritesVerification head.now verified.now (written W.contents output.old output.new)) }
+    ensures part { OnErr result (WritesNothing (written W.contents output.old output.new)
+        ⊎ WritesPart (written W.contents output.old output.new) (verified_line head.now verified.now)) }
+    ensures cause { IfErr result (StopsReplay (written W.contents output.old output.new)) }
 {
     let Ok(line) = line_of_verified(alloc, head, verified) else {
         return Err(Fault::Refused(Refusal::Memory));
@@ -112,9 +106,9 @@ pub fn write_verification<W: Write>(
             if *count == 0 {
                 return Err(Fault::Nothing(Missing::Empty));
             }
-            written(output, line.as_str(), 0)
+            write_status(output, line.as_str(), 0)
         }
-        Verification::Differs(_) => written(output, line.as_str(), 1),
+        Verification::Differs(_) => write_status(output, line.as_str(), 1),
     }
 }
 
@@ -160,29 +154,20 @@ pub fn rows_named(rt: &HostRuntime, path: &str) -> Result<FullView, Fault>
 /// differs from what its commands lead to, and the exit status, 1 if something differs. Out of memory is refused
 /// (33), which the store in memory may tell as an I/O error (34), and nothing is written then, nor if the
 /// register is sound and has no command.
-#[tactic(auto, using(crate::proofs::Verifications::status_told))]
 pub fn verify<W: Write>(alloc: Global, rows: FullView, output: &mut Counted<W>) -> Result<u8, Fault>
-    ensures status { IfOk result (λ status. status ≤ 1) }
-    ensures told { IfOk result (λ status. (told : Told)
-        × WritesVerification verified_head told (W.contents (inner_of output.old))
-        (W.contents (inner_of output.new)) status) }
-
     // What is told of the rows is so, whoever wrote them.
-    ensures found { IfOk result (λ status. (told : Told) × ((A : History) × IsVerification rows A told)
-        × WritesVerification verified_head told (W.contents (inner_of output.old))
-        (W.contents (inner_of output.new)) status) }
+    ensures ends { EndsVerification verified_head (λ told. (A : History) × IsVerification rows A told)
+        (written W.contents output.old output.new) result }
 
     // In the tables of a history that the machine leads to nothing differs, and the line has the number of its
     // commands.
     ensures own { (A : History) → IsOfMachine A → AreValues A → IsListed (tables A) rows
-        → IfOk result (λ status. WritesVerification verified_head (Verification.Verified (length A))
-        (W.contents (inner_of output.old)) (W.contents (inner_of output.new)) status) }
+        → IfOk result (WritesVerification verified_head (Verification.Verified (length A))
+        (written W.contents output.old output.new)) }
     ensures own_in_part { (A : History) → IsOfMachine A → AreValues A → IsListed (tables A) rows
-        → OnErr result ((output.new ≡ output.old) ⊎ WritesPrefix (W.contents (inner_of output.old))
-        (W.contents (inner_of output.new)) (whole_line verified_head (length A))) }
-    ensures part { OnErr result ((output.new ≡ output.old)
-        ⊎ WritesVerificationPrefix verified_head (W.contents (inner_of output.old)) (W.contents (inner_of output.new))) }
-    ensures cause { IfErr result (StopsReplay output.old output.new) }
+        → OnErr result (WritesNothing (written W.contents output.old output.new)
+        ⊎ WritesPart (written W.contents output.old output.new) (whole_line verified_head (length A))) }
+    ensures cause { IfErr result (StopsReplay (written W.contents output.old output.new)) }
 {
     match kcr_verify::verify(alloc, rows) {
         Ok(verified) => write_verification(alloc, "verified: ", &verified, output),
@@ -192,34 +177,26 @@ pub fn verify<W: Write>(alloc: Global, rows: FullView, output: &mut Counted<W>) 
 
 /// Gives the commands among these rows of a register to a new one, and writes the line of what it came to. The errors
 /// are those of `rebuild`.
-#[tactic(auto, using(crate::proofs::Verifications::status_told))]
 fn rebuild_in<S: Alter, W: Write>(
     alloc: Global,
     rows: FullView,
     fresh: &mut Register<S>,
     output: &mut Counted<W>,
 ) -> Result<u8, Fault>
-    requires intact { IsIntact S.Store fresh.old }
-    requires empty { fresh.old.accepted ≡ [] }
-    ensures status { IfOk result (λ status. status ≤ 1) }
-    ensures told { IfOk result (λ status. (told : Told)
-        × WritesVerification rebuilt_head told (W.contents (inner_of output.old))
-        (W.contents (inner_of output.new)) status) }
+    requires { IsFresh S.Store fresh.old }
+    ensures ends { EndsVerification rebuilt_head (λ _. Unit {0}) (written W.contents output.old output.new) result }
 
     // What is told of the rows is so, whoever wrote them.
-    ensures found { HasCleanDisk (state S.Store fresh.new.conn)
-        → IfOk result (λ status. (told : Told) × IsVerification rows fresh.new.accepted told
-        × WritesVerification rebuilt_head told (W.contents (inner_of output.old))
-        (W.contents (inner_of output.new)) status) }
+    ensures found { HasCleanDisk (state S.Store fresh.new.conn) → EndsVerification rebuilt_head
+        (IsVerification rows fresh.new.accepted) (written W.contents output.old output.new) result }
 
     // In the tables of a history that the machine leads to nothing differs, and the line has the number of its
     // commands.
     ensures own { HasCleanDisk (state S.Store fresh.new.conn) → (A : History) → IsOfMachine A → AreValues A
-        → IsListed (tables A) rows → IfOk result (λ status. WritesVerification rebuilt_head (Verification.Verified (length A))
-        (W.contents (inner_of output.old)) (W.contents (inner_of output.new)) status) }
-    ensures part { OnErr result ((output.new ≡ output.old)
-        ⊎ WritesVerificationPrefix rebuilt_head (W.contents (inner_of output.old)) (W.contents (inner_of output.new))) }
-    ensures cause { IfErr result (StopsReplay output.old output.new) }
+        → IsListed (tables A) rows
+        → IfOk result (WritesVerification rebuilt_head (Verification.Verified (length A))
+        (written W.contents output.old output.new)) }
+    ensures cause { IfErr result (StopsReplay (written W.contents output.old output.new)) }
 {
     match kcr_verify::rebuild(alloc, rows, fresh) {
         Ok(verified) => write_verification(alloc, "rebuilt: ", &verified, output),
@@ -242,8 +219,7 @@ fn refuse_filled(rt: &HostRuntime, path: &str) -> Result<(), Fault>
 
 /// Makes a new register in the file at the path, which is missing or empty.
 fn fresh_in(rt: &HostRuntime, path: &str) -> Result<FileRegister, Fault>
-    ensures new { IfOk result (λ r. (r.is_genuine ≡ true) × (r.accepted ≡ []) × (r.in_doubt ≡ None)) }
-    ensures kept { IfOk result (IsConsistent over_files) }
+    ensures new { IfOk result (IsFresh over_files) }
     ensures cause { IfErr result StopsMaking }
 {
     refuse_filled(rt, path)?;
@@ -265,20 +241,15 @@ fn fresh_in(rt: &HostRuntime, path: &str) -> Result<FileRegister, Fault>
 /// the commands before the one that differs, that one too if its reply does, and all of them if a table does. Out
 /// of memory is refused (33), as is a fault of the new register's device (34); it then keeps what it was given. In all
 /// these cases, and if no new register can be made, nothing is written; of no command none is made.
-#[tactic(auto, using(crate::proofs::Verifications::status_told, crate::proofs::Causes::making_stops, crate::proofs::Causes::replay_stops))]
+#[tactic(auto, using(crate::proofs::Causes::making_stops, crate::proofs::Causes::replay_stops))]
 pub fn rebuild<W: Write>(
     rt: &HostRuntime,
     rows: FullView,
     path: &str,
     output: &mut Counted<W>,
 ) -> Result<u8, Fault>
-    ensures status { IfOk result (λ status. status ≤ 1) }
-    ensures told { IfOk result (λ status. (told : Told)
-        × WritesVerification rebuilt_head told (W.contents (inner_of output.old))
-        (W.contents (inner_of output.new)) status) }
-    ensures part { OnErr result ((output.new ≡ output.old)
-        ⊎ WritesVerificationPrefix rebuilt_head (W.contents (inner_of output.old)) (W.contents (inner_of output.new))) }
-    ensures cause { IfErr result (StopsRebuild output.old output.new) }
+    ensures ends { EndsVerification rebuilt_head (λ _. Unit {0}) (written W.contents output.old output.new) result }
+    ensures cause { IfErr result (StopsRebuild (written W.contents output.old output.new)) }
 {
     if rows.keys.is_empty() {
         return Err(Fault::Nothing(Missing::Empty));

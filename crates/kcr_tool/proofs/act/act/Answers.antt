@@ -1,4 +1,5 @@
-use Rattle.std.proofs.Common.{◌≡◌, rules, inl, inr, refl, sym, ◌∙◌, arith, None}
+use Rattle.std.proofs.Common.{inl, inr, refl, sym, ◌∙◌, arith}
+use Rattle.kcr_desk.specs.Streams.{streams}
 use Rattle.kcr_fault.specs.declared.fault.Fault.TheVariants.{Words}
 use Rattle.kcr_tool.proofs.Causes.{none_mapped}
 use Rattle.kcr_tool.proofs.Told.{fault_told, is_named}
@@ -10,26 +11,61 @@ returns-in-Err-Memory-clause-cause g c one =
 
 pub returns-in-Err-clause-cause : goal.returns-in-Err-clause-cause
 returns-in-Err-clause-cause g c one =
+    let s = streams g.R.Read.remaining g.W.Write.contents c.args.input.now c.run_invocation.new.input c.args.output.now c.run_invocation.new.output in
     let told =
-    fault_told _ _ _ c.in-Ok.order.task _ _ c.in-Ok.ensures.task c.in-Ok.ensures.file c.in-Ok.ensures.into c.in-Err.fault _ _ _ _ _ _ _
+    fault_told _ _ _ c.in-Ok.order.task _ _ c.in-Ok.ensures.task c.in-Ok.ensures.file c.in-Ok.ensures.into c.in-Err.fault s _ _ _
     c.in-Err.ensures.noted c.write_fault.ensures c.in-Err.ensures.cause in
     inr (c.in-Err.fault, told.0, told.1)
 
 pub returns-in-Err-clause-part : goal.returns-in-Err-clause-part
 returns-in-Err-clause-part g c one none =
     let unnamed = none_mapped _ c.in-Ok.order.file (sym c.in-Ok.ensures.file ∙ none) in
-    elim (c.in-Err.ensures.part unnamed) [
+    elim (c.in-Err.ensures.own unnamed) [
       | inl same ↦ inl same
       | inr begun ↦ inr (c.in-Ok.order.task, c.in-Ok.ensures.task, begun)
     ]
 
-pub returns-in-Ok-run_invocation-clause-cause : goal.returns-in-Ok-run_invocation-clause-cause
-returns-in-Ok-run_invocation-clause-cause g c one =
-    inl (
-      c.in-Ok.order.task,
-      c.in-Ok.ensures.task,
-      is_named _ c.in-Ok.order.file _ c.in-Ok.ensures.file
-          (λ none. let zero : c.in-Ok-run_invocation.status ≡ 0 = c.in-Ok-run_invocation.ensures.nothing none in omega (arith, zero, one)),
-      c.in-Ok-run_invocation.ensures.finding one,
-      rw c.in-Ok.ensures.file c.in-Ok-run_invocation.ensures.noted,
-    )
+pub returns-in-Err-clause-answered_in_part : goal.returns-in-Err-clause-answered_in_part
+returns-in-Err-clause-answered_in_part g c one =
+    elim c.in-Err.ensures.ends [
+      | inl same ↦ inr (inl same)
+      | inr begun ↦ inr (inr (c.in-Ok.order.task, c.in-Ok.ensures.task, begun))
+    ]
+
+pub returns-in-Ok-run_invocation : goal.returns-in-Ok-run_invocation
+returns-in-Ok-run_invocation g c =
+    let task = c.in-Ok.order.task in
+    let asks = c.in-Ok.ensures.task in
+    let noted = rw (asks, c.in-Ok.ensures.file) c.in-Ok-run_invocation.ensures.noted in
+    elim c.in-Ok-run_invocation.ensures.ends [
+      | inl done ↦ (
+          let zero = done.0 in
+          record {
+            status = omega (arith, zero);
+            done = λ _ none.
+                let unnamed = none_mapped _ c.in-Ok.order.file (sym c.in-Ok.ensures.file ∙ none) in
+                (task, asks, (c.in-Ok-run_invocation.ensures.own unnamed).1);
+            answered = λ _. (task, asks, done.1);
+            noted = λ _. noted;
+            cause = λ one. absurd (omega (arith, zero, one));
+            part = λ one none. absurd (omega (arith, zero, one));
+            answered_in_part = λ one. absurd (omega (arith, zero, one));
+            refused = λ two. absurd (omega (arith, zero, two));
+          })
+      | inr problem ↦ (
+          let one = problem.0 in
+          let named = is_named _ c.in-Ok.order.file _ c.in-Ok.ensures.file
+          (λ none. let own = c.in-Ok-run_invocation.ensures.own none in let zero = own.0 in omega (arith, zero, one)) in
+          record {
+            status = omega (arith, one);
+            done = λ zero none. absurd (omega (arith, zero, one));
+            answered = λ zero. absurd (omega (arith, zero, one));
+            noted = λ zero. absurd (omega (arith, zero, one));
+            cause = λ _. inl (named, (task, asks, problem.1), noted);
+            part = λ _ none.
+                let own = c.in-Ok-run_invocation.ensures.own (none_mapped _ c.in-Ok.order.file (sym c.in-Ok.ensures.file ∙ none)) in
+                let zero = own.0 in absurd (omega (arith, zero, one));
+            answered_in_part = λ _. inl (task, asks, problem.1);
+            refused = λ two. absurd (omega (arith, one, two));
+          })
+    ]

@@ -1,44 +1,46 @@
-use Rattle.std.proofs.Common.{Option, subst}
-use Rattle.kcr_history.specs.History.{History}
-use Rattle.kcr_base.specs.Counted.{inner_of}
-use Rattle.kcr_desk.specs.Answers.{IsAnswer, history_of}
-use Rattle.kcr_desk.specs.Run.{IsServed, IsServedInPart}
-use Rattle.kcr_tool.proofs.Causes.{stream_cause}
+use Rattle.std.proofs.Common.{inl, inr, refl}
+use Rattle.kcr_desk.specs.Answers.{RegisterHistory, IsAnswer, IsReply, history_of}
+use Rattle.kcr_desk.specs.Streams.{streams}
+use Rattle.kcr_tool.proofs.Causes.{from_whole}
+use Rattle.kcr_tool.specs.Runs.{ServesAll, ServesPart}
 use Rattle.kcr_tool.proofs.tasks.run.Goals as goal
 
-pub returns-in-Ok-clause-done : goal.returns-in-Ok-clause-done
-returns-in-Ok-clause-done g c certain founded whole =
+pub returns-in-Ok-clause-ends : goal.returns-in-Ok-clause-ends
+returns-in-Ok-clause-ends g c =
+    let s = streams g.R.Read.remaining g.W.Write.contents c.args.input.now c.serve.new.reader c.args.output.now c.serve.new.writer in
     let register = c.args.register.now in
-    let input = g.R.Read.remaining (inner_of c.args.input.now) in
-    let old = g.W.Write.contents (inner_of c.args.output.now) in
-    let new = g.W.Write.contents (inner_of c.serve.new.writer) in
-    let after = history_of c.serve.new.register in
-    let count = c.in-Ok.field-0.requests in (
-      after,
-      count,
-      subst (λ (left : Option History). IsServed IsAnswer input old new (record { accepted = register.accepted; in_doubt = left }) after count) whole
-          (c.in-Ok.ensures.served founded (certain c.serve.new.register.conn)),
+    inl (
+      refl,
+      (
+        register.accepted,
+        from_whole (λ (before : RegisterHistory). ServesAll IsReply before s) register c.requires
+            (history_of c.serve.new.register, c.in-Ok.field-0.requests, c.in-Ok.ensures.replied),
+      ),
     )
 
-pub returns-in-Err-clause-part : goal.returns-in-Err-clause-part
-returns-in-Err-clause-part g c certain founded whole =
+pub returns-in-Err-clause-ends : goal.returns-in-Err-clause-ends
+returns-in-Err-clause-ends g c =
+    let s = streams g.R.Read.remaining g.W.Write.contents c.args.input.now c.serve.new.reader c.args.output.now c.serve.new.writer in
     let register = c.args.register.now in
-    let input = g.R.Read.remaining (inner_of c.args.input.now) in
-    let old = g.W.Write.contents (inner_of c.args.output.now) in
-    let new = g.W.Write.contents (inner_of c.serve.new.writer) in
-    let after = history_of c.serve.new.register in (
-      after,
-      subst (λ (left : Option History). IsServedInPart IsAnswer input old new (record { accepted = register.accepted; in_doubt = left }) after) whole
-          (c.in-Err.ensures.broken founded (certain c.serve.new.register.conn)),
+    inr (
+      register.accepted,
+      from_whole (λ (before : RegisterHistory). ServesPart IsReply before s) register c.requires
+          (history_of c.serve.new.register, c.in-Err.ensures.replied),
     )
+
+pub returns-in-Ok-clause-own : goal.returns-in-Ok-clause-own
+returns-in-Ok-clause-own g c certain founded whole =
+    let s = streams g.R.Read.remaining g.W.Write.contents c.args.input.now c.serve.new.reader c.args.output.now c.serve.new.writer in (
+      refl,
+      from_whole (λ (before : RegisterHistory). ServesAll IsAnswer before s) c.args.register.now whole
+          (history_of c.serve.new.register, c.in-Ok.field-0.requests, c.in-Ok.ensures.answered founded (certain c.serve.new.register.conn)),
+    )
+
+pub returns-in-Err-clause-own : goal.returns-in-Err-clause-own
+returns-in-Err-clause-own g c certain founded whole =
+    let s = streams g.R.Read.remaining g.W.Write.contents c.args.input.now c.serve.new.reader c.args.output.now c.serve.new.writer in
+    inr (from_whole (λ (before : RegisterHistory). ServesPart IsAnswer before s) c.args.register.now whole
+    (history_of c.serve.new.register, c.in-Err.ensures.answered founded (certain c.serve.new.register.conn)))
 
 pub returns-in-Err-clause-cause : goal.returns-in-Err-clause-cause
-returns-in-Err-clause-cause g c = stream_cause c.in-Err.fault _ _ _ _ c.in-Err.ensures.read_fault c.in-Err.ensures.write_fault
-
-pub returns-in-Ok-clause-answered : goal.returns-in-Ok-clause-answered
-returns-in-Ok-clause-answered g c =
-    (history_of c.serve.new.register, c.in-Ok.field-0.requests, c.in-Ok.ensures.answered)
-
-pub returns-in-Err-clause-answered_in_part : goal.returns-in-Err-clause-answered_in_part
-returns-in-Err-clause-answered_in_part g c =
-    (history_of c.serve.new.register, c.in-Err.ensures.answered_in_part)
+returns-in-Err-clause-cause g c = (refl, c.in-Err.ensures.cause)

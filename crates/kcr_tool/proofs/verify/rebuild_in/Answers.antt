@@ -1,22 +1,23 @@
-use Rattle.std.proofs.lemmas.Result.{IfOk-weaker, on_err_weaker}
-use Rattle.kcr_tool.proofs.Verifications.{verified_front}
+use Rattle.kcr_desk.specs.Streams.{written}
+use Rattle.kcr_tool.proofs.Verifications.{verification_ends}
 use Rattle.kcr_fault.specs.Lines.{rebuilt_head}
+use Rattle.kcr_verify.specs.Verification.{IsVerification}
 use Rattle.kcr_tool.proofs.verify.rebuild_in.Goals as goal
 
-pub returns-in-Ok-clause-told : goal.returns-in-Ok-clause-told
-returns-in-Ok-clause-told g c =
-    IfOk-weaker c.write_verification.result _ _ (λ status said. (c.in-Ok.verified, said)) c.write_verification.ensures.told
+pub returns-in-Ok-clause-ends : goal.returns-in-Ok-clause-ends
+returns-in-Ok-clause-ends g c =
+    let w = written g.W.Write.contents c.args.output.now c.write_verification.new.output in
+    verification_ends rebuilt_head w (λ _. Unit {0}) c.in-Ok.verified c.write_verification.result tt
+    c.write_verification.ensures.told c.write_verification.ensures.part
 
 pub returns-in-Ok-clause-found : goal.returns-in-Ok-clause-found
 returns-in-Ok-clause-found g c clean =
-    IfOk-weaker c.write_verification.result _ _ (λ status said. (c.in-Ok.verified, c.in-Ok.ensures.told clean, said)) c.write_verification.ensures.told
+    let w = written g.W.Write.contents c.args.output.now c.write_verification.new.output in
+    verification_ends rebuilt_head w (IsVerification c.args.rows c.rebuild.new.fresh.accepted) c.in-Ok.verified c.write_verification.result
+    (c.in-Ok.ensures.told clean) c.write_verification.ensures.told c.write_verification.ensures.part
 
 pub returns-in-Ok-clause-own : goal.returns-in-Ok-clause-own
 returns-in-Ok-clause-own g c clean A is values listed =
     let own = c.in-Ok.ensures.own clean A is values listed in
     let whole = own.0 in
     rw whole at c.write_verification.ensures.told
-
-pub returns-in-Ok-clause-part : goal.returns-in-Ok-clause-part
-returns-in-Ok-clause-part g c =
-    on_err_weaker c.write_verification.result (verified_front rebuilt_head c.in-Ok.verified _ _) c.write_verification.ensures.part

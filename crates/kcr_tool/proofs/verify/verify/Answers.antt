@@ -1,15 +1,16 @@
-use Rattle.std.proofs.lemmas.Result.{IfOk-weaker, on_err_weaker}
-use Rattle.kcr_tool.proofs.Verifications.{verified_front}
+use Rattle.kcr_desk.specs.Streams.{written}
+use Rattle.kcr_history.specs.History.{History}
+use Rattle.kcr_tool.proofs.Verifications.{verification_ends}
 use Rattle.kcr_fault.specs.Lines.{verified_head}
+use Rattle.kcr_verify.specs.Verification.{IsVerification}
+use Rattle.kcr_verify.specs.declared.verification.Verification.{Verification}
 use Rattle.kcr_tool.proofs.verify.verify.Goals as goal
 
-pub returns-in-Ok-clause-told : goal.returns-in-Ok-clause-told
-returns-in-Ok-clause-told g c =
-    IfOk-weaker c.write_verification.result _ _ (λ status said. (c.in-Ok.verified, said)) c.write_verification.ensures.told
-
-pub returns-in-Ok-clause-found : goal.returns-in-Ok-clause-found
-returns-in-Ok-clause-found g c =
-    IfOk-weaker c.write_verification.result _ _ (λ status said. (c.in-Ok.verified, c.in-Ok.ensures.told, said)) c.write_verification.ensures.told
+pub returns-in-Ok-clause-ends : goal.returns-in-Ok-clause-ends
+returns-in-Ok-clause-ends g c =
+    let w = written g.W.Write.contents c.args.output.now c.write_verification.new.output in
+    verification_ends verified_head w (λ (told : Verification). (A : History) × IsVerification c.args.rows A told) c.in-Ok.verified
+    c.write_verification.result c.in-Ok.ensures.told c.write_verification.ensures.told c.write_verification.ensures.part
 
 pub returns-in-Ok-clause-own : goal.returns-in-Ok-clause-own
 returns-in-Ok-clause-own g c A is values listed =
@@ -20,7 +21,3 @@ pub returns-in-Ok-clause-own_in_part : goal.returns-in-Ok-clause-own_in_part
 returns-in-Ok-clause-own_in_part g c A is values listed =
     let whole = c.in-Ok.ensures.own A is values listed in
     rw whole at c.write_verification.ensures.part
-
-pub returns-in-Ok-clause-part : goal.returns-in-Ok-clause-part
-returns-in-Ok-clause-part g c =
-    on_err_weaker c.write_verification.result (verified_front verified_head c.in-Ok.verified _ _) c.write_verification.ensures.part
