@@ -4,7 +4,7 @@ ghost use Rattle.std.specs.Prelude.{length, vec_len, OnOk, IfOk};
 ghost use Rattle.std.specs.Io.KnownBytes.{IsAtEnd};
 ghost use Rattle.kcr_base.specs.Counted.{inner_of};
 ghost use Rattle.kcr_desk.specs.Output.{Enqueues};
-ghost use Rattle.kcr_desk.specs.Streams.{streams, written};
+ghost use Rattle.kcr_desk.specs.Streams.{streams, writing};
 ghost use Rattle.kcr_desk.specs.declared.input_buffer.TheConstants.{MAX_READS};
 
 use crate::fault::DeskFault;
@@ -93,7 +93,7 @@ impl InputBuffer {
             × ((bytes : List ℕ) × (unread self.new ≡ unread self.old ++ bytes) × (length bytes ≤ 4096))) }
         ensures ended { IfOk result (λ more. more ≡ false → (self.new.reads ≡ self.old.reads)
             × (unread self.new ≡ unread self.old) × IsAtEnd (R.remaining (inner_of reader.new))) }
-        ensures gathered { Enqueues result (written W.contents writer.old writer.new) queue.old.items queue.new.items }
+        ensures gathered { Enqueues result (writing W.contents writer.old writer.new) queue.old.items queue.new.items }
     {
         flush(writer, queue)?;
         if self.reads == MAX_READS {
@@ -124,7 +124,7 @@ impl InputBuffer {
         ensures takes { TakesIn (streams R.remaining W.contents reader.old reader.new writer.old writer.new)
             self.old self.new result }
         ensures found { IfOk result (IsNextHead (R.remaining (inner_of reader.new)) (unread self.new)) }
-        ensures gathered { Enqueues result (written W.contents writer.old writer.new) queue.old.items queue.new.items }
+        ensures gathered { Enqueues result (writing W.contents writer.old writer.new) queue.old.items queue.new.items }
     {
         'head: loop {
             match parse_head(self.unread()) {
@@ -159,7 +159,7 @@ impl InputBuffer {
         ensures enough { IfOk result (λ enough. enough ≡ true → end ≤ length (unread self.new)) }
         ensures ended { IfOk result (λ enough. enough ≡ false → (length (unread self.new) < end)
             × IsAtEnd (R.remaining (inner_of reader.new))) }
-        ensures gathered { Enqueues result (written W.contents writer.old writer.new) queue.old.items queue.new.items }
+        ensures gathered { Enqueues result (writing W.contents writer.old writer.new) queue.old.items queue.new.items }
     {
         'body: while self.unread().len() < end {
             if !self.fill(reader, writer, queue)? {

@@ -2,7 +2,7 @@
 ghost use Rattle.std.specs.Prelude.{◌≡◌, ◌≤◌, ◌+◌, ◌++◌, [], OnOk};
 ghost use Rattle.arrayvec.specs.ArrayVec.{array_vec_len};
 ghost use Rattle.kcr_desk.specs.Output.{Puts, Queues};
-ghost use Rattle.kcr_desk.specs.Streams.{written};
+ghost use Rattle.kcr_desk.specs.Streams.{writing};
 
 use crate::fault::DeskFault;
 use crate::output_buffer::{OUTPUT_BUFFER_SIZE, OutputBuffer, add};
@@ -11,7 +11,7 @@ use std::io::Write;
 
 /// Writes the whole piece. After a fault a prefix of it was written.
 fn put<W: Write>(writer: &mut Counted<W>, piece: &[u8]) -> Result<(), DeskFault>
-    ensures { Puts (written W.contents writer.old writer.new) piece.now result }
+    ensures { Puts (writing W.contents writer.old writer.new) piece.now result }
 {
     kcr_print::write_whole(writer, piece)?;
     Ok(())
@@ -22,7 +22,7 @@ pub(crate) fn flush<W: Write>(
     writer: &mut Counted<W>,
     queue: &mut OutputBuffer,
 ) -> Result<(), DeskFault>
-    ensures written { Puts (written W.contents writer.old writer.new) queue.old.items result }
+    ensures written { Puts (writing W.contents writer.old writer.new) queue.old.items result }
     ensures sent { OnOk result (queue.new.items ≡ []) }
 {
     put(writer, queue.as_slice())?;
@@ -37,7 +37,7 @@ pub(crate) fn reserve<W: Write>(
     length: usize,
 ) -> Result<(), DeskFault>
     requires { length ≤ OUTPUT_BUFFER_SIZE }
-    ensures queued { Queues (written W.contents writer.old writer.new) queue.old.items queue.new.items result }
+    ensures queued { Queues (writing W.contents writer.old writer.new) queue.old.items queue.new.items result }
     ensures room { OnOk result (array_vec_len queue.new + length ≤ OUTPUT_BUFFER_SIZE) }
 {
     if length > OUTPUT_BUFFER_SIZE - queue.len() {
@@ -53,7 +53,7 @@ pub(crate) fn enqueue<W: Write>(
     queue: &mut OutputBuffer,
     piece: &[u8],
 ) -> Result<(), DeskFault>
-    ensures { Queues (written W.contents writer.old writer.new) (queue.old.items ++ piece.now) queue.new.items result }
+    ensures { Queues (writing W.contents writer.old writer.new) (queue.old.items ++ piece.now) queue.new.items result }
 {
     if piece.len() > OUTPUT_BUFFER_SIZE {
         flush(writer, queue)?;

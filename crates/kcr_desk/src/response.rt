@@ -7,7 +7,7 @@ ghost use Rattle.kcr_desk.specs.Texts.{phrase_of, kind_text, line, field, allow_
 ghost use Rattle.kcr_desk.specs.Texts.{shown_text, answer, plain_text, continue_text, fault_response};
 ghost use Rattle.kcr_desk.specs.Responses.{response_value};
 ghost use Rattle.kcr_desk.specs.Output.{Queues};
-ghost use Rattle.kcr_desk.specs.Streams.{written};
+ghost use Rattle.kcr_desk.specs.Streams.{writing};
 ghost use Rattle.kcr_desk.specs.declared.response.MediaType.TheVariants.{Json};
 
 use crate::fault::DeskFault;
@@ -193,7 +193,7 @@ fn enqueue_parts<W: Write>(
     head_only: bool,
     closes: bool,
 ) -> Result<(), DeskFault>
-    ensures { Queues (written W.contents writer.old writer.new)
+    ensures { Queues (writing W.contents writer.old writer.new)
         (queue.old.items ++ answer head_only closes (record { heading = heading; body = body.now })) queue.new.items result }
 {
     reserve(writer, queue, MAX_RESPONSE_HEAD)?;
@@ -209,7 +209,7 @@ pub(crate) fn enqueue_response<W: Write>(
     head_only: bool,
     closes: bool,
 ) -> Result<(), DeskFault>
-    ensures { Queues (written W.contents writer.old writer.new)
+    ensures { Queues (writing W.contents writer.old writer.new)
         (queue.old.items ++ answer head_only closes (response_value reply.now)) queue.new.items result }
 {
     let body = match &reply.body {
@@ -227,7 +227,7 @@ pub(crate) fn enqueue_refusal<W: Write>(
     refusal: Refusal,
     head_only: bool,
 ) -> Result<(), DeskFault>
-    ensures { Queues (written W.contents writer.old writer.new)
+    ensures { Queues (writing W.contents writer.old writer.new)
         (queue.old.items ++ answer head_only true (fault_response refusal)) queue.new.items result }
 {
     let heading = refusal_heading(&refusal, None);
@@ -252,7 +252,7 @@ pub(crate) fn enqueue_continue<W: Write>(
     queue: &mut OutputBuffer,
     plan: Framing,
 ) -> Result<(), DeskFault>
-    ensures { Queues (written W.contents writer.old writer.new)
+    ensures { Queues (writing W.contents writer.old writer.new)
         (queue.old.items ++ continue_text plan) queue.new.items result }
 {
     enqueue(writer, queue, continue_lines(plan))

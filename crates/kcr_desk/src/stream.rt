@@ -10,7 +10,7 @@ ghost use Rattle.kcr_desk.specs.NextItem.{EndsItem, request_of_buffer};
 ghost use Rattle.kcr_desk.specs.Output.{Queues};
 ghost use Rattle.kcr_desk.specs.Run.{Exchange, Begins, messages_of, exchange_text, output};
 ghost use Rattle.kcr_desk.specs.Stream.{Message, Ending, AreMessages};
-ghost use Rattle.kcr_desk.specs.Streams.{WritesPart, WritesText, streams, written};
+ghost use Rattle.kcr_desk.specs.Streams.{WritesPart, WritesText, streams, writing};
 ghost use Rattle.kcr_desk.specs.Texts.{ResponseValue, answer};
 
 use crate::fault::DeskFault;
@@ -102,7 +102,7 @@ fn answer_front<W: Write, G: Responder>(
     requires { IsReady (unread intake.now) spans plan }
     ensures answered { (reply : ResponseValue)
         × G.step responder.old (request_of_buffer (unread intake.now) spans plan) reply responder.new
-        × Queues (written W.contents writer.old writer.new) (queue.old.items
+        × Queues (writing W.contents writer.old writer.new) (queue.old.items
         ++ answer (is_head (request_of_buffer (unread intake.now) spans plan).method) plan.closes reply)
         queue.new.items result }
 {
@@ -124,8 +124,8 @@ fn finish<W: Write>(
     requests: u64,
 ) -> Result<Served, DeskFault>
     ensures ended { MatchResult result
-        (λ served. (served.requests ≡ requests) × WritesText (written W.contents writer.old writer.new) queue.old.items)
-        (λ _. WritesPart (written W.contents writer.old writer.new) queue.old.items) }
+        (λ served. (served.requests ≡ requests) × WritesText (writing W.contents writer.old writer.new) queue.old.items)
+        (λ _. WritesPart (writing W.contents writer.old writer.new) queue.old.items) }
     ensures fault { OnErr result ((result ≡ Err DeskFault.Write) × (failures_of writer.old < failures_of writer.new)) }
 {
     flush(writer, queue)?;

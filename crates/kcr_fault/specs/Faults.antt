@@ -4,7 +4,7 @@ use Rattle.std.specs.Prelude.{◌≡◌, ◌≢◌, ◌⊎◌, ℕ, List, ◌++�
 use Rattle.kcr_base.specs.Refusal.{number_of, word_of, thing_text}
 use Rattle.kcr_base.specs.declared.refusal.Refusal.{Refusal}
 use Rattle.kcr_base.specs.declared.refusal.Refusal.TheVariants as refusal
-use Rattle.kcr_desk.specs.Streams.{Streams, Written, BreaksStream, HasFailed, IsUntouched, WritesNothing}
+use Rattle.kcr_desk.specs.Streams.{Streams, Writing, BreaksStream, HasFailed, IsUntouched, WritesNothing}
 use Rattle.kcr_desk.specs.declared.fault.DeskFault.TheVariants as stream
 use Rattle.kcr_print.specs.declared.fault.PrintFault.{PrintFault}
 use Rattle.kcr_print.specs.declared.fault.PrintFault.TheVariants as print
@@ -152,7 +152,7 @@ StopsStream s other = ⊥
 
 -- why a report, an audit or a line was not written whole: a refusal that may be met, or a failed write, which the
 -- writer's count tells
-abbrev pub StopsReport : {W : Type 0} → (Refusal → Type 0) → Written W → Fault → Type 0
+abbrev pub StopsReport : {W : Type 0} → (Refusal → Type 0) → Writing W → Fault → Type 0
 StopsReport May w (Refused met) = May met
 StopsReport May w Unwritten = HasFailed w
 StopsReport May w other = ⊥
@@ -172,7 +172,7 @@ StopsReading other = StopsOpening other
 
 -- why a replay stopped: as a report does, or there was nothing to replay or no new register could be made, and then
 -- nothing was written
-abbrev pub StopsReplay : {W : Type 0} → Written W → Fault → Type 0
+abbrev pub StopsReplay : {W : Type 0} → Writing W → Fault → Type 0
 StopsReplay w (Nothing missing) = IsUnfilled missing × WritesNothing w
 StopsReplay w other = StopsReport IsFault w other
 
@@ -183,7 +183,7 @@ StopsMaking (IntoFile step) = Unit {0}
 StopsMaking other = ⊥
 
 -- the same for a task that makes one
-abbrev pub StopsRebuild : {W : Type 0} → Written W → Fault → Type 0
+abbrev pub StopsRebuild : {W : Type 0} → Writing W → Fault → Type 0
 StopsRebuild w (Into fault) = WritesNothing w
 StopsRebuild w (IntoFile step) = WritesNothing w
 StopsRebuild w other = StopsReplay w other
@@ -196,7 +196,7 @@ StopsListening register fault =
     ⊎ ((fault ≡ Refused refusal.Memory) ⊎ ((fault ≡ Refused refusal.Broken) × IsSome register.in_doubt)))
 
 -- the same for the whole task of listening, which binds the port and writes a line first
-abbrev pub StopsServing : {S W : Type 0} → RegisterState S → Written W → Fault → Type 0
+abbrev pub StopsServing : {S W : Type 0} → RegisterState S → Writing W → Fault → Type 0
 StopsServing register w fault =
     (fault ≡ Net call.Binding)
     ⊎ (StopsListening register fault ⊎ StopsReport (λ met. met ≡ refusal.Memory) w fault)

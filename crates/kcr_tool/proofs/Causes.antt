@@ -7,7 +7,7 @@ use Rattle.kcr_base.specs.declared.refusal.Refusal.{Refusal}
 use Rattle.kcr_base.specs.declared.refusal.Refusal.TheVariants as refusal
 use Rattle.kcr_history.specs.History.{History}
 use Rattle.kcr_desk.specs.Answers.{RegisterHistory, history_of, whole}
-use Rattle.kcr_desk.specs.Streams.{Streams, Written, HasFailed, IsUntouched, WritesNothing, WritesPart, WritesText, bytes_before, bytes_after}
+use Rattle.kcr_desk.specs.Streams.{Streams, Writing, HasFailed, IsUntouched, WritesNothing, WritesPart, WritesText, bytes_before, bytes_after}
 use Rattle.kcr_print.specs.Reports.{Stops}
 use Rattle.kcr_print.specs.declared.fault.PrintFault.{PrintFault}
 use Rattle.kcr_print.specs.declared.fault.PrintFault.TheVariants as print
@@ -45,7 +45,7 @@ meets register May met may broken = by_torn register.in_doubt refl
 
 -- WHAT STOPS A CALL
 
-pub stops_weaker : {W : Type 0} (May Other : Refusal → Type 0) (w : Written W) (why : Fault) → ((met : Refusal) → May met → Other met)
+pub stops_weaker : {W : Type 0} (May Other : Refusal → Type 0) (w : Writing W) (why : Fault) → ((met : Refusal) → May met → Other met)
     → StopsReport May w why → StopsReport Other w why
 stops_weaker May Other w (Refused met) weaker stops = weaker met stops
 stops_weaker May Other w Unwritten weaker stops = stops
@@ -61,7 +61,7 @@ stops_weaker May Other w Lost weaker stops = absurd stops
 stops_weaker May Other w Words weaker stops = absurd stops
 
 -- a report that was not printed whole
-pub print_stops : {S W : Type 0} (register : RegisterState S) (May Denies : Refusal → Type 0) (fault : PrintFault) (w : Written W)
+pub print_stops : {S W : Type 0} (register : RegisterState S) (May Denies : Refusal → Type 0) (fault : PrintFault) (w : Writing W)
     → ((met : Refusal) → IsFault met ⊎ Denies met → May met) → (IsSome register.in_doubt → fault ≡ print.Refused refusal.Broken)
     → (register.in_doubt ≡ None → Stops Denies fault) → (fault ≡ print.Write → HasFailed w)
     → StopsReport (MeetsOver register May) w (fault_of_print fault)
@@ -86,7 +86,7 @@ met_cause task Lost s stops = absurd stops
 met_cause task Words s stops = absurd stops
 
 -- what stopped a report over a register that nothing broke before
-pub report_stops : {S W : Type 0} (register : RegisterState S) (report : Report) (why : Fault) (w : Written W) → register.in_doubt ≡ None
+pub report_stops : {S W : Type 0} (register : RegisterState S) (report : Report) (why : Fault) (w : Writing W) → register.in_doubt ≡ None
     → StopsReport (MeetsOver register (MayMeet (Write report))) w why → StopsReport (MayMeet (Write report)) w why
 report_stops register report why w none =
     stops_weaker (MeetsOver register (MayMeet (Write report))) (MayMeet (Write report)) w why
@@ -215,7 +215,7 @@ reading_cause task wants may Lost path s still stops = absurd stops
 reading_cause task wants may Words path s still stops = absurd stops
 
 -- why no new register was made, before anything was written
-pub making_stops : {W : Type 0} (why : Fault) (w : Written W) → WritesNothing w → StopsMaking why → StopsRebuild w why
+pub making_stops : {W : Type 0} (why : Fault) (w : Writing W) → WritesNothing w → StopsMaking why → StopsRebuild w why
 making_stops (Into fault) w none stops = none
 making_stops (IntoFile step) w none stops = none
 making_stops (Nothing missing) w none stops = absurd stops
@@ -230,7 +230,7 @@ making_stops Lost w none stops = absurd stops
 making_stops Words w none stops = absurd stops
 
 -- what stops a replay stops a rebuild
-pub replay_stops : {W : Type 0} (why : Fault) (w : Written W) → StopsReplay w why → StopsRebuild w why
+pub replay_stops : {W : Type 0} (why : Fault) (w : Writing W) → StopsReplay w why → StopsRebuild w why
 replay_stops (Nothing missing) w stops = stops
 replay_stops (Refused met) w stops = stops
 replay_stops Unwritten w stops = stops
@@ -259,7 +259,7 @@ none_mapped f (Some x) none = cc
 -- WHOLE AND IN PART
 
 -- what was written whole is a prefix of itself
-pub whole_front : {W : Type 0} (w : Written W) (text : List ℕ) → WritesText w text → WritesPart w text
+pub whole_front : {W : Type 0} (w : Writing W) (text : List ℕ) → WritesText w text → WritesPart w text
 whole_front w text all =
     (length text, subst (λ (t : List ℕ). Appends (bytes_before w) (bytes_after w) t) (sym (take_all (length text) text (omega arith))) all)
 

@@ -1,7 +1,7 @@
 -- What the status of a verification says of its line.
 use Rattle.std.proofs.Common.{◌≡◌, ◌⊎◌, inl, inr, ℕ, List, Result, Ok, Err, OnErr, refl}
 use Rattle.std.specs.Prelude.{IfOk}
-use Rattle.kcr_desk.specs.Streams.{Written, WritesNothing, WritesPart}
+use Rattle.kcr_desk.specs.Streams.{Writing, WritesNothing, WritesPart}
 use Rattle.kcr_fault.specs.Lines.{difference_line, whole_line}
 use Rattle.kcr_fault.specs.declared.fault.Fault.{Fault}
 use Rattle.kcr_tool.specs.Runs.{Finishes, FinishesOrFinds}
@@ -9,7 +9,7 @@ use Rattle.kcr_tool.specs.Verifications.{EndsVerification, WritesVerification, W
 use Rattle.kcr_verify.specs.declared.verification.Verification.{Verification}
 use Rattle.kcr_verify.specs.declared.verification.Verification.TheVariants.{Verified, Differs}
 
-module _ {W : Type 0} (head : List ℕ) (w : Written W) where
+module _ {W : Type 0} (head : List ℕ) (w : Writing W) where
   -- no difference, or one
   verification_told : (told : Verification) (status : ℕ) → WritesVerification head told w status
       → ((status ≡ 0) × WritesVerified head w) ⊎ ((status ≡ 1) × WritesDifference w)
@@ -44,7 +44,7 @@ module _ {W : Type 0} (head : List ℕ) (w : Written W) where
   packed_ends count (Err why) t (inr front) = inr (count, front)
 
 -- what finds no problem
-pub finishes_ends : {W : Type 0} (Done Problem Part : Type 0) (w : Written W) (result : Result ℕ Fault) → Finishes Done Part w result
+pub finishes_ends : {W : Type 0} (Done Problem Part : Type 0) (w : Writing W) (result : Result ℕ Fault) → Finishes Done Part w result
     → FinishesOrFinds Done Problem Part w result
 finishes_ends Done Problem Part w (Ok status) done = inl done
 finishes_ends Done Problem Part w (Err why) part = part

@@ -11,7 +11,7 @@ use Rattle.kcr_store.specs.Register.{RegisterState}
 use Rattle.kcr_desk.specs.Run.{Request, IsServed, IsServedInPart}
 use Rattle.kcr_desk.specs.Answers.{RegisterHistory, whole, IsAnswer, IsReply}
 use Rattle.kcr_desk.specs.Connections.{Connects}
-use Rattle.kcr_desk.specs.Streams.{Streams, Written, WritesNothing, WritesPart, WritesText, bytes_after, bytes_before}
+use Rattle.kcr_desk.specs.Streams.{Streams, Writing, WritesNothing, WritesPart, WritesText, bytes_after, bytes_before}
 use Rattle.kcr_desk.specs.Streams.{input_of}
 use Rattle.kcr_desk.specs.Texts.{ResponseValue}
 use Rattle.kcr_forms.specs.Values.{AreValues}
@@ -48,7 +48,7 @@ ServesPart step before s =
 
 -- a report of a register with this history is written whole: so are the requests of the commands that are exported and
 -- the lines of the journal, and an audit found nothing
-abbrev pub WritesReport : {W : Type 0} → Report → History → Written W → Type 0
+abbrev pub WritesReport : {W : Type 0} → Report → History → Writing W → Type 0
 WritesReport (Print ceremony) A w = IsTrue (is_ceremony A ceremony) × WritesText w (annotated A ceremony)
 WritesReport (Attendance ceremony) A w = IsTrue (is_ceremony A ceremony) × WritesText w (attendance A ceremony)
 WritesReport Custody A w = WritesText w (custody A)
@@ -57,7 +57,7 @@ WritesReport (Journal ceremony) A w = AreValues A → WritesText w (journal cere
 WritesReport Audit A w = WritesText w clean_line
 
 -- it stopped before its end: what was written is a prefix of that
-abbrev pub WritesReportPart : {W : Type 0} → Report → History → Written W → Type 0
+abbrev pub WritesReportPart : {W : Type 0} → Report → History → Writing W → Type 0
 WritesReportPart (Print ceremony) A w = WritesPart w (annotated A ceremony)
 WritesReportPart (Attendance ceremony) A w = WritesPart w (attendance A ceremony)
 WritesReportPart Custody A w = WritesPart w (custody A)
@@ -86,24 +86,24 @@ CompletesInPart Rebuild A s = WritesVerificationPrefix rebuilt_head s.output
 CompletesInPart Pack A s = TellsWholeFront packed_head s.output
 
 -- the exit status is 0 and this was done; or a fault stopped it, after a part of this or before anything was written
-abbrev pub Finishes : {W : Type 0} → Type 0 → Type 0 → Written W → Result ℕ Fault → Type 0
+abbrev pub Finishes : {W : Type 0} → Type 0 → Type 0 → Writing W → Result ℕ Fault → Type 0
 Finishes Done Part w result = MatchResult result (λ status. (status ≡ 0) × Done) (λ _. WritesNothing w ⊎ Part)
 
 -- how a task ends over a register with this history, in which nothing is wrong
 abbrev pub EndsTaskBy : {R W : Type 0} → Task → History → Streams R W → Result ℕ Fault → Type 0
 EndsTaskBy task A s result = Finishes (Completes task A s) (CompletesInPart task A s) s.output result
 
-abbrev pub EndsReportBy : {W : Type 0} → Report → History → Written W → Result ℕ Fault → Type 0
+abbrev pub EndsReportBy : {W : Type 0} → Report → History → Writing W → Result ℕ Fault → Type 0
 EndsReportBy report A w result = Finishes (WritesReport report A w) (WritesReportPart report A w) w result
 
 -- WHATEVER THE DATABASE HELD
 
 -- a report of a register of whose history nothing is known: an audit found nothing, and of any other nothing is said
-abbrev pub WritesUnknown : {W : Type 0} → Report → Written W → Type 0
+abbrev pub WritesUnknown : {W : Type 0} → Report → Writing W → Type 0
 WritesUnknown Audit w = WritesText w clean_line
 WritesUnknown report w = Unit {0}
 
-abbrev pub WritesUnknownPart : {W : Type 0} → Report → Written W → Type 0
+abbrev pub WritesUnknownPart : {W : Type 0} → Report → Writing W → Type 0
 WritesUnknownPart Audit w = WritesAuditPrefix w
 WritesUnknownPart report w = Unit {0}
 
@@ -127,7 +127,7 @@ CompletesUnknownInPart Rebuild s = WritesVerificationPrefix rebuilt_head s.outpu
 CompletesUnknownInPart Pack s = TellsWholeFront packed_head s.output
 
 -- a task found something wrong, and told it whole
-abbrev pub WritesProblem : {W : Type 0} → Task → Written W → Type 0
+abbrev pub WritesProblem : {W : Type 0} → Task → Writing W → Type 0
 WritesProblem (Write Audit) w = WritesFinding w
 WritesProblem Verify w = WritesDifference w
 WritesProblem Rebuild w = WritesDifference w
@@ -135,7 +135,7 @@ WritesProblem other w = ⊥
 
 -- the exit status is 0 and this was done, or it is 1 after a problem; or a fault stopped it, after a part of this or
 -- before anything was written
-abbrev pub FinishesOrFinds : {W : Type 0} → Type 0 → Type 0 → Type 0 → Written W → Result ℕ Fault → Type 0
+abbrev pub FinishesOrFinds : {W : Type 0} → Type 0 → Type 0 → Type 0 → Writing W → Result ℕ Fault → Type 0
 FinishesOrFinds Done Problem Part w result =
     MatchResult result (λ status. ((status ≡ 0) × Done) ⊎ ((status ≡ 1) × Problem)) (λ _. WritesNothing w ⊎ Part)
 
@@ -144,7 +144,7 @@ abbrev pub EndsTask : {R W : Type 0} → Task → Streams R W → Result ℕ Fau
 EndsTask task s result =
     FinishesOrFinds (CompletesUnknown task s) (WritesProblem task s.output) (CompletesUnknownInPart task s) s.output result
 
-abbrev pub EndsReport : {W : Type 0} → Report → Written W → Result ℕ Fault → Type 0
+abbrev pub EndsReport : {W : Type 0} → Report → Writing W → Result ℕ Fault → Type 0
 EndsReport report w result =
     FinishesOrFinds (WritesUnknown report w) (WritesProblem (Write report) w) (WritesUnknownPart report w) w result
 
@@ -161,7 +161,7 @@ OfHistory {S} g register Says =
     → Says register.accepted
 
 -- a report: of a register with a history it is done, or in part if a fault stopped it
-pub record Reports {S W : Type 0} (g : Ghosts S) (report : Report) (register : RegisterState S) (w : Written W)
+pub record Reports {S W : Type 0} (g : Ghosts S) (report : Report) (register : RegisterState S) (w : Writing W)
     (result : Result ⊤ Fault) : Type 0 where
   pub done : OfHistory g register (λ A. OnOk result (WritesReport report A w))
   pub part : OfHistory g register (λ A. OnErr result (WritesReportPart report A w))

@@ -1,7 +1,7 @@
 //! What the program does with its words.
 ghost use Rattle.std.specs.Prelude.{◌≡◌, ◌≢◌, ◌≤◌, ◌⊎◌, [], true, Some, None, IsSome, IfOk, IfErr, IfSome};
 ghost use Rattle.sqlite.specs.Steps.{over_memory};
-ghost use Rattle.kcr_desk.specs.Streams.{IsUntouched, WritesNothing, streams, written};
+ghost use Rattle.kcr_desk.specs.Streams.{IsUntouched, WritesNothing, streams, writing};
 ghost use Rattle.kcr_fault.specs.declared.fault.Fault.{Fault as WhyNot};
 ghost use Rattle.kcr_words.specs.declared.words.Task.{Task as Order_task};
 ghost use Rattle.kcr_fault.specs.Faults.{HasCause, MayMeet, StopsReport, TellsFault};
@@ -34,11 +34,11 @@ fn write_report<S: Alter, W: Write>(
     output: &mut Counted<W>,
 ) -> Result<u8, Fault>
     requires { register.old.in_doubt ≡ None }
-    ensures ends { EndsReport report (written W.contents output.old output.new) result }
+    ensures ends { EndsReport report (writing W.contents output.old output.new) result }
     ensures own { OfHistory S.Store register.old
-        (λ A. EndsReportBy report A (written W.contents output.old output.new) result) }
+        (λ A. EndsReportBy report A (writing W.contents output.old output.new) result) }
     ensures cause { IfErr result (StopsReport (MayMeet (Task.Write report))
-        (written W.contents output.old output.new)) }
+        (writing W.contents output.old output.new)) }
 {
     match report {
         Report::Print(ceremony) => {
@@ -233,7 +233,7 @@ pub fn act<R: Read, W: Write, F: Write>(
     // read or a write failed only if one did.
     ensures cause { result ≡ 1
         → (IsSome (file_of (said words.now))
-        × OfTask words.now (λ task. WritesProblem task (written W.contents output.old output.new))
+        × OfTask words.now (λ task. WritesProblem task (writing W.contents output.old output.new))
         × IsNoted (task_of (said words.now)) (file_of (said words.now)) (F.contents faults.old) (F.contents faults.new))
         ⊎ ((why : WhyNot) × TellsFault (task_of (said words.now)) (file_of (said words.now)) (into_of (said words.now))
         why (F.contents faults.old) (F.contents faults.new)
@@ -242,12 +242,12 @@ pub fn act<R: Read, W: Write, F: Write>(
 
     // Then nothing was written, or a prefix of a line or a text that the task may write.
     ensures part { result ≡ 1 → file_of (said words.now) ≡ None
-        → WritesNothing (written W.contents output.old output.new)
+        → WritesNothing (writing W.contents output.old output.new)
         ⊎ OfTask words.now (λ task. CompletesInPart task []
         (streams R.remaining W.contents input.old input.new output.old output.new)) }
     ensures answered_in_part { result ≡ 1
-        → OfTask words.now (λ task. WritesProblem task (written W.contents output.old output.new))
-        ⊎ (WritesNothing (written W.contents output.old output.new)
+        → OfTask words.now (λ task. WritesProblem task (writing W.contents output.old output.new))
+        ⊎ (WritesNothing (writing W.contents output.old output.new)
         ⊎ OfTask words.now (λ task. CompletesUnknownInPart task
         (streams R.remaining W.contents input.old input.new output.old output.new))) }
 

@@ -2,7 +2,7 @@
 ghost use Rattle.std.specs.Prelude.{◌≡◌, ◌⊎◌, None, IfOk, IfErr, OnErr, string_bytes};
 ghost use Rattle.sqlite.specs.Held.{Held, state};
 ghost use Rattle.sqlite.specs.State.{HasCleanDisk};
-ghost use Rattle.kcr_desk.specs.Streams.{WritesNothing, written};
+ghost use Rattle.kcr_desk.specs.Streams.{WritesNothing, writing};
 ghost use Rattle.kcr_history.specs.Tables.{Tables};
 ghost use Rattle.kcr_store.specs.FullView.{FindsIn};
 ghost use Rattle.kcr_tables.specs.MachineTables.{HoldsTables};
@@ -51,10 +51,10 @@ fn write_audit<W: Write>(
     found: &Option<Finding>,
     output: &mut Counted<W>,
 ) -> Result<u8, Fault>
-    ensures told { IfOk result (WritesAudit found.now (written W.contents output.old output.new)) }
-    ensures part { OnErr result (WritesNothing (written W.contents output.old output.new)
-        ⊎ WritesAuditPrefix (written W.contents output.old output.new)) }
-    ensures cause { IfErr result (StopsReport IsFault (written W.contents output.old output.new)) }
+    ensures told { IfOk result (WritesAudit found.now (writing W.contents output.old output.new)) }
+    ensures part { OnErr result (WritesNothing (writing W.contents output.old output.new)
+        ⊎ WritesAuditPrefix (writing W.contents output.old output.new)) }
+    ensures cause { IfErr result (StopsReport IsFault (writing W.contents output.old output.new)) }
 {
     match found {
         None => match write_whole(output, b"audit: nothing found\n") {
@@ -83,15 +83,15 @@ pub fn audit<S: Alter, W: Write>(
     output: &mut Counted<W>,
 ) -> Result<u8, Fault>
     // What is told is what an audit of the tables that the database holds finds, whoever wrote them.
-    ensures ends { EndsAudit (λ _. Unit {0}) (written W.contents output.old output.new) result }
+    ensures ends { EndsAudit (λ _. Unit {0}) (writing W.contents output.old output.new) result }
     ensures found { ((conn : Held S) → HasCleanDisk (state S.Store conn)) → register.old.in_doubt ≡ None
         → (m : Tables) → HoldsTables m (state S.Store register.old.conn).now
-        → EndsAudit (FindsIn m) (written W.contents output.old output.new) result }
+        → EndsAudit (FindsIn m) (writing W.contents output.old output.new) result }
 
     // In the tables of a history it finds nothing.
     ensures nothing { OfHistory S.Store register.old (λ A. IfOk result (λ status. status ≡ 0)) }
     ensures cause { IfErr result (StopsReport (MeetsOver register.old IsFault)
-        (written W.contents output.old output.new)) }
+        (writing W.contents output.old output.new)) }
 {
     match register.audit() {
         Ok(found) => write_audit(alloc, &found, output),

@@ -1,7 +1,7 @@
 //! Answering requests on a port.
 ghost use Rattle.std.specs.Prelude.{◌≡◌, ◌⊎◌, IfOk, IfErr, OnOk, OnErr, None};
 ghost use Rattle.kcr_desk.specs.Connections.{Connects};
-ghost use Rattle.kcr_desk.specs.Streams.{WritesNothing, WritesPart, WritesText, written};
+ghost use Rattle.kcr_desk.specs.Streams.{WritesNothing, WritesPart, WritesText, writing};
 ghost use Rattle.kcr_fault.specs.Faults.{StopsListening, StopsServing};
 ghost use Rattle.kcr_fault.specs.Lines.{listening_line};
 ghost use Rattle.kcr_tool.specs.Runs.{ConnectsUpTo};
@@ -100,13 +100,13 @@ pub fn listen<S: Alter, W: Write>(
     output: &mut Counted<W>,
 ) -> Result<u32, Fault>
     ensures served { IfOk result (λ served. (served ≡ connections)
-        × WritesText (written W.contents output.old output.new) (listening_line port)) }
-    ensures part { OnErr result (WritesNothing (written W.contents output.old output.new)
-        ⊎ WritesPart (written W.contents output.old output.new) (listening_line port)) }
+        × WritesText (writing W.contents output.old output.new) (listening_line port)) }
+    ensures part { OnErr result (WritesNothing (writing W.contents output.old output.new)
+        ⊎ WritesPart (writing W.contents output.old output.new) (listening_line port)) }
 
     // The register has the commands of the connections' messages, one connection after the other, and no other.
     ensures connects { ConnectsUpTo S.Store connections register.old register.new result }
-    ensures cause { IfErr result (StopsServing register.new (written W.contents output.old output.new)) }
+    ensures cause { IfErr result (StopsServing register.new (writing W.contents output.old output.new)) }
     ensures whole { register.old.in_doubt ≡ None → OnOk result (register.new.in_doubt ≡ None) }
 {
     let Ok(listener) = TcpListener::bind(rt, (Ipv4Addr::LOCALHOST, port)) else {

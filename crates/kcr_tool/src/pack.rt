@@ -1,6 +1,6 @@
 //! A register's file and its log, packed into one file.
 ghost use Rattle.std.specs.Prelude.{IfErr};
-ghost use Rattle.kcr_desk.specs.Streams.{written};
+ghost use Rattle.kcr_desk.specs.Streams.{writing};
 ghost use Rattle.kcr_fault.specs.Faults.{StopsMaking, StopsOpening, StopsReading, StopsRebuild};
 ghost use Rattle.kcr_tool.specs.Runs.{Finishes};
 ghost use Rattle.kcr_fault.specs.Lines.{packed_head};
@@ -117,10 +117,10 @@ pub fn pack<W: Write>(
     path: &str,
     output: &mut Counted<W>,
 ) -> Result<u8, Fault>
-    ensures ends { Finishes (WritesVerified packed_head (written W.contents output.old output.new))
-        (TellsWholeFront packed_head (written W.contents output.old output.new))
-        (written W.contents output.old output.new) result }
-    ensures cause { IfErr result (StopsRebuild (written W.contents output.old output.new)) }
+    ensures ends { Finishes (WritesVerified packed_head (writing W.contents output.old output.new))
+        (TellsWholeFront packed_head (writing W.contents output.old output.new))
+        (writing W.contents output.old output.new) result }
+    ensures cause { IfErr result (StopsRebuild (writing W.contents output.old output.new)) }
 {
     make(rt, path, Unknown, packed.files.db.bytes())?;
     let whole = Verification::Verified(packed.count as usize);

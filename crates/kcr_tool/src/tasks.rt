@@ -1,6 +1,6 @@
 //! The tasks over a register that end by themselves.
 ghost use Rattle.std.specs.Prelude.{◌≡◌, None, IfErr};
-ghost use Rattle.kcr_desk.specs.Streams.{streams, written};
+ghost use Rattle.kcr_desk.specs.Streams.{streams, writing};
 ghost use Rattle.kcr_fault.specs.Faults.{StopsTask};
 ghost use Rattle.kcr_tool.specs.Runs.{EndsTask, EndsTaskBy, OfHistory, Reports};
 ghost use Rattle.kcr_words.specs.declared.words.Report.TheVariants as report;
@@ -42,7 +42,7 @@ pub fn print<S: Alter, W: Write>(
     ceremony: CeremonyNumber,
     output: &mut Counted<W>,
 ) -> Result<(), Fault>
-    ensures { Reports S.Store (report.Print ceremony) register.old (written W.contents output.old output.new) result }
+    ensures { Reports S.Store (report.Print ceremony) register.old (writing W.contents output.old output.new) result }
 {
     match annotated(alloc, register, ceremony, output) {
         Ok(()) => Ok(()),
@@ -58,7 +58,7 @@ pub fn attendance<S: Alter, W: Write>(
     output: &mut Counted<W>,
 ) -> Result<(), Fault>
     ensures { Reports S.Store (report.Attendance ceremony) register.old
-        (written W.contents output.old output.new) result }
+        (writing W.contents output.old output.new) result }
 {
     match attendance_csv(alloc, register, ceremony, output) {
         Ok(()) => Ok(()),
@@ -72,7 +72,7 @@ pub fn custody_report<S: Alter, W: Write>(
     register: &mut Register<S>,
     output: &mut Counted<W>,
 ) -> Result<(), Fault>
-    ensures { Reports S.Store report.Custody register.old (written W.contents output.old output.new) result }
+    ensures { Reports S.Store report.Custody register.old (writing W.contents output.old output.new) result }
 {
     match custody(alloc, register, output) {
         Ok(()) => Ok(()),
@@ -89,7 +89,7 @@ pub fn export<S: Alter, W: Write>(
     output: &mut Counted<W>,
 ) -> Result<(), Fault>
     ensures { Reports S.Store (report.Export after until) register.old
-        (written W.contents output.old output.new) result }
+        (writing W.contents output.old output.new) result }
 {
     match kcr_print::export(alloc, register, after, until, output) {
         Ok(()) => Ok(()),
@@ -104,7 +104,7 @@ pub fn journal<S: Alter, W: Write>(
     ceremony: Option<CeremonyNumber>,
     output: &mut Counted<W>,
 ) -> Result<(), Fault>
-    ensures { Reports S.Store (report.Journal ceremony) register.old (written W.contents output.old output.new) result }
+    ensures { Reports S.Store (report.Journal ceremony) register.old (writing W.contents output.old output.new) result }
 {
     match kcr_print::journal(alloc, register, ceremony, output) {
         Ok(()) => Ok(()),

@@ -4,7 +4,7 @@ ghost use Rattle.sqlite.specs.Files.{over_files};
 ghost use Rattle.sqlite.specs.Held.{state};
 ghost use Rattle.sqlite.specs.State.{HasCleanDisk};
 ghost use Rattle.kcr_copy.specs.Image.{image};
-ghost use Rattle.kcr_desk.specs.Streams.{HasFailed, WritesNothing, WritesPart, WritesText, written};
+ghost use Rattle.kcr_desk.specs.Streams.{HasFailed, WritesNothing, WritesPart, WritesText, writing};
 ghost use Rattle.kcr_history.specs.History.{History};
 ghost use Rattle.kcr_history.specs.Machine.{IsOfMachine};
 ghost use Rattle.kcr_history.specs.Tables.{tables};
@@ -73,10 +73,10 @@ fn line_of_verified(
 
 /// Writes a line, and answers this status.
 fn write_status<W: Write>(output: &mut Counted<W>, line: &str, status: u8) -> Result<u8, Fault>
-    ensures told { IfOk result (λ s. (s ≡ status) × WritesText (written W.contents output.old output.new) line.now) }
-    ensures part { OnErr result (WritesPart (written W.contents output.old output.new) line.now) }
+    ensures told { IfOk result (λ s. (s ≡ status) × WritesText (writing W.contents output.old output.new) line.now) }
+    ensures part { OnErr result (WritesPart (writing W.contents output.old output.new) line.now) }
     ensures cause { IfErr result (λ why. (why ≡ Fault.Unwritten)
-        × HasFailed (written W.contents output.old output.new)) }
+        × HasFailed (writing W.contents output.old output.new)) }
 {
     match write_whole(output, line.as_bytes()) {
         Ok(()) => Ok(status),
@@ -93,10 +93,10 @@ pub fn write_verification<W: Write>(
     output: &mut Counted<W>,
 ) -> Result<u8, Fault>
     ensures told { IfOk result
-        (WritesVerification head.now verified.now (written W.contents output.old output.new)) }
-    ensures part { OnErr result (WritesNothing (written W.contents output.old output.new)
-        ⊎ WritesPart (written W.contents output.old output.new) (verified_line head.now verified.now)) }
-    ensures cause { IfErr result (StopsReplay (written W.contents output.old output.new)) }
+        (WritesVerification head.now verified.now (writing W.contents output.old output.new)) }
+    ensures part { OnErr result (WritesNothing (writing W.contents output.old output.new)
+        ⊎ WritesPart (writing W.contents output.old output.new) (verified_line head.now verified.now)) }
+    ensures cause { IfErr result (StopsReplay (writing W.contents output.old output.new)) }
 {
     let Ok(line) = line_of_verified(alloc, head, verified) else {
         return Err(Fault::Refused(Refusal::Memory));
@@ -157,17 +157,17 @@ pub fn rows_named(rt: &HostRuntime, path: &str) -> Result<FullView, Fault>
 pub fn verify<W: Write>(alloc: Global, rows: FullView, output: &mut Counted<W>) -> Result<u8, Fault>
     // What is told of the rows is so, whoever wrote them.
     ensures ends { EndsVerification verified_head (λ told. (A : History) × IsVerification rows A told)
-        (written W.contents output.old output.new) result }
+        (writing W.contents output.old output.new) result }
 
     // In the tables of a history that the machine leads to nothing differs, and the line has the number of its
     // commands.
     ensures own { (A : History) → IsOfMachine A → AreValues A → IsListed (tables A) rows
         → IfOk result (WritesVerification verified_head (Verification.Verified (length A))
-        (written W.contents output.old output.new)) }
+        (writing W.contents output.old output.new)) }
     ensures own_in_part { (A : History) → IsOfMachine A → AreValues A → IsListed (tables A) rows
-        → OnErr result (WritesNothing (written W.contents output.old output.new)
-        ⊎ WritesPart (written W.contents output.old output.new) (whole_line verified_head (length A))) }
-    ensures cause { IfErr result (StopsReplay (written W.contents output.old output.new)) }
+        → OnErr result (WritesNothing (writing W.contents output.old output.new)
+        ⊎ WritesPart (writing W.contents output.old output.new) (whole_line verified_head (length A))) }
+    ensures cause { IfErr result (StopsReplay (writing W.contents output.old output.new)) }
 {
     match kcr_verify::verify(alloc, rows) {
         Ok(verified) => write_verification(alloc, "verified: ", &verified, output),
@@ -184,19 +184,19 @@ fn rebuild_in<S: Alter, W: Write>(
     output: &mut Counted<W>,
 ) -> Result<u8, Fault>
     requires { IsFresh S.Store fresh.old }
-    ensures ends { EndsVerification rebuilt_head (λ _. Unit {0}) (written W.contents output.old output.new) result }
+    ensures ends { EndsVerification rebuilt_head (λ _. Unit {0}) (writing W.contents output.old output.new) result }
 
     // What is told of the rows is so, whoever wrote them.
     ensures found { HasCleanDisk (state S.Store fresh.new.conn) → EndsVerification rebuilt_head
-        (IsVerification rows fresh.new.accepted) (written W.contents output.old output.new) result }
+        (IsVerification rows fresh.new.accepted) (writing W.contents output.old output.new) result }
 
     // In the tables of a history that the machine leads to nothing differs, and the line has the number of its
     // commands.
     ensures own { HasCleanDisk (state S.Store fresh.new.conn) → (A : History) → IsOfMachine A → AreValues A
         → IsListed (tables A) rows
         → IfOk result (WritesVerification rebuilt_head (Verification.Verified (length A))
-        (written W.contents output.old output.new)) }
-    ensures cause { IfErr result (StopsReplay (written W.contents output.old output.new)) }
+        (writing W.contents output.old output.new)) }
+    ensures cause { IfErr result (StopsReplay (writing W.contents output.old output.new)) }
 {
     match kcr_verify::rebuild(alloc, rows, fresh) {
         Ok(verified) => write_verification(alloc, "rebuilt: ", &verified, output),
@@ -248,8 +248,8 @@ pub fn rebuild<W: Write>(
     path: &str,
     output: &mut Counted<W>,
 ) -> Result<u8, Fault>
-    ensures ends { EndsVerification rebuilt_head (λ _. Unit {0}) (written W.contents output.old output.new) result }
-    ensures cause { IfErr result (StopsRebuild (written W.contents output.old output.new)) }
+    ensures ends { EndsVerification rebuilt_head (λ _. Unit {0}) (writing W.contents output.old output.new) result }
+    ensures cause { IfErr result (StopsRebuild (writing W.contents output.old output.new)) }
 {
     if rows.keys.is_empty() {
         return Err(Fault::Nothing(Missing::Empty));

@@ -1,6 +1,6 @@
 //! What words are which task of the program.
-ghost use Rattle.std.specs.Prelude.{◌≡◌, true, false, [], codes, Some, None};
-ghost use Rattle.kcr_words.specs.Tasks.{faults_of, file_of, into_of, names_companion, task_of};
+ghost use Rattle.std.specs.Prelude.{◌≡◌, ℕ, true, false, [], ◌∷◌, codes, Some, None, String, string_bytes};
+ghost use Rattle.kcr_words.specs.Tasks.{faults_of, file_of, into_of, names_companion, said, task_of};
 ghost use Rattle.kcr_words.specs.declared.words.Report.TheVariants.{Print, Attendance, Custody, Export, Journal, Audit};
 ghost use Rattle.kcr_words.specs.declared.words.Task.TheVariants.{Run, Serve, Write, Verify, Rebuild, Pack};
 ghost use Rattle.kcr_worked.specs.Words.{words_of};
@@ -33,4 +33,9 @@ pub fn files_of_tasks()
     ensures into { into_of (words_of (codes "kcr rebuild --into new.db")) ≡ Some (codes "new.db") }
     ensures companion { names_companion (Some (codes "new.db-wal")) ≡ true }
     ensures other { names_companion (Some (codes "new.db")) ≡ false }
+{}
+
+/// Words as texts.
+pub fn words_as_texts()
+    ensures { (name word : String ℕ) → said (name ∷ word ∷ []) ≡ string_bytes name ∷ string_bytes word ∷ [] }
 {}

@@ -1,5 +1,5 @@
 //! Answers as bytes.
-ghost use Rattle.std.specs.Prelude.{◌≡◌, ℕ, [], ◌∷◌, codes, true, false, Some, None, Ok, Err};
+ghost use Rattle.std.specs.Prelude.{◌≡◌, ℕ, [], ◌∷◌, codes, true, false, Some, Ok, Err};
 ghost use Rattle.std.specs.Global.{Vec};
 ghost use Rattle.sqlite.specs.Held.{Held};
 ghost use Rattle.kcr_base.specs.declared.refusal.Refusal.TheVariants as Refusals;
@@ -8,7 +8,7 @@ ghost use Rattle.kcr_history.specs.declared.questions.PersonShown.{PersonShown};
 ghost use Rattle.kcr_history.specs.declared.questions.Shown.TheVariants as Shown;
 ghost use Rattle.kcr_wire.specs.declared.allow.Allow.TheVariants as Allows;
 ghost use Rattle.kcr_wire.specs.declared.method.Method.TheVariants as Methods;
-ghost use Rattle.kcr_desk.specs.Answers.{allowed, feed, history_of, method_of, ok_response, refusal_response};
+ghost use Rattle.kcr_desk.specs.Answers.{feed, history_of, method_of, ok_response, refusal_response};
 ghost use Rattle.kcr_desk.specs.Answers.{reply_response, report_response, shown_response, whole};
 ghost use Rattle.kcr_desk.specs.Framing.{is_head};
 ghost use Rattle.kcr_desk.specs.Texts.{answer, continue_text, fault_response};
@@ -19,15 +19,15 @@ ghost use Rattle.kcr_worked.specs.Heads.{message_text};
 /// What goes well is answered by 200. An answer to HEAD has no body, and the last one of a connection says so.
 pub fn answers_of_texts()
     ensures reply { answer false false
-        (reply_response (codes "/people") (Ok (record { text = codes "{\"accepted\":1}" }))) ≡ message_text
+        (reply_response (Ok (record { text = codes "{\"accepted\":1}" }))) ≡ message_text
         (codes "HTTP/1.1 200 OK" ∷ codes "content-type: application/json" ∷ codes "content-length: 14" ∷ [])
         (codes "{\"accepted\":1}") }
     ensures shown { (people : Vec PersonShown) → people.items ≡ []
-        → answer false true (shown_response (codes "/people") (Ok (Shown.People people))) ≡ message_text
+        → answer false true (shown_response (Ok (Shown.People people))) ≡ message_text
         (codes "HTTP/1.1 200 OK" ∷ codes "content-type: application/json" ∷ codes "content-length: 13"
         ∷ codes "connection: close" ∷ []) (codes "{\"people\":[]}") }
     ensures report { answer false false
-        (report_response Text (codes "/custody") (Ok (codes "safe 1 EAST shut\n"))) ≡ message_text
+        (report_response Text (Ok (codes "safe 1 EAST shut\n"))) ≡ message_text
         (codes "HTTP/1.1 200 OK" ∷ codes "content-type: text/plain; charset=utf-8" ∷ codes "content-length: 17" ∷ [])
         (codes "safe 1 EAST shut\n") }
     ensures head_only { answer true false (ok_response Csv (codes "who,name,in,out\n")) ≡ message_text
@@ -37,17 +37,17 @@ pub fn answers_of_texts()
 
 /// A refusal is answered by its status, and has its number and its word. A 405 names the methods of the path.
 pub fn answers_of_refusals()
-    ensures method { answer false false (refusal_response (codes "/boxes") Refusals.Method) ≡ message_text
+    ensures method { answer false false (refusal_response (Some Allows.Post) Refusals.Method) ≡ message_text
         (codes "HTTP/1.1 405 Method Not Allowed" ∷ codes "content-type: application/json"
         ∷ codes "content-length: 31" ∷ codes "allow: POST" ∷ []) (codes "{\"number\":8,\"refusal\":\"method\"}") }
-    ensures command { answer false false (reply_response (codes "/people") (Err Refusals.Taken)) ≡ message_text
+    ensures command { answer false false (reply_response (Err Refusals.Taken)) ≡ message_text
         (codes "HTTP/1.1 409 Conflict" ∷ codes "content-type: application/json" ∷ codes "content-length: 31" ∷ [])
         (codes "{\"number\":13,\"refusal\":\"taken\"}") }
-    ensures question { answer false false (shown_response (codes "/people") (Err Refusals.Memory)) ≡ message_text
+    ensures question { answer false false (shown_response (Err Refusals.Memory)) ≡ message_text
         (codes "HTTP/1.1 503 Service Unavailable" ∷ codes "content-type: application/json"
         ∷ codes "content-length: 32" ∷ []) (codes "{\"number\":33,\"refusal\":\"memory\"}") }
     ensures report { answer false false
-        (report_response Text (codes "/ceremonies/62/script") (Err (Refusals.Unknown (Things.Ceremony 62)))) ≡
+        (report_response Text (Err (Refusals.Unknown (Things.Ceremony 62)))) ≡
         message_text
         (codes "HTTP/1.1 404 Not Found" ∷ codes "content-type: application/json" ∷ codes "content-length: 55" ∷ [])
         (codes "{\"number\":12,\"refusal\":\"unknown\",\"thing\":\"ceremony 62\"}") }
@@ -56,15 +56,13 @@ pub fn answers_of_refusals()
         ∷ codes "connection: close" ∷ []) (codes "{\"number\":5,\"refusal\":\"large\"}") }
 {}
 
-/// Methods by their tokens, and those of a path.
+/// Methods by their tokens.
 pub fn methods()
     ensures get { method_of (codes "GET") ≡ Methods.Get }
     ensures post { method_of (codes "POST") ≡ Methods.Post }
     ensures small { method_of (codes "get") ≡ Methods.Other }
     ensures head { is_head (codes "HEAD") ≡ true }
     ensures small_head { is_head (codes "head") ≡ false }
-    ensures both { allowed (codes "/people") Refusals.Method ≡ Some Allows.GetHeadPost }
-    ensures unnamed { allowed (codes "/people") Refusals.Path ≡ None }
 {}
 
 /// What goes before the answer to a message that waits for it.

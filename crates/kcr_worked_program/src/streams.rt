@@ -5,6 +5,7 @@ ghost use Rattle.kcr_base.specs.declared.refusal.Refusal.TheVariants as Refusals
 ghost use Rattle.kcr_desk.specs.Answers.{IsAnswer, whole};
 ghost use Rattle.kcr_desk.specs.Run.{IsServed, ending_text, messages_of, output, request_of};
 ghost use Rattle.kcr_desk.specs.Stream.{AreMessages, clean_end, cut_off, refused};
+ghost use Rattle.kcr_desk.specs.Streams.{bytes_after, bytes_before, input_of, streams, writing};
 ghost use Rattle.kcr_laws.specs.Examples.{entered};
 ghost use Rattle.kcr_worked.specs.Heads.{message_text};
 ghost use Rattle.kcr_worked_program.specs.Messages.{ann_entered, ann_entered_again, answers_of_two, read_thrice};
@@ -40,4 +41,14 @@ pub fn counts()
     ensures reader { (bytes : List ℕ) → inner_of (read_thrice bytes) ≡ bytes }
     ensures failures { (bytes : List ℕ) → failures_of (read_thrice bytes) ≡ 2 }
     ensures reads { (bytes : List ℕ) → nonempty_reads_of (read_thrice bytes) ≡ 3 }
+{}
+
+/// The bytes of a writer before and after a call, and those of its input.
+pub fn bytes_of_streams()
+    ensures before { bytes_before (writing Some (read_thrice (codes "a")) (read_thrice (codes "ab"))) ≡
+        Some (codes "a") }
+    ensures after { bytes_after (writing Some (read_thrice (codes "a")) (read_thrice (codes "ab"))) ≡
+        Some (codes "ab") }
+    ensures input { input_of (streams Some Some (read_thrice (codes "GET")) (read_thrice []) (read_thrice [])
+        (read_thrice (codes "ab"))) ≡ Some (codes "GET") }
 {}

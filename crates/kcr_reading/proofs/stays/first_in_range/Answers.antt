@@ -7,14 +7,14 @@ use Rattle.kcr_reading.proofs.stays.first_in_range.Goals as goal
 pub returns-in-SameStart-clause-first : goal.returns-in-SameStart-clause-first
 returns-in-SameStart-clause-first g c =
     let last = c.in-SameStart.last in
-    let shown = shown_by (shows_together c.args.ceremony last) (λ i. c.number_cell.ensures i ∷ c.number_cell-2.ensures i ∷ (c.text_cell.ensures ∙ ap Text c.as_str.ensures.value) i ∷ []) in
+    let shown = shown_by (shows_together c.args.ceremony last) (λ i. c.number_cell.ensures i ∷ c.number_cell-in-SameStart.ensures i ∷ (c.text_cell.ensures ∙ ap Text c.as_str.ensures.value) i ∷ []) in
     rw c.in-SameStart.is (by_tables c.first_rows.result _ _ (c.first_rows.ensures.rows 16 _ shown)
     (λ m k rows. first_together c.args.ceremony last 16 (omega arith) m k rows.items))
 
 pub returns-in-SameStart-clause-frame : goal.returns-in-SameStart-clause-frame
 returns-in-SameStart-clause-frame g c =
     let shown = shown_by (shows_together c.args.ceremony c.in-SameStart.last)
-    (λ i. c.number_cell.ensures i ∷ c.number_cell-2.ensures i ∷ (c.text_cell.ensures ∙ ap Text c.as_str.ensures.value) i ∷ []) in
+    (λ i. c.number_cell.ensures i ∷ c.number_cell-in-SameStart.ensures i ∷ (c.text_cell.ensures ∙ ap Text c.as_str.ensures.value) i ∷ []) in
     c.first_rows.ensures.frame 16 _ shown
 
 pub returns-in-LaterStart-clause-first : goal.returns-in-LaterStart-clause-first

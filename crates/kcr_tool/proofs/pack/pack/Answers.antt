@@ -1,9 +1,9 @@
-use Rattle.kcr_desk.specs.Streams.{written}
+use Rattle.kcr_desk.specs.Streams.{writing}
 use Rattle.kcr_tool.proofs.Verifications.{packed_ends}
 use Rattle.kcr_fault.specs.Lines.{packed_head}
 use Rattle.kcr_tool.proofs.pack.pack.Goals as goal
 
 pub returns-clause-ends : goal.returns-clause-ends
 returns-clause-ends g c =
-    let w = written g.W.Write.contents c.args.output.now c.write_verification.new.output in
+    let w = writing g.W.Write.contents c.args.output.now c.write_verification.new.output in
     packed_ends packed_head w c.args.packed.now.count c.write_verification.result c.write_verification.ensures.told c.write_verification.ensures.part

@@ -1,4 +1,4 @@
-use Rattle.kcr_desk.specs.Streams.{written}
+use Rattle.kcr_desk.specs.Streams.{writing}
 use Rattle.kcr_tool.proofs.Verifications.{verification_ends}
 use Rattle.kcr_fault.specs.Lines.{rebuilt_head}
 use Rattle.kcr_verify.specs.Verification.{IsVerification}
@@ -6,13 +6,13 @@ use Rattle.kcr_tool.proofs.verify.rebuild_in.Goals as goal
 
 pub returns-in-Ok-clause-ends : goal.returns-in-Ok-clause-ends
 returns-in-Ok-clause-ends g c =
-    let w = written g.W.Write.contents c.args.output.now c.write_verification.new.output in
+    let w = writing g.W.Write.contents c.args.output.now c.write_verification.new.output in
     verification_ends rebuilt_head w (λ _. Unit {0}) c.in-Ok.verified c.write_verification.result tt
     c.write_verification.ensures.told c.write_verification.ensures.part
 
 pub returns-in-Ok-clause-found : goal.returns-in-Ok-clause-found
 returns-in-Ok-clause-found g c clean =
-    let w = written g.W.Write.contents c.args.output.now c.write_verification.new.output in
+    let w = writing g.W.Write.contents c.args.output.now c.write_verification.new.output in
     verification_ends rebuilt_head w (IsVerification c.args.rows c.rebuild.new.fresh.accepted) c.in-Ok.verified c.write_verification.result
     (c.in-Ok.ensures.told clean) c.write_verification.ensures.told c.write_verification.ensures.part
 

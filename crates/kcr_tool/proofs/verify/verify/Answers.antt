@@ -1,4 +1,4 @@
-use Rattle.kcr_desk.specs.Streams.{written}
+use Rattle.kcr_desk.specs.Streams.{writing}
 use Rattle.kcr_history.specs.History.{History}
 use Rattle.kcr_tool.proofs.Verifications.{verification_ends}
 use Rattle.kcr_fault.specs.Lines.{verified_head}
@@ -8,7 +8,7 @@ use Rattle.kcr_tool.proofs.verify.verify.Goals as goal
 
 pub returns-in-Ok-clause-ends : goal.returns-in-Ok-clause-ends
 returns-in-Ok-clause-ends g c =
-    let w = written g.W.Write.contents c.args.output.now c.write_verification.new.output in
+    let w = writing g.W.Write.contents c.args.output.now c.write_verification.new.output in
     verification_ends verified_head w (λ (told : Verification). (A : History) × IsVerification c.args.rows A told) c.in-Ok.verified
     c.write_verification.result c.in-Ok.ensures.told c.write_verification.ensures.told c.write_verification.ensures.part
 

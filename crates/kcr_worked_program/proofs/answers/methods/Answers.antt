@@ -10,6 +10,4 @@ returns c = record {
   small = refl;
   head = refl;
   small_head = refl;
-  both = refl;
-  unnamed = refl;
 }
