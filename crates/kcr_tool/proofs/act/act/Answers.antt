@@ -36,7 +36,6 @@ pub returns-in-Ok-run_invocation : goal.returns-in-Ok-run_invocation
 returns-in-Ok-run_invocation g c =
     let task = c.in-Ok.order.task in
     let asks = c.in-Ok.ensures.task in
-    let noted = rw (asks, c.in-Ok.ensures.file) c.in-Ok-run_invocation.ensures.noted in
     elim c.in-Ok-run_invocation.ensures.ends [
       | inl done ↦ (
           let zero = done.0 in
@@ -46,7 +45,7 @@ returns-in-Ok-run_invocation g c =
                 let unnamed = none_mapped _ c.in-Ok.order.file (sym c.in-Ok.ensures.file ∙ none) in
                 (task, asks, (c.in-Ok-run_invocation.ensures.own unnamed).1);
             answered = λ _. (task, asks, done.1);
-            noted = λ _. noted;
+            noted = λ _. rw (asks, c.in-Ok.ensures.file) c.in-Ok-run_invocation.ensures.noted;
             cause = λ one. absurd (omega (arith, zero, one));
             part = λ one none. absurd (omega (arith, zero, one));
             answered_in_part = λ one. absurd (omega (arith, zero, one));
@@ -61,7 +60,7 @@ returns-in-Ok-run_invocation g c =
             done = λ zero none. absurd (omega (arith, zero, one));
             answered = λ zero. absurd (omega (arith, zero, one));
             noted = λ zero. absurd (omega (arith, zero, one));
-            cause = λ _. inl (named, (task, asks, problem.1), noted);
+            cause = λ _. inl (named, (task, asks, problem.1), rw (asks, c.in-Ok.ensures.file) c.in-Ok-run_invocation.ensures.noted);
             part = λ _ none.
                 let own = c.in-Ok-run_invocation.ensures.own (none_mapped _ c.in-Ok.order.file (sym c.in-Ok.ensures.file ∙ none)) in
                 let zero = own.0 in absurd (omega (arith, zero, one));
