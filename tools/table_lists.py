@@ -11,7 +11,7 @@ BEGIN = "begin: written by tools/tables.py"
 END = "end: written by tools/tables.py"
 BY_NAME = {t.name: t for t in TABLES}
 LISTED = [BY_NAME[name] for name in MACHINE]  # the machine's tables, in its order
-BESIDE = ("sheet", "keys")  # those of which no decision reads a row
+BESIDE = ("sheet", "keys")  # those that a full view has beside a view, since decisions read neither by it
 # where a table of the machine is not the definition of its own name
 HISTORIES = {"sheet": "reverse (sheet A)", "stays": "reverse (stays_by (sheet A))"}
 # the rows that no derive compares

@@ -34,7 +34,7 @@ within-from low high b h = (grind (arith, nat_tests), grind (arith, nat_tests))
 pub within-to : (low high b : ℕ) → (low ≤ b) × (b ≤ high) → is_between low high b ≡ true
 within-to low high b h = grind (arith, nat_tests)
 
--- a text of so many bytes that each pass the test
+-- a text whose length is in this range, and whose bytes each pass the test
 sized-from : (low high : ℕ) (p : ℕ → Bool) (P : ℕ → Type 0) (text : List ℕ) → ((b : ℕ) → p b ≡ true → P b)
     → (is_between low high (length text) && list_all p text) ≡ true → (low ≤ length text) × (length text ≤ high) × All P text
 sized-from low high p P text f h =

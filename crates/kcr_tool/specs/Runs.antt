@@ -89,7 +89,7 @@ CompletesInPart Pack A s = TellsWholeFront packed_head s.output
 abbrev pub Finishes : {W : Type 0} → Type 0 → Type 0 → Writing W → Result ℕ Fault → Type 0
 Finishes Done Part w result = MatchResult result (λ status. (status ≡ 0) × Done) (λ _. WritesNothing w ⊎ Part)
 
--- how a task ends over a register with this history, in which nothing is wrong
+-- how a task ends over a register with this history: done, with status 0, or stopped by a fault
 abbrev pub EndsTaskBy : {R W : Type 0} → Task → History → Streams R W → Result ℕ Fault → Type 0
 EndsTaskBy task A s result = Finishes (Completes task A s) (CompletesInPart task A s) s.output result
 

@@ -1,4 +1,4 @@
--- Messages of the examples, and what they are told.
+-- The messages of the examples, and the answer that each gets.
 use Rattle.std.specs.Prelude.{ℕ, List, [], ◌∷◌, ◌++◌, true, false, codes}
 use Rattle.httparse.specs.Grammar.{Field, RequestHead, crlf}
 use Rattle.kcr_base.specs.declared.counted.Counted.{Counted}
