@@ -213,24 +213,39 @@ class Browser:
         """Waits until nothing is under way."""
         self.until("nothing under way", lambda: not self.run(BUSY))
 
+    def again(self, act):
+        """What an act gives; it begins anew where the page has put another thing in the place of one that it found."""
+        from selenium.common.exceptions import StaleElementReferenceException
+        end = time.monotonic() + WAIT
+        while True:
+            try:
+                return act()
+            except StaleElementReferenceException:
+                if time.monotonic() > end:
+                    raise
+
     def find(self, name):
         """The thing with this id."""
         return self.driver.find_element("id", name)
 
     def shown(self, name):
         """Whether there is a thing with this id that can be seen."""
-        return any(found.is_displayed() for found in self.driver.find_elements("id", name))
+        return self.again(lambda: any(found.is_displayed() for found in self.driver.find_elements("id", name)))
 
     def text(self, name):
         """The text of a thing, as it is seen; empty if it is not there."""
-        return "".join(found.text for found in self.driver.find_elements("id", name))
+        return self.again(lambda: "".join(found.text for found in self.driver.find_elements("id", name)))
 
     def click(self, name):
         """Clicks on a thing, and waits for what comes of it."""
+        self.again(lambda: self.click_on(name))
+        self.settled()
+
+    def click_on(self, name):
+        """Brings a thing into sight and clicks on it."""
         found = self.find(name)
         self.run("arguments[0].scrollIntoView({block: 'center'})", found)
         found.click()
-        self.settled()
 
     def click_if(self, name):
         """Clicks on a thing if it is there; it may go while this is done."""
@@ -254,7 +269,7 @@ class Browser:
     def dismiss(self):
         """Puts the last answer away."""
         if self.shown("dismiss"):
-            self.find("dismiss").click()
+            self.again(lambda: self.find("dismiss").click())
 
     def type(self, name, text):
         """Types a text into a field, in place of what it has."""
