@@ -3,9 +3,11 @@
 of the program's outermost functions to the definitions in `specs/` and the types in `src/`.
 
     python3 tools/statement.py              writes the page, and says how long it is
-    python3 tools/statement.py --check      compares it with the page that is there: status 1 if they differ
+    python3 tools/statement.py --check      compares it with the page that is there: status 1 if they differ, or if
+                                            a definition in `specs/` serves proofs alone
     python3 tools/statement.py --unreached  lists the definitions in `specs/` that the statement does not reach
-    python3 tools/statement.py --long       lists the definitions with more than 12 lines in one case, field or variant
+    python3 tools/statement.py --long       lists the definitions with more than 12 lines, with the lines of the
+                                            longest case, field or variant
 
 A clause without a sentence, a name that is not found, and a name of the kit without a line end it with status 2 and a
 line that names them. What the page is made of stands in `statement_list.py`, the lines of the kit's names in
@@ -47,7 +49,7 @@ def main():
     left = len(unreached(library, reach))
     text = "\n".join(page(library, contracts, reach, first, left, examples_of(library))).rstrip() + "\n"
     if wanted.check:
-        return check(text)
+        return check(text) or check_homes(library, reach)
     write(text, reach, left, unused(contracts, reach))
     return 0
 
@@ -57,7 +59,7 @@ def arguments():
     one = parser.add_mutually_exclusive_group()
     one.add_argument("--check", action="store_true", help="compare the page with the one that is there")
     one.add_argument("--unreached", action="store_true", help="list the definitions that it does not reach")
-    one.add_argument("--long", action="store_true", help=f"list the definitions with more than {LONG} lines in one case")
+    one.add_argument("--long", action="store_true", help=f"list the definitions with more than {LONG} lines")
     return parser.parse_args()
 
 
@@ -110,16 +112,30 @@ def unreached(library, reach):
             if item.key() not in reach.items]
 
 
-def list_unreached(library, reach):
-    """Those that other clauses, or the tactics of functions, lead to come first: they belong in `specs/`."""
-    left = unreached(library, reach)
-    for title, named in (("clauses of other functions lead to", cited(library)),
-                         ("are laws for the tactics of functions, or named by these", used_by_tactics(library))):
+def unreached_by_use(library, reach):
+    """Those to which clauses of other functions lead, those of tactics, and those that serve proofs alone."""
+    left, groups = unreached(library, reach), []
+    for named in (cited(library), used_by_tactics(library)):
         there = Reach(library, named).items
-        list_items(f"definitions that {title}", [item for item in left if item.key() in there])
+        groups.append([item for item in left if item.key() in there])
         left = [item for item in left if item.key() not in there]
-    list_items("definitions that only proofs name, or nothing", left)
+    return [*groups, left]
+
+
+def list_unreached(library, reach):
+    by_clauses, by_tactics, by_proofs = unreached_by_use(library, reach)
+    list_items("definitions that clauses of other functions lead to", by_clauses)
+    list_items("definitions that are laws for the tactics of functions, or named by these", by_tactics)
+    list_items("definitions that only proofs name, or nothing", by_proofs)
     return 0
+
+
+def check_homes(library, reach):
+    """A definition that serves proofs alone stands in `proofs/`."""
+    strays = unreached_by_use(library, reach)[-1]
+    if strays:
+        list_items("definitions in specs/ that only proofs name, or nothing", strays)
+    return min(len(strays), 1)
 
 
 def list_items(title, items):
@@ -129,7 +145,7 @@ def list_items(title, items):
 
 
 def longest_part(lines):
-    """How many lines a definition has, or its longest case, field or variant: a reader takes these one by one."""
+    """How many lines the longest case, field or variant of a definition has: a reader takes these one by one."""
     lengths = [0]
     for line in lines:
         if re.match(r"  \S", line):
@@ -139,11 +155,11 @@ def longest_part(lines):
 
 
 def list_long(library, reach):
-    lengths = {item.key(): longest_part(shown(library, item)) for item in reach.items.values()}
-    long = {key: length for key, length in lengths.items() if length > LONG}
-    for (path, name), length in sorted(long.items(), key=lambda entry: (-entry[1], entry[0])):
-        print(f"{length:4} {path} {name}")
-    print(f"{len(long)} of {len(lengths)} definitions have more than {LONG} lines in one case, field or variant")
+    texts = {item.key(): shown(library, item) for item in reach.items.values()}
+    long = {key: lines for key, lines in texts.items() if len(lines) > LONG}
+    for (path, name), lines in sorted(long.items(), key=lambda entry: (-len(entry[1]), entry[0])):
+        print(f"{len(lines):4} {longest_part(lines):3} {path} {name}")
+    print(f"{len(long)} of {len(texts)} definitions have more than {LONG} lines")
     return 0
 
 

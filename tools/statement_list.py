@@ -120,7 +120,7 @@ PARTS = [
      """kcr_wire/src/method kcr_wire/src/allow kcr_wire/src/after kcr_wire/src/route kcr_wire/src/endpoint
      kcr_wire/src/question kcr_forms/src/post kcr_base/Forms kcr_custody/Destinations kcr_room/Forms kcr_forms/Forms
      kcr_forms/OrMemory kcr_forms/Reading kcr_forms/Posts kcr_wire/Routes kcr_wire/Endpoints kcr_wire/Members kcr_wire/Commands
-     kcr_wire/Questions"""),
+     kcr_wire/Questions kcr_wire/Methods"""),
     ("Answers as texts",
      "The bytes of each answer, the text of a command that is kept, and its request in a feed.",
      """kcr_base/Refusal kcr_history/Json kcr_history/Refusals kcr_history/Texts kcr_wire/ShownJson kcr_print/Requests
