@@ -1,7 +1,12 @@
 -- Refusals that hold, and those of which none does.
 use Rattle.std.proofs.Common.{◌≡◌, Bool, true, false, not, List, [], ◌∷◌, ◌++◌, Option, Some, None, refl, arith}
 use Rattle.kcr_base.specs.declared.refusal.Refusal.{Refusal}
-use Rattle.kcr_base.specs.Refuse.{when, first_of, NoneHolds}
+use Rattle.kcr_base.specs.Refuse.{when, first_of}
+
+-- no refusal of the list holds
+abbrev pub NoneHolds : List (Option Refusal) → Type 0
+NoneHolds [] = Unit {0}
+NoneHolds (o ∷ os) = (o ≡ None) × NoneHolds os
 
 pub none_holds : (os : List (Option Refusal)) → first_of os ≡ None → NoneHolds os
 none_holds [] h = tt

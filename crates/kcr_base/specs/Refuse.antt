@@ -16,11 +16,6 @@ first_of [] = None
 first_of (Some refusal ∷ rest) = Some refusal
 first_of (None ∷ rest) = first_of rest
 
--- no refusal of the list holds
-abbrev pub NoneHolds : List (Option Refusal) → Type 0
-NoneHolds [] = Unit {0}
-NoneHolds (o ∷ os) = (o ≡ None) × NoneHolds os
-
 -- the refusal, or else the value
 abbrev pub unless : {X : Type 0} → Option Refusal → X → Result X Refusal
 unless (Some refusal) value = Err refusal

@@ -140,7 +140,7 @@ fn is_decimal(bytes: &[u8], number: u32) -> bool
 }
 
 /// The number below 2^32 that the bytes are in decimal, without sign or leading zeros, or `None` if they are none.
-fn read_number(bytes: &[u8]) -> Option<u32>
+pub fn read_number(bytes: &[u8]) -> Option<u32>
     ensures found { IfSome result (λ n. decimal n ≡ bytes.now) }
     ensures only { (n : ℕ) → n < 2 ^ 32 → decimal n ≡ bytes.now → result ≡ Some n }
 {

@@ -1,5 +1,5 @@
 -- A file that was filled at once.
-use Rattle.std.proofs.Common.{◌≡◌, ◌&&◌, ◌∙◌, ◌+◌, ◌<◌, ◌≤◌, ℕ, Bool, true, false, IsTrue, List, [], length, get_or, arith, ap₂, sym, subst, zero-add, inl, inr}
+use Rattle.std.proofs.Common.{◌≡◌, ◌&&◌, ◌+◌, ◌<◌, ◌≤◌, ℕ, Bool, true, false, IsTrue, List, [], length, get_or, arith, ap₂, subst, zero-add, inl, inr}
 use Rattle.std.proofs.lemmas.List.{ext_get_or}
 use Rattle.std.proofs.Math.Nat.{eq-zero-or-pos}
 use Rattle.sqlite_disk.specs.Disk.{Holds, Torn}

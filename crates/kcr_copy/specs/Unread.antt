@@ -2,7 +2,7 @@
 use Rattle.std.specs.Prelude.{◌≢◌}
 use Rattle.kcr_log.specs.declared.judgement.Log.TheVariants as logs
 use Rattle.kcr_copy.specs.declared.Unread.{Unread}
-use Rattle.kcr_copy.specs.declared.Unread.TheVariants.{Memory, Closed, Broken, Damaged}
+use Rattle.kcr_copy.specs.declared.Unread.TheVariants.{Damaged}
 
 -- if the log is said to be damaged, it is
 abbrev pub IsCause : Unread → Type 0

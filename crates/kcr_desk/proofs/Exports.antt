@@ -20,14 +20,15 @@ use Rattle.kcr_history.proofs.Steps.{of_machine}
 use Rattle.kcr_laws.proofs.Accepted.{repeated}
 use Rattle.kcr_laws.proofs.Fixed.{accepted_fixed, never_both}
 use Rattle.kcr_wire.specs.Commands.{command_of}
+use Rattle.kcr_wire.specs.Methods.{method_of}
 use Rattle.kcr_wire.specs.declared.method.Method.{Method}
 use Rattle.kcr_wire.specs.declared.method.Method.TheVariants.{Post}
 use Rattle.kcr_export.specs.Bodies.{body_text}
 use Rattle.kcr_export.specs.Requests.{head_text, request_text}
 use Rattle.kcr_export.proofs.Again.{told_again}
-use Rattle.kcr_export.proofs.Paths.{act-path}
-use Rattle.kcr_export.proofs.Pieces.{IsPathByte, path-utf8}
-use Rattle.kcr_desk.specs.Answers.{RegisterHistory, method_of, AnswersBy, IsAnswer, TakesCommand, RespondsUnread, AppliesAsMachine, refusal_response, reply_response, json_response}
+use Rattle.kcr_wire.proofs.Paths.{IsPathByte, path-utf8}
+use Rattle.kcr_wire.proofs.Targets.{act-path}
+use Rattle.kcr_desk.specs.Answers.{RegisterHistory, AnswersBy, IsAnswer, TakesCommand, RespondsUnread, AppliesAsMachine, refusal_response, reply_response, json_response}
 use Rattle.kcr_desk.specs.Export.{message_of, IsSendable, requests_text, whole, HadNoFault, kept_reply, commands_of, AreSendable}
 use Rattle.kcr_desk.specs.Run.{request_of, Exchange, messages_of, Run}
 use Rattle.kcr_desk.specs.Stream.{IsMessage, AreMessages, Message, clean_end, is_blank_rest}

@@ -14,7 +14,6 @@ pub mod AnswerLemmas
 pub mod StandingLemmas
 pub mod RegisterLemmas
 pub mod ReportLemmas
-pub mod PlainLemmas
 pub mod ConnectionLemmas
 pub mod Posted
 pub mod Exports

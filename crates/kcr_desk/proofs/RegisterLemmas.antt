@@ -15,12 +15,13 @@ use Rattle.kcr_forms.specs.Acts.{IsAct}
 use Rattle.kcr_forms.specs.Values.{AreValues}
 use Rattle.kcr_store.specs.Commands.{AppliesCommand, IsSameOrNext}
 use Rattle.kcr_wire.specs.Commands.{command_of}
+use Rattle.kcr_wire.specs.Methods.{method_of}
 use Rattle.kcr_wire.specs.Questions.{question_of}
 use Rattle.kcr_wire.specs.declared.question.Inquiry.{Inquiry}
 use Rattle.kcr_wire.specs.declared.question.Inquiry.TheVariants as inquiry
 use Rattle.kcr_wire.specs.declared.method.Method.{Method}
-use Rattle.kcr_wire.specs.declared.method.Method.TheVariants.{Post}
-use Rattle.kcr_desk.specs.Answers.{RegisterHistory, AreRegisters, AreOfMachine, AreOfValues, RespondsRefusal, RespondsUnread, TakesReading, TakesCommand, TakesInquiry, AnswersBy, IsAnswer, method_of}
+use Rattle.kcr_wire.specs.declared.method.Method.TheVariants.{Ask, Post, Other}
+use Rattle.kcr_desk.specs.Answers.{RegisterHistory, AreRegisters, AreOfMachine, AreOfValues, RespondsRefusal, RespondsUnread, TakesReading, TakesCommand, TakesInquiry, AnswersBy, IsAnswer}
 use Rattle.kcr_desk.specs.Run.{Request, request_of, Exchange, Run}
 use Rattle.kcr_desk.specs.Texts.{ResponseValue}
 
@@ -101,7 +102,8 @@ module _ (P : History → Type 0) (grown : (A : History) (x : Command) (answer :
 
     message_keeps : (method : Method) → AnswersBy method before asked told after → HoldsOf after
     message_keeps Post h = read_keeps _ command_keeps (command_of asked.target asked.body) h
-    message_keeps method h = read_keeps _ inquiry_keeps (question_of method asked.target) h
+    message_keeps Ask h = read_keeps _ inquiry_keeps (question_of asked.target) h
+    message_keeps Other h = refused_keeps h
 
     answer_keeps : IsAnswer before asked told after → HoldsOf after
     answer_keeps (inl h) = refused_keeps h

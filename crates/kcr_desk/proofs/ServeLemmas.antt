@@ -10,8 +10,8 @@ use Rattle.httparse.specs.declared.spans.RequestSpans.{RequestSpans}
 use Rattle.kcr_desk.specs.declared.head.Framing.{Framing}
 use Rattle.kcr_desk.specs.Input.{Stays}
 use Rattle.kcr_desk.specs.Framing.{is_head}
-use Rattle.kcr_desk.specs.Stream.{Message, Ending, clean_end, HasHead, IsMessage, AreMessages, IsFront}
-use Rattle.kcr_desk.specs.NextHead.{EndsAs, IsReady, message_of}
+use Rattle.kcr_desk.specs.Stream.{Message, Ending, clean_end, HasHead, IsMessage, AreMessages}
+use Rattle.kcr_desk.specs.NextHead.{EndsAs, IsReady}
 use Rattle.kcr_desk.specs.Texts.{ResponseValue, answer, continue_text}
 use Rattle.kcr_desk.specs.Run.{Request, request_of, Exchange, Run, exchange_text, messages_of, ending_text, Begins, IsServed, IsServedInPart, nothing}
 use Rattle.kcr_desk.specs.NextItem.{BreaksItem, request_of_buffer}
@@ -20,6 +20,20 @@ use Rattle.kcr_print.specs.Written.{WritesPrefix}
 use Rattle.kcr_desk.proofs.FoundLemmas.{known_split, head_here}
 use Rattle.kcr_desk.proofs.WaitingLemmas.{gathered_nothing, with_more, sent_whole, sent_front, sent_on}
 use Rattle.kcr_desk.proofs.TurnLemmas.{breaks_ending}
+
+-- bytes is messages that do not close, and then rest
+abbrev IsFront : List ℕ → List Message → List ℕ → Type 0
+IsFront bytes [] rest = bytes ≡ rest
+IsFront bytes (m ∷ ms) rest =
+    (after : List ℕ) × IsMessage bytes m after × (m.plan.closes ≡ false) × IsFront after ms rest
+
+-- the message with which buf begins
+abbrev message_of : (buf : List ℕ) (spans : RequestSpans) (plan : Framing) → IsReady buf spans plan → Message
+message_of buf spans plan ready = record {
+  head = ready.front.head;
+  plan = plan;
+  body = slice_range buf spans.len (spans.len + plan.length);
+}
 
 -- what holds between two messages
 pub record Serving

@@ -1,7 +1,6 @@
 -- What a message is told, and what it leaves of the register.
 use Rattle.std.specs.Prelude.{◌+◌, ◌≡◌, ◌⊎◌, ◌↔◌, ◌≢◌, ⊤, ℕ, List, Option, None, Result, Ok, Err, MatchOption, MatchResult}
-use Rattle.std.specs.Prelude.{IfErr, IsSome, IsTrue, unwrap_or, codes, if◌then◌else◌}
-use Rattle.std.specs.Str.{bytes_eq}
+use Rattle.std.specs.Prelude.{IfErr, IsSome, IsTrue, unwrap_or}
 use Rattle.sqlite.specs.Held.{state}
 use Rattle.sqlite.specs.State.{HasCleanDisk}
 use Rattle.sqlite.specs.Store.{Ghosts}
@@ -25,6 +24,7 @@ use Rattle.kcr_store.specs.Commands.{AppliesCommand, IsSameOrNext, IsQuestionRes
 use Rattle.kcr_history.specs.declared.questions.Question.{Question}
 use Rattle.kcr_history.specs.declared.questions.Shown.{Shown}
 use Rattle.kcr_wire.specs.Commands.{command_of}
+use Rattle.kcr_wire.specs.Methods.{method_of, refused_of}
 use Rattle.kcr_wire.specs.Questions.{question_of}
 use Rattle.kcr_wire.specs.ShownJson.{shown_text}
 use Rattle.kcr_wire.specs.Endpoints.{allow_of, if_method}
@@ -32,7 +32,7 @@ use Rattle.kcr_wire.specs.declared.allow.Allow.{Allow}
 use Rattle.kcr_wire.specs.declared.question.Inquiry.{Inquiry}
 use Rattle.kcr_wire.specs.declared.question.Inquiry.TheVariants as inquiry
 use Rattle.kcr_wire.specs.declared.method.Method.{Method}
-use Rattle.kcr_wire.specs.declared.method.Method.TheVariants.{Get, Head, Post, Other}
+use Rattle.kcr_wire.specs.declared.method.Method.TheVariants.{Ask, Post, Other}
 use Rattle.kcr_desk.specs.declared.response.MediaType.{MediaType}
 use Rattle.kcr_desk.specs.declared.response.MediaType.TheVariants.{Json, Text, Csv}
 use Rattle.kcr_print.specs.Requests.{requests_between}
@@ -53,13 +53,6 @@ whole A = record { accepted = A; in_doubt = None }
 
 abbrev pub history_of : {S : Type 0} → RegisterState S → RegisterHistory
 history_of register = record { accepted = register.accepted; in_doubt = register.in_doubt }
-
--- the method that a token names, in capitals
-unfoldable pub method_of : List ℕ → Method
-method_of token =
-    if bytes_eq token (codes "GET") then Get else
-    if bytes_eq token (codes "HEAD") then Head else
-    if bytes_eq token (codes "POST") then Post else Other
 
 -- 200 with a text of this kind
 abbrev pub ok_response : MediaType → List ℕ → ResponseValue
@@ -161,14 +154,14 @@ TakesInquiry before told after inquiry.Custody =
 TakesInquiry before told after (inquiry.Commands count) =
     TakesReading (report_response Text) (IsFeed count) before told after
 
--- a POST is a command, and all else asks for something, or is refused for its path, its method, its text or its form
+-- a POST is a command, a GET or a HEAD asks for something, and any other method is refused
 abbrev pub AnswersBy : Method → RegisterHistory → Request → ResponseValue → RegisterHistory → Type 0
 AnswersBy Post before asked told after =
     MatchResult (command_of asked.target asked.body)
     (TakesCommand before told after) (RespondsUnread before asked.target told after)
-AnswersBy method before asked told after =
-    MatchResult (question_of method asked.target)
-    (TakesInquiry before told after) (RespondsUnread before asked.target told after)
+AnswersBy Ask before asked told after =
+    MatchResult (question_of asked.target) (TakesInquiry before told after) (RespondsUnread before asked.target told after)
+AnswersBy Other before asked told after = RespondsUnread before asked.target told after (refused_of asked.target)
 
 -- what a message is told, and what it leaves. Any message may be told that memory runs out, and then the register
 -- stays as it was
@@ -214,15 +207,15 @@ RepliesInquiry before told after inquiry.Custody =
 RepliesInquiry before told after (inquiry.Commands count) =
     Replies (report_response Text) MayBeText before told after
 
--- a POST is a command, and all else asks for something, or is refused for its path, its method, its text or its form
+-- a POST is a command, a GET or a HEAD asks for something, and any other method is refused
 abbrev pub RepliesBy : Method → RegisterHistory → Request → ResponseValue → RegisterHistory → Type 0
 RepliesBy Post before asked told after =
     MatchResult (command_of asked.target asked.body)
     (λ x. Replies reply_response (MayBeReplied x) before told after)
     (RespondsUnread before asked.target told after)
-RepliesBy method before asked told after =
-    MatchResult (question_of method asked.target)
-    (RepliesInquiry before told after) (RespondsUnread before asked.target told after)
+RepliesBy Ask before asked told after =
+    MatchResult (question_of asked.target) (RepliesInquiry before told after) (RespondsUnread before asked.target told after)
+RepliesBy Other before asked told after = RespondsUnread before asked.target told after (refused_of asked.target)
 
 -- what a message is told by any register, whatever its database holds and whatever its disk does
 abbrev pub IsReply : RegisterHistory → Request → ResponseValue → RegisterHistory → Type 0

@@ -1,8 +1,9 @@
 -- What a try to read a head says of the bytes, and of all bytes that begin with them.
-use Rattle.std.specs.Prelude.{◌≡◌, ℕ, ◌≤◌, ◌<◌, List, ◌++◌, length, drop, IfOk}
+use Rattle.std.specs.Prelude.{◌≡◌, ℕ, ◌≤◌, ◌<◌, false, List, ◌++◌, length, drop, IfErr, IfOk}
 use Rattle.httparse.specs.Grammar.{RequestHead}
 use Rattle.httparse.specs.Spans.{span_bytes, IsWithin}
 use Rattle.httparse.specs.declared.spans.RequestSpans.{RequestSpans}
+use Rattle.kcr_history.specs.Refusals.{carries}
 use Rattle.kcr_desk.specs.declared.head.HeadParse.{HeadParse}
 use Rattle.kcr_desk.specs.declared.head.HeadParse.TheVariants.{Whole, More, Nothing}
 use Rattle.kcr_desk.specs.Stream.{HasHead, HasNoHead, IsBlankRest, framing_of}
@@ -29,6 +30,6 @@ pub record IsHopeless (buf : List ℕ) : Type 0 where
 
 abbrev pub IsHeadParse : List ℕ → HeadParse → Type 0
 IsHeadParse buf (Whole spans judged) = (h : RequestHead) × IsWhole buf spans h × (framing_of h ≡ judged)
-    × IfOk judged (λ plan. plan.length ≤ 131072)
+    × IfOk judged (λ plan. plan.length ≤ 131072) × IfErr judged (λ refusal. carries refusal ≡ false)
 IsHeadParse buf More = HasNoHead buf
 IsHeadParse buf Nothing = IsHopeless buf

@@ -1,12 +1,13 @@
 -- What was found at the front of a stream: buf was taken in, and unread is still to be read, if it is known.
-use Rattle.std.specs.Prelude.{◌≡◌, ℕ, ◌+◌, ◌≤◌, List, length, slice_range, Option, Some, Ok}
+use Rattle.std.specs.Prelude.{◌≡◌, ℕ, ◌+◌, ◌≤◌, false, List, length, Option, Some, Ok}
 use Rattle.std.specs.Io.KnownBytes.{prepend_known}
 use Rattle.httparse.specs.Grammar.{RequestHead}
 use Rattle.httparse.specs.declared.spans.RequestSpans.{RequestSpans}
+use Rattle.kcr_history.specs.Refusals.{carries}
 use Rattle.kcr_desk.specs.declared.head.Framing.{Framing}
 use Rattle.kcr_desk.specs.declared.input_buffer.NextHead.{NextHead}
 use Rattle.kcr_desk.specs.declared.input_buffer.NextHead.TheVariants.{Whole, Refused, Quiet}
-use Rattle.kcr_desk.specs.Stream.{framing_of, IsEnd, Ending, clean_end, refused, Message}
+use Rattle.kcr_desk.specs.Stream.{framing_of, IsEnd, Ending, clean_end, refused}
 use Rattle.kcr_desk.specs.Heads.{IsWhole}
 
 -- the stream that is left is such an end, if it is known
@@ -22,17 +23,10 @@ pub record HasFraming (buf : List ℕ) (spans : RequestSpans) (plan : Framing) :
 
 abbrev pub IsNextHead : Option (List ℕ) → List ℕ → NextHead → Type 0
 IsNextHead unread buf (Whole spans plan) = HasFraming buf spans plan
-IsNextHead unread buf (Refused r head_only) = EndsAs (prepend_known buf unread) (refused r head_only)
+IsNextHead unread buf (Refused r head_only) = EndsAs (prepend_known buf unread) (refused r head_only) × (carries r ≡ false)
 IsNextHead unread buf Quiet = EndsAs (prepend_known buf unread) clean_end
 
 -- buf begins with a head, and with its body
 pub record IsReady (buf : List ℕ) (spans : RequestSpans) (plan : Framing) : Type 0 where
   pub front : HasFraming buf spans plan
   pub enough : spans.len + plan.length ≤ length buf
-
-abbrev pub message_of : (buf : List ℕ) (spans : RequestSpans) (plan : Framing) → IsReady buf spans plan → Message
-message_of buf spans plan ready = record {
-  head = ready.front.head;
-  plan = plan;
-  body = slice_range buf spans.len (spans.len + plan.length);
-}

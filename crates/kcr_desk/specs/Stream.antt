@@ -60,9 +60,3 @@ AreMessages bytes [] e = IsEnd bytes e
 AreMessages bytes (m ∷ ms) e =
     (rest : List ℕ) × IsMessage bytes m rest
     × MatchBool m.plan.closes ((ms ≡ []) × (e ≡ clean_end)) (AreMessages rest ms e)
-
--- bytes is messages that do not close, and then rest
-abbrev pub IsFront : List ℕ → List Message → List ℕ → Type 0
-IsFront bytes [] rest = bytes ≡ rest
-IsFront bytes (m ∷ ms) rest =
-    (after : List ℕ) × IsMessage bytes m after × (m.plan.closes ≡ false) × IsFront after ms rest

@@ -2,8 +2,9 @@
 use Rattle.std.specs.Prelude.{ℕ, Bool, List, [], ◌∷◌, ◌++◌, length, codes, if◌then◌else◌, Option, Some, None, unwrap_or}
 use Rattle.std.specs.Fmt.{decimal}
 use Rattle.http.specs.StatusCode.{reason_phrase}
-use Rattle.kcr_base.specs.Refusal.{number_of, word_of, status_of}
+use Rattle.kcr_base.specs.Refusal.{status_of}
 use Rattle.kcr_base.specs.declared.refusal.Refusal.{Refusal}
+use Rattle.kcr_history.specs.Refusals.{refusal_text}
 use Rattle.kcr_desk.specs.declared.head.Framing.{Framing}
 use Rattle.kcr_desk.specs.declared.response.Heading.{Heading}
 use Rattle.kcr_desk.specs.declared.response.MediaType.{MediaType}
@@ -68,13 +69,9 @@ answer head_only closes t = head_text closes t.heading (length t.body) ++ shown_
 abbrev pub continue_text : Framing → List ℕ
 continue_text plan = if plan.expects_continue then codes "HTTP/1.1 100 Continue" ++ (crlf ++ crlf) else []
 
--- the JSON of a refusal that carries nothing
-abbrev pub plain_text : Refusal → List ℕ
-plain_text r = codes "{\"number\":" ++ decimal (number_of r) ++ codes ",\"refusal\":\"" ++ word_of r ++ codes "\"}"
-
 -- what a faulty item is told
 abbrev pub fault_response : Refusal → ResponseValue
 fault_response r = record {
   heading = record { status = status_of r; kind = Json; allow = None };
-  body = plain_text r;
+  body = refusal_text r;
 }

@@ -1,16 +1,14 @@
 //! What the register is asked by a message, and what the message is told.
-ghost use Rattle.std.specs.Prelude.{◌≡◌, ◌⊎◌, None, IsTrue, MatchResult};
+ghost use Rattle.std.specs.Prelude.{◌≡◌, ◌⊎◌, None, IsTrue};
 ghost use Rattle.sqlite.specs.Held.{state};
 ghost use Rattle.sqlite.specs.State.{HasCleanDisk};
-ghost use Rattle.kcr_wire.specs.Commands.{command_of};
-ghost use Rattle.kcr_wire.specs.Questions.{question_of};
 ghost use Rattle.kcr_store.specs.Commands.{IsQuestionResult};
-ghost use Rattle.kcr_wire.specs.declared.method.Method.TheVariants.{Post};
+ghost use Rattle.kcr_wire.specs.declared.method.Method.TheVariants.{Ask, Post};
 ghost use Rattle.kcr_history.specs.Refusals.{carries};
 ghost use Rattle.kcr_base.specs.declared.refusal.Refusal.TheVariants as Refusals;
-ghost use Rattle.kcr_desk.specs.Answers.{Answers, AnswersAs, Answered, AnswersCommand, AnswersReading, AnswersInquiry};
-ghost use Rattle.kcr_desk.specs.Answers.{IsReported, method_of, json_response, refusal_response, shown_response, report_response};
-ghost use Rattle.kcr_desk.specs.Answers.{RespondsUnread, TakesInquiry, RepliesInquiry, RespondsOrMemory, refusal_of};
+ghost use Rattle.kcr_desk.specs.Answers.{Answers, AnswersAs, AnswersCommand, AnswersReading, AnswersInquiry};
+ghost use Rattle.kcr_desk.specs.Answers.{IsReported, json_response, refusal_response, shown_response, report_response};
+ghost use Rattle.kcr_desk.specs.Answers.{RespondsOrMemory, refusal_of};
 ghost use Rattle.kcr_desk.specs.Answers.{outcome_of, MayBeReported, MayBeShown, MayBeText, IsText};
 ghost use Rattle.kcr_desk.specs.Answers.{IsFeed};
 ghost use Rattle.kcr_desk.specs.declared.response.MediaType.TheVariants as kinds;
@@ -25,25 +23,9 @@ use kcr_forms::laws::acts_are_values;
 use kcr_history::{Command, Question, fixed_text};
 use kcr_print::{PrintFault, annotated, attendance_csv, custody, export};
 use kcr_store::Register;
-use kcr_wire::{After, Allow, Inquiry, Method, RouteTable, write_refusal, write_shown};
+use kcr_wire::{After, Allow, Inquiry, Method, RouteTable, Unread, write_refusal, write_shown};
 use sqlite::Alter;
 use std::alloc::Global;
-
-/// The method that a token names, in capitals (RFC 9110, section 9.1).
-#[tactic(auto, unfolding(crate::specs::Answers::method_of))]
-fn method_of(token: &[u8]) -> Method
-    ensures { result ≡ method_of token.now }
-{
-    if token == b"GET".as_slice() {
-        Method::Get
-    } else if token == b"HEAD".as_slice() {
-        Method::Head
-    } else if token == b"POST".as_slice() {
-        Method::Post
-    } else {
-        Method::Other
-    }
-}
 
 /// 200 with this JSON text.
 fn json_response(text: Text) -> Response
@@ -234,6 +216,14 @@ fn answer_get<S: Alter>(alloc: Global, register: &mut Register<S>, inquiry: Inqu
     }
 }
 
+/// The refusal of a message that could not be read.
+fn unread_response(alloc: Global, unread: &Unread) -> Response
+    ensures { (response_value result ≡ refusal_response unread.now.allow unread.now.refusal)
+        ⊎ (IsTrue (carries unread.now.refusal) × (response_value result ≡ refusal_response None Refusals.Memory)) }
+{
+    refusal_response(alloc, unread.allow, &unread.refusal)
+}
+
 /// A POST is a command.
 fn answer_post<S: Alter>(
     alloc: Global,
@@ -245,29 +235,22 @@ fn answer_post<S: Alter>(
 {
     match paths.read_command(alloc, asked.target, asked.body) {
         Ok(command) => answer_command(alloc, register, &command),
-        Err(unread) => refusal_response(alloc, unread.allow, &unread.refusal),
+        Err(unread) => unread_response(alloc, &unread),
     }
 }
 
-/// Any other message asks for something, or is refused for its path or its method.
+/// A GET or a HEAD asks for something.
 fn answer_inquiry<S: Alter>(
     alloc: Global,
     register: &mut Register<S>,
     paths: &RouteTable,
-    method: Method,
-    target: &[u8],
+    asked: &Request<'_>,
 ) -> Response
-    ensures { Answered S.Store register.old (response_value result) register.new
-        (λ before after. MatchResult (question_of method target.now)
-        (TakesInquiry before (response_value result) after)
-        (RespondsUnread before target.now (response_value result) after))
-        (λ before after. MatchResult (question_of method target.now)
-        (RepliesInquiry before (response_value result) after)
-        (RespondsUnread before target.now (response_value result) after)) }
+    ensures { AnswersAs Ask S.Store register.old asked.now (response_value result) register.new }
 {
-    match paths.read_question(method, target) {
+    match paths.read_question(asked.target) {
         Ok(inquiry) => answer_get(alloc, register, inquiry),
-        Err(unread) => refusal_response(alloc, unread.allow, &unread.refusal),
+        Err(unread) => unread_response(alloc, &unread),
     }
 }
 
@@ -280,9 +263,10 @@ fn answer_by<S: Alter>(
 ) -> Response
     ensures { Answers S.Store register.old asked.now (response_value result) register.new }
 {
-    match method_of(asked.method) {
+    match Method::of(asked.method) {
         Method::Post => answer_post(alloc, register, paths, asked),
-        other => answer_inquiry(alloc, register, paths, other, asked.target),
+        Method::Ask => answer_inquiry(alloc, register, paths, asked),
+        Method::Other => unread_response(alloc, &paths.refuse_method(asked.target)),
     }
 }
 

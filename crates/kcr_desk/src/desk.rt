@@ -1,17 +1,14 @@
 //! The desk over a register.
-ghost use Rattle.std.specs.Prelude.{◌≡◌, ◌+◌, ◌≤◌, List, IfErr, IsTrue, false};
+ghost use Rattle.std.specs.Prelude.{◌≡◌, ◌+◌, ◌≤◌, List, IfErr, IsTrue};
 ghost use Rattle.sqlite.specs.Held.{state};
 ghost use Rattle.sqlite.specs.State.{HasCleanDisk};
 ghost use Rattle.kcr_base.specs.Counted.{nonempty_reads_of};
-ghost use Rattle.kcr_base.specs.declared.refusal.Refusal.{Refusal};
-ghost use Rattle.kcr_history.specs.Refusals.{carries, refusal_text};
 ghost use Rattle.kcr_store.specs.Register.{IsConsistent};
 ghost use Rattle.kcr_desk.specs.Answers.{RegisterHistory, IsAnswer, IsReply, history_of};
 ghost use Rattle.kcr_desk.specs.Answers.{AreRegisters, AreOfMachine, AreOfValues};
 ghost use Rattle.kcr_desk.specs.Connections.{Ends};
 ghost use Rattle.kcr_desk.specs.Run.{Exchange, Run};
 ghost use Rattle.kcr_desk.specs.Streams.{BreaksStream, streams};
-ghost use Rattle.kcr_desk.specs.Texts.{plain_text};
 
 use crate::fault::DeskFault;
 use crate::stream::{Served, serve_stream};
@@ -59,12 +56,6 @@ pub fn serve<R: Read, W: Write, S: Alter>(
     let _ = register.is_broken();
     result
 }
-
-/// A faulty item is told the JSON that every refusal with nothing to carry has: its number and its word.
-#[tactic(auto, using(crate::proofs::PlainLemmas::plain_refusal))]
-pub fn refusal_text_is_unique()
-    ensures { (r : Refusal) → carries r ≡ false → plain_text r ≡ refusal_text r }
-{}
 
 /// Every run leads from registers to registers, also that of a stream that was served in part. So what holds of every
 /// register holds of the history that a stream leaves, and of the one that a crash may leave in its place. Where the

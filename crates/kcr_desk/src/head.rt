@@ -1,9 +1,10 @@
 //! Heads: whether bytes begin with one, and what its fields ask for (RFC 9112 and RFC 9110, in the part that
 //! `specs/Stream` and `specs/Plans` state).
-ghost use Rattle.std.specs.Prelude.{◌≡◌, ◌≤◌, ◌↔◌, true, false, length, take, map, All, IfOk, IsTrue, codes, not, min};
+ghost use Rattle.std.specs.Prelude.{◌≡◌, ◌≤◌, ◌↔◌, true, false, length, take, map, All, IfErr, IfOk, IsTrue, codes, not, min};
 ghost use Rattle.std.specs.Prelude.{if◌then◌else◌};
 ghost use Rattle.httparse.specs.Spans.{header_bytes, IsHeaderWithin};
 ghost use Rattle.std.specs.Str.Parse.{digits_value};
+ghost use Rattle.kcr_history.specs.Refusals.{carries};
 ghost use Rattle.kcr_desk.specs.Members.{some_has_member};
 ghost use Rattle.kcr_desk.specs.Framing.{planned, is_head, is_named, is_number, values_of, IsNamed, is_hosted, length_in};
 ghost use Rattle.kcr_desk.specs.Framing.{bounded_length, is_empty};
@@ -139,6 +140,7 @@ pub(crate) fn read_framing(
     requires { All (IsHeaderWithin (length buf.now)) headers.now }
     ensures value { result ≡ planned version (map (header_bytes buf.now) headers.now) }
     ensures short { IfOk result (λ plan. plan.length ≤ MAX_BODY) }
+    ensures plain { IfErr result (λ refusal. carries refusal ≡ false) }
 {
     if !has_host(version, buf, headers) {
         return Err(Refusal::Host);

@@ -19,7 +19,7 @@ pub mod response;
 pub mod stream;
 
 pub use connection::{Ended, connections_keep_registers, one};
-pub use desk::{refusal_text_is_unique, serve, streams_keep_registers};
+pub use desk::{serve, streams_keep_registers};
 pub use export::{exports_are_messages, exports_lead_to_registers};
 pub use fault::DeskFault;
 pub use stream::{Served, messages_are_unique, partial_output_is_prefix};

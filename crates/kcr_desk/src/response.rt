@@ -1,11 +1,12 @@
 //! Replies, and the bytes of an answer.
-ghost use Rattle.std.specs.Prelude.{◌≡◌, ◌≤◌, ◌+◌, ◌++◌, length, codes, true};
+ghost use Rattle.std.specs.Prelude.{◌≡◌, ◌≤◌, ◌+◌, ◌++◌, length, codes, false, true};
 ghost use Rattle.std.specs.Fmt.{decimal};
 ghost use Rattle.arrayvec.specs.ArrayVec.{array_vec_len};
 ghost use Rattle.kcr_base.specs.Refusal.{status_of};
+ghost use Rattle.kcr_history.specs.Refusals.{carries};
 ghost use Rattle.kcr_desk.specs.Texts.{phrase_of, kind_text, line, field, allow_line, close_text, head_text};
-ghost use Rattle.kcr_desk.specs.Texts.{shown_text, answer, plain_text, continue_text, fault_response};
-ghost use Rattle.kcr_desk.specs.Responses.{response_value};
+ghost use Rattle.kcr_desk.specs.Texts.{shown_text, answer, continue_text, fault_response};
+ghost use Rattle.kcr_desk.specs.Responses.{body_bytes, response_value};
 ghost use Rattle.kcr_desk.specs.Output.{Queues};
 ghost use Rattle.kcr_desk.specs.Streams.{writing};
 ghost use Rattle.kcr_desk.specs.declared.response.MediaType.TheVariants.{Json};
@@ -14,10 +15,10 @@ use crate::fault::DeskFault;
 use crate::head::Framing;
 use crate::output::{enqueue, reserve};
 use crate::output_buffer::{OUTPUT_BUFFER_SIZE, OutputBuffer, add};
-use arrayvec::ArrayVec;
 use http::StatusCode;
 use itoa::Buffer;
 use kcr_base::{Counted, Refusal, Text};
+use kcr_history::fixed_text;
 use kcr_wire::Allow;
 use std::io::Write;
 
@@ -47,6 +48,19 @@ pub enum Body {
     Printed(Vec<u8>),
     /// A text that stands in the program.
     Fixed(&'static str),
+}
+
+impl Body {
+    /// Its bytes.
+    fn bytes(&self) -> &[u8]
+        ensures { result.now ≡ body_bytes self.now }
+    {
+        match self {
+            Body::Made(text) => text.as_bytes(),
+            Body::Printed(bytes) => bytes.as_slice(),
+            Body::Fixed(text) => text.as_bytes(),
+        }
+    }
 }
 
 /// What a message is told.
@@ -142,19 +156,6 @@ fn add_head(page: &mut OutputBuffer, heading: Heading, length: usize, closes: bo
     add(page, b"\r\n");
 }
 
-/// The JSON of a refusal that carries nothing: its number and its word.
-fn refusal_body(refusal: &Refusal) -> ArrayVec<u8, 64>
-    ensures { result.items ≡ plain_text refusal.now }
-{
-    let mut body = ArrayVec::new();
-    add(&mut body, b"{\"number\":");
-    add(&mut body, Buffer::new().format(refusal.number()).as_bytes());
-    add(&mut body, b",\"refusal\":\"");
-    add(&mut body, refusal.word().as_bytes());
-    add(&mut body, b"\"}");
-    body
-}
-
 /// The status of a refusal.
 fn refusal_status(refusal: &Refusal) -> StatusCode
     ensures { result ≡ status_of refusal.now }
@@ -183,25 +184,8 @@ fn sent_body(head_only: bool, body: &[u8]) -> &[u8]
     if head_only { &body[..0] } else { body }
 }
 
-/// Has an answer wait. Its head is made in the page itself.
+/// Has an answer wait, without its body if it is bare. Its head is made in the page itself.
 #[tactic(auto, using(kcr_print::proofs::WrittenLemmas::front_longer))]
-fn enqueue_parts<W: Write>(
-    writer: &mut Counted<W>,
-    queue: &mut OutputBuffer,
-    heading: Heading,
-    body: &[u8],
-    head_only: bool,
-    closes: bool,
-) -> Result<(), DeskFault>
-    ensures { Queues (writing W.contents writer.old writer.new)
-        (queue.old.items ++ answer head_only closes (record { heading = heading; body = body.now })) queue.new.items result }
-{
-    reserve(writer, queue, MAX_RESPONSE_HEAD)?;
-    add_head(queue, heading, body.len(), closes);
-    enqueue(writer, queue, sent_body(head_only, body))
-}
-
-/// Has an answer wait, without its body if it is bare.
 pub(crate) fn enqueue_response<W: Write>(
     writer: &mut Counted<W>,
     queue: &mut OutputBuffer,
@@ -212,27 +196,31 @@ pub(crate) fn enqueue_response<W: Write>(
     ensures { Queues (writing W.contents writer.old writer.new)
         (queue.old.items ++ answer head_only closes (response_value reply.now)) queue.new.items result }
 {
-    let body = match &reply.body {
-        Body::Made(text) => text.as_bytes(),
-        Body::Printed(bytes) => bytes.as_slice(),
-        Body::Fixed(text) => text.as_bytes(),
-    };
-    enqueue_parts(writer, queue, reply.heading, body, head_only, closes)
+    let body = reply.body.bytes();
+    reserve(writer, queue, MAX_RESPONSE_HEAD)?;
+    add_head(queue, reply.heading, body.len(), closes);
+    enqueue(writer, queue, sent_body(head_only, body))
 }
 
-/// Has the answer to a faulty item wait. The stream is closed after it.
+/// Has the answer to a faulty item wait, whose refusal carries nothing. The stream is closed after it.
 pub(crate) fn enqueue_refusal<W: Write>(
     writer: &mut Counted<W>,
     queue: &mut OutputBuffer,
     refusal: Refusal,
     head_only: bool,
 ) -> Result<(), DeskFault>
+    requires { carries refusal ≡ false }
     ensures { Queues (writing W.contents writer.old writer.new)
         (queue.old.items ++ answer head_only true (fault_response refusal)) queue.new.items result }
 {
-    let heading = refusal_heading(&refusal, None);
-    let body = refusal_body(&refusal);
-    enqueue_parts(writer, queue, heading, body.as_slice(), head_only, true)
+    let Some(text) = fixed_text(&refusal) else {
+        unreachable!()
+    };
+    let reply = Response {
+        heading: refusal_heading(&refusal, None),
+        body: Body::Fixed(text),
+    };
+    enqueue_response(writer, queue, &reply, head_only, true)
 }
 
 /// `100 Continue`, if a head waits for it, and nothing elsewhere.

@@ -7,7 +7,7 @@ use Rattle.kcr_wire.specs.Commands.{command_of}
 use Rattle.kcr_export.specs.Bodies.{body_text}
 use Rattle.kcr_history.specs.Texts.{path_text}
 use Rattle.kcr_export.proofs.Reading.{body-read, command-again}
-use Rattle.kcr_export.proofs.Targets.{act-target}
+use Rattle.kcr_wire.proofs.Targets.{act-target}
 
 pub told_again : (c : Command) → IsKey c.key → IsAct c.act → command_of (path_text c.act) (body_text c) ≡ Ok c
 unfolding command_of

@@ -1,11 +1,5 @@
 pub mod Sent
-pub mod Seeking
-pub mod Walking
-pub mod Bytes
 pub mod Values
 pub mod Reading
-pub mod Pieces
-pub mod Targets
 pub mod Again
-pub mod Paths
 pub mod Told

@@ -14,7 +14,7 @@ use Rattle.kcr_history.specs.declared.commands.Act.TheVariants.{Enter, Train, Wi
 use Rattle.kcr_history.specs.declared.commands.Act.TheVariants.{Sign, RecordException, SetSafe, Seal, Take, Put, Cut}
 use Rattle.kcr_forms.specs.Acts.{IsAct}
 use Rattle.kcr_forms.specs.Forms.{key_of, initials_of, item_of, number_to, listed_of}
-use Rattle.kcr_forms.specs.Posts.{post_of}
+use Rattle.kcr_forms.proofs.Posts.{post_of}
 use Rattle.kcr_base.proofs.FormLemmas.{key-read}
 use Rattle.kcr_forms.proofs.FormLemmas.{number-new, listed_new}
 use Rattle.kcr_forms.proofs.Formed.{days, moments, roles, facilities, ways, places-read, initials, serials, names, remarks, scripts, destinations}
@@ -24,7 +24,7 @@ use Rattle.kcr_wire.specs.Members.{json_of, each_in}
 use Rattle.kcr_wire.proofs.Json.{json-some}
 use Rattle.kcr_history.specs.Texts.{members_of}
 use Rattle.kcr_export.specs.Bodies.{json_members, body_text}
-use Rattle.kcr_export.proofs.Bytes.{word-utf8, literal}
+use Rattle.kcr_wire.proofs.Bytes.{word-utf8, literal}
 use Rattle.kcr_export.proofs.Sent.{AreSent, kept, object-read, object-utf8}
 use Rattle.kcr_export.proofs.Values.{act-sent}
 
@@ -43,38 +43,38 @@ each-again : (IsValue : List ℕ → Type 0) (form : List ℕ → Option (List �
 unfolding each_in
 each-again IsValue form reads [] each = refl
 each-again IsValue form reads (text ∷ list) each =
-    rw (reads.again text (All-head IsValue text list each), each-again IsValue form reads list (All-tail IsValue text list each)) refl
+    rw (reads text (All-head IsValue text list each), each-again IsValue form reads list (All-tail IsValue text list each)) refl
 
 listed-again : (limit : ℕ) (list : List (List ℕ)) → IsListed limit list → listed_of limit (λ texts. texts) list ≡ Some list
 listed-again limit list is = sym (listed_new limit (λ texts. texts) list (Some list) (is, refl))
 
 pub command-again : (key : List ℕ) (act : Act) → IsKey key → IsAct act → posted_command (post_of act) (data_of key act) ≡ Ok (record { key = key; act = act })
-command-again key (Enter who name) is_key is = rw (key-again key is_key, initials.reads.again who is.0, names.again name is.1) refl
+command-again key (Enter who name) is_key is = rw (key-again key is_key, initials.again who is.0, names name is.1) refl
 command-again key (Train who role since until) is_key is =
-    rw (key-again key is_key, roles.reads.again role tt, days.reads.again since is.1, days.reads.again until is.2) refl
-command-again key (Withdraw who role day) is_key is = rw (key-again key is_key, roles.reads.again role tt, days.reads.again day is.1) refl
+    rw (key-again key is_key, roles.again role tt, days.again since is.1, days.again until is.2) refl
+command-again key (Withdraw who role day) is_key is = rw (key-again key is_key, roles.again role tt, days.again day is.1) refl
 command-again key (Appoint place who day) is_key is =
-    rw (key-again key is_key, places-read.reads.again place is.0, initials.reads.again who is.1, days.reads.again day is.2) refl
-command-again key (Replace place who day) is_key is = rw (key-again key is_key, initials.reads.again who is.1, days.reads.again day is.2) refl
-command-again key (Release place day) is_key is = rw (key-again key is_key, days.reads.again day is.1) refl
+    rw (key-again key is_key, places-read.again place is.0, initials.again who is.1, days.again day is.2) refl
+command-again key (Replace place who day) is_key is = rw (key-again key is_key, initials.again who is.1, days.again day is.2) refl
+command-again key (Release place day) is_key is = rw (key-again key is_key, days.again day is.1) refl
 command-again key (AddBox facility box place) is_key is =
-    rw (key-again key is_key, facilities.reads.again facility tt, number-again box is.0, places-read.reads.again place is.1) refl
+    rw (key-again key is_key, facilities.again facility tt, number-again box is.0, places-read.again place is.1) refl
 command-again key (AddItem ceremony item at) is_key is =
-    rw (key-again key is_key, number-again ceremony is.0, serials.reads.again item is.1, moments.again at is.2) refl
+    rw (key-again key is_key, number-again ceremony is.0, serials.again item is.1, moments at is.2) refl
 command-again key (Plan ceremony facility day script) is_key is =
-    rw (key-again key is_key, number-again ceremony is.0, facilities.reads.again facility tt, days.reads.again day is.1, scripts.again script is.2) refl
-command-again key (Open ceremony at) is_key is = rw (key-again key is_key, moments.again at is.1) refl
-command-again key (Close ceremony at) is_key is = rw (key-again key is_key, moments.again at is.1) refl
+    rw (key-again key is_key, number-again ceremony is.0, facilities.again facility tt, days.again day is.1, scripts script is.2) refl
+command-again key (Open ceremony at) is_key is = rw (key-again key is_key, moments at is.1) refl
+command-again key (Close ceremony at) is_key is = rw (key-again key is_key, moments at is.1) refl
 command-again key (RecordSheet ceremony way who at) is_key is =
-    rw (key-again key is_key, ways.reads.again way tt, each-again IsInitials initials_of initials.reads who is.1.each, listed-again 32 who is.1.listed, moments.again at is.2) refl
-command-again key (Sign ceremony step at) is_key is = rw (key-again key is_key, moments.again at is.2) refl
-command-again key (RecordException ceremony text pass at) is_key is = rw (key-again key is_key, remarks.reads.again text is.1, moments.again at is.2) refl
-command-again key (SetSafe ceremony safe state by at) is_key is = rw (key-again key is_key, initials.reads.again by is.1, moments.again at is.2) refl
+    rw (key-again key is_key, ways.again way tt, each-again IsInitials initials_of initials.again who is.1.each, listed-again 32 who is.1.listed, moments at is.2) refl
+command-again key (Sign ceremony step at) is_key is = rw (key-again key is_key, moments at is.2) refl
+command-again key (RecordException ceremony text pass at) is_key is = rw (key-again key is_key, remarks.again text is.1, moments at is.2) refl
+command-again key (SetSafe ceremony safe state by at) is_key is = rw (key-again key is_key, initials.again by is.1, moments at is.2) refl
 command-again key (Seal ceremony serial list at) is_key is =
-    rw (key-again key is_key, each-again IsSerial item_of serials.reads list is.2.each, listed-again 64 list is.2.listed, moments.again at is.3) refl
-command-again key (Take ceremony serial at) is_key is = rw (key-again key is_key, moments.again at is.2) refl
-command-again key (Put ceremony serial to at) is_key is = rw (key-again key is_key, destinations.reads.again to is.2, moments.again at is.3) refl
-command-again key (Cut ceremony serial at) is_key is = rw (key-again key is_key, moments.again at is.2) refl
+    rw (key-again key is_key, each-again IsSerial item_of serials.again list is.2.each, listed-again 64 list is.2.listed, moments at is.3) refl
+command-again key (Take ceremony serial at) is_key is = rw (key-again key is_key, moments at is.2) refl
+command-again key (Put ceremony serial to at) is_key is = rw (key-again key is_key, destinations.again to is.2, moments at is.3) refl
+command-again key (Cut ceremony serial at) is_key is = rw (key-again key is_key, moments at is.2) refl
 
 -- the body is read as those members
 pub body-read : (c : Command) → IsKey c.key → IsAct c.act → json_of (body_text c) ≡ Some (data_of c.key c.act)

@@ -34,7 +34,7 @@ use Rattle.kcr_history.specs.declared.commands.Act.TheVariants.{Enter, Train, Wi
 use Rattle.kcr_history.specs.declared.commands.Act.TheVariants.{Sign, RecordException, SetSafe, Seal, Take, Put, Cut}
 use Rattle.kcr_forms.specs.Acts.{IsAct}
 use Rattle.kcr_export.specs.Bodies.{json_members}
-use Rattle.kcr_export.proofs.Bytes.{initials-word, serial-word, number-word, place-word, word-utf8, ascii-utf8}
+use Rattle.kcr_wire.proofs.Bytes.{initials-word, serial-word, number-word, place-word, word-utf8, ascii-utf8}
 use Rattle.kcr_export.proofs.Sent.{AreSent, are-texts}
 
 named : (m : Member) → IsUtf8 (member_text m)

@@ -145,11 +145,6 @@ HasCause task file s (IntoFile step) = IsMaking task × IsUntouched s
 HasCause task file s Words = IsUntouched s
 HasCause task file s other = StopsKnown task s other
 
--- why a stream of requests was not answered to its end
-abbrev pub StopsStream : {R W : Type 0} → Streams R W → Fault → Type 0
-StopsStream s (Stream fault) = BreaksStream s fault
-StopsStream s other = ⊥
-
 -- why a report, an audit or a line was not written whole: a refusal that may be met, or a failed write, which the
 -- writer's count tells
 abbrev pub StopsReport : {W : Type 0} → (Refusal → Type 0) → Writing W → Fault → Type 0

@@ -1,18 +1,17 @@
 -- The readers of the forms read the texts of their values and no others.
-use Rattle.std.proofs.Common.{◌≡◌, ℕ, ◌+◌, ◌-◌, ◌*◌, ◌≤◌, ◌<◌, ◌⊎◌, Bool, true, false, not, eqb, nat_le, List, [], ◌∷◌, suc}
-use Rattle.std.proofs.Common.{length, get_or, codes, Option, Some, refl, sym, ap, subst, ◌∙◌, arith, All}
+use Rattle.std.proofs.Common.{◌≡◌, ℕ, ◌+◌, ◌≤◌, ◌<◌, ◌⊎◌, Bool, true, false, eqb, nat_le, List, [], ◌∷◌, suc}
+use Rattle.std.proofs.Common.{length, get_or, codes, Option, Some, refl, sym, ap, ◌∙◌, arith, All}
 use Rattle.std.specs.Bool.{⊤}
 use Rattle.std.specs.Fmt.{decimal}
 use Rattle.std.specs.Int.Digits.{digits_of}
-use Rattle.std.specs.List.{find, range_with_len, list_all}
-use Rattle.std.specs.Str.{is_utf8, IsUtf8}
+use Rattle.std.specs.List.{find, list_all}
+use Rattle.std.specs.Str.{IsUtf8}
 use Rattle.std.specs.Cmp.Lexicographic.{same_text as equal_texts}
 use Rattle.std.proofs.lemmas.Bool.{leb-true}
 use Rattle.std.proofs.lemmas.Fmt.{decimal_injective, decimal-digits_of}
 use Rattle.std.proofs.lemmas.List.Elements.{All-get_or, All-nil, All-weaker, All-map, All-append, All-head, All-tail, All-from_recursion}
 use Rattle.std.proofs.lemmas.List.Sums.{AllPass-from_list_all}
 use Rattle.std.proofs.lemmas.List.Splits.{slice_split_none, slice_split_at}
-use Rattle.std.proofs.lemmas.Option.{cond_some}
 use Rattle.kcr_base.specs.Same.{same_text}
 use Rattle.kcr_base.specs.Day.{IsDay, day_text}
 use Rattle.kcr_base.specs.Facility.{facility_text}
@@ -38,8 +37,8 @@ use Rattle.kcr_room.specs.declared.Way.{Way}
 use Rattle.kcr_room.specs.declared.Way.TheVariants.{Enter, Leave}
 use Rattle.kcr_room.specs.Room.{way_text}
 use Rattle.kcr_history.specs.Texts.{safe_text, truth_text, listed}
-use Rattle.kcr_base.specs.Forms.{by_text, number_by_text, initials_of, serial_of, line_of, name_of, remark_of, is_initials, is_serial, is_line, day_of}
-use Rattle.kcr_base.specs.Forms.{moment_of, ceremony_of, box_of, step_of, role_of, facility_of, places, place_of, script_of, if_form}
+use Rattle.kcr_base.specs.Forms.{by_text, number_by_text, initials_of, serial_of, line_of, name_of, remark_of, day_of}
+use Rattle.kcr_base.specs.Forms.{moment_of, ceremony_of, box_of, step_of, role_of, facility_of, places, place_of, script_of}
 use Rattle.kcr_base.proofs.FormLemmas.{initials-read, serial-read, line-read, script-read}
 use Rattle.kcr_base.proofs.TextLemmas.{number-read}
 use Rattle.kcr_base.proofs.ValueLemmas.{day-read, moment-read, place-read}
@@ -48,9 +47,9 @@ use Rattle.kcr_custody.proofs.DestinationLemmas.{number-no_word}
 use Rattle.kcr_room.specs.Forms.{way_of}
 use Rattle.kcr_forms.specs.Forms.{safe_of, truth_of}
 use Rattle.kcr_forms.specs.Lines.{each_of, between_commas}
-use Rattle.kcr_forms.proofs.Cutting.{Lacks, lacks-literal}
+use Rattle.kcr_forms.proofs.Cutting.{Lacks}
 use Rattle.kcr_forms.proofs.Dates.{day-same, moment-same, day-printing}
-use Rattle.kcr_forms.proofs.Readers.{named, nothing, option_map_some, Reads, Value, InPath, AtLeast, lacks-below, at_least-less}
+use Rattle.kcr_forms.proofs.Readers.{Reads, Value, AtLeast, lacks-below, at_least-less}
 
 -- ---- the bytes of texts
 
@@ -70,63 +69,45 @@ number-at_least limit n few is = rw (decimal-digits_of n (omega (arith, is.from)
 
 -- ---- values that are found by their texts
 
--- what is found passes the test, and is in the list
-find-at : {X : Type 0} (test : X → Bool) (xs : List X) (v : X) → find test xs ≡ Some v
-    → (test v ≡ true) × ((i : ℕ) × (i < length xs) × (get_or xs i v ≡ v))
+-- what is found is in the list
+find-at : {X : Type 0} (test : X → Bool) (xs : List X) (v : X) → find test xs ≡ Some v → (i : ℕ) × (i < length xs) × (get_or xs i v ≡ v)
 find-at test [] v e = cc
 find-at {X} test (x ∷ xs) v e = by (test x) refl (find-at test xs v)
   where
-    by : (b : Bool) → test x ≡ b → (find test xs ≡ Some v → (test v ≡ true) × ((i : ℕ) × (i < length xs) × (get_or xs i v ≡ v)))
-        → (test v ≡ true) × ((i : ℕ) × (i < length (x ∷ xs)) × (get_or (x ∷ xs) i v ≡ v))
-    by true t rest = let first : Some x ≡ Some v = rw t at e in let same : x ≡ v = cc in (rw (← same) t, (0, omega arith, same))
-    by false t rest = let r = rest (rw t at e) in (r.0, (suc r.1.0, omega (arith, r.1.1), r.1.2))
-
-by_texts : {V : Type 0} {IsValue : V → Type 0} (text_of : V → List ℕ) (values : List V)
-    → ((v : V) → IsValue v → by_text text_of values (text_of v) ≡ Some v) → Reads IsValue text_of (by_text text_of values)
-by_texts text_of values again = record {
-  found = λ text v e. equal_texts (text_of v) text (sym (find-at (λ w. same_text (text_of w) text) values v e).0);
-  again = again;
-}
-
-number_texts : {IsValue : ℕ → Type 0} (text_of : ℕ → List ℕ) (first last : ℕ)
-    → ((v : ℕ) → IsValue v → number_by_text text_of first last (text_of v) ≡ Some v) → Reads IsValue text_of (number_by_text text_of first last)
-unfolding number_by_text
-number_texts text_of first last again = by_texts text_of (range_with_len first (last + 1 - first)) again
+    by : (b : Bool) → test x ≡ b → (find test xs ≡ Some v → (i : ℕ) × (i < length xs) × (get_or xs i v ≡ v))
+        → (i : ℕ) × (i < length (x ∷ xs)) × (get_or (x ∷ xs) i v ≡ v)
+    by true t rest = let first : Some x ≡ Some v = rw t at e in let same : x ≡ v = cc in (0, omega arith, same)
+    by false t rest = let r = rest (rw t at e) in (suc r.0, omega (arith, r.1), r.2)
 
 -- a reader of the values reads each again, if no two have one text
 again-by : {V : Type 0} {IsValue : V → Type 0} {text_of : V → List ℕ} {read : List ℕ → Option V}
     → ((bytes : List ℕ) (r : Option V) → HasText IsValue text_of bytes r → ReadsText IsValue text_of bytes r → r ≡ read bytes)
-    → ((v w : V) → IsValue v → IsValue w → text_of v ≡ text_of w → v ≡ w) → (v : V) → IsValue v → read (text_of v) ≡ Some v
+    → ((v w : V) → IsValue v → IsValue w → text_of v ≡ text_of w → v ≡ w) → Reads IsValue text_of read
 again-by {text_of = text_of} reads same v is = sym (reads (text_of v) (Some v) (is, refl) (λ w is_w e. ap Some (same v w is is_w (sym e))))
 
--- the texts of listed values are printing if a test of the list says so, and have no slash
-module _ {V : Type 0} {IsValue : V → Type 0} (text_of : V → List ℕ) (values : List V) (reads : Reads IsValue text_of (by_text text_of values)) where
-  tested : (test : ℕ → Bool) → list_all (λ v. list_all test (text_of v)) values ≡ true → (v : V) → IsValue v → list_all test (text_of v) ≡ true
-  tested test all v is =
-      let at = (find-at (λ w. same_text (text_of w) (text_of v)) values v (reads.again v is)).1 in
-      let passes = All-get_or (λ w. list_all test (text_of w) ≡ true) values at.0 v at.1
-      (AllPass-from_list_all (λ w. list_all test (text_of w)) values all) in
-      rw at.2 at passes
-
-  texts-value : list_all (λ v. list_all (λ b. nat_le 32 b) (text_of v)) values ≡ true → Value IsValue text_of (by_text text_of values)
-  texts-value all = record { reads = reads; printing = λ v is. literal 32 (text_of v) (tested (λ b. nat_le 32 b) all v is) }
-
-  texts-path : list_all (λ v. list_all (λ b. not (eqb b 47)) (text_of v)) values ≡ true → InPath IsValue text_of
-  texts-path all = record { no_slash = λ v is. lacks-literal 47 (text_of v) (tested (λ b. not (eqb b 47)) all v is) }
+-- the texts of listed values are printing if a test of the list says so
+texts-value : {V : Type 0} {IsValue : V → Type 0} (text_of : V → List ℕ) (values : List V) → Reads IsValue text_of (by_text text_of values)
+    → list_all (λ v. list_all (λ b. nat_le 32 b) (text_of v)) values ≡ true → Value IsValue text_of (by_text text_of values)
+texts-value text_of values again all = record {
+  again = again;
+  printing = λ v is.
+      let at = (find-at (λ w. same_text (text_of w) (text_of v)) values v (again v is)) in
+      let passes = All-get_or (λ w. list_all (λ b. nat_le 32 b) (text_of w) ≡ true) values at.0 v at.1
+      (AllPass-from_list_all (λ w. list_all (λ b. nat_le 32 b) (text_of w)) values all) in
+      literal 32 (text_of v) (rw at.2 at passes);
+}
 
 pub days : Value IsDay day_text day_of
-unfolding day_of
-days = record { reads = number_texts day_text 10957 47481 (again-by day-read day-same); printing = λ v _. day-printing v }
+days = record { again = again-by day-read day-same; printing = λ v _. day-printing v }
 
 pub moments : Reads IsMoment moment_text moment_of
-unfolding moment_of
-moments = number_texts moment_text (10957 * 86400) (47481 * 86400 + 86399) (again-by moment-read moment-same)
+moments = again-by moment-read moment-same
 
 decimals : (limit : ℕ) → limit < 10000 → Value (IsNumber limit) decimal (number_by_text decimal 1 limit)
 decimals limit few = record {
-  reads = number_texts decimal 1 limit (again-by
+  again = again-by
       (λ bytes r. number-read (IsNumber limit) decimal 1 limit bytes r (λ n low high. record { from = low; until = high }) (λ n is. (is.from, is.until)))
-      (λ m n is_m is_n e. decimal_injective m n (omega (arith, few, is_m.until)) (omega (arith, few, is_n.until)) e));
+      (λ m n is_m is_n e. decimal_injective m n (omega (arith, few, is_m.until)) (omega (arith, few, is_n.until)) e);
   printing = λ v is. at_least-less 48 32 (decimal v) (omega arith) (number-at_least limit v few is);
 }
 
@@ -156,11 +137,11 @@ pub roles : Value (λ _. ⊤) role_text role_of
 unfolding role_of
 roles =
     let all = Ca ∷ Iw ∷ Sa ∷ Ssc1 ∷ Ssc2 ∷ Rkos ∷ Sw ∷ [] in
-    texts-value role_text all (by_texts role_text all (λ v _. role-again v)) refl
+    texts-value role_text all (λ v _. role-again v) refl
 
 pub facilities : Value (λ _. ⊤) facility_text facility_of
 unfolding facility_of
-facilities = texts-value facility_text (East ∷ West ∷ []) (by_texts facility_text (East ∷ West ∷ []) (λ v _. again v)) refl
+facilities = texts-value facility_text (East ∷ West ∷ []) (λ v _. again v) refl
   where
     again : (v : Facility) → facility_of (facility_text v) ≡ Some v
     again East = refl
@@ -168,7 +149,7 @@ facilities = texts-value facility_text (East ∷ West ∷ []) (by_texts facility
 
 pub ways : Value (λ _. ⊤) way_text way_of
 unfolding way_of
-ways = texts-value way_text (Enter ∷ Leave ∷ []) (by_texts way_text (Enter ∷ Leave ∷ []) (λ v _. again v)) refl
+ways = texts-value way_text (Enter ∷ Leave ∷ []) (λ v _. again v) refl
   where
     again : (v : Way) → way_of (way_text v) ≡ Some v
     again Enter = refl
@@ -176,7 +157,7 @@ ways = texts-value way_text (Enter ∷ Leave ∷ []) (by_texts way_text (Enter �
 
 pub safes : Value (λ _. ⊤) safe_text safe_of
 unfolding safe_of
-safes = texts-value safe_text (One ∷ Two ∷ []) (by_texts safe_text (One ∷ Two ∷ []) (λ v _. again v)) refl
+safes = texts-value safe_text (One ∷ Two ∷ []) (λ v _. again v) refl
   where
     again : (v : SafeNumber) → safe_of (safe_text v) ≡ Some v
     again One = refl
@@ -197,70 +178,44 @@ place-same (Rksh n) (Co facility m) e = let apart : 82 ≡ 67 = byte 0 e in absu
 
 pub places-read : Value IsPlace place_text place_of
 unfolding place_of
-places-read = texts-value place_text places (by_texts place_text places (again-by place-read (λ v w _ _. place-same v w))) refl
-
-pub places-path : InPath IsPlace place_text
-unfolding place_of
-places-path = texts-path place_text places places-read.reads refl
+places-read = texts-value place_text places (again-by place-read (λ v w _ _. place-same v w)) refl
 
 -- ---- texts that are their own value
 
-if_forms : {IsValue : List ℕ → Type 0} (test : List ℕ → Bool) → ((v : List ℕ) → IsValue v → if_form (test v) v ≡ Some v)
-    → Reads IsValue (λ text. text) (λ text. if_form (test text) text)
-if_forms test again = record { found = λ text v e. sym (cond_some (test text) text v e).1; again = again }
-
 pub initials : Value IsInitials (λ text. text) initials_of
-unfolding initials_of
 initials = record {
-  reads = if_forms is_initials (λ v is. sym (initials-read (Some v) v (is, refl)));
+  again = λ v is. sym (initials-read (Some v) v (is, refl));
   printing = λ v is. at_least-less 65 32 v (omega arith) (initials-at_least v is);
 }
 
 pub serials : Value IsSerial (λ text. text) serial_of
-unfolding serial_of
 serials = record {
-  reads = if_forms is_serial (λ v is. sym (serial-read (Some v) v (is, refl)));
+  again = λ v is. sym (serial-read (Some v) v (is, refl));
   printing = λ v is. at_least-less 48 32 v (omega arith) (serial-at_least v is);
 }
 
 line-forms : (limit : ℕ) → Reads (IsLine limit) (λ text. text) (line_of limit)
-unfolding line_of
-line-forms limit = if_forms (is_line limit) (λ v is. sym (line-read limit (Some v) v (is, refl)))
+line-forms limit v is = sym (line-read limit (Some v) v (is, refl))
 
 pub names : Reads (IsLine 120) (λ text. text) name_of
 names = line-forms 120
 
 pub remarks : Value (IsLine 1000) (λ text. text) remark_of
 remarks = record {
-  reads = line-forms 1000;
+  again = line-forms 1000;
   printing = λ v is. All-weaker IsPrinting (λ b. 32 ≤ b) (λ b h. h.0) v is.printing;
 }
 
 pub scripts : Reads IsUtf8 (λ text. text) script_of
-unfolding script_of
-scripts = if_forms is_utf8 (λ v is. sym (script-read (Some v) v (is, refl)))
-
--- the value that a word chooses has that word for its text
-chosen : {V : Type 0} (text_of : V → List ℕ) (x : V) {v : V} {text : List ℕ} → text ≡ text_of x → Some x ≡ Some v → text_of v ≡ text
-chosen text_of x {v} is some = let same : x ≡ v = cc in ap text_of (sym same) ∙ sym is
+scripts v is = sym (script-read (Some v) v (is, refl))
 
 pub truths : Value (λ _. ⊤) truth_text truth_of
 unfolding truth_of
-truths = record {
-  reads = record {
-    found = λ text v e. named text (codes "true") e (chosen truth_text true) (λ e. named text (codes "false") e (chosen truth_text false) nothing);
-    again = λ v _. again v;
-  };
-  printing = λ v _. printing v;
-}
+truths = texts-value truth_text (true ∷ false ∷ []) (λ v _. again v) refl
   where
     again : (v : Bool) → truth_of (truth_text v) ≡ Some v
     again true = refl
     again false = refl
-
-    printing : (v : Bool) → AtLeast 32 (truth_text v)
-    printing true = literal 32 (codes "true") refl
-    printing false = literal 32 (codes "false") refl
 
 -- ---- where a bag is put
 
@@ -271,22 +226,14 @@ destination-again (DepositBox n) is = by (same_text (decimal n) (codes "safe1"))
   where
     by : (b : Bool) → same_text (decimal n) (codes "safe1") ≡ b → destination_of (destination_text (DepositBox n)) ≡ Some (DepositBox n)
     by true e = absurd (number-no_word n is (equal_texts (decimal n) (codes "safe1") (sym e)))
-    by false e = rw (e, boxes.reads.again n is) refl
+    by false e = rw (e, boxes.again n is) refl
 
 destination-printing : (v : Destination) → IsDestination v → AtLeast 32 (destination_text v)
 destination-printing SafeOne is = literal 32 (codes "safe1") refl
 destination-printing (DepositBox n) is = at_least-less 48 32 (decimal n) (omega arith) (number-at_least 9999 n (omega arith) is)
 
 pub destinations : Value IsDestination destination_text destination_of
-unfolding destination_of
-destinations = record {
-  reads = record {
-    found = λ text v e. named text (codes "safe1") e (chosen destination_text SafeOne) (λ e.
-        option_map_some DepositBox (box_of text) v e (λ n found same. ap destination_text (sym same) ∙ boxes.reads.found text n found));
-    again = destination-again;
-  };
-  printing = destination-printing;
-}
+destinations = record { again = destination-again; printing = destination-printing }
 
 -- ---- lists
 
@@ -294,7 +241,7 @@ pub each-again : (IsValue : List ℕ → Type 0) (read : List ℕ → Option (Li
     → All IsValue list → each_of read list ≡ Some list
 each-again IsValue read reads [] each = refl
 each-again IsValue read reads (code ∷ codes) each =
-    rw (reads.again code (All-head IsValue code codes each), each-again IsValue read reads codes (All-tail IsValue code codes each)) refl
+    rw (reads code (All-head IsValue code codes each), each-again IsValue read reads codes (All-tail IsValue code codes each)) refl
 
 pub pieces : (list : List (List ℕ)) → 1 ≤ length list → All (λ code. Lacks 44 code) list → between_commas (listed list) ≡ list
 pieces [] some each = absurd (omega (arith, some))
@@ -322,14 +269,3 @@ initials-lack code is = lacks-below 44 65 code (omega arith) (initials-at_least 
 
 pub items-lack : (code : List ℕ) → IsSerial code → Lacks 44 code
 items-lack code is = lacks-below 44 48 code (omega arith) (serial-at_least code is)
-
--- ---- texts in paths
-
-pub initials-path : InPath IsInitials (λ text. text)
-initials-path = record { no_slash = λ v is. lacks-below 47 65 v (omega arith) (initials-at_least v is) }
-
-pub serials-path : InPath IsSerial (λ text. text)
-serials-path = record { no_slash = λ v is. lacks-below 47 48 v (omega arith) (serial-at_least v is) }
-
-pub decimals-path : (limit : ℕ) → limit < 10000 → InPath (IsNumber limit) decimal
-decimals-path limit few = record { no_slash = λ v is. lacks-below 47 48 (decimal v) (omega arith) (number-at_least limit v few is) }

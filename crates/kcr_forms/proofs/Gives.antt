@@ -21,10 +21,11 @@ use Rattle.kcr_forms.specs.Acts.{IsAct}
 use Rattle.kcr_forms.specs.Forms.{initials_of, item_of, name_of, remark_of, day_of, moment_of, place_of, facility_of, role_of, way_of, destination_of}
 use Rattle.kcr_forms.specs.Forms.{ceremony_of, script_of, truth_of, number_of, listed_of}
 use Rattle.kcr_forms.specs.Lines.{each_of, between_commas, lines, on_line}
-use Rattle.kcr_forms.specs.Posts.{post_of, posted_act}
+use Rattle.kcr_forms.specs.Posts.{posted_act}
 use Rattle.kcr_forms.specs.Reading.{Reading}
 use Rattle.kcr_forms.proofs.Cutting.{Lacks, cut-again}
 use Rattle.kcr_forms.proofs.FormLemmas.{listed_new}
+use Rattle.kcr_forms.proofs.Posts.{post_of}
 use Rattle.kcr_forms.proofs.Readers.{Reads, no-feed}
 use Rattle.kcr_forms.proofs.Formed.{days, moments, ceremonies, roles, facilities, ways, places-read, initials, serials, names, remarks, scripts, truths, destinations}
 use Rattle.kcr_forms.proofs.Formed.{each-again, pieces, initials-lack, items-lack, codes-feed}
@@ -59,65 +60,65 @@ codes-again most IsValue read reads list is each =
 module _ {S : Type 0} (r : Reading S) where
   pub act-given : (does : Act) (s : S) → IsAct does → Gives r (members_of does) s → posted_act r (post_of does) s ≡ Ok does
   act-given (act.Enter who name) s is g =
-      rw (g.0.word initials_of who refl ∙ initials.reads.again who is.0, g.1.word name_of name refl ∙ names.again name is.1) refl
+      rw (g.0.word initials_of who refl ∙ initials.again who is.0, g.1.word name_of name refl ∙ names name is.1) refl
   act-given (act.Train who role since until) s is g =
       rw (
-        g.0.word role_of (role_text role) refl ∙ roles.reads.again role tt,
-        g.1.0.word day_of (day_text since) refl ∙ days.reads.again since is.1,
-        g.1.1.word day_of (day_text until) refl ∙ days.reads.again until is.2,
+        g.0.word role_of (role_text role) refl ∙ roles.again role tt,
+        g.1.0.word day_of (day_text since) refl ∙ days.again since is.1,
+        g.1.1.word day_of (day_text until) refl ∙ days.again until is.2,
       ) refl
   act-given (act.Withdraw who role day) s is g =
-      rw (g.0.word role_of (role_text role) refl ∙ roles.reads.again role tt, g.1.word day_of (day_text day) refl ∙ days.reads.again day is.1) refl
+      rw (g.0.word role_of (role_text role) refl ∙ roles.again role tt, g.1.word day_of (day_text day) refl ∙ days.again day is.1) refl
   act-given (act.Appoint place who day) s is g =
       rw (
-        g.0.word place_of (place_text place) refl ∙ places-read.reads.again place is.0,
-        g.1.0.word initials_of who refl ∙ initials.reads.again who is.1,
-        g.1.1.word day_of (day_text day) refl ∙ days.reads.again day is.2,
+        g.0.word place_of (place_text place) refl ∙ places-read.again place is.0,
+        g.1.0.word initials_of who refl ∙ initials.again who is.1,
+        g.1.1.word day_of (day_text day) refl ∙ days.again day is.2,
       ) refl
   act-given (act.Replace place who day) s is g =
-      rw (g.0.word initials_of who refl ∙ initials.reads.again who is.1, g.1.word day_of (day_text day) refl ∙ days.reads.again day is.2) refl
-  act-given (act.Release place day) s is g = rw (g.word day_of (day_text day) refl ∙ days.reads.again day is.1) refl
+      rw (g.0.word initials_of who refl ∙ initials.again who is.1, g.1.word day_of (day_text day) refl ∙ days.again day is.2) refl
+  act-given (act.Release place day) s is g = rw (g.word day_of (day_text day) refl ∙ days.again day is.1) refl
   act-given (act.AddBox facility number place) s is g =
       rw (
-        g.0.word facility_of (facility_text facility) refl ∙ facilities.reads.again facility tt,
+        g.0.word facility_of (facility_text facility) refl ∙ facilities.again facility tt,
         g.1.0.whole number refl is.0,
-        g.1.1.word place_of (place_text place) refl ∙ places-read.reads.again place is.1,
+        g.1.1.word place_of (place_text place) refl ∙ places-read.again place is.1,
       ) refl
   act-given (act.AddItem ceremony item at) s is g =
       rw (
         g.0.whole ceremony refl is.0,
-        g.1.0.word item_of item refl ∙ serials.reads.again item is.1,
-        g.1.1.word moment_of (moment_text at) refl ∙ moments.again at is.2,
+        g.1.0.word item_of item refl ∙ serials.again item is.1,
+        g.1.1.word moment_of (moment_text at) refl ∙ moments at is.2,
       ) refl
   act-given (act.Plan number facility day script) s is g =
       rw (
         g.0.whole number refl is.0,
-        g.1.0.word facility_of (facility_text facility) refl ∙ facilities.reads.again facility tt,
-        g.1.1.0.word day_of (day_text day) refl ∙ days.reads.again day is.1,
-        g.1.1.1.word script_of script refl ∙ scripts.again script is.2,
+        g.1.0.word facility_of (facility_text facility) refl ∙ facilities.again facility tt,
+        g.1.1.0.word day_of (day_text day) refl ∙ days.again day is.1,
+        g.1.1.1.word script_of script refl ∙ scripts script is.2,
       ) refl
-  act-given (act.Open ceremony at) s is g = rw (g.word moment_of (moment_text at) refl ∙ moments.again at is.1) refl
-  act-given (act.Close ceremony at) s is g = rw (g.word moment_of (moment_text at) refl ∙ moments.again at is.1) refl
+  act-given (act.Open ceremony at) s is g = rw (g.word moment_of (moment_text at) refl ∙ moments at is.1) refl
+  act-given (act.Close ceremony at) s is g = rw (g.word moment_of (moment_text at) refl ∙ moments at is.1) refl
   act-given (act.RecordSheet ceremony way who at) s is g =
       rw (
-        g.0.word way_of (way_text way) refl ∙ ways.reads.again way tt,
-        g.1.0.several initials_of (listed_of 32 (λ texts. texts)) who refl ∙ codes-again 32 IsInitials initials_of initials.reads who is.1.listed is.1.each,
-        g.1.1.word moment_of (moment_text at) refl ∙ moments.again at is.2,
+        g.0.word way_of (way_text way) refl ∙ ways.again way tt,
+        g.1.0.several initials_of (listed_of 32 (λ texts. texts)) who refl ∙ codes-again 32 IsInitials initials_of initials.again who is.1.listed is.1.each,
+        g.1.1.word moment_of (moment_text at) refl ∙ moments at is.2,
       ) refl
-  act-given (act.Sign ceremony step at) s is g = rw (g.word moment_of (moment_text at) refl ∙ moments.again at is.2) refl
+  act-given (act.Sign ceremony step at) s is g = rw (g.word moment_of (moment_text at) refl ∙ moments at is.2) refl
   act-given (act.RecordException ceremony text pass at) s is g =
-      rw (g.0.word remark_of text refl ∙ remarks.reads.again text is.1, g.1.0.truth pass refl, g.1.1.word moment_of (moment_text at) refl ∙ moments.again at is.2) refl
+      rw (g.0.word remark_of text refl ∙ remarks.again text is.1, g.1.0.truth pass refl, g.1.1.word moment_of (moment_text at) refl ∙ moments at is.2) refl
   act-given (act.SetSafe ceremony safe state by at) s is g =
-      rw (g.0.truth state refl, g.1.0.word initials_of by refl ∙ initials.reads.again by is.1, g.1.1.word moment_of (moment_text at) refl ∙ moments.again at is.2) refl
+      rw (g.0.truth state refl, g.1.0.word initials_of by refl ∙ initials.again by is.1, g.1.1.word moment_of (moment_text at) refl ∙ moments at is.2) refl
   act-given (act.Seal ceremony serial list at) s is g =
       rw (
-        g.0.several item_of (listed_of 64 (λ texts. texts)) list refl ∙ codes-again 64 IsSerial item_of serials.reads list is.2.listed is.2.each,
-        g.1.word moment_of (moment_text at) refl ∙ moments.again at is.3,
+        g.0.several item_of (listed_of 64 (λ texts. texts)) list refl ∙ codes-again 64 IsSerial item_of serials.again list is.2.listed is.2.each,
+        g.1.word moment_of (moment_text at) refl ∙ moments at is.3,
       ) refl
-  act-given (act.Take ceremony serial at) s is g = rw (g.word moment_of (moment_text at) refl ∙ moments.again at is.2) refl
+  act-given (act.Take ceremony serial at) s is g = rw (g.word moment_of (moment_text at) refl ∙ moments at is.2) refl
   act-given (act.Put ceremony serial to at) s is g =
-      rw (g.0.word destination_of (destination_text to) refl ∙ destinations.reads.again to is.2, g.1.word moment_of (moment_text at) refl ∙ moments.again at is.3) refl
-  act-given (act.Cut ceremony serial at) s is g = rw (g.word moment_of (moment_text at) refl ∙ moments.again at is.2) refl
+      rw (g.0.word destination_of (destination_text to) refl ∙ destinations.again to is.2, g.1.word moment_of (moment_text at) refl ∙ moments at is.3) refl
+  act-given (act.Cut ceremony serial at) s is g = rw (g.word moment_of (moment_text at) refl ∙ moments at is.2) refl
 
 -- ---- the lines of a text give its members
 
@@ -147,7 +148,7 @@ plain-line (Several texts) is = is.0
 
 number-line : (n : ℕ) → IsNumber 9999 n → number_of 9999 (value_text (Whole n)) ≡ Some n
 unfolding number_of ceremony_of
-number-line n is = ceremonies.reads.again n is
+number-line n is = ceremonies.again n is
 
 module _ (name : Member) (value : MemberValue) (rest : List ℕ) (is : IsPlain value) where
   abbrev text : List ℕ
@@ -163,7 +164,7 @@ module _ (name : Member) (value : MemberValue) (rest : List ℕ) (is : IsPlain v
   line-gives = record {
     word = λ form t e. on form ∙ ap (λ v. form (value_text v)) e;
     whole = λ n e is_n. on (number_of 9999) ∙ ap (λ v. number_of 9999 (value_text v)) e ∙ number-line n is_n;
-    truth = λ b e. on truth_of ∙ ap (λ v. truth_of (value_text v)) e ∙ truths.reads.again b tt;
+    truth = λ b e. on truth_of ∙ ap (λ v. truth_of (value_text v)) e ∙ truths.again b tt;
     several = λ form make texts e.
         on (λ line. option_and_then make (each_of form (between_commas line)))
         ∙ ap (λ v. option_and_then make (each_of form (between_commas (value_text v)))) e

@@ -1,9 +1,8 @@
 pub mod FormLemmas
-pub mod Again
 pub mod Cutting
 pub mod Dates
 pub mod Formed
 pub mod Gives
 pub mod Listing
-pub mod Paths
 pub mod Readers
+pub mod Posts

@@ -1,6 +1,5 @@
 -- The forms of texts, numbers and lists, as the value that each of them tells.
-use Rattle.std.specs.Prelude.{ℕ, ◌&&◌, List, [], ◌∷◌, length, codes, Bool, true, false, Option, Some, None, if◌then◌else◌}
-use Rattle.kcr_base.specs.Same.{same_text}
+use Rattle.std.specs.Prelude.{ℕ, ◌&&◌, List, [], ◌∷◌, length, Bool, true, false, Option, Some, None, if◌then◌else◌}
 use Rattle.kcr_base.specs.Lists.{are_apart}
 pub use Rattle.kcr_base.specs.Forms.{is_between, is_key_byte, by_text, item_of, name_of, remark_of}
 unfoldable pub use Rattle.kcr_base.specs.Forms.{initials_of, key_of, serial_of, script_of, number_by_text, day_of, moment_of}
@@ -9,14 +8,11 @@ unfoldable pub use Rattle.kcr_room.specs.Forms.{way_of}
 unfoldable pub use Rattle.kcr_custody.specs.Destinations.{destination_of}
 use Rattle.kcr_custody.specs.declared.SafeNumber.{SafeNumber}
 use Rattle.kcr_custody.specs.declared.SafeNumber.TheVariants.{One, Two}
-use Rattle.kcr_history.specs.Texts.{safe_text}
+use Rattle.kcr_history.specs.Texts.{safe_text, truth_text}
 
 -- `true` or `false`
 unfoldable pub truth_of : List ℕ → Option Bool
-truth_of text =
-    if same_text text (codes "true") then Some true
-    else if same_text text (codes "false") then Some false
-    else None
+truth_of text = by_text truth_text (true ∷ false ∷ []) text
 
 -- the safe whose text this is
 unfoldable pub safe_of : List ℕ → Option SafeNumber

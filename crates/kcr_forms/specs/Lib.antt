@@ -1,7 +1,6 @@
 pub mod Forms
 pub mod Acts
 pub mod Split
-pub mod ActTexts
 pub mod Values
 pub mod OrMemory
 pub mod Reading

@@ -4,7 +4,7 @@ use Rattle.std.specs.List.{slice_split}
 use Rattle.std.specs.Option.{option_map_or}
 use Rattle.kcr_forms.specs.Forms.{number_of, truth_of}
 use Rattle.kcr_forms.specs.Reading.{Reading}
-use Rattle.kcr_forms.specs.Split.{Reader, split_two_lines}
+use Rattle.kcr_forms.specs.Split.{Reader, split_at_byte}
 
 -- the values that texts give, if each gives one
 abbrev pub each_of : {V : Type 0} → Reader V → List (List ℕ) → Option (List V)
@@ -17,7 +17,7 @@ between_commas text = slice_split (λ b. b == 44) text
 
 -- what the first of several lines gives
 abbrev pub on_line : {V : Type 0} → Reader V → Reader V
-on_line read text = option_and_then (λ p. read p.0) (split_two_lines text)
+on_line read text = option_and_then (λ p. read p.0) (split_at_byte 10 text)
 
 -- each member but the last is on a line of its own
 abbrev pub lines : Reading (List ℕ)
@@ -27,5 +27,5 @@ lines = record {
   number = λ limit name text. on_line (number_of limit) text;
   truth = λ name text. on_line truth_of text;
   list = λ read make name text. on_line (λ line. option_and_then make (each_of read (between_commas line))) text;
-  rest = λ text. option_map_or (λ p. p.1) (split_two_lines text) text;
+  rest = λ text. option_map_or (λ p. p.1) (split_at_byte 10 text) text;
 }

@@ -6,10 +6,6 @@ use Rattle.std.specs.List.{position}
 unfoldable pub split_at_byte : ℕ → List ℕ → Option (List ℕ × List ℕ)
 split_at_byte byte text = option_map (λ i. (take i text, drop (i + 1) text)) (position (λ b. b == byte) text)
 
--- the first line of a text, and all after it
-abbrev pub split_two_lines : List ℕ → Option (List ℕ × List ℕ)
-split_two_lines text = split_at_byte 10 text
-
 -- what a text tells, if it tells something
 abbrev pub Reader : Type 0 → Type 0
 Reader V = List ℕ → Option V

@@ -1,16 +1,8 @@
-//! What holds of all acts and their texts: functions that change nothing, whose contracts say it.
-ghost use Rattle.std.specs.Prelude.{◌≡◌};
-ghost use Rattle.kcr_history.specs.Texts.{command_text};
-ghost use Rattle.kcr_history.specs.declared.commands.Act.{Act};
+//! What holds of all acts: a function that changes nothing, whose contract says it.
 ghost use Rattle.kcr_forms.specs.Acts.{IsAct};
 
 use crate::parts;
 use kcr_history::Act;
-
-/// Equal texts are equal acts.
-pub fn command_texts_are_injective()
-    ensures { (a b : Act) → IsAct a → IsAct b → command_text a ≡ command_text b → a ≡ b }
-{}
 
 /// The parts of an act that a program holds are values of their types.
 pub fn acts_are_values(act: &Act)

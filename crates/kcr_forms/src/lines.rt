@@ -2,22 +2,26 @@
 #![tactic(auto, using(kcr_base::proofs::ValueLemmas::value_readings))]
 
 ghost use Rattle.std.specs.Prelude.{◌≡◌};
-ghost use Rattle.kcr_forms.specs.Forms.{number_of};
+ghost use Rattle.kcr_forms.specs.Forms.{number_of, truth_of};
 ghost use Rattle.kcr_forms.specs.Lines.{lines};
+ghost use Rattle.kcr_forms.specs.OrMemory.{OrMemory};
+ghost use Rattle.kcr_forms.specs.Posts.{posted_act};
 
+use crate::act::act_at;
 use crate::lists::read_list;
 use crate::members::{Members, required};
-use crate::split::split_two_lines;
-use crate::values::read_truth;
+use crate::post::Post;
+use crate::split::split_at_byte;
 use kcr_base::lists::{DistinctList, ListElement};
 use kcr_base::number::{Number, Numbered};
 use kcr_base::{Member, Refusal, Written};
+use kcr_history::Act;
 use std::alloc::Global;
 
 /// The lines of a stored text behind its path.
 #[derive(Drop)]
-pub(crate) struct Lines<'t> {
-    pub(crate) text: &'t [u8],
+struct Lines<'t> {
+    text: &'t [u8],
 }
 
 /// The number of its kind with this decimal text.
@@ -25,6 +29,18 @@ fn read_number<K: Numbered>(text: &[u8]) -> Option<Number<K>>
     ensures { result ≡ number_of K.limit text.now }
 {
     Number::read(text)
+}
+
+/// The truth value with this text.
+#[tactic(auto, unfolding(crate::specs::Forms::truth_of))]
+fn read_truth(text: &[u8]) -> Option<bool>
+    ensures { result ≡ truth_of text.now }
+{
+    match text {
+        b"true" => Some(true),
+        b"false" => Some(false),
+        _ => None,
+    }
 }
 
 impl<'t> Members for Lines<'t> {
@@ -37,7 +53,7 @@ impl<'t> Members for Lines<'t> {
     ghost reading = { lines };
 
     fn word<T: Written + Drop>(&mut self, alloc: Global, name: Member) -> Result<T, Refusal> {
-        let Some((line, rest)) = split_two_lines(self.text) else {
+        let Some((line, rest)) = split_at_byte(b'\n', self.text) else {
             return Err(Refusal::Form { member: name });
         };
         self.text = rest;
@@ -51,7 +67,7 @@ impl<'t> Members for Lines<'t> {
     }
 
     fn number<K: Numbered>(&mut self, name: Member) -> Result<Number<K>, Refusal> {
-        let Some((line, rest)) = split_two_lines(self.text) else {
+        let Some((line, rest)) = split_at_byte(b'\n', self.text) else {
             return Err(Refusal::Form { member: name });
         };
         self.text = rest;
@@ -59,7 +75,7 @@ impl<'t> Members for Lines<'t> {
     }
 
     fn truth(&mut self, name: Member) -> Result<bool, Refusal> {
-        let Some((line, rest)) = split_two_lines(self.text) else {
+        let Some((line, rest)) = split_at_byte(b'\n', self.text) else {
             return Err(Refusal::Form { member: name });
         };
         self.text = rest;
@@ -71,11 +87,18 @@ impl<'t> Members for Lines<'t> {
         alloc: Global,
         name: Member,
     ) -> Result<DistinctList<T>, Refusal> {
-        let Some((line, rest)) = split_two_lines(self.text) else {
+        let Some((line, rest)) = split_at_byte(b'\n', self.text) else {
             return Err(Refusal::Form { member: name });
         };
         self.text = rest;
         let value = read_list(alloc, line)?;
         required(value, name)
     }
+}
+
+/// The act that is posted to a path with the members on these lines, as `act_at` has it.
+pub fn act_of_lines(alloc: Global, post: Post, text: &[u8]) -> Result<Act, Refusal>
+    ensures { OrMemory result (posted_act lines post text.now) }
+{
+    act_at(alloc, post, &mut Lines { text })
 }

@@ -1,17 +1,18 @@
 -- What an accepted entry tells of the history before it.
 use Rattle.std.proofs.Common.{◌≡◌, ℕ, ◌+◌, List, [], ◌∷◌, length, Option, Some, None, refl, ap, arith, inl, inr, MatchOption}
-use Rattle.kcr_base.specs.Refuse.{when, NoneHolds, before_mark_refusal, not_after_mark_refusal}
+use Rattle.kcr_base.specs.Refuse.{when, before_mark_refusal, not_after_mark_refusal}
 use Rattle.kcr_base.specs.declared.refusal.Refusal.{Refusal}
 use Rattle.kcr_base.specs.declared.refusal.Refusal.TheVariants.{Full}
-use Rattle.kcr_base.proofs.RefuseLemmas.{none_holds}
+use Rattle.kcr_base.proofs.RefuseLemmas.{NoneHolds, none_holds}
 use Rattle.kcr_custody.specs.Custody.{not_ready_refusal}
+use Rattle.kcr_custody.specs.declared.CeremonyStatus.{CeremonyStatus}
 use Rattle.kcr_history.specs.declared.commands.Act.{Act}
 use Rattle.kcr_history.specs.declared.commands.ReplyData.{ReplyData}
 use Rattle.kcr_history.specs.declared.commands.Command.{Command}
 use Rattle.kcr_history.specs.declared.commands.Entry.{Entry}
 use Rattle.kcr_history.specs.History.{History, entry_of}
 use Rattle.kcr_history.specs.Ceremonies.{mark}
-use Rattle.kcr_history.specs.Conditions.{fault, is_full, by_history, ceremony_status_at, no_ceremony_refusal, not_open_refusal}
+use Rattle.kcr_history.specs.Conditions.{fault, is_full, by_history, status, no_ceremony_refusal, not_open_refusal}
 use Rattle.kcr_history.specs.Tables.{keys}
 use Rattle.kcr_history.specs.Views.{greatest_number}
 use Rattle.kcr_history.specs.Machine.{Accepts, SeatRequest, seat_request, reply_to, with_command, DecidesNew, DecidesRepeat, seats, IsAcceptedWith, machine}
@@ -40,6 +41,10 @@ pub record Took (A : History) (entry : Entry) : Type 0 where
   pub no_fault : fault A entry.command.act ≡ None
   pub people : Option (List (List ℕ))
   pub reply : entry.reply ≡ reply_to A entry.command.act people
+
+-- the ceremony at the moment
+abbrev pub ceremony_status_at : History → ℕ → ℕ → CeremonyStatus
+ceremony_status_at A ceremony at = status (by_history A) ceremony at
 
 -- if an act of custody finds its ceremony ready, it is open, the moment is not before its mark, and the register is not full
 pub none_ready : (A : History) (c at : ℕ) → not_ready_refusal (ceremony_status_at A c at) ≡ None → NoneHolds (not_open A c ∷ late A c at ∷ full A ∷ [])

@@ -369,10 +369,6 @@ by_history A =
       room_conditions = sheet_conditions A;
     }
 
--- the ceremony at the moment
-abbrev pub ceremony_status_at : History → ℕ → ℕ → CeremonyStatus
-ceremony_status_at A ceremony at = status (by_history A) ceremony at
-
 -- the conditions of an act whose key is new, and the first refusal, or none
 abbrev pub conditions : History → Act → List (Option Refusal)
 conditions A act = conditions_over (by_history A) act

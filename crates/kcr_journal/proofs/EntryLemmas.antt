@@ -8,7 +8,7 @@ use Rattle.kcr_base.specs.Initials.{IsInitials}
 use Rattle.kcr_base.specs.declared.place.Role.TheVariants.{Ca, Iw}
 use Rattle.kcr_forms.specs.Acts.{IsAct}
 use Rattle.kcr_forms.specs.Values.{AreValues}
-use Rattle.kcr_forms.proofs.Again.{act-again}
+use Rattle.kcr_wire.proofs.Again.{act-again}
 use Rattle.kcr_history.specs.History.{History}
 use Rattle.kcr_history.specs.Machine.{IsRegister, IsReplyTo, seat_request}
 use Rattle.kcr_history.specs.Tables.{key_row}

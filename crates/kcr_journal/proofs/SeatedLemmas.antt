@@ -1,10 +1,9 @@
 -- Who fills seats has initials: they came by the sheet.
-use Rattle.std.proofs.Common.{◌≡◌, ℕ, Bool, true, false, not, ◌&&◌, nat_lt, nat_le, if◌then◌else◌, List, [], ◌∷◌, ◌++◌, map, filter, Option, Some, None, refl, sym, ap, subst, ◌∙◌, All}
-use Rattle.std.specs.Prelude.{IsTrue}
+use Rattle.std.proofs.Common.{◌≡◌, ℕ, Bool, true, false, not, ◌&&◌, nat_lt, nat_le, if◌then◌else◌, List, [], ◌∷◌, map, filter, Option, Some, None, refl, subst}
 use Rattle.std.specs.List.{AllByRecursion, list_any}
 use Rattle.std.proofs.lemmas.Bool.{and_parts, false≢true}
 use Rattle.std.proofs.lemmas.List.Elements.{recursion_from_All}
-use Rattle.sqlite_trees.proofs.ListLemmas.{all-append, all-map, all-filter, all_weaker}
+use Rattle.sqlite_trees.proofs.ListLemmas.{all-append, all-map}
 use Rattle.kcr_base.specs.Initials.{IsInitials}
 use Rattle.kcr_base.specs.Same.{same_text}
 use Rattle.kcr_base.proofs.SameLemmas.{same-is}
@@ -16,7 +15,7 @@ use Rattle.kcr_history.specs.Seating.{is_seating, eligible}
 use Rattle.kcr_history.specs.declared.commands.Act.{Act}
 use Rattle.kcr_history.specs.declared.commands.Act.TheVariants.{RecordSheet}
 use Rattle.kcr_room.specs.Requests.{new_row}
-use Rattle.kcr_room.specs.Room.{is_of, last_enters, last_row, last_onto, later_row}
+use Rattle.kcr_room.specs.Room.{is_of, last_enters, last_onto, later_row}
 use Rattle.kcr_room.specs.declared.SheetRow.{SheetRow}
 use Rattle.kcr_script.specs.declared.seat.Seat.{Seat}
 

@@ -5,7 +5,7 @@ use Rattle.std.specs.Fmt.{decimal}
 use Rattle.std.specs.List.{flat_map}
 use Rattle.std.specs.Option.{option_map_or}
 use Rattle.kcr_people.specs.declared.Person.{Person}
-use Rattle.kcr_forms.specs.ActTexts.{act_of}
+use Rattle.kcr_wire.specs.ActTexts.{act_of}
 use Rattle.kcr_history.specs.History.{History}
 use Rattle.kcr_history.specs.Prints.{name_of}
 use Rattle.kcr_history.specs.Tables.{people}

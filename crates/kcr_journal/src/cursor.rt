@@ -4,7 +4,7 @@ ghost use Rattle.kcr_history.specs.Tables as machine;
 ghost use Rattle.kcr_reading.specs.Commands.{commands_within};
 ghost use Rattle.kcr_tables.specs.Frame.{OfMachineTables, Reads};
 ghost use Rattle.kcr_tables.specs.Refusals.{IsFault};
-ghost use Rattle.kcr_forms.specs.ActTexts.{act_of};
+ghost use Rattle.kcr_wire.specs.ActTexts.{act_of};
 ghost use Rattle.kcr_journal.specs.Journal as said;
 
 use crate::line::push_line;
@@ -12,10 +12,10 @@ use crate::named::{is_of_ceremony, named_people};
 use crate::reply::{exception_in, passed_in};
 use kcr_base::{CeremonyNumber, Initials, Refusal};
 use kcr_forms::laws::acts_are_values;
-use kcr_forms::read_act;
 use kcr_history::{Act, KeyRow};
 use kcr_people::Person;
 use kcr_reading::{CommandCursor, Cursor, name_of};
+use kcr_wire::RouteTable;
 use sqlite::{Alter, Transaction};
 use std::alloc::Global;
 use std::marker::Model;
@@ -63,11 +63,11 @@ fn with_names<S: Alter>(
 }
 
 /// The act that a row keeps. The error is `Memory` when out of memory, and `Disk` if the row's text is no command's.
-fn kept_act(alloc: Global, row: &KeyRow) -> Result<Act, Refusal>
+pub fn kept_act(alloc: Global, paths: &RouteTable, row: &KeyRow) -> Result<Act, Refusal>
     ensures act { IfOk result (λ act. act_of row.now.command ≡ Some act) }
     ensures cause { IfErr result IsFault }
 {
-    let Some(act) = read_act(alloc, row.command.as_bytes())? else {
+    let Some(act) = paths.read_act(alloc, row.command.as_bytes())? else {
         return Err(Refusal::Disk);
     };
     acts_are_values(&act);
@@ -103,6 +103,7 @@ fn line_with(
 fn line_of_row<S: Alter>(
     alloc: Global,
     tx: &mut Transaction<'_, S>,
+    paths: &RouteTable,
     asked: Option<CeremonyNumber>,
     row: &KeyRow,
 ) -> Result<JournalLine, Refusal>
@@ -110,7 +111,7 @@ fn line_of_row<S: Alter>(
         (λ m made. made ≡ said.row_line asked m.people row.now) }
     ensures frame { Reads S.Store tx.old tx.new result }
 {
-    let act = kept_act(alloc, row)?;
+    let act = kept_act(alloc, paths, row)?;
     if !is_of_ceremony(asked, &act) {
         return Ok(JournalLine {
             bytes: Vec::new(alloc),
@@ -125,19 +126,26 @@ fn line_of_row<S: Alter>(
 #[derive(Drop)]
 pub struct JournalCursor {
     commands: CommandCursor,
+    paths: RouteTable,
     asked: Option<CeremonyNumber>,
 }
 
 impl JournalCursor {
     /// Before the line of the first accepted command whose number is greater than `after`, up to the one with the
     /// number `until`; with a ceremony, only of commands that name it.
-    pub fn new(after: u32, until: u32, asked: Option<CeremonyNumber>) -> JournalCursor
+    pub fn new(
+        paths: RouteTable,
+        after: u32,
+        until: u32,
+        asked: Option<CeremonyNumber>,
+    ) -> JournalCursor
         ensures { (m : machine.Tables)
             → map (said.row_line result.asked m.people) (commands_within result.commands.last result.commands.until m)
             ≡ map (said.row_line asked m.people) (commands_within after until m) }
     {
         JournalCursor {
             commands: CommandCursor::new(after, until),
+            paths,
             asked,
         }
     }
@@ -154,9 +162,9 @@ impl Cursor for JournalCursor {
         alloc: Global,
         tx: &mut Transaction<'_, S>,
     ) -> Result<Option<JournalLine>, Refusal> {
-        let Some(row) = self.commands.next_row(alloc, tx)? else {
+        let Some(row) = self.commands.next(alloc, tx)? else {
             return Ok(None);
         };
-        Ok(Some(line_of_row(alloc, tx, self.asked, &row)?))
+        Ok(Some(line_of_row(alloc, tx, &self.paths, self.asked, &row)?))
     }
 }

@@ -14,5 +14,5 @@ mod sentence;
 mod texts;
 mod when;
 
-pub use cursor::{JournalCursor, JournalLine};
+pub use cursor::{JournalCursor, JournalLine, kept_act};
 pub use line::push_line;

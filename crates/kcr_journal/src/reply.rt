@@ -6,7 +6,6 @@ ghost use Rattle.kcr_forms.specs.Forms.{initials_of};
 ghost use Rattle.kcr_journal.specs.Replies as told;
 
 use kcr_base::{Initials, Refusal};
-use kcr_forms::forms::read_initials;
 use std::alloc::{AllocError, Global};
 use std::str;
 
@@ -85,6 +84,14 @@ fn between_quotes(alloc: Global, reply: &[u8]) -> Result<Vec<&[u8]>, AllocError>
     ensures { IfOk result (λ texts. map (λ text. text.now) texts.items ≡ slice_split (λ b. b == 34) reply.now) }
 {
     reply.split(|b| *b == b'"').collect(alloc)
+}
+
+/// The initials that a text is.
+#[tactic(auto, using(kcr_base::proofs::FormLemmas::form_readings))]
+fn read_initials(text: &[u8]) -> Option<Initials>
+    ensures { result ≡ initials_of text.now }
+{
+    Initials::read(text)
 }
 
 /// Those of the texts that are initials.

@@ -1,5 +1,5 @@
 -- The machine leads to the registers whose recorded seatings are the first ones, and to no others.
-use Rattle.std.proofs.Common.{◌≡◌, ℕ, true, false, List, [], ◌∷◌, Some, None, MatchOption, ap, inl, inr}
+use Rattle.std.proofs.Common.{ℕ, true, false, List, [], ◌∷◌, None, MatchOption, ap, inl, inr}
 use Rattle.kcr_history.specs.declared.commands.Act.{Act}
 use Rattle.kcr_history.specs.declared.commands.Act.TheVariants.{Sign, RecordException}
 use Rattle.kcr_history.specs.declared.commands.ReplyData.{ReplyData}

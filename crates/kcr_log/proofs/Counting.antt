@@ -1,8 +1,8 @@
 -- Which frames there are, and how many of them end a transaction.
-use Rattle.std.proofs.Common.{◌≡◌, ℕ, zero, suc, ◌+◌, ◌-◌, ◌<◌, ◌≤◌, ◌⊎◌, ◌&&◌, not, nat_lt, Bool, true, false, ◌==◌, if◌then◌else◌, List, length, refl, sym, ap, ◌∙◌, inl, inr, arith, add-one}
+use Rattle.std.proofs.Common.{◌≡◌, ℕ, zero, suc, ◌+◌, ◌-◌, ◌<◌, ◌≤◌, not, Bool, true, false, if◌then◌else◌, List, refl, sym, ap, ◌∙◌, inl, inr, arith}
 use Rattle.std.proofs.lemmas.Bool.{and_parts, false≢true, ltb-true, cases_Bool, cases_lt}
 use Rattle.kcr_log.specs.declared.frames.Header.{Header}
-use Rattle.kcr_log.specs.Frames.{frame_count, frame_of, carries, checks, commits, commits_from}
+use Rattle.kcr_log.specs.Frames.{frame_count, carries, checks, commits, commits_from}
 
 -- a frame that has the salts is there
 pub carried : (header : Header) (log : List ℕ) (i : ℕ) → carries header log i ≡ true → i < frame_count header log

@@ -1,13 +1,12 @@
 -- Why a log that a stop can leave is not damaged, and why no other damage is there.
-use Rattle.std.proofs.Common.{◌≡◌, ℕ, zero, suc, ◌+◌, ◌-◌, ◌*◌, ◌/◌, ◌<◌, ◌≤◌, ◌⊎◌, ◌&&◌, ◌||◌, ◌==◌, Bool, true, false, if◌then◌else◌, List, length, refl, sym, ap, subst, ◌∙◌, inl, inr, arith}
-use Rattle.std.proofs.lemmas.Bool.{and_parts, false≢true, true≢false, ltb-true, eqb-true, eqb-false, or_cases, cases_Bool, cases_lt, cases_order}
+use Rattle.std.proofs.Common.{◌≡◌, ℕ, zero, ◌+◌, ◌-◌, ◌*◌, ◌/◌, ◌<◌, ◌≤◌, ◌==◌, Bool, true, false, List, length, refl, sym, ap, subst, ◌∙◌, inl, inr, arith}
+use Rattle.std.proofs.lemmas.Bool.{and_parts, false≢true, true≢false, eqb-true, eqb-false, or_cases, cases_Bool, cases_lt, cases_order}
 use Rattle.std.proofs.Math.Nat.{div-mul-le_self, mul-le-mul_right}
-use Rattle.sqlite_wal.specs.Format.{be32}
 use Rattle.kcr_log.specs.declared.frames.Header.{Header}
 use Rattle.kcr_log.specs.declared.judgement.Log.{Log}
 use Rattle.kcr_log.specs.declared.judgement.Log.TheVariants.{Sound, WrongHead, WrongFrame, NoFile}
 use Rattle.kcr_log.specs.Frames.{header_of, is_signed, frame_count, frame_of, carries, checks, commits, commits_from}
-use Rattle.kcr_log.specs.Damage.{shut_byte, is_shut, commits_behind, told_header, page_size_of, IsWrongFrame, IsWithoutFile, IsWrongHead, IsDamage}
+use Rattle.kcr_log.specs.Damage.{shut_byte, is_shut, commits_behind, told_header, page_size_of, IsDamage}
 use Rattle.kcr_log.specs.Stop.{IsCutShort}
 use Rattle.kcr_log.proofs.Counting.{carried, checked, none-more, not-carried, one-at-most, at-most-one}
 

@@ -1,13 +1,12 @@
 -- Why a stop cuts a log short, whichever way a transaction is written.
-use Rattle.std.proofs.Common.{◌≡◌, ◌≢◌, ℕ, zero, suc, ◌+◌, ◌-◌, ◌*◌, ◌<◌, ◌≤◌, ◌⊎◌, ◌&&◌, ◌==◌, not, Bool, true, false, List, length, slice_index, refl, sym, ap, ap₂, ◌∙◌, inl, inr, arith}
+use Rattle.std.proofs.Common.{◌≡◌, ◌≢◌, ℕ, zero, ◌+◌, ◌-◌, ◌*◌, ◌<◌, ◌≤◌, ◌⊎◌, true, false, List, slice_index, refl, sym, ◌∙◌, inl, inr, arith}
 use Rattle.std.proofs.lemmas.Bool.{and_parts, false≢true, eqb-true, cases_Bool, cases_lt}
 use Rattle.std.proofs.Math.Nat.{mul-le-mul_right}
 use Rattle.sqlite_wal.specs.Format.{be32}
 use Rattle.kcr_log.specs.declared.frames.Header.{Header}
-use Rattle.kcr_log.specs.Frames.{frame_at, frame_of, carries, checks, commits}
-use Rattle.kcr_log.specs.Damage.{is_shut}
+use Rattle.kcr_log.specs.Frames.{frame_at, frame_of, carries, commits}
 use Rattle.kcr_log.specs.Stop.{IsCutShort}
-use Rattle.kcr_log.specs.Written.{IsOneMore, IsBehindShut, IsOverZeros, IsOverOlder, StopsCutShort}
+use Rattle.kcr_log.specs.Written.{IsBehindShut, IsOverZeros, IsOverOlder}
 
 -- a number of four bytes that are the same
 same-number : (a b : List ℕ) (at : ℕ) → ((k : ℕ) → k < 4 → slice_index a (at + k) ≡ slice_index b (at + k))

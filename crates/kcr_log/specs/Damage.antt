@@ -1,10 +1,10 @@
 -- When a log was damaged after it was safe.
-use Rattle.std.specs.Prelude.{◌≡◌, ℕ, ◌+◌, ◌-◌, ◌*◌, ◌/◌, ◌<◌, ◌≤◌, ◌==◌, ◌&&◌, ◌||◌, nat_lt, Bool, true, false, if◌then◌else◌, List, length, slice_index}
+use Rattle.std.specs.Prelude.{◌≡◌, ℕ, ◌+◌, ◌-◌, ◌*◌, ◌/◌, ◌<◌, ◌≤◌, ◌==◌, ◌||◌, nat_lt, Bool, true, false, if◌then◌else◌, List, length, slice_index}
 use Rattle.sqlite_wal.specs.Format.{be32}
 use Rattle.kcr_log.specs.declared.frames.Header.{Header}
 use Rattle.kcr_log.specs.declared.judgement.Log.{Log}
 use Rattle.kcr_log.specs.declared.judgement.Log.TheVariants.{Sound, WrongHead, WrongFrame, NoFile}
-use Rattle.kcr_log.specs.Frames.{header_of, is_signed, frame_count, frame_of, carries, checks, commits, commits_from}
+use Rattle.kcr_log.specs.Frames.{header_of, is_signed, frame_count, frame_of, checks, commits, commits_from}
 
 -- The byte that a writer puts first among the salts of a frame that is not to be read yet. It is not the log's own.
 abbrev pub shut_byte : Header → ℕ

@@ -1,8 +1,8 @@
 -- What a stop can leave of a log.
-use Rattle.std.specs.Prelude.{◌≡◌, ℕ, ◌+◌, ◌<◌, ◌≤◌, ◌⊎◌, Bool, true, false, List, length}
+use Rattle.std.specs.Prelude.{◌≡◌, ℕ, ◌+◌, ◌<◌, ◌≤◌, ◌⊎◌, true, false, List, length}
 use Rattle.sqlite_wal.specs.Format.{be32}
 use Rattle.kcr_log.specs.declared.frames.Header.{Header}
-use Rattle.kcr_log.specs.Frames.{header_of, is_signed, frame_count, frame_of, carries, checks, commits}
+use Rattle.kcr_log.specs.Frames.{header_of, is_signed, carries, checks, commits}
 use Rattle.kcr_log.specs.Damage.{is_shut}
 
 -- Transactions that are whole, and then the frames of one more, as far as they came: none but its last commits. Behind

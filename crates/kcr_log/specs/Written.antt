@@ -1,7 +1,7 @@
 -- How a transaction is written behind those that are there, byte by byte.
-use Rattle.std.specs.Prelude.{◌≡◌, ◌≢◌, ℕ, ◌+◌, ◌<◌, ◌≤◌, ◌⊎◌, true, false, List, slice_index}
+use Rattle.std.specs.Prelude.{◌≡◌, ◌≢◌, ℕ, ◌+◌, ◌<◌, ◌≤◌, ◌⊎◌, true, List, slice_index}
 use Rattle.kcr_log.specs.declared.frames.Header.{Header}
-use Rattle.kcr_log.specs.Frames.{frame_at, frame_of, carries, checks}
+use Rattle.kcr_log.specs.Frames.{frame_at, frame_of, checks}
 use Rattle.kcr_log.specs.Damage.{is_shut}
 use Rattle.kcr_log.specs.Stop.{IsCutShort}
 

@@ -1,3 +1,4 @@
+pub mod NewDecision
 pub mod Keyed
 pub mod Leads
 pub mod Scenes

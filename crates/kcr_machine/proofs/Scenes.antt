@@ -22,9 +22,9 @@ use Rattle.kcr_history.specs.Ceremonies.{planned_as, plan_of, is_ceremony, facil
 use Rattle.kcr_history.specs.Tables.{planned_number, ceremony_row, ceremonies, mark_row, marks}
 use Rattle.kcr_history.specs.Changes.{same_mark}
 use Rattle.kcr_history.specs.Views.{is_of_number, is_mark_of}
-use Rattle.kcr_history.specs.Conditions.{conditions, fault, is_full, ceremony_status_at}
+use Rattle.kcr_history.specs.Conditions.{conditions, fault, is_full}
 use Rattle.kcr_history.specs.Machine.{IsRegister}
-use Rattle.kcr_history.proofs.Steps.{took, none_ready, late}
+use Rattle.kcr_history.proofs.Steps.{took, none_ready, late, ceremony_status_at}
 use Rattle.kcr_history.proofs.Words.{planned-number}
 use Rattle.kcr_rules.specs.ByRows.{ceremony_status_by}
 use Rattle.kcr_rules.specs.CeremonyStatus.{ceremony_by, facility_of_row, is_open_row, mark_by}

@@ -5,8 +5,8 @@ use Rattle.std.specs.Prelude.{is_some, count_by}
 use Rattle.std.specs.List.Sorted.{IsPermutation}
 use Rattle.std.proofs.lemmas.Bool.{true≢false, eqb-true, ltb-true}
 use Rattle.std.proofs.lemmas.List.Sorted.{IsPermutation-reverse, sum_by-IsPermutation}
-use Rattle.kcr_base.specs.Refuse.{when, first_of, NoneHolds, not_after_mark_refusal}
-use Rattle.kcr_base.proofs.RefuseLemmas.{none_holds, met, no_first}
+use Rattle.kcr_base.specs.Refuse.{when, first_of, not_after_mark_refusal}
+use Rattle.kcr_base.proofs.RefuseLemmas.{NoneHolds, none_holds, met, no_first}
 use Rattle.kcr_base.specs.Same.{same_text}
 use Rattle.kcr_base.specs.declared.refusal.Refusal.{Refusal}
 use Rattle.kcr_base.specs.declared.refusal.Refusal.TheVariants.{State, Late, Full}

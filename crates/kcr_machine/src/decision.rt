@@ -7,7 +7,7 @@ ghost use Rattle.kcr_history.specs.Tables.{tables};
 ghost use Rattle.kcr_history.specs.Views.{IsViewOf, greatest_number, row_of_key};
 ghost use Rattle.kcr_history.specs.Machine.{IsRegister, IsDecision};
 ghost use Rattle.kcr_rules.specs.ByRows.{IsCheckResult, IsCleared};
-ghost use Rattle.kcr_machine.specs.RowDecision.{IsRowDecision, IsRowRepeat, is_full_by};
+ghost use Rattle.kcr_machine.specs.RowDecision.{IsRowRepeat, is_full_by};
 ghost use Rattle.kcr_machine.specs.RowDecision.{IsOfKind, IsOwnRefusal};
 
 use kcr_base::Refusal;
@@ -19,23 +19,6 @@ use std::alloc::Global;
 
 /// At most this many commands are accepted.
 const MAX_COMMANDS: u32 = 4_000_000_000;
-
-/// What becomes of a command whose key has this row, by the row.
-fn repeat_by_row(alloc: Global, row: &KeyRow, command: &Command) -> Result<Verdict, Refusal>
-    ensures { IsRowRepeat row.now command.now result }
-{
-    let text = command_text(alloc, &command.act)?;
-    if row.command != text {
-        return Err(Refusal::Key);
-    }
-    Ok(Verdict {
-        changes: Vec::new(alloc),
-        reply: Reply {
-            text: row.reply.clone()?,
-        },
-        new_reply: None,
-    })
-}
 
 /// Decides a command whose key has this row, as it has if a command was accepted under it.
 ///
@@ -49,46 +32,16 @@ pub fn decide_repeat(alloc: Global, row: &KeyRow, command: &Command) -> Result<V
     // Whatever the row is, the same command gets the reply that it keeps.
     ensures by_row { IsRowRepeat row.now command.now result }
 {
-    repeat_by_row(alloc, row, command)
-}
-
-/// The decision of a command that is cleared and whose key is new, by the rows and the number of the last command.
-fn decide_by_rows(
-    alloc: Global,
-    view: &View,
-    accepted: u32,
-    command: &Command,
-) -> Result<Verdict, Refusal>
-    requires cleared { IsCleared view.now (is_full_by accepted) command.now.act }
-    ensures rows { IsRowDecision view.now accepted command.now result }
-    ensures kind { IfErr result (IsOwnRefusal command.now) }
-{
-    let full = MAX_COMMANDS <= accepted;
-    let acted = evaluate(alloc, view, full, &command.act)?;
-    let Effect {
-        mut changes,
-        exception,
-        seating,
-        step,
-    } = acted;
-    let new_reply = ReplyData {
-        // A full register accepts no act, so there is a next number.
-        accepted: accepted + 1,
-        exception,
-        seating,
-        step,
-    };
-    let reply = reply_text(alloc, &new_reply)?;
-    changes.push(Change::PutKey(KeyRow {
-        key: command.key,
-        accepted: new_reply.accepted,
-        command: command_text(alloc, &command.act)?,
-        reply: reply.clone()?,
-    }))?;
+    let text = command_text(alloc, &command.act)?;
+    if row.command != text {
+        return Err(Refusal::Key);
+    }
     Ok(Verdict {
-        changes,
-        reply: Reply { text: reply },
-        new_reply: Some(new_reply),
+        changes: Vec::new(alloc),
+        reply: Reply {
+            text: row.reply.clone()?,
+        },
+        new_reply: None,
     })
 }
 
@@ -142,5 +95,31 @@ pub fn decide_new(
     // Whatever the rows are, the reply is of the act's kind, or the refusal is one that acts of this kind may get.
     ensures kind { IsOfKind command.now result }
 {
-    decide_by_rows(alloc, view, accepted, command)
+    let full = MAX_COMMANDS <= accepted;
+    let acted = evaluate(alloc, view, full, &command.act)?;
+    let Effect {
+        mut changes,
+        exception,
+        seating,
+        step,
+    } = acted;
+    let new_reply = ReplyData {
+        // A full register accepts no act, so there is a next number.
+        accepted: accepted + 1,
+        exception,
+        seating,
+        step,
+    };
+    let reply = reply_text(alloc, &new_reply)?;
+    changes.push(Change::PutKey(KeyRow {
+        key: command.key,
+        accepted: new_reply.accepted,
+        command: command_text(alloc, &command.act)?,
+        reply: reply.clone()?,
+    }))?;
+    Ok(Verdict {
+        changes,
+        reply: Reply { text: reply },
+        new_reply: Some(new_reply),
+    })
 }

@@ -1,5 +1,5 @@
 -- An older file with the tables that it lacks, which have no rows yet: what CREATE TABLE does to tables that have rows.
-use Rattle.std.proofs.Common.{rules, ◌≡◌, ℕ, zero, suc, List, [], ◌∷◌, map, drop, take, ◌∙◌, ◌+◌, None, Ok, false, refl, sym, ap, subst}
+use Rattle.std.proofs.Common.{rules, ◌≡◌, ℕ, zero, suc, List, [], ◌∷◌, map, drop, take, ◌∙◌, ◌+◌, None, Ok, false, sym, ap, subst}
 use Rattle.sqlite.specs.Tree.{Trees}
 use Rattle.sqlite.specs.Table.{Table}
 use Rattle.sqlite.specs.Change.{KeepsRows, created, next_tree}

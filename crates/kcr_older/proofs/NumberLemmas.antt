@@ -1,7 +1,7 @@
 -- The number that a database has, as the query on it shows it.
-use Rattle.std.specs.Prelude.{slice_get, option_and_then, if◌then◌else◌, MatchOption, IsSomeAnd}
+use Rattle.std.specs.Prelude.{slice_get, option_and_then, IsSomeAnd}
 use Rattle.std.proofs.Common.{◌≡◌, ◌∙◌, ap, sym, subst, ℕ, negsuc, ◌<◌, ◌^◌, nat_le, arith, List, [], ◌∷◌, codes, Option, Some, None, refl, true, false}
-use Rattle.std.proofs.Common.{map, length, filter, inl, inr, subst₂, IsTrue}
+use Rattle.std.proofs.Common.{map, filter, inl, inr, subst₂, IsTrue}
 use Rattle.std.specs.Prelude.{is_some}
 use Rattle.std.specs.List.{AllZip}
 use Rattle.std.specs.List.Sorted.{IsPermutation}
@@ -11,17 +11,14 @@ use Rattle.std.proofs.lemmas.Bool.{cases_Bool}
 use Rattle.std.proofs.lemmas.Slice.Eq.{bytes_eq-Decides}
 use Rattle.std.proofs.lemmas.Bool.Decides.{nat_tests}
 use Rattle.std.proofs.lemmas.Slice.Zip.{AllZip-right}
-use Rattle.sqlite.specs.Effect.{Database}
 use Rattle.sqlite.specs.Order.{Row, column}
-use Rattle.sqlite.specs.Program.{overlay}
-use Rattle.sqlite.specs.Query.{Output, IsAnswer, output}
+use Rattle.sqlite.specs.Query.{Output, output}
 use Rattle.sqlite.specs.Schema.{Schema}
 use Rattle.sqlite.specs.State.{State, Shown, IsUnchanged}
 use Rattle.sqlite.specs.Table.{Table}
-use Rattle.sqlite.specs.Term.{Term, col}
+use Rattle.sqlite.specs.Term.{col}
 use Rattle.sqlite.specs.Tree.{Trees}
 use Rattle.sqlite.specs.declared.types.Value.{Value}
-use Rattle.sqlite.specs.declared.types.Value.TheVariants.{Null}
 use Rattle.sqlite.proofs.Callers.{one_permutation}
 use Rattle.sqlite_catalog.specs.Listing.{IsSound, IsTableRow, is_table_row}
 use Rattle.sqlite_trees.specs.Objects.{catalog_tree}

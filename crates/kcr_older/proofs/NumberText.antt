@@ -1,12 +1,12 @@
 -- What `SELECT number FROM versions` means over a schema that has a table `versions` of the one column `number`.
-use Rattle.std.specs.Prelude.{◌+◌, slice_get, pos, negsuc, Bool}
-use Rattle.std.proofs.Common.{◌≡◌, ◌∙◌, ap, sym, ℕ, List, [], ◌∷◌, codes, Option, Some, None, Result, Ok, Err, refl, true, false, map}
+use Rattle.std.specs.Prelude.{◌+◌, slice_get, negsuc, Bool}
+use Rattle.std.proofs.Common.{◌≡◌, ◌∙◌, ap, sym, ℕ, List, [], ◌∷◌, codes, Option, Some, None, Ok, Err, refl, true, false}
 use Rattle.sqlite.specs.Schema.{Schema}
 use Rattle.sqlite.specs.Table.{Table}
-use Rattle.sqlite.specs.Query.{Query, inner, end}
+use Rattle.sqlite.specs.Query.{inner, end}
 use Rattle.sqlite.specs.Term.{Term, lit, col}
 use Rattle.sqlite.specs.declared.types.Value.TheVariants.{Int}
-use Rattle.sqlite_schema.specs.Names.{table_named, place_of, same_name}
+use Rattle.sqlite_schema.specs.Names.{table_named, place_of}
 use Rattle.sqlite_schema.specs.declared.schema.Column.{Column}
 use Rattle.sqlite_catalog.proofs.StepLemmas.{same_itself}
 use Rattle.sqlite_tied.specs.Compute.{everything}
@@ -21,7 +21,6 @@ use Rattle.sqlite_resolve.specs.Compile.{compiled, first, read, command, meaning
 use Rattle.sqlite_resolve.specs.declared.compiled.Compiled.{Compiled}
 use Rattle.sqlite.specs.Listing.{understood, reads_listing, misses_table}
 use Rattle.sqlite_syntax.specs.declared.statement.Parsed.{Parsed}
-use Rattle.sqlite_ast.specs.declared.Statement.{Statement}
 use Rattle.sqlite_ast.specs.declared.Statement.TheVariants as written
 use Rattle.sqlite_ast.specs.declared.Select.{Select, out-Select}
 use Rattle.sqlite_ast.specs.declared.Core.{Core, out-Core}

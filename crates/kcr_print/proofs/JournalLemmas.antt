@@ -1,5 +1,5 @@
 -- The lines that the rows of accepted commands keep are those of the commands.
-use Rattle.std.proofs.Common.{◌≡◌, ℕ, ◌-◌, ◌⊎◌, List, [], map, take, drop, reverse, Option, None, inl, inr, sym, ap, subst, ◌∙◌}
+use Rattle.std.proofs.Common.{◌≡◌, ℕ, ◌⊎◌, List, [], map, take, reverse, Option, None, inl, inr, sym, ap, subst, ◌∙◌}
 use Rattle.std.specs.Prelude.{IsTrue, Result, ⊤, unwrap_or}
 use Rattle.std.specs.Coded.{coded_ℕ, coded_list}
 use base.Stored.{Coded-set}
@@ -18,7 +18,6 @@ use Rattle.kcr_forms.specs.Values.{AreValues}
 use Rattle.kcr_history.specs.History.{History}
 use Rattle.kcr_history.specs.Machine.{IsRegister}
 use Rattle.kcr_history.specs.Tables.{key_row, people}
-use Rattle.kcr_history.specs.declared.commands.Entry.{Entry}
 use Rattle.kcr_history.specs.declared.row_types.KeyRow.{KeyRow}
 use Rattle.kcr_journal.specs.Journal.{journal, row_line}
 use Rattle.kcr_journal.proofs.EntryLemmas.{IsGood, good-entries, rows-are}

@@ -23,14 +23,11 @@ use Rattle.kcr_base.specs.Counted.{inner_of}
 use Rattle.kcr_base.specs.declared.counted.Counted.{Counted}
 use Rattle.kcr_export.specs.Requests.{request_text}
 use Rattle.kcr_forms.specs.Acts.{IsAct}
-use Rattle.kcr_forms.specs.ActTexts.{act_of}
 use Rattle.kcr_forms.specs.Values.{AreValues}
-use Rattle.kcr_forms.proofs.Again.{act-again}
 use Rattle.kcr_history.specs.History.{History}
 use Rattle.kcr_history.specs.Machine.{IsRegister}
 use Rattle.kcr_history.specs.Tables as machine
 use Rattle.kcr_history.specs.Tables.{key_row, tables}
-use Rattle.kcr_history.specs.Texts.{command_text}
 use Rattle.kcr_history.specs.declared.commands.Act.{Act}
 use Rattle.kcr_history.specs.declared.commands.Command.{Command}
 use Rattle.kcr_history.specs.declared.commands.Entry.{Entry}
@@ -40,6 +37,7 @@ use Rattle.kcr_reading.specs.Commands.{only, numbered, commands_past, commands_w
 use Rattle.kcr_store.specs.Calls.{OfHistory}
 use Rattle.kcr_store.specs.Register.{RegisterState}
 use Rattle.kcr_store.specs.Stored.{IsTables}
+use Rattle.kcr_wire.proofs.Again.{act-again}
 use Rattle.kcr_print.specs.Reports.{IsPrinted, Prints, RefusesBetweenRows}
 use Rattle.kcr_print.specs.declared.fault.PrintFault.{PrintFault}
 use Rattle.kcr_print.specs.Requests.{Exports, commands_between, requests_between, row_request, row_requests}
@@ -125,15 +123,15 @@ past_is A h d (suc count) last = elim (cases_lt last (length A)) [
 
 -- THE REQUESTS
 
--- the request of a row whose text is an act's
-pub request_is : (row : KeyRow) (act : Act) → command_text act ≡ row.command → IsAct act
-    → row_request row ≡ request_text (record { key = row.key; act = act })
-request_is row act told is =
-    ap (λ o. option_map_or (λ act. request_text (record { key = row.key; act = act })) o []) (ap act_of (sym told) ∙ act-again act is)
+-- the texts of rows, one after the other
+pub texts_of : {X : Type 0} (text : X → List ℕ) (xs : List X) → flat_map (λ (t : List ℕ). t) (map text xs) ≡ flat_map text xs
+texts_of text [] = refl
+texts_of text (x ∷ xs) = ap (λ t. text x ++ t) (texts_of text xs)
 
 -- the row of a command of values keeps the command's request
 row_is : (entry : Entry) → IsAct entry.command.act → row_request (key_row entry) ≡ request_text entry.command
-row_is entry is = request_is (key_row entry) entry.command.act refl is
+row_is entry is =
+    ap (λ (o : Option Act). option_map_or (λ act. request_text (record { key = entry.command.key; act = act })) o []) (act-again entry.command.act is)
 
 all_drop : {X : Type 0} (P : X → Type 0) (count : ℕ) (xs : List X) → AllByRecursion P xs → AllByRecursion P (drop count xs)
 all_drop P zero xs all = all

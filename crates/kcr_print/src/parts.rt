@@ -15,15 +15,16 @@ ghost use Rattle.kcr_print.specs.Requests.{row_request, row_requests};
 use crate::attendance_lines::Header;
 use crate::fault::PrintFault;
 use crate::print_lines::PrintLines;
+use crate::requests::RequestCursor;
 use crate::script_lines::{Foot, Head};
 use crate::write_rows::{write_row, write_rows};
 use kcr_base::{CeremonyNumber, Counted};
 use kcr_journal::JournalCursor;
 use kcr_reading::{
-    BagCursor, CommandCursor, Cursor, ExceptionCursor, LooseCursor, SafeCursor, StayCursor,
-    StepCursor,
+    BagCursor, Cursor, ExceptionCursor, LooseCursor, SafeCursor, StayCursor, StepCursor,
 };
 use kcr_store::Register;
+use kcr_wire::RouteTable;
 use sqlite::Alter;
 use std::alloc::Global;
 use std::io::Write;
@@ -115,7 +116,9 @@ pub(crate) fn print_requests<S: Alter, W: Write>(
         (commands_within after until (tables A)) result
         (W.contents (inner_of writer.old)) (W.contents (inner_of writer.new))) }
 {
-    write_all_rows(alloc, register, CommandCursor::new(after, until), writer)
+    let paths = RouteTable::new(alloc)?;
+    let requests = RequestCursor::new(paths, after, until);
+    write_all_rows(alloc, register, requests, writer)
 }
 
 /// Writes the journal, of all commands or of those that name a ceremony.
@@ -130,10 +133,7 @@ pub(crate) fn print_journal<S: Alter, W: Write>(
     ensures { PrintsPart S.Store W.contents register.old register.new writer.old writer.new result
         (λ _ _. ⊥) (λ _. ⊥) (row_journal asked) }
 {
-    write_all_rows(
-        alloc,
-        register,
-        JournalCursor::new(0, u32::MAX, asked),
-        writer,
-    )
+    let paths = RouteTable::new(alloc)?;
+    let lines = JournalCursor::new(paths, 0, u32::MAX, asked);
+    write_all_rows(alloc, register, lines, writer)
 }

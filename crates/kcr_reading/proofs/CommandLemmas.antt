@@ -1,5 +1,5 @@
 -- The accepted commands, read by their numbers.
-use Rattle.std.proofs.Common.{◌≡◌, ℕ, ◌+◌, ◌-◌, ◌<◌, ◌≤◌, ◌==◌, pos, suc, List, [], ◌∷◌, ◌++◌, length, length-append, Bool, true, false, Option, Some, None, IsSome, is_some, codes, refl, sym, ap, ◌∙◌, arith}
+use Rattle.std.proofs.Common.{◌≡◌, ℕ, ◌+◌, ◌-◌, ◌<◌, ◌≤◌, ◌==◌, pos, suc, List, [], ◌∷◌, ◌++◌, length, length-append, true, false, Option, Some, None, IsSome, is_some, codes, refl, sym, ap, ◌∙◌, arith}
 use Rattle.std.specs.List.Sorted.{IsPermutation}
 use Rattle.std.specs.Option.{option_map_or, option_to_list}
 use Rattle.std.proofs.lemmas.Bool.{false≢true}
@@ -15,7 +15,8 @@ use Rattle.kcr_history.specs.Tables as machine
 use Rattle.kcr_history.specs.declared.row_types.KeyRow.{KeyRow}
 use Rattle.kcr_tables.specs.StoredTables.{keys_place}
 use Rattle.kcr_tables.specs.KeysLaws as laws
-use Rattle.kcr_tables.specs.Statements.{is_given, SelectsUnordered}
+use Rattle.kcr_tables.specs.Statements.{is_given}
+use Rattle.kcr_tables.proofs.Unordered.{SelectsUnordered}
 use Rattle.kcr_reading.specs.Commands.{only, numbered, commands_past, commands_within}
 use Rattle.kcr_reading.specs.Remaining.{IsNextOf}
 

@@ -285,38 +285,3 @@ next_listed ceremony last m k rows found ends begin =
     subst (λ l. IsNextBatchOf (listed_past last ceremony m) rows (listed_past l ceremony m))
     (moved_to listed listed_total (λ (s : Stay). s) last rows found ends)
     (gives_several listed listed_total (λ (s : Stay). s) is_stay_past past_later last (those ceremony m) (rise_here ceremony m k) rows begin)
-
--- ---- the name of the one person with these initials
-
-named : (who : List ℕ) (m : machine.Tables) {db : Trees} (k : TreesHoldTables m db) (rows rest : List Person) (person : Person)
-    → rows ≡ filter (λ row. same_text row.who who) k.t.rows.people → rows ≡ rest ++ (person ∷ []) → person.name ≡ name_of m.people who
-named who m k rows rest person are ends =
-    let mine : Person → Bool = λ row. same_text row.who who in
-    let among : Has (filter mine k.t.rows.people) person = subst (λ (l : List Person). Has l person) (sym ends ∙ are)
-    (has_right rest (person ∷ []) person (inl refl)) in
-    let here : Has k.t.rows.people person = filter_from mine k.t.rows.people person among in
-    let is : person.who ≡ who = (bytes_eq-Decides person.who who).0 (filter_is mine k.t.rows.people person among) in
-    let here_too : Has m.people person = has_same k.t.rows.people m.people person (IsPermutation-sym _ _ k.stands.rows.people) here in
-    let there : Has (filter mine m.people) person = filter_to mine m.people person here_too (filter_is mine k.t.rows.people person among) in
-    let found : slice_get (filter mine m.people) 0 ≡ Some person = first (filter mine m.people) refl there here is in
-    ap (λ (o : Option Person). unwrap_or (option_map (λ row. row.name) o) []) (sym found ∙ slice_get-filter mine m.people)
-  where
-    first : (l : List Person) → filter (λ row. same_text row.who who) m.people ≡ l → Has l person → Has k.t.rows.people person → person.who ≡ who
-        → slice_get l 0 ≡ Some person
-    first [] e has here is = absurd has
-    first (x ∷ more) e has here is =
-        let in_all : Has (filter (λ row. same_text row.who who) m.people) x = subst (λ (l : List Person). Has l x) (sym e) (inl refl) in
-        let in_table : Has k.t.rows.people x = has_same m.people k.t.rows.people x k.stands.rows.people
-        (filter_from (λ row. same_text row.who who) m.people x in_all) in
-        let same : x.who ≡ person.who = (bytes_eq-Decides x.who who).0 (filter_is (λ row. same_text row.who who) m.people x in_all) ∙ sym is in
-        let tie : is_eq (by_key 1 (person_row x) (person_row person)) ≡ true =
-        ap is_eq (text_key x.who person.who [] [] ∙ ap (λ w. slice_cmp nat_cmp w person.who) same ∙ tied_itself nat_list_cmp_total person.who) in
-        ap Some (one_key_of 1 person_row k.t.rows.people k.kept.people.rising x person in_table here tie)
-
-pub named_last : (who : List ℕ) (m : machine.Tables) {db : Trees} (k : TreesHoldTables m db) (rows rest : List Person) (found : Option Person) (name : List ℕ)
-    → rows ≡ filter (λ row. same_text row.who who) k.t.rows.people → rows ≡ rest ++ option_to_list found → option_map (λ row. row.name) found ≡ Some name
-    → name ≡ name_of m.people who
-named_last who m k rows rest None name are ends is = absurd (cc)
-named_last who m k rows rest (Some person) name are ends is =
-    let same : name ≡ person.name = cc in
-    same ∙ named who m k rows rest person are ends

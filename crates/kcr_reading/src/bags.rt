@@ -77,7 +77,7 @@ fn items_within<S: Alter>(
 }
 
 /// The codes of these items, in their order.
-fn codes_of(alloc: Global, items: &[Item]) -> Result<Vec<ItemCode>, AllocError>
+pub fn codes_of(alloc: Global, items: &[Item]) -> Result<Vec<ItemCode>, AllocError>
     ensures { IfOk result (λ codes. codes.items ≡ map (λ item. item.code) items.now) }
 {
     items.iter().map(|item| item.code).collect(alloc)

@@ -67,15 +67,22 @@ impl CommandCursor {
     {
         CommandCursor { last: after, until }
     }
+}
 
-    /// The next row, or none past the last, as `Cursor::next` has it. A row shows that the store was open.
-    pub fn next_row<S: Alter>(
+impl Cursor for CommandCursor {
+    type Row = KeyRow;
+
+    ghost to_come = { λ p m. commands_within p.last p.until m };
+
+    fn next<S: Alter>(
         &mut self,
         alloc: Global,
         tx: &mut Transaction<'_, S>,
     ) -> Result<Option<KeyRow>, Refusal>
         ensures gives { OfOpenTables S.Store tx.old tx.new result (λ m row.
             IsNextOf (commands_within self.old.last self.old.until m) row (commands_within self.new.last self.new.until m)) }
+
+        // A row shows that the store was open.
         ensures opened { IfClean S.Store tx.old tx.new
             (λ old _. IfOk result (λ row. IfSome row (λ _. IsTrue old.is_open))) }
         ensures frame { Reads S.Store tx.old tx.new result }
@@ -89,19 +96,5 @@ impl CommandCursor {
             self.last = number;
         }
         Ok(row)
-    }
-}
-
-impl Cursor for CommandCursor {
-    type Row = KeyRow;
-
-    ghost to_come = { λ p m. commands_within p.last p.until m };
-
-    fn next<S: Alter>(
-        &mut self,
-        alloc: Global,
-        tx: &mut Transaction<'_, S>,
-    ) -> Result<Option<KeyRow>, Refusal> {
-        self.next_row(alloc, tx)
     }
 }

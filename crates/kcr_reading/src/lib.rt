@@ -18,7 +18,7 @@ mod seek;
 mod stays;
 mod steps;
 
-pub use bags::BagCursor;
+pub use bags::{BagCursor, codes_of};
 pub use commands::CommandCursor;
 pub use cursor::Cursor;
 pub use exceptions::ExceptionCursor;

@@ -21,7 +21,7 @@ use kcr_history::StayWithName;
 use kcr_people::Person;
 use kcr_room::Stay;
 use kcr_rows::cells::{number_cell, text_cell};
-use kcr_tables::find_rows;
+use kcr_tables::find_row;
 use sqlite::types::ValueRef;
 use sqlite::{Alter, Transaction};
 use std::alloc::Global;
@@ -132,8 +132,7 @@ pub fn name_of<S: Alter>(
     ensures opened { ImpliesOpen S.Store tx.old tx.new result }
     ensures frame { Reads S.Store tx.old tx.new result }
 {
-    let mut people: Vec<Person> = find_rows(alloc, tx, who)?;
-    match people.pop() {
+    match find_row(alloc, tx, who)? {
         Some(Person { who: _, name }) => Ok(name),
         None => Err(Refusal::Disk),
     }

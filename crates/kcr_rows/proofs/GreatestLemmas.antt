@@ -1,6 +1,6 @@
 -- A query for the row with the greatest number, among those that pass a test.
-use Rattle.std.proofs.Common.{◌≡◌, inl, inr, None, ℕ, suc, ◌+◌, ◌≤◌, ◌^◌, nat_le, pos, length, List, [], ◌∷◌, map, filter, take, slice_index_or, true, false}
-use Rattle.std.proofs.Common.{Bool, Ordering, Less, Equal, Greater, is_lt, IsSorted, refl, sym, ap, subst, ◌∙◌, arith}
+use Rattle.std.proofs.Common.{◌≡◌, inl, inr, ℕ, suc, ◌≤◌, ◌^◌, nat_le, pos, length, List, [], ◌∷◌, map, filter, take, slice_index_or, true, false}
+use Rattle.std.proofs.Common.{Bool, Ordering, Equal, is_lt, IsSorted, refl, sym, ap, subst, ◌∙◌, arith}
 use Rattle.std.specs.Bool.{⊤}
 use Rattle.std.specs.List.{AllByRecursion, list_all}
 use Rattle.std.specs.List.Sorted.{IsPermutation}

@@ -28,8 +28,8 @@ use Rattle.sqlite_rules.specs.Lists.{Has}
 use Rattle.sqlite_trees.proofs.ListLemmas.{filter-map, filter_none, filter_same, IsPermutation-filter}
 use Rattle.sqlite_value.proofs.OrderLemmas.{value_cmp_total}
 use Rattle.kcr_rows.specs.Columns.{simple_as}
-use Rattle.kcr_rows.specs.Keyed.{cells, by_key, is_full, TableLayout, TreeHolds, put}
-use Rattle.kcr_rows.proofs.PutLemmas.{keeps_put}
+use Rattle.kcr_rows.specs.Keyed.{cells, by_key, is_full, TableLayout, TreeHolds}
+use Rattle.kcr_rows.proofs.PutLemmas.{put, keeps_put}
 use Rattle.kcr_rows.proofs.ReadLemmas.{reading, kept_from}
 use Rattle.kcr_rows.proofs.SameLemmas.{key_total}
 use Rattle.kcr_rows.proofs.TableLemmas.{own_id}

@@ -19,7 +19,13 @@ use Rattle.sqlite_rules.specs.Edit.{is_taken}
 use Rattle.sqlite_rules.proofs.ListLemmas.{all_has, all_from}
 use Rattle.sqlite_rules.proofs.ProbeLemmas.{has_mapped}
 use Rattle.kcr_rows.proofs.SameLemmas.{key_total}
-use Rattle.kcr_rows.specs.Keyed.{cells, by_key, is_full, TableLayout, TreeHolds, put}
+use Rattle.kcr_rows.specs.Keyed.{cells, by_key, is_full, TableLayout, TreeHolds}
+
+-- the rows with this one in its place, new or in place of the one that has its key
+abbrev pub put : ℕ → Row → List Row → List Row
+put keys new [] = new ∷ []
+put keys new (row ∷ rows) =
+    match_ordering (by_key keys row new) (row ∷ put keys new rows) (new ∷ rows) (new ∷ row ∷ rows)
 
 module _ (keys : ℕ) (new : Row) where
   abbrev Put : Ordering → Row → List Row → List Row

@@ -39,9 +39,9 @@ use Rattle.sqlite_rules.specs.Action.{works}
 use Rattle.sqlite_rules.proofs.ListLemmas.{all_has, all_from}
 use Rattle.sqlite_rules.proofs.TableLemmas.{int_is}
 use Rattle.kcr_rows.specs.Columns.{simple_as}
-use Rattle.kcr_rows.specs.Keyed.{cells, by_key, is_full, TableLayout, TreeHolds, put, put_in}
+use Rattle.kcr_rows.specs.Keyed.{cells, by_key, is_full, TableLayout, TreeHolds, put_in}
 use Rattle.kcr_rows.proofs.ReadLemmas.{reading, with_key, reads_rows, reads_exact}
-use Rattle.kcr_rows.proofs.PutLemmas.{keeps_put, put_row_same, has_same}
+use Rattle.kcr_rows.proofs.PutLemmas.{put, keeps_put, put_row_same, has_same}
 use Rattle.kcr_rows.proofs.KeyLemmas.{places_from, full, fresh_key, not_any}
 use Rattle.kcr_rows.proofs.WriteLemmas.{IsInserted, entered, inserts}
 

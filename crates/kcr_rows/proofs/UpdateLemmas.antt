@@ -29,7 +29,8 @@ use Rattle.sqlite_rules.specs.Lists.{Has}
 use Rattle.sqlite_schema.specs.declared.schema.Keys.TheVariants.{Enforced}
 use Rattle.sqlite_value.specs.Keys.{rising}
 use Rattle.kcr_rows.specs.Columns.{simple_as}
-use Rattle.kcr_rows.specs.Keyed.{cells, by_key, is_full, TableLayout, TreeHolds, put}
+use Rattle.kcr_rows.specs.Keyed.{cells, by_key, is_full, TableLayout, TreeHolds}
+use Rattle.kcr_rows.proofs.PutLemmas.{put}
 use Rattle.kcr_rows.proofs.KeyLemmas.{full, agrees, same_from, same_is}
 use Rattle.kcr_rows.proofs.OverLemmas.{finding, rewriting, has_key, one_row, is_found, found_one, keeps_changed}
 use Rattle.kcr_rows.proofs.ReadLemmas.{kept_from}

@@ -2,15 +2,12 @@
 ghost use Rattle.std.specs.Prelude.{◌≡◌, ◌≢◌, ◌&&◌, [], ◌<◌, ◌≤◌, nat_le, MatchResult, IfOk, EachIndex, slice_index};
 ghost use Rattle.std.specs.Prelude.{get_or, length, map, filter};
 ghost use Rattle.kcr_base.specs.declared.refusal.Refusal.TheVariants.{Memory};
-ghost use Rattle.kcr_seats.specs.Answer.{IsAnswer};
 ghost use Rattle.kcr_history.specs.Fitting.{fits_by};
 ghost use Rattle.kcr_history.specs.Machine.{SeatRequest};
-ghost use Rattle.kcr_history.specs.declared.views.View.{View};
 ghost use Rattle.kcr_history.specs.Views.{is_training_of};
 ghost use Rattle.kcr_rules.specs.TrainingsByPerson.{trainings_by_person};
 ghost use Rattle.kcr_rules.specs.Signing;
 
-use crate::ceremony_status::{ceremony_row, facility};
 use crate::context::DecisionContext;
 use kcr_base::{Day, Facility, Initials, Moment, Positions, Refusal};
 use kcr_history::{InitialsList, fits};
@@ -112,35 +109,6 @@ fn named(alloc: Global, people: &[Initials], numbers: &[usize]) -> Result<Initia
 }
 
 impl DecisionContext<'_> {
-    /// Seats these people by their numbers, or names seats that too few of them fit.
-    fn search(
-        &self,
-        facility: Facility,
-        day: Day,
-        seats: &[Seat],
-        people: &[Initials],
-    ) -> Result<Answer, AllocError>
-        requires seats { length seats.now ≤ 16 }
-        requires people { length people.now ≤ 128 }
-        ensures { let view : View = self.now.view.now in IfOk result (λ answer. IsAnswer
-            (Signing.fits_of (fits_by view.trainings.items view.withdrawals.items view.appointments.items
-            facility day) seats.now people.now)
-            (length seats.now) (length people.now) answer) }
-    {
-        let own = trainings_of_each(self.alloc, &self.view.trainings, people)?;
-        let room = SeatingProblem {
-            seats,
-            people,
-            trainings: &self.view.trainings,
-            own: &own,
-            withdrawals: &self.view.withdrawals,
-            rows: &self.view.appointments,
-            facility,
-            day,
-        };
-        kcr_seats::seat_uncounted(self.alloc, &room)
-    }
-
     /// Fills the seats in the room of a ceremony: the people seat by seat, or the refusal that names seats that too few
     /// people fit. A room with more people than may be in one is no register's: then the database gave wrong rows.
     pub fn seat(&self, ceremony: u32, at: Moment, seats: &[Seat]) -> Result<InitialsList, Refusal>
@@ -149,12 +117,22 @@ impl DecisionContext<'_> {
             (λ people. Signing.IsSeatedBy self.now.view.now s people × (length people ≤ 16))
             (λ refusal. refusal ≢ Memory → Signing.IsUnseatedBy self.now.view.now s refusal) }
     {
-        let facility = facility(&ceremony_row(self.view, ceremony));
         let people = self.people_present(ceremony, at)?;
         if people.len() > MAX_PEOPLE {
             return Err(Refusal::Disk);
         }
-        match self.search(facility, at.day(), seats, &people)? {
+        let own = trainings_of_each(self.alloc, &self.view.trainings, &people)?;
+        let room = SeatingProblem {
+            seats,
+            people: &people,
+            trainings: &self.view.trainings,
+            own: &own,
+            withdrawals: &self.view.withdrawals,
+            rows: &self.view.appointments,
+            facility: self.facility(ceremony),
+            day: at.day(),
+        };
+        match kcr_seats::seat_uncounted(self.alloc, &room)? {
             Answer::Seated(numbers) => Ok(named(self.alloc, &people, &numbers)?),
             Answer::Short(numbers) => Err(Refusal::Short {
                 seats: Positions::from_indices(&numbers),

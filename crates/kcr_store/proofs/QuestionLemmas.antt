@@ -1,21 +1,20 @@
 -- What is shown of custodians, of a bag, of a ceremony and of a room, out of the rows of the tables.
 use Rattle.std.proofs.Common.{◌≡◌, ℕ, ◌==◌, Bool, true, false, not, ◌||◌, cond, List, [], ◌∷◌, map, filter, reverse, length, Option, Some, refl}
 use Rattle.std.proofs.Common.{◌⊎◌, inl, inr, sym, ap, ◌∙◌, subst, arith}
-use Rattle.std.specs.Prelude.{AllPairs, IsTrue, slice_get, MatchResult, Result, Ok, Err, IfOk, IfErr}
+use Rattle.std.specs.Prelude.{AllPairs, IsTrue, MatchResult, Result, Ok, Err, IfOk, IfErr}
 use Rattle.std.specs.Option.{ok_or}
 use Rattle.std.specs.List.{list_any, find}
 use Rattle.std.specs.List.Sorted.{IsPermutation}
-use Rattle.std.proofs.lemmas.List.Sorted.{IsPermutation-map, IsPermutation-reverse, IsPermutation-trans, list_any-IsPermutation}
+use Rattle.std.proofs.lemmas.List.Sorted.{IsPermutation-map, IsPermutation-refl, IsPermutation-reverse, IsPermutation-trans, list_any-IsPermutation}
 use Rattle.sqlite.specs.Tree.{Trees}
 use Rattle.sqlite_trees.proofs.ListLemmas.{ascending-filter, ascending-map}
-use Rattle.sqlite_keyed.proofs.ListLemmas.{slice_get-filter}
 use Rattle.kcr_base.specs.Same.{is_before}
 use Rattle.kcr_base.specs.declared.refusal.Refusal.{Refusal}
 use Rattle.kcr_base.specs.declared.refusal.Refusal.TheVariants.{Unknown}
 use Rattle.kcr_base.specs.declared.refusal.Thing.TheVariants as Things
 use Rattle.kcr_base.proofs.RowsLemmas.{filter-order}
 use Rattle.kcr_base.proofs.SameLemmas.{same-itself}
-use Rattle.kcr_base.proofs.ListLemmas.{any-map}
+use Rattle.kcr_base.proofs.ListLemmas.{any-map, some_if}
 use Rattle.kcr_people.specs.declared.Appointment.{Appointment}
 use Rattle.kcr_people.specs.People.{holder_by, lasts_beyond}
 use Rattle.kcr_custody.specs.declared.Bag.{Bag}
@@ -23,7 +22,6 @@ use Rattle.kcr_custody.specs.Custody.{spot_by, lies_in, sealed_items}
 use Rattle.kcr_room.specs.declared.Stay.{Stay}
 use Rattle.kcr_room.specs.Stays.{attendance_in_by, present_in_by, stays_by}
 use Rattle.kcr_history.specs.declared.row_types.CeremonyRow.{CeremonyRow}
-use Rattle.kcr_history.specs.declared.views.Selection.TheVariants.{Matching}
 use Rattle.kcr_history.specs.History.{History, values_of_acts}
 use Rattle.kcr_history.specs.Ceremonies.{is_ceremony}
 use Rattle.kcr_history.specs.Custody.{spot}
@@ -38,7 +36,6 @@ use Rattle.kcr_machine.proofs.Keyed.{Shown}
 use Rattle.kcr_machine.proofs.Scenes.{ceremony-shown}
 use Rattle.kcr_tables.proofs.JointLemmas.{Rises}
 use Rattle.kcr_tables.proofs.NamedLemmas.{passing}
-use Rattle.kcr_tables.proofs.ViewLemmas.{asked_shows}
 use Rattle.kcr_history.specs.declared.questions.BagShown.{BagShown}
 use Rattle.kcr_history.specs.Questions.{holders_from, holders_on, IsBagShown, with_name}
 use Rattle.kcr_history.proofs.Words.{planned-number}
@@ -94,6 +91,25 @@ passing_shown : {X : Type 0} (of : X → Bool) (xs ys rows : List X) → IsPermu
 passing_shown of xs ys rows same are =
     IsPermutation-trans _ _ _ (filter-order of xs ys same) (passing of ys rows are)
 
+-- where the bag lies
+pub spot_shown : (A : History) → IsRegister A → (serial : List ℕ) → spot_by (bags A) serial ≡ spot A serial
+spot_shown A register serial = spot-shown A register serial (bags A) (IsPermutation-refl (filter (is_of_serial serial) (bags A)))
+
+-- the row of the ceremony, and if there is none it was never planned
+pub row_shown : (A : History) (ceremony : ℕ)
+    → MatchResult (ok_or (find (is_of_number ceremony) (ceremonies A)) (Unknown (Things.Ceremony ceremony))) (IsRowOf A ceremony) (HasNoRow A ceremony)
+row_shown A ceremony = says (is_ceremony A ceremony) refl
+  where
+    Says : Option CeremonyRow → Type 0
+    Says row = MatchResult (ok_or row (Unknown (Things.Ceremony ceremony))) (IsRowOf A ceremony) (HasNoRow A ceremony)
+
+    found : find (is_of_number ceremony) (ceremonies A) ≡ some_if (is_ceremony A ceremony) (ceremony_row A ceremony)
+    found = ceremony-shown A ceremony (ceremonies A) (IsPermutation-refl (filter (is_of_number ceremony) (ceremonies A)))
+
+    says : (b : Bool) → is_ceremony A ceremony ≡ b → Says (find (is_of_number ceremony) (ceremonies A))
+    says true e = subst Says (sym (rw e at found)) (record { planned = e; row_is = refl })
+    says false e = subst Says (sym (rw e at found)) (inr (e, refl))
+
 module _ (A : History) (register : IsRegister A) (t : Tables) (same : SameTables (tables A) t) where
   -- who holds which place on a day
   pub holders_shown : (day : ℕ) (rows : List Appointment) → IsPermutation (filter (lasts_beyond day) t.appointments) rows
@@ -101,10 +117,6 @@ module _ (A : History) (register : IsRegister A) (t : Tables) (same : SameTables
   holders_shown day rows are =
       let shown = passing_shown (lasts_beyond day) (appointments A) t.appointments rows same.appointments are in
       λ i. holders_from (λ place. holder-lasting A register rows day shown place i)
-
-  -- where the bag lies
-  pub spot_shown : (serial : List ℕ) (rows : List Bag) → rows ≡ filter (is_of_serial serial) t.bags → spot_by rows serial ≡ spot A serial
-  spot_shown serial rows is = spot-shown A register serial rows (asked_shows is_of_serial (Matching serial) (bags A) t.bags rows same.bags is)
 
   -- the bag with its items
   pub bag_shown : (rises : Rises t) (serial : List ℕ) (bag : BagShown) → bag.serial ≡ serial → spot A serial ≡ Some bag.spot
@@ -129,24 +141,6 @@ module _ (A : History) (register : IsRegister A) (t : Tables) (same : SameTables
       ∙ list_any-IsPermutation (is_of_number ceremony) (ceremonies A) t.ceremonies same.ceremonies
       ∙ some_kept (is_of_number ceremony) t.ceremonies
       ∙ ap (λ l. not (length l == 0)) (sym is)
-
-  -- the first of the rows of the ceremony is its row, and if there is none it was never planned
-  pub row_shown : (ceremony : ℕ) (rows : List CeremonyRow) → rows ≡ filter (is_of_number ceremony) t.ceremonies
-      → MatchResult (ok_or (slice_get rows 0) (Unknown (Things.Ceremony ceremony))) (IsRowOf A ceremony) (HasNoRow A ceremony)
-  row_shown ceremony rows is = says (is_ceremony A ceremony) refl
-    where
-      Says : Option CeremonyRow → Type 0
-      Says row = MatchResult (ok_or row (Unknown (Things.Ceremony ceremony))) (IsRowOf A ceremony) (HasNoRow A ceremony)
-
-      first : slice_get rows 0 ≡ find (is_of_number ceremony) t.ceremonies
-      first = ap (λ l. slice_get l 0) is ∙ slice_get-filter (is_of_number ceremony) t.ceremonies
-
-      ordered : IsPermutation (filter (is_of_number ceremony) (ceremonies A)) (filter (is_of_number ceremony) t.ceremonies)
-      ordered = filter-order (is_of_number ceremony) (ceremonies A) t.ceremonies same.ceremonies
-
-      says : (b : Bool) → is_ceremony A ceremony ≡ b → Says (slice_get rows 0)
-      says true e = subst Says (sym (first ∙ rw e at (ceremony-shown A ceremony t.ceremonies ordered))) (record { planned = e; row_is = refl })
-      says false e = subst Says (sym (first ∙ rw e at (ceremony-shown A ceremony t.ceremonies ordered))) (inr (e, refl))
 
   -- who is in the room
   pub present_shown : (ceremony at : ℕ) (rows : List Stay) → IsPermutation (filter (stay_reaches ceremony at) t.stays) rows

@@ -86,20 +86,22 @@ counts_after A x (Some answer) count is h = numbers A (record { command = x; rep
 abbrev pub OfStates : State → State → (History → Type 0) → Type 0
 OfStates old new Says = HasCleanDisk new → (A : History) → (IsTrue old.is_open → Stores A old.now) → Says A
 
--- over the tables of each history it is the machine's decision, and the tables stay
+-- over the tables of each history it is the machine's decision
 abbrev pub IsDecided : State → State → ℕ → Command → Result Verdict Refusal → Type 0
-IsDecided old new count x r = OfStates old new (λ A. count ≡ length A → IsDecision A x r × HoldsTables (tables A) new.now)
+IsDecided old new count x r = OfStates old new (λ A. count ≡ length A → IsDecision A x r)
 
-module _ (old new : State) (count : ℕ) (x : Command) where
-  pub decided : (r : Result Verdict Refusal) → IsDecided old new count x r
-      → OfStates old new (λ A. count ≡ length A → IfOk r (λ v. IsDecision A x (Ok v) × HoldsTables (tables A) new.now))
-  decided (Ok v) d = d
-  decided (Err e) d = λ clean A had is. tt
+-- the refusal of a decision is the machine's
+pub refused : (old new : State) (count : ℕ) (x : Command) (r : Result Verdict Refusal) → IsDecided old new count x r
+    → IfErr r (λ e. OfStates old new (λ A. count ≡ length A → AppliesCommand A x (Err e) A))
+refused old new count x (Ok v) d = tt
+refused old new count x (Err e) d = λ clean A had is. (refl, λ memory disk. d clean A had is memory)
 
-  -- the refusal of a decision is the machine's
-  pub refused : (r : Result Verdict Refusal) → IsDecided old new count x r → IfErr r (λ e. OfStates old new (λ A. count ≡ length A → AppliesCommand A x (Err e) A))
-  refused (Ok v) d = tt
-  refused (Err e) d = λ clean A had is. (refl, λ memory disk. (d clean A had is).0 memory)
+-- a repeat, for which the tables stay
+pub repeated : {Inside : Type 0} (A : History) (x : Command) (row : KeyRow) (new : Database) (r : Result Verdict Refusal) → IsDecision A x r → IsRowRepeat row x r
+    → Stores A new → Inside → IfOk r (λ v. AppliesCommand A x (Ok v.reply) (with_reply A x v.new_reply) × Stores (with_reply A x v.new_reply) new × Inside)
+repeated A x row new (Ok v) d by s inside =
+    (steps A x v v.new_reply d, subst (λ o. Stores (with_reply A x o) new) (sym by.new_reply) s, inside)
+repeated A x row new (Err e) d by s inside = tt
 
 -- out of memory and an I/O error leave the history
 pub fault_steps : (A : History) (x : Command) (e : Refusal) → IsFault e → AppliesCommand A x (Err e) A

@@ -1,5 +1,5 @@
 -- What an opening finds and makes.
-use Rattle.std.specs.Prelude.{◌≡◌, ◌⊎◌, ◌≢◌, ◌+◌, ℕ, ℤ, pos, [], length, IsTrue, Bool, true, false, Some, Result, MatchResult}
+use Rattle.std.specs.Prelude.{◌≡◌, ◌⊎◌, ◌≢◌, ◌+◌, ℕ, ℤ, pos, [], length, IsTrue, Some, Result, MatchResult}
 use Rattle.sqlite.specs.Effect.{Database}
 use Rattle.sqlite.specs.Files.{HoldsDatabase, AreFoundIn, IsEmpty}
 use Rattle.sqlite.specs.State.{State, HasCleanDisk, IsLive}
@@ -71,11 +71,3 @@ abbrev pub FilesHoldHistory : History → Image → Type 0
 FilesHoldHistory accepted image =
     ((db : Trees) × HoldsDatabase image db × HoldsHistory accepted db)
     ⊎ ((accepted ≡ []) × ((db : Trees) → AreFoundIn image db → IsEmpty db))
-
--- what is known of an empty database: it has no history
-abbrev pub fresh : Bool × History
-fresh = (true, [])
-
--- and of one of which nothing is known
-abbrev pub unknown : Bool × History
-unknown = (false, [])

@@ -14,7 +14,7 @@ use kcr_history::{CeremonyRow, CustodyShown, Question, StayWithName, StepsShown}
 use kcr_reading::{
     BagCursor, ExceptionCursor, LooseCursor, StayCursor, StepCursor, remaining_rows,
 };
-use kcr_tables::{all_rows, find_rows};
+use kcr_tables::{all_rows, find_row};
 use sqlite::{Alter, Transaction};
 use std::alloc::Global;
 
@@ -30,8 +30,7 @@ pub(crate) fn find_ceremony<S: Alter>(
     ensures frame { StaysInTransaction S.Store (MayHaveNoRow ceremony) tx.old tx.new result }
 {
     let number = ceremony.get();
-    let planned = find_rows::<_, u32, CeremonyRow>(alloc, tx, &number)?;
-    planned.first().copied().ok_or(Refusal::Unknown {
+    find_row::<_, u32, CeremonyRow>(alloc, tx, &number)?.ok_or(Refusal::Unknown {
         thing: Thing::Ceremony(number),
     })
 }

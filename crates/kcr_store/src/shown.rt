@@ -1,4 +1,4 @@
-//! What is shown of people, custodians and items, out of the rows of the tables.
+//! What is shown of people and custodians, out of the rows of the tables.
 ghost use Rattle.std.specs.Prelude.{◌≡◌, IfOk, map, All};
 ghost use Rattle.kcr_base.specs.Place.{IsPlaceNumber};
 ghost use Rattle.kcr_base.specs.Same;
@@ -8,8 +8,7 @@ ghost use Rattle.kcr_history.specs.Questions.{person_of};
 ghost use Rattle.kcr_history.specs.Seating.{one_to_seven};
 ghost use Rattle.kcr_store.specs.Shown.{AreRolesOf};
 
-use kcr_base::{Day, Facility, Initials, ItemCode, Place, PlaceNumber, Role};
-use kcr_custody::Item;
+use kcr_base::{Day, Facility, Initials, Place, PlaceNumber, Role};
 use kcr_history::{CustodiansShown, HolderShown, PersonShown, RoleShown};
 use kcr_people::queries::is_of;
 use kcr_people::{Appointment, Person, Training, Withdrawal, holder};
@@ -185,11 +184,4 @@ pub(crate) fn custodians_shown(
         .filter_map(|place| holder_shown(appointments, day, *place))
         .collect(alloc)?;
     Ok(CustodiansShown { day, holders })
-}
-
-/// The codes of the items, in the order of the rows.
-pub(crate) fn codes_of(alloc: Global, items: &[Item]) -> Result<Vec<ItemCode>, AllocError>
-    ensures { IfOk result (λ codes. codes.items ≡ map (λ item. item.code) items.now) }
-{
-    items.iter().map(|item| item.code).collect(alloc)
 }

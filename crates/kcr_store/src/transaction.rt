@@ -25,9 +25,8 @@ ghost use Rattle.kcr_store.specs.Shown.{IsShownByRows};
 use crate::full_view::read_full_view;
 use crate::ghost_history::GhostHistory;
 use crate::lists::{find_ceremony, read_custody, read_sheet, read_steps};
-use crate::shown::{codes_of, custodians_shown, people_shown};
+use crate::shown::{custodians_shown, people_shown};
 use kcr_base::{CeremonyNumber, Day, Key, Moment, Refusal, Serial, Thing};
-use kcr_custody::queries::spot;
 use kcr_custody::{Bag, Item};
 use kcr_history::{
     BagShown, CeremonyRow, Command, CustodiansShown, KeyRow, PersonShown, Question, ReplyData,
@@ -35,85 +34,45 @@ use kcr_history::{
 };
 use kcr_machine::{check_early, decide_new, decide_repeat};
 use kcr_people::{Person, Training, Withdrawal};
-use kcr_reading::Cursor;
+use kcr_reading::{Cursor, codes_of};
 use kcr_room::present_in;
 use kcr_tables::{
-    all_rows, appointments_ending_after, change_all, find_rows, read_early_rows,
+    all_rows, appointments_ending_after, change_all, find_row, find_rows, read_early_rows,
     read_remaining_rows, stays_ending_at_or_after,
 };
 use sqlite::{Alter, Connection, Error, ErrorCode, Transaction};
 use std::alloc::Global;
 
-/// A command whose turn it is.
-#[derive(Clone, Copy)]
-struct NextCommand<'a> {
-    command: &'a Command,
-    /// The number of the last one before it.
-    last_number: u32,
-}
-
-/// What becomes of the command: a repeat is decided by the row of its key alone, and a command whose key is new over
-/// the rows that it asks for and the number of the last one. Where the first part of these rows tells its refusal, the
-/// others are not read. Nothing is written.
-fn decide_command<S: Alter>(
-    alloc: Global,
-    tx: &mut Transaction<'_, S>,
-    turn: &NextCommand<'_>,
-) -> Result<Verdict, Refusal>
-    // Over the tables of a history it is the machine's, and the tables stay.
-    ensures decided { OfStored S.Store tx.old tx.new
-        (λ A. turn.now.last_number ≡ length A → IfOk result (λ verdict. IsDecision A turn.now.command.now (Ok verdict)
-        × HoldsTables (tables A) (state_in S.Store tx.new).now)) }
-    ensures opened { ImpliesOpen S.Store tx.old tx.new result }
-
-    // Whatever the tables hold, the reply or the refusal is one of a command of this kind.
-    ensures kind { MayBeReplied turn.now.command.now (ends_with result) }
-
-    // Whatever rows they hold, the row of its key decides a repeat, for which no row is put.
-    ensures by_row { GoesByRow (state_in S.Store tx.old) (state_in S.Store tx.new)
-        turn.now.command.now (ends_with result) }
-    ensures unchanging { IfClean S.Store tx.old tx.new (λ old _. (m : Tables) → HoldsTables m old.now
-        → IsSome (row_of_key turn.now.command.now.key m.keys) → IfOk result (λ verdict. verdict.changes.items ≡ [])) }
-    ensures frame { RefusesAsMachine S.Store turn.now.last_number turn.now.command.now tx.old tx.new result }
-{
-    let NextCommand {
-        command,
-        last_number: count,
-    } = *turn;
-    let kept = find_rows::<_, Key, KeyRow>(alloc, tx, &command.key)?;
-    match kept.first() {
-        Some(row) => decide_repeat(alloc, row, command),
-        None => {
-            let asked = asks(alloc, command)?;
-            let front = read_early_rows(alloc, tx, &asked)?;
-            check_early(alloc, &front, count, command)?;
-            let view = read_remaining_rows(alloc, tx, &asked, front)?;
-            decide_new(alloc, &view, count, command)
-        }
-    }
-}
-
-/// Decides the command and puts the rows that the decision gives. Nothing is committed, and of a repeat nothing is
-/// written.
+/// Decides a command and puts the rows that the decision gives; `count` is the number of the last command before it. The
+/// row of its key alone decides a repeat, which puts none. A command whose key is new is decided by the rows that it asks
+/// for; if the first part of them tells its refusal, the others are not read. Nothing is committed.
 fn decide_and_write<S: Alter>(
     alloc: Global,
     tx: &mut Transaction<'_, S>,
-    turn: &NextCommand<'_>,
+    count: u32,
+    command: &Command,
 ) -> Result<Verdict, Refusal>
     // Over the tables of a history, an answer is the machine's, and the transaction then holds the tables after it.
     ensures done { IfClean S.Store tx.old tx.new (λ old new. IsTrue old.in_transaction
-        → (A : History) → turn.now.last_number ≡ length A → (IsTrue old.is_open → Stores A old.now)
-        → IfOk result (λ verdict.
-        AppliesCommand A turn.now.command.now (Ok verdict.reply) (with_reply A turn.now.command.now verdict.new_reply)
-        × Stores (with_reply A turn.now.command.now verdict.new_reply) new.now × IsTrue new.in_transaction)) }
-    ensures kind { MayBeReplied turn.now.command.now (ends_with result) }
+        → (A : History) → count ≡ length A → (IsTrue old.is_open → Stores A old.now) → IfOk result (λ verdict.
+        AppliesCommand A command.now (Ok verdict.reply) (with_reply A command.now verdict.new_reply)
+        × Stores (with_reply A command.now verdict.new_reply) new.now × IsTrue new.in_transaction)) }
 
-    // Whatever rows the tables held, the row of its key decides a repeat, which leaves them as they were.
-    ensures by_row { GoesByRow (state_in S.Store tx.old) (state_in S.Store tx.new)
-        turn.now.command.now (ends_with result) }
-    ensures frame { RefusesAsMachine S.Store turn.now.last_number turn.now.command.now tx.old tx.new result }
+    // Whatever the tables hold, the reply or the refusal is one of a command of this kind.
+    ensures kind { MayBeReplied command.now (ends_with result) }
+
+    // Whatever rows they hold, the row of its key decides a repeat, which leaves them as they were.
+    ensures by_row { GoesByRow (state_in S.Store tx.old) (state_in S.Store tx.new) command.now (ends_with result) }
+    ensures frame { RefusesAsMachine S.Store count command.now tx.old tx.new result }
 {
-    let verdict = decide_command(alloc, tx, turn)?;
+    if let Some(row) = find_row::<_, Key, KeyRow>(alloc, tx, &command.key)? {
+        return decide_repeat(alloc, &row, command);
+    }
+    let asked = asks(alloc, command)?;
+    let front = read_early_rows(alloc, tx, &asked)?;
+    check_early(alloc, &front, count, command)?;
+    let view = read_remaining_rows(alloc, tx, &asked, front)?;
+    let verdict = decide_new(alloc, &view, count, command)?;
     change_all(alloc, tx, verdict.changes.as_slice())?;
     Ok(verdict)
 }
@@ -165,11 +124,7 @@ pub(crate) fn run_command<S: Alter>(
         → AfterCrash past.now.entries (in_doubt_after past.now.entries result) (state S.Store conn.new) }
 {
     let mut tx = conn.transaction();
-    let turn = NextCommand {
-        command,
-        last_number: count,
-    };
-    let verdict = match decide_and_write(alloc, &mut tx, &turn) {
+    let verdict = match decide_and_write(alloc, &mut tx, count, command) {
         Ok(verdict) => verdict,
         Err(refusal) => return TransactionResult::Refused(refusal),
     };
@@ -295,8 +250,7 @@ fn read_bag<S: Alter>(
     ensures by_rows { IfOk result (λ shown. IsShownByRows (Question.Bag serial) (Shown.Bag shown)) }
     ensures frame { StaysInTransaction S.Store (MayRefuseQuestion (Question.Bag serial)) tx.old tx.new result }
 {
-    let bags = find_rows::<_, Serial, Bag>(alloc, tx, &serial)?;
-    let Some(here) = spot(&bags, serial) else {
+    let Some(bag) = find_row::<_, Serial, Bag>(alloc, tx, &serial)? else {
         return Err(Refusal::Unknown {
             thing: Thing::Bag(serial),
         });
@@ -304,7 +258,7 @@ fn read_bag<S: Alter>(
     let items = find_rows::<_, Serial, Item>(alloc, tx, &serial)?;
     Ok(BagShown {
         serial,
-        spot: here,
+        spot: bag.spot,
         items: codes_of(alloc, &items)?,
     })
 }

@@ -20,7 +20,7 @@ use Rattle.kcr_rows.specs.Values.{int_or_null}
 use Rattle.kcr_tables.specs.AppointmentsLaws as laws
 use Rattle.kcr_tables.specs.Exact.{is_beyond_row}
 use Rattle.kcr_tables.specs.StoredTables.{appointments_place}
-use Rattle.kcr_tables.specs.Statements.{SelectsUnordered}
+use Rattle.kcr_tables.proofs.Unordered.{SelectsUnordered}
 use Rattle.kcr_tables.proofs.RoomLemmas.{ends, ends_is}
 
 abbrev pub beyond_sql : List ℕ

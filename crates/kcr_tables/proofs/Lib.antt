@@ -10,6 +10,7 @@ pub mod JointLemmas
 pub mod LastLemmas
 pub mod MakeLemmas
 pub mod NamedLemmas
+pub mod OneLemmas
 pub mod OpenLemmas
 pub mod RoomLemmas
 pub mod SafeLemmas
@@ -19,3 +20,4 @@ pub mod StayLemmas
 pub mod TrainingLemmas
 pub mod ViewLemmas
 pub mod FrontLemmas
+pub mod Unordered

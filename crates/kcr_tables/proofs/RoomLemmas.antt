@@ -25,7 +25,7 @@ use Rattle.kcr_rows.proofs.FilterLemmas.{value_is}
 use Rattle.kcr_rows.proofs.SameLemmas.{number_ties}
 use Rattle.kcr_tables.specs.Exact.{has_number, is_lasting_row}
 use Rattle.kcr_tables.specs.StoredTables.{stays_place}
-use Rattle.kcr_tables.specs.Statements.{SelectsUnordered}
+use Rattle.kcr_tables.proofs.Unordered.{SelectsUnordered}
 use Rattle.kcr_tables.specs.StaysLaws as laws
 use Rattle.kcr_tables.proofs.TrainingLemmas.{number_from}
 

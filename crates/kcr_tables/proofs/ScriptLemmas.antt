@@ -1,5 +1,5 @@
 -- The step that is asked for, and the last step of its ceremony that has a seating.
-use Rattle.std.proofs.Common.{◌≡◌, inl, inr, ◌≤◌, ◌&&◌, ◌==◌, ℕ, pos, max, fold, Bool, true, false, List, [], ◌∷◌, filter, map, codes, Option, Some, None}
+use Rattle.std.proofs.Common.{◌≡◌, inl, inr, ◌≤◌, ◌&&◌, ◌==◌, ℕ, pos, Bool, true, false, List, [], ◌∷◌, filter, codes, Option, Some, None}
 use Rattle.std.proofs.Common.{refl, sym, ap, ◌∙◌, arith, IsPermutation}
 use Rattle.std.proofs.lemmas.List.Sorted.{IsPermutation-sym, IsPermutation-trans}
 use Rattle.sqlite.specs.declared.types.Value.TheVariants.{Int}

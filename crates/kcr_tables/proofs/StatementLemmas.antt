@@ -27,8 +27,9 @@ use Rattle.kcr_rows.proofs.UpdateLemmas.{Updated, executes_update}
 use Rattle.kcr_tables.specs.Schema.{register_schema}
 use Rattle.kcr_tables.specs.Exact.{rows_at}
 use Rattle.kcr_tables.specs.StoredTables.{StoredTables, TreesHold, Holds}
-use Rattle.kcr_tables.specs.Statements.{SelectsRows, SelectsUnordered, InsertsRow, UpdatesRow}
+use Rattle.kcr_tables.specs.Statements.{SelectsRows, InsertsRow, UpdatesRow}
 use Rattle.kcr_tables.specs.Table.{TableSpec, IsTable, with_put}
+use Rattle.kcr_tables.proofs.Unordered.{SelectsUnordered}
 
 module _ {X : Type 0} (sql : List ℕ) (place : TableLayout) (params : Row) (passes : Row → Bool) (s : SelectsRows sql place params passes) (row_of : X → Row) where
   pub rows_shown : (IsRead IsStored : X → Type 0) → ((x y : X) → IsRead x → IsStored y → row_of x ≡ row_of y → x ≡ y) → (test : X → Bool)

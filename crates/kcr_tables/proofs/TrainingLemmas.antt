@@ -19,7 +19,7 @@ use Rattle.kcr_history.specs.Views.{training_reaches}
 use Rattle.kcr_rows.specs.Rows.{training_row}
 use Rattle.kcr_tables.specs.Exact.{has_from}
 use Rattle.kcr_tables.specs.StoredTables.{trainings_place}
-use Rattle.kcr_tables.specs.Statements.{SelectsUnordered}
+use Rattle.kcr_tables.proofs.Unordered.{SelectsUnordered}
 use Rattle.kcr_tables.specs.TrainingsLaws as laws
 
 abbrev pub lasting_sql : List ℕ

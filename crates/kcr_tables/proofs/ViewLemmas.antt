@@ -1,26 +1,21 @@
 -- The rows that are read are those that a decision asks for.
-use Rattle.std.proofs.Common.{◌≡◌, inl, inr, ◌≤◌, Bool, true, false, cond, ℕ, List, [], ◌∷◌, filter, find, slice_get, Option, Some, None, refl, sym, ap, subst}
+use Rattle.std.proofs.Common.{◌≡◌, inl, inr, ◌≤◌, Bool, true, false, ℕ, List, [], ◌∷◌, filter, slice_get, Option, Some, None, refl, sym, ap, subst}
 use Rattle.std.proofs.Common.{◌∙◌, arith}
 use Rattle.std.proofs.Common.{IsPermutation}
-use Rattle.std.proofs.lemmas.Slice.Eq.{bytes_eq-Decides}
 use Rattle.std.proofs.lemmas.List.Sorted.{IsPermutation-sym, IsPermutation-trans}
 use Rattle.sqlite.specs.Effect.{Database}
 use Rattle.sqlite_rules.specs.Lists.{Has}
 use Rattle.sqlite_rules.proofs.ListLemmas.{all_has}
 use Rattle.sqlite_trees.proofs.ListLemmas.{IsPermutation-filter}
-use Rattle.kcr_base.specs.Same.{same_text}
 use Rattle.kcr_history.specs.declared.row_types.KeyRow.{KeyRow}
 use Rattle.kcr_history.specs.declared.views.Selection.{Selection}
 use Rattle.kcr_history.specs.declared.views.Selection.TheVariants.{Nothing, Matching, All}
-use Rattle.kcr_history.specs.Views.{Includes, IncludesAll, is_of_key, row_of_key, greatest_number}
+use Rattle.kcr_history.specs.Views.{Includes, IncludesAll, greatest_number}
 use Rattle.kcr_rows.specs.Greatest.{IsGreatest}
 use Rattle.kcr_rows.proofs.PutLemmas.{has_same}
 use Rattle.kcr_history.specs.Tables as machine
-use Rattle.kcr_rows.specs.Rows.{key_row}
 use Rattle.kcr_tables.specs.Selected.{asked_of, asked_all}
 use Rattle.kcr_tables.specs.MachineTables.{HoldsTables}
-use Rattle.kcr_tables.proofs.JointLemmas.{kept_rises, key_of_keys}
-use Rattle.kcr_tables.proofs.HasLemmas.{find_same, one_key_of}
 use Rattle.kcr_tables.proofs.NamedLemmas.{twice}
 
 -- ---- rows under a key, or all
@@ -63,19 +58,6 @@ no_rows : {X : Type 0} (xs : List X) → ((x : X) → Has xs x → ⊥) → xs �
 no_rows [] h = refl
 no_rows (x ∷ xs) h = absurd (h x (inl refl))
 
-same_texts : (key a b : List ℕ) → same_text a key ≡ true → same_text b key ≡ true → same_text a b ≡ true
-same_texts key a b p q = (bytes_eq-Decides a b).1 ((bytes_eq-Decides a key).0 p ∙ sym ((bytes_eq-Decides b key).0 q))
-
--- the first that passes is the first of those that pass
-first_passing : {X : Type 0} (p : X → Bool) (xs : List X) → slice_get (filter p xs) 0 ≡ find p xs
-first_passing p [] = refl
-first_passing p (x ∷ xs) = elim (p x) as (λ b. slice_get (cond b (x ∷ filter p xs) (filter p xs)) 0 ≡ cond b (Some x) (find p xs)) [
-  | true ↦ refl
-  | false ↦ first_passing p xs
-]
-
--- ---- the row of a key, and the greatest number
-
 -- the number that the row of the last command tells, 0 if there is none
 abbrev pub told : Option KeyRow → ℕ
 told None = 0
@@ -90,18 +72,6 @@ module _ (m : machine.Tables) (db : Database) (h : HoldsTables m db) where
 
   theirs : (x : KeyRow) → Has m.keys x → Has t.keys x
   theirs x there = has_same m.keys t.keys x h.tables.stands.rows.keys there
-
-  -- two rows under the key are one
-  one_row : (key : List ℕ) (x y : KeyRow) → Has t.keys x → Has t.keys y → is_of_key key x ≡ true → is_of_key key y ≡ true → x ≡ y
-  one_row key x y a b p q =
-      one_key_of 1 key_row t.keys (kept_rises db.trees h.tables.t h.tables.kept).keys x y a b (sym (key_of_keys y x) ∙ same_texts key x.key y.key p q)
-
-  -- of the rows under a key the first is the key's
-  pub row_under : (key : List ℕ) (rows : List KeyRow) → rows ≡ filter (is_of_key key) t.keys → slice_get rows 0 ≡ row_of_key key m.keys
-  row_under key rows is =
-      ap (λ (l : List KeyRow). slice_get l 0) is ∙ first_passing (is_of_key key) t.keys
-      ∙ find_same (is_of_key key) t.keys m.keys (λ x a _. mine x a) (λ y a _. theirs y a)
-      (λ x y a b p q. one_row key x y (theirs x a) (theirs y b) p q)
 
   -- the row with the greatest number tells that number
   pub greatest_told : (last : List KeyRow) → IsGreatest (λ x. x.accepted) t.keys last → told (slice_get last 0) ≡ greatest_number m.keys

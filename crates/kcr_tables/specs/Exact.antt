@@ -1,6 +1,6 @@
 -- Of the rows that a decision asks for none is strange: each is the row of a value that is shown, whatever else the
 -- tables have.
-use Rattle.std.specs.Prelude.{◌≡◌, ◌⊎◌, ◌&&◌, ◌||◌, not, ℕ, pos, Bool, List, [], ◌∷◌, ◌++◌, map, filter, Option, Some, None}
+use Rattle.std.specs.Prelude.{◌≡◌, ◌⊎◌, ◌&&◌, ◌||◌, not, ℕ, pos, Bool, List, [], ◌∷◌, ◌++◌, map, filter, slice_get, IsPermutation, Option, Some, None}
 use Rattle.std.specs.List.{AllByRecursion, list_any}
 use Rattle.std.specs.Ordering.{is_ge, is_gt}
 use Rattle.sqlite.specs.Ops.{is_null}
@@ -46,6 +46,10 @@ rows_at place db = map (cells place) (db place.tree)
 -- each of the rows is the row of one of the values that are shown
 abbrev pub AreShown : {X : Type 0} → (X → Row) → List X → List Row → Type 0
 AreShown {X = X} row_of shown rows = AllByRecursion (λ row. (x : X) × Has shown x × (row ≡ row_of x)) rows
+
+-- each of the rows is that of a value, and this is the first of these values
+abbrev pub IsFirstShown : {X : Type 0} → (X → Row) → Option X → List Row → Type 0
+IsFirstShown {X = X} row_of first rows = (shown : List X) × IsPermutation rows (map row_of shown) × (first ≡ slice_get shown 0)
 
 -- none if there is no row, and else one row of them
 abbrev pub IsOneOf : List Row → List Row → Type 0

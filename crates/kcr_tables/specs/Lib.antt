@@ -28,5 +28,6 @@ pub mod SheetLaws
 pub mod StaysLaws
 pub mod StepsLaws
 pub mod TrainingsLaws
+pub mod UniqueLaws
 pub mod VersionsLaws
 pub mod WithdrawalsLaws

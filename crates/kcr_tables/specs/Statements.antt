@@ -101,44 +101,6 @@ abbrev pub SelectsRows : List ℕ → TableLayout → Row → (Row → Bool) →
 SelectsRows sql place params passes =
     Selects sql place params (record { passes = passes; rank = take place.keys; compare = by_key place.keys }) (negsuc 0)
 
--- what is computed of a text whose order is of no account
-pub record Passing : Type 0 where
-  pub command : Command
-  pub reads_catalog : Bool
-  pub is_far : Bool
-  pub passes : Row → Bool
-  pub shows : Row → Row
-
--- of this one
-abbrev pub passing : List ℕ → TableLayout → Row → List Term → Query → Passing
-passing sql place params test query = record {
-  command = command_of (understood register_schema sql);
-  reads_catalog = reads_listing register_schema sql;
-  is_far = nat_le (2 ^ 31) place.tree;
-  passes = λ r. list_all (holds (params ∷ r ∷ [])) test;
-  shows = λ r. (output query (params ∷ r ∷ [])).1;
-}
-
--- of one that shows the rows that pass
-abbrev pub wanted_passing : TableLayout → (Row → Bool) → Query → List (List ℕ) → Passing
-wanted_passing place passes query names = record {
-  command = Select (record { lets = []; body = query }) names;
-  reads_catalog = false;
-  is_far = false;
-  passes = λ r. passes (cells place r);
-  shows = cells place;
-}
-
--- The text shows, with these parameters, all rows of a table that pass, in whatever order.
-pub record SelectsUnordered (sql : List ℕ) (place : TableLayout) (params : Row) (passes : Row → Bool) : Type 0 where
-  pub test : List Term
-  pub project : List Term
-  pub order : List (Term × Key)
-  pub names : List (List ℕ)
-  pub bare : IsPlain (understood register_schema sql)
-  pub is : passing sql place params test (asking place.tree test project order (negsuc 0))
-      ≡ wanted_passing place passes (asking place.tree test project order (negsuc 0)) names
-
 -- ---- texts that put a row into a table
 
 -- what a new row is made of, and what an update makes of one, by how many columns there are

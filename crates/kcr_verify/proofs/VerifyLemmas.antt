@@ -50,47 +50,30 @@ pub record IsInOrder (view rows : FullView) : Type 0 where
   pub keys : IsPermutation view.keys.items rows.keys.items
 
 -- the rows of each table are the same
-pub to_view : (m : Tables) (view rows : FullView) → IsInOrder view rows → (table : TableName) → HasRows table m rows → HasRows table m view
-to_view m view rows o table h = by table (subst (HasRows table m) o.others h)
+pub same_rows : (m : Tables) (view rows : FullView) → IsInOrder view rows → (table : TableName)
+    → (HasRows table m rows → HasRows table m view) × (HasRows table m view → HasRows table m rows)
+same_rows m view rows o table = subst (λ v. (HasRows table m v → HasRows table m view) × (HasRows table m view → HasRows table m v)) (sym o.others) (by table)
   where
-    by : (table : TableName) → HasRows table m (record view { keys = rows.keys }) → HasRows table m view
-    by People h = h
-    by Trainings h = h
-    by Withdrawals h = h
-    by Appointments h = h
-    by Boxes h = h
-    by Safes h = h
-    by Bags h = h
-    by Items h = h
-    by Ceremonies h = h
-    by Marks h = h
-    by Steps h = h
-    by Seatings h = h
-    by Sheet h = h
-    by Stays h = h
-    by Exceptions h = h
-    by Keys h = through m.keys view.keys.items rows.keys.items h o.keys
-
-pub of_view : (m : Tables) (view rows : FullView) → IsInOrder view rows → (table : TableName) → HasRows table m view → HasRows table m rows
-of_view m view rows o table h = subst (HasRows table m) (sym o.others) (by table h)
-  where
-    by : (table : TableName) → HasRows table m view → HasRows table m (record view { keys = rows.keys })
-    by People h = h
-    by Trainings h = h
-    by Withdrawals h = h
-    by Appointments h = h
-    by Boxes h = h
-    by Safes h = h
-    by Bags h = h
-    by Items h = h
-    by Ceremonies h = h
-    by Marks h = h
-    by Steps h = h
-    by Seatings h = h
-    by Sheet h = h
-    by Stays h = h
-    by Exceptions h = h
-    by Keys h = IsPermutation-trans m.keys view.keys.items rows.keys.items h o.keys
+    by : (table : TableName) → (HasRows table m (record view { keys = rows.keys }) → HasRows table m view) × (HasRows table m view → HasRows table m (record view { keys = rows.keys }))
+    by People = (λ h. h, λ h. h)
+    by Trainings = (λ h. h, λ h. h)
+    by Withdrawals = (λ h. h, λ h. h)
+    by Appointments = (λ h. h, λ h. h)
+    by Boxes = (λ h. h, λ h. h)
+    by Safes = (λ h. h, λ h. h)
+    by Bags = (λ h. h, λ h. h)
+    by Items = (λ h. h, λ h. h)
+    by Ceremonies = (λ h. h, λ h. h)
+    by Marks = (λ h. h, λ h. h)
+    by Steps = (λ h. h, λ h. h)
+    by Seatings = (λ h. h, λ h. h)
+    by Sheet = (λ h. h, λ h. h)
+    by Stays = (λ h. h, λ h. h)
+    by Exceptions = (λ h. h, λ h. h)
+    by Keys = (
+      λ h. through m.keys view.keys.items rows.keys.items h o.keys,
+      λ h. IsPermutation-trans m.keys view.keys.items rows.keys.items h o.keys,
+    )
 
 all_weaker : {X : Type 0} (P Q : X → Type 0) → ((x : X) → P x → Q x) → (xs : List X) → AllByRecursion P xs → AllByRecursion Q xs
 all_weaker P Q weaker [] all = tt
@@ -103,8 +86,8 @@ first_in_view tables_in A view rows o table f = record {
   before = f.before;
   behind = f.behind;
   listed = f.listed;
-  same = all_weaker (λ one. HasRows one (tables A) rows) (λ one. HasRows one (tables A) view) (to_view (tables A) view rows o) f.before f.same;
-  other = λ h. f.other (of_view (tables A) view rows o table h);
+  same = all_weaker (λ one. HasRows one (tables A) rows) (λ one. HasRows one (tables A) view) (λ one. (same_rows (tables A) view rows o one).0) f.before f.same;
+  other = λ h. f.other ((same_rows (tables A) view rows o table).1 h);
 }
 
 -- and so is its first row that differs
@@ -140,7 +123,7 @@ differs_in_view m view rows o table row d = by table (subst (λ (w : FullView). 
 pub whole_of : (A : History) (view rows : FullView) → IsInOrder view rows → ((table : TableName) → HasRows table (tables A) rows)
     → Says view A (Verified (length rows.keys.items))
 whole_of A view rows o has = (
-  λ table. to_view (tables A) view rows o table (has table),
+  λ table. (same_rows (tables A) view rows o table).0 (has table),
   sym (length_permutation (map key_row A) rows.keys.items (has Keys) ∙ length-map A key_row),
 )
 

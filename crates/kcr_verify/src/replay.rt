@@ -11,15 +11,16 @@ ghost use Rattle.kcr_verify.specs.Verification.{Declines, HaveOwnKeys, StopsFor,
 
 use crate::verification::Difference;
 use kcr_base::Refusal;
-use kcr_forms::read_act;
 use kcr_history::{Command, KeyRow, numbers_count_commands};
 use kcr_store::Register;
+use kcr_wire::RouteTable;
 use sqlite::Alter;
 use std::alloc::Global;
 
 /// Gives the command of a row to the register, and answers what is not as the row says.
 fn replay_one<S: Alter>(
     alloc: Global,
+    paths: &RouteTable,
     row: &KeyRow,
     register: &mut Register<S>,
 ) -> Result<Option<Difference>, Refusal>
@@ -42,7 +43,7 @@ fn replay_one<S: Alter>(
         → row.now ≡ key_row entry
         → IfOk result (HasNext register.old.accepted entry register.new.accepted) }
 {
-    let Some(act) = read_act(alloc, row.command.as_bytes())? else {
+    let Some(act) = paths.read_act(alloc, row.command.as_bytes())? else {
         return Ok(Some(Difference::Command(row.accepted)));
     };
     let command = Command { key: row.key, act };
@@ -79,11 +80,12 @@ pub(crate) fn replay<S: Alter>(
         → rows.now ≡ rows_by_number A → IfOk result (HasAll A register.new.accepted) }
 {
     numbers_count_commands();
+    let paths = RouteTable::new(alloc)?;
     for (index, row) in rows.iter().enumerate() {
         if row.accepted as usize != index + 1 {
             return Ok(Some(Difference::Number(index + 1)));
         }
-        match replay_one(alloc, row, register) {
+        match replay_one(alloc, &paths, row, register) {
             Ok(None) => {}
             Ok(Some(difference)) => return Ok(Some(difference)),
             Err(refusal) => return Err(refusal),

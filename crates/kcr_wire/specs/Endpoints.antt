@@ -51,13 +51,7 @@ parts_in found path = walk found.pattern found.text path found.names 0 0
 abbrev pub part_as : {V : Type 0} → (List ℕ → Option V) → List ℕ → Parts → Option V
 part_as read name parts = option_and_then read (named name parts)
 
--- the person, the place, the ceremony and the bag of a path
-abbrev pub initials_in : Parts → Option (List ℕ)
-initials_in parts = part_as initials_of (codes "who") parts
-
-abbrev pub place_in : Parts → Option Place
-place_in parts = part_as place_of (codes "place") parts
-
+-- the ceremony and the bag of a path
 abbrev pub ceremony_in : Parts → Option ℕ
 ceremony_in parts = part_as ceremony_of (codes "ceremony") parts
 
@@ -74,10 +68,10 @@ with_parts make part other = option_and_then (λ a. option_map (make a) other) p
 
 -- a path on a person, on a place, on a ceremony, and on something in a ceremony
 abbrev pub on_person : (List ℕ → Post) → Parts → Option Endpoint
-on_person make parts = option_map (λ who. target.Post (make who)) (initials_in parts)
+on_person make parts = option_map (λ who. target.Post (make who)) (part_as initials_of (codes "who") parts)
 
 abbrev pub on_place : (Place → Post) → Parts → Option Endpoint
-on_place make parts = option_map (λ place. target.Post (make place)) (place_in parts)
+on_place make parts = option_map (λ place. target.Post (make place)) (part_as place_of (codes "place") parts)
 
 abbrev pub on_ceremony : (ℕ → Post) → Parts → Option Endpoint
 on_ceremony make parts = option_map (λ n. target.Post (make n)) (ceremony_in parts)

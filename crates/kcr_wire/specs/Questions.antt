@@ -1,5 +1,5 @@
 -- The inquiry that a request is, or the first of the refusals path and method.
-use Rattle.std.specs.Prelude.{ℕ, List, Bool, true, false, Result, Ok, Err, if◌then◌else◌}
+use Rattle.std.specs.Prelude.{ℕ, List, Result, Ok, Err}
 use Rattle.kcr_forms.specs.OrMemory.{and_then}
 use Rattle.kcr_wire.specs.Endpoints.{target_of}
 use Rattle.kcr_base.specs.declared.refusal.Refusal.{Refusal}
@@ -8,8 +8,6 @@ use Rattle.kcr_history.specs.declared.questions.Question.TheVariants as question
 use Rattle.kcr_forms.specs.declared.post.Post.TheVariants as post
 use Rattle.kcr_wire.specs.declared.question.Inquiry.{Inquiry}
 use Rattle.kcr_wire.specs.declared.question.Inquiry.TheVariants as inquiry
-use Rattle.kcr_wire.specs.declared.method.Method.{Method}
-use Rattle.kcr_wire.specs.declared.method.Method.TheVariants as method
 use Rattle.kcr_wire.specs.declared.endpoint.Endpoint.{Endpoint}
 use Rattle.kcr_wire.specs.declared.endpoint.Endpoint.TheVariants as target
 
@@ -19,17 +17,6 @@ inquiry_of (target.Ask asked) = Ok asked
 inquiry_of (target.Post post.People) = Ok (inquiry.Question question.People)
 inquiry_of (target.Post _) = Err refusal.Method
 
--- the method asks for something
-abbrev pub is_read_method : Method → Bool
-is_read_method method.Get = true
-is_read_method method.Head = true
-is_read_method method.Post = false
-is_read_method method.Other = false
-
--- the inquiry that a method asks for at a path
-abbrev pub question_at : Method → Endpoint → Result Inquiry Refusal
-question_at m t = if is_read_method m then inquiry_of t else Err refusal.Method
-
--- the inquiry that a method and a target are
-unfoldable pub question_of : Method → List ℕ → Result Inquiry Refusal
-question_of m target = and_then (target_of target) (question_at m)
+-- the inquiry that a target is
+unfoldable pub question_of : List ℕ → Result Inquiry Refusal
+question_of target = and_then (target_of target) inquiry_of

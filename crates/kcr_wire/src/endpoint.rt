@@ -1,19 +1,19 @@
 //! What a request's target asks for.
-ghost use Rattle.std.specs.Prelude.{◌≡◌, ◌==◌, ◌<◌, length, position, option_map, IfErr, IfSome};
+#![tactic(auto, using(kcr_base::proofs::FormLemmas::form_readings, kcr_base::proofs::ValueLemmas::value_readings))]
+
+ghost use Rattle.std.specs.Prelude.{◌≡◌, ◌==◌, ◌<◌, codes, length, position, option_map, IfErr, IfSome};
 ghost use Rattle.matchit.specs.Params.{AllText, named};
-ghost use Rattle.kcr_wire.specs.Endpoints.{path_of, ascii_in, parts_of, initials_in, place_in, ceremony_in, serial_in};
-ghost use Rattle.kcr_wire.specs.Endpoints.{endpoint_of, target_of, allow_of_endpoint};
+ghost use Rattle.kcr_forms.specs.Forms.{initials_of, place_of, ceremony_of, step_of, serial_of, day_of, moment_of, safe_of};
+ghost use Rattle.kcr_wire.specs.Endpoints.{path_of, ascii_in, parts_of, part_as, after_of, endpoint_of, target_of};
+ghost use Rattle.kcr_wire.specs.Endpoints.{allow_of_endpoint};
 
 use crate::after::After;
 use crate::allow::Allow;
 use crate::question::Inquiry;
 use crate::route::{Route, router};
-use kcr_base::{CeremonyNumber, Initials, Place, Refusal, Serial};
+use kcr_base::{CeremonyNumber, Day, Initials, Moment, Place, Refusal, Serial, StepNumber};
+use kcr_custody::SafeNumber;
 use kcr_forms::Post;
-use kcr_forms::forms::{
-    read_ceremony, read_day, read_initials, read_moment, read_place, read_safe, read_serial,
-    read_step,
-};
 use kcr_history::Question;
 use matchit::{Params, Router};
 use std::alloc::Global;
@@ -68,30 +68,70 @@ fn part<'p>(parts: &Params<'_, 'p>, name: &str) -> Option<&'p [u8]>
 
 fn initials_in(parts: &Params<'_, '_>) -> Option<Initials>
     requires { AllText (parts_of parts.now) }
-    ensures { result ≡ initials_in (parts_of parts.now) }
+    ensures { result ≡ part_as initials_of (codes "who") (parts_of parts.now) }
 {
-    read_initials(part(parts, "who")?)
+    Initials::read(part(parts, "who")?)
 }
 
 fn place_in(parts: &Params<'_, '_>) -> Option<Place>
     requires { AllText (parts_of parts.now) }
-    ensures { result ≡ place_in (parts_of parts.now) }
+    ensures { result ≡ part_as place_of (codes "place") (parts_of parts.now) }
 {
-    read_place(part(parts, "place")?)
+    Place::read(part(parts, "place")?)
 }
 
 fn ceremony_in(parts: &Params<'_, '_>) -> Option<CeremonyNumber>
     requires { AllText (parts_of parts.now) }
-    ensures { result ≡ ceremony_in (parts_of parts.now) }
+    ensures { result ≡ part_as ceremony_of (codes "ceremony") (parts_of parts.now) }
 {
-    read_ceremony(part(parts, "ceremony")?)
+    CeremonyNumber::read(part(parts, "ceremony")?)
+}
+
+fn step_in(parts: &Params<'_, '_>) -> Option<StepNumber>
+    requires { AllText (parts_of parts.now) }
+    ensures { result ≡ part_as step_of (codes "step") (parts_of parts.now) }
+{
+    StepNumber::read(part(parts, "step")?)
 }
 
 fn serial_in(parts: &Params<'_, '_>) -> Option<Serial>
     requires { AllText (parts_of parts.now) }
-    ensures { result ≡ serial_in (parts_of parts.now) }
+    ensures { result ≡ part_as serial_of (codes "serial") (parts_of parts.now) }
 {
-    read_serial(part(parts, "serial")?)
+    Serial::read(part(parts, "serial")?)
+}
+
+fn day_in(parts: &Params<'_, '_>) -> Option<Day>
+    requires { AllText (parts_of parts.now) }
+    ensures { result ≡ part_as day_of (codes "day") (parts_of parts.now) }
+{
+    Day::read(part(parts, "day")?)
+}
+
+fn moment_in(parts: &Params<'_, '_>) -> Option<Moment>
+    requires { AllText (parts_of parts.now) }
+    ensures { result ≡ part_as moment_of (codes "at") (parts_of parts.now) }
+{
+    Moment::read(part(parts, "at")?)
+}
+
+fn after_in(parts: &Params<'_, '_>) -> Option<After>
+    requires { AllText (parts_of parts.now) }
+    ensures { result ≡ part_as after_of (codes "after") (parts_of parts.now) }
+{
+    After::read(part(parts, "after")?)
+}
+
+#[tactic(auto, unfolding(kcr_forms::specs::Forms::safe_of))]
+fn safe_in(parts: &Params<'_, '_>) -> Option<SafeNumber>
+    requires { AllText (parts_of parts.now) }
+    ensures { result ≡ part_as safe_of (codes "safe") (parts_of parts.now) }
+{
+    match part(parts, "safe")? {
+        b"1" => Some(SafeNumber::One),
+        b"2" => Some(SafeNumber::Two),
+        _ => None,
+    }
 }
 
 // What a path of this route asks for, if its parts have their forms.
@@ -112,31 +152,25 @@ fn read_parts(route: Route, parts: &Params<'_, '_>) -> Option<Endpoint>
         Route::Opening => Endpoint::Post(Post::Opening(ceremony_in(parts)?)),
         Route::Closing => Endpoint::Post(Post::Closing(ceremony_in(parts)?)),
         Route::Sheet => Endpoint::Post(Post::Sheet(ceremony_in(parts)?)),
-        Route::Signature => Endpoint::Post(Post::Signature(
-            ceremony_in(parts)?,
-            read_step(part(parts, "step")?)?,
-        )),
+        Route::Signature => Endpoint::Post(Post::Signature(ceremony_in(parts)?, step_in(parts)?)),
         Route::Exceptions => Endpoint::Post(Post::Exceptions(ceremony_in(parts)?)),
-        Route::Safes => Endpoint::Post(Post::Safe(
-            ceremony_in(parts)?,
-            read_safe(part(parts, "safe")?)?,
-        )),
+        Route::Safes => Endpoint::Post(Post::Safe(ceremony_in(parts)?, safe_in(parts)?)),
         Route::Seal => Endpoint::Post(Post::Seal(ceremony_in(parts)?, serial_in(parts)?)),
         Route::Take => Endpoint::Post(Post::Take(ceremony_in(parts)?, serial_in(parts)?)),
         Route::Put => Endpoint::Post(Post::Put(ceremony_in(parts)?, serial_in(parts)?)),
         Route::Cut => Endpoint::Post(Post::Cut(ceremony_in(parts)?, serial_in(parts)?)),
-        Route::CustodiansOn => Endpoint::Ask(Inquiry::Question(Question::Custodians(read_day(part(
-            parts, "day",
-        )?)?))),
+        Route::CustodiansOn => Endpoint::Ask(Inquiry::Question(Question::Custodians(day_in(
+            parts,
+        )?))),
         Route::Bag => Endpoint::Ask(Inquiry::Question(Question::Bag(serial_in(parts)?))),
         Route::Room => Endpoint::Ask(Inquiry::Question(Question::Room(
             ceremony_in(parts)?,
-            read_moment(part(parts, "at")?)?,
+            moment_in(parts)?,
         ))),
         Route::Script => Endpoint::Ask(Inquiry::Script(ceremony_in(parts)?)),
         Route::Attendance => Endpoint::Ask(Inquiry::Attendance(ceremony_in(parts)?)),
         Route::Custody => Endpoint::Ask(Inquiry::Custody),
-        Route::Commands => Endpoint::Ask(Inquiry::Commands(After::read(part(parts, "after")?)?)),
+        Route::Commands => Endpoint::Ask(Inquiry::Commands(after_in(parts)?)),
     };
     Some(target)
 }

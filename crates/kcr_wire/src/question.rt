@@ -1,11 +1,10 @@
-//! Inquiries, read off a method and a target.
+//! Inquiries, read off the target of a GET or a HEAD.
 ghost use Rattle.std.specs.Prelude.{◌≡◌, IfErr};
 ghost use Rattle.kcr_wire.specs.Endpoints.{allow_of, if_method, refusal_alone};
-ghost use Rattle.kcr_wire.specs.Questions.{question_at, question_of};
+ghost use Rattle.kcr_wire.specs.Questions.{inquiry_of, question_of};
 
 use crate::after::After;
 use crate::endpoint::{Endpoint, RouteTable};
-use crate::method::Method;
 use crate::unread::Unread;
 use kcr_base::{CeremonyNumber, Refusal};
 use kcr_forms::Post;
@@ -27,32 +26,30 @@ pub enum Inquiry {
     Commands(After),
 }
 
-// The inquiry that a method asks for at a path, or the refusal of a method that the path does not take.
-fn question_at(method: Method, endpoint: Endpoint) -> Result<Inquiry, Refusal>
-    ensures { result ≡ question_at method endpoint }
+// What a path is asked for, or the refusal of a path that takes commands alone.
+fn inquiry_of(endpoint: Endpoint) -> Result<Inquiry, Refusal>
+    ensures { result ≡ inquiry_of endpoint }
 {
-    match (method, endpoint) {
-        (Method::Get | Method::Head, Endpoint::Ask(inquiry)) => Ok(inquiry),
-        (Method::Get | Method::Head, Endpoint::Post(Post::People)) => {
-            Ok(Inquiry::Question(Question::People))
-        }
-        _ => Err(Refusal::Method),
+    match endpoint {
+        Endpoint::Ask(inquiry) => Ok(inquiry),
+        Endpoint::Post(Post::People) => Ok(Inquiry::Question(Question::People)),
+        Endpoint::Post(_) => Err(Refusal::Method),
     }
 }
 
 impl RouteTable {
-    /// The inquiry that a request is, or the first of the refusals that hold: `Path`, `Method` (the
-    /// path is known and takes commands alone, or the method is neither GET nor HEAD). It takes no
-    /// memory. `target` is the whole target of the request line; its query is cut off.
+    /// The inquiry that a GET or a HEAD is, or the first of the refusals that hold: `Path`, `Method` (the path is known
+    /// and takes commands alone). It takes no memory. `target` is the whole target of the request line; its query is cut
+    /// off.
     #[tactic(auto, unfolding(crate::specs::Questions::question_of, crate::specs::Endpoints::allow_of))]
-    pub fn read_question(&self, method: Method, target: &[u8]) -> Result<Inquiry, Unread>
-        ensures question { refusal_alone result ≡ question_of method target.now }
+    pub fn read_question(&self, target: &[u8]) -> Result<Inquiry, Unread>
+        ensures question { refusal_alone result ≡ question_of target.now }
         ensures allow { IfErr result (λ e. e.allow ≡ if_method e.refusal (allow_of target.now)) }
     {
         match self.resolve(target) {
             Ok(endpoint) => {
                 let allow = endpoint.allow();
-                match question_at(method, endpoint) {
+                match inquiry_of(endpoint) {
                     Ok(inquiry) => Ok(inquiry),
                     Err(refusal) => Err(Unread::new(refusal, allow)),
                 }

@@ -7,7 +7,7 @@ use Rattle.kcr_base.specs.Moment.{IsMoment}
 use Rattle.kcr_base.specs.Number.{IsNumber}
 use Rattle.kcr_base.specs.Serial.{IsDigit, IsSerial}
 use Rattle.kcr_custody.specs.declared.Destination.TheVariants.{SafeOne}
-use Rattle.kcr_export.proofs.Targets.{act-target}
+use Rattle.kcr_wire.proofs.Targets.{act-target}
 use Rattle.kcr_forms.specs.Acts.{AreItems}
 use Rattle.kcr_history.specs.declared.commands.Act.TheVariants.{Seal, Take, Put, Cut}
 use Rattle.kcr_laws.specs.Examples.{HSM4, bag_7}
@@ -37,7 +37,7 @@ is_moment = record { from = omega arith; until = omega arith }
 
 pub moment_read : moment_of (codes "2000-01-01T00:00:09Z") ≡ Some ninth_second
 unfolding rows_on_literals
-moment_read = moments.again ninth_second is_moment
+moment_read = moments ninth_second is_moment
 
 pub five_read : after_of (codes "5") ≡ Some 5
 unfolding after_of rows_on_literals

@@ -17,6 +17,7 @@ use Rattle.kcr_print.specs.Requests.{commands_between}
 use Rattle.kcr_wire.specs.Commands.{command_of}
 use Rattle.kcr_wire.specs.Endpoints.{ascii_in, target_of, allow_of}
 use Rattle.kcr_wire.specs.Members.{json_of, each_in, text_in}
+use Rattle.kcr_wire.specs.Methods.{method_of, refused_of}
 use Rattle.kcr_wire.specs.Questions.{question_of}
 use Rattle.kcr_wire.specs.Routes.{add, add_all, table}
 use Rattle.kcr_wire.specs.ShownJson.{shown_text}
@@ -33,7 +34,7 @@ unfolding rows_on_literals chars encode_utf8 is_utf8 is_initials is_key is_seria
 forms_on_literals = tt
 
 unfoldable pub requests_on_literals : ⊤
-unfolding forms_on_literals matchit_on_literals serde_json_on_literals body_text command_of text_in ascii_in target_of allow_of json_of each_in question_of add add_all table
+unfolding forms_on_literals matchit_on_literals serde_json_on_literals body_text command_of text_in ascii_in target_of allow_of json_of each_in question_of method_of refused_of add add_all table
 requests_on_literals = tt
 
 unfoldable pub answers_on_literals : ⊤

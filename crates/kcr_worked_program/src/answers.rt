@@ -7,8 +7,7 @@ ghost use Rattle.kcr_base.specs.declared.refusal.Thing.TheVariants as Things;
 ghost use Rattle.kcr_history.specs.declared.questions.PersonShown.{PersonShown};
 ghost use Rattle.kcr_history.specs.declared.questions.Shown.TheVariants as Shown;
 ghost use Rattle.kcr_wire.specs.declared.allow.Allow.TheVariants as Allows;
-ghost use Rattle.kcr_wire.specs.declared.method.Method.TheVariants as Methods;
-ghost use Rattle.kcr_desk.specs.Answers.{feed, history_of, method_of, ok_response, refusal_response};
+ghost use Rattle.kcr_desk.specs.Answers.{feed, history_of, ok_response, refusal_response};
 ghost use Rattle.kcr_desk.specs.Answers.{reply_response, report_response, shown_response, whole};
 ghost use Rattle.kcr_desk.specs.Framing.{is_head};
 ghost use Rattle.kcr_desk.specs.Texts.{answer, continue_text, fault_response};
@@ -56,11 +55,8 @@ pub fn answers_of_refusals()
         ∷ codes "connection: close" ∷ []) (codes "{\"number\":5,\"refusal\":\"large\"}") }
 {}
 
-/// Methods by their tokens.
+/// The method whose answers have no body.
 pub fn methods()
-    ensures get { method_of (codes "GET") ≡ Methods.Get }
-    ensures post { method_of (codes "POST") ≡ Methods.Post }
-    ensures small { method_of (codes "get") ≡ Methods.Other }
     ensures head { is_head (codes "HEAD") ≡ true }
     ensures small_head { is_head (codes "head") ≡ false }
 {}

@@ -3,9 +3,9 @@ use Rattle.kcr_desk.proofs.AnswerLemmas.{refused_answered}
 use Rattle.kcr_desk.proofs.answer.answer_inquiry.Goals as goal
 
 pub returns-in-Ok : goal.returns-in-Ok
-returns-in-Ok g c = rw (← c.in-Ok.ensures.question) c.answer_get.ensures
+returns-in-Ok g c = rw (← c.asked.view_is, ← c.in-Ok.ensures.question) c.answer_get.ensures
 
 pub returns-in-Err : goal.returns-in-Err
 returns-in-Err g c =
-    refused_answered g.S.Store _ _ _ _ _ _ c.in-Err.unread.refusal (λ _. sym c.in-Err.ensures.question)
-    (rw c.in-Err.ensures.allow at c.refusal_response.ensures)
+    rw (← c.asked.view_is) (refused_answered g.S.Store _ _ _ _ _ _ c.in-Err.unread.refusal (λ _. sym c.in-Err.ensures.question)
+    (rw c.in-Err.ensures.allow at c.unread_response.ensures))

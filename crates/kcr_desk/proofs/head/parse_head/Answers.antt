@@ -24,6 +24,7 @@ returns-in-Ok-Complete c =
           ∙ ap (planned c.in-Ok-Complete.spans.version) (sym found.1.fields)
           ∙ sym c.read_framing.ensures.value,
       c.read_framing.ensures.short,
+      c.read_framing.ensures.plain,
     )
 
 pub returns-then-buf-lt-MAX_HEAD : goal.returns-then-buf-lt-MAX_HEAD

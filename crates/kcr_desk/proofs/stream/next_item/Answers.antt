@@ -21,14 +21,14 @@ returns-in_err-enqueue_refusal-in-Refused-clause-turn g c =
     let p = err_from_is_err_and c.from_residual-in_err-enqueue_refusal-in-Refused.result c.from_residual-in_err-enqueue_refusal-in-Refused.ensures.1 in
     let found = rw c.in-Refused.is at c.in_ok-read_head.ensures.found in
     rw p.1 (breaks_later _ c.in_ok-read_head.ensures.takes.kept c.in_ok-read_head.ensures.gathered
-    (breaks_ending (refused c.in-Refused.refusal c.in-Refused.head_only) found c.in_err-enqueue_refusal-in-Refused.ensures.gathered))
+    (breaks_ending (refused c.in-Refused.refusal c.in-Refused.head_only) found.0 c.in_err-enqueue_refusal-in-Refused.ensures.gathered))
 
 pub returns-in_ok-enqueue_refusal-in-Refused-clause-turn : goal.returns-in_ok-enqueue_refusal-in-Refused-clause-turn
 returns-in_ok-enqueue_refusal-in-Refused-clause-turn g c =
     let found = rw c.in-Refused.is at c.in_ok-read_head.ensures.found in
     let e = refused c.in-Refused.refusal c.in-Refused.head_only in
     turn_later (unread c.read_head.new.self) _ _ c.in_ok-read_head.ensures.takes.kept c.in_ok-read_head.ensures.gathered Ended
-    (e, found, c.in_ok-enqueue_refusal-in-Refused.ensures.gathered)
+    (e, found.0, c.in_ok-enqueue_refusal-in-Refused.ensures.gathered)
 
 pub returns-in-Whole-clause-turn : goal.returns-in-Whole-clause-turn
 returns-in-Whole-clause-turn g c =

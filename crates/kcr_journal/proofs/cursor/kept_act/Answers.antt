@@ -1,6 +1,6 @@
 use Rattle.std.proofs.Common.{sym, ap, ◌∙◌}
-use Rattle.kcr_forms.specs.ActTexts.{act_of}
-use Rattle.kcr_forms.proofs.Again.{act-again}
+use Rattle.kcr_wire.specs.ActTexts.{act_of}
+use Rattle.kcr_wire.proofs.Again.{act-again}
 use Rattle.kcr_journal.proofs.cursor.kept_act.Goals as goal
 
 pub returns-clause-act : goal.returns-clause-act

@@ -1,6 +1,6 @@
-use Rattle.std.proofs.Common.{◌≡◌, ◌<◌, ◌≤◌, ◌-◌, ℕ, length, refl, sym, ◌∙◌, subst, arith}
+use Rattle.std.proofs.Common.{◌≡◌, ◌≤◌, ◌-◌, length, sym, ◌∙◌, arith}
 use Rattle.std.proofs.lemmas.Bool.{false≢true, eqb-false}
-use Rattle.kcr_log.specs.Frames.{frame_count, commits_from}
+use Rattle.kcr_log.specs.Frames.{frame_count}
 use Rattle.kcr_log.specs.Damage.{is_shut, commits_behind}
 use Rattle.kcr_log.proofs.Judging.{none-behind, sound-by, cut-by}
 use Rattle.kcr_log.proofs.judgement.judge_frames.Goals.{else-is_empty-via-then-is_empty+then-first-gt0+else-ended-gt0, else-is_empty-via-then-is_empty+else-first-gt0, else-is_empty-via-else-is_empty, then-first-count-via-then-first-count, then-first-count-via-else-first-count+then-is_shut}

@@ -1,6 +1,5 @@
-use Rattle.std.proofs.Common.{◌∙◌, ap, map, sym, List, ◌∷◌, [], subst}
+use Rattle.std.proofs.Common.{◌∙◌, ap, map, sym, ◌∷◌, [], subst}
 use Rattle.sqlite.specs.Held.{state}
-use Rattle.sqlite.specs.Order.{Row}
 use Rattle.sqlite.specs.State.{Shown}
 use Rattle.sqlite.specs.declared.types.Value.{Value}
 use Rattle.sqlite_trees.proofs.ListLemmas.{map-map}

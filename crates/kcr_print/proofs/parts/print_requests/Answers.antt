@@ -1,22 +1,28 @@
-use Rattle.std.proofs.Common.{ap, subst, take}
+use Rattle.std.proofs.Common.{ℕ, List, ap, ◌∙◌, subst, take}
 use Rattle.std.specs.Io.KnownBytes.{Appends}
 use Rattle.std.specs.List.{flat_map}
+use Rattle.std.proofs.lemmas.List.{take-map}
 use Rattle.kcr_base.specs.Counted.{inner_of}
 use Rattle.kcr_history.specs.Tables.{tables}
+use Rattle.kcr_reading.specs.Commands.{commands_within}
 use Rattle.kcr_print.specs.Requests.{row_request, row_requests}
 use Rattle.kcr_print.proofs.PartLemmas.{puts_text}
+use Rattle.kcr_print.proofs.RequestLemmas.{texts_of}
 use Rattle.kcr_print.proofs.parts.print_requests.Goals as goal
 
-pub returns : goal.returns
-returns g c =
-    record {
-      prints = puts_text (row_requests c.args.after c.args.until) c.write_all_rows.ensures.prints
-          (λ _ _ _. ap (flat_map row_request) (c.new.ensures (tables c.args.register.now.accepted)));
-      whole = λ founded in_doubt clean refusal is.
-          let front = c.write_all_rows.ensures.whole founded in_doubt clean refusal is in
-          let rows = ap (λ rows. flat_map row_request (take front.0 rows)) (c.new.ensures (tables c.args.register.now.accepted)) in (
-            front.0,
-            subst (λ text. Appends (g.W.Write.contents (inner_of c.args.writer.now)) (g.W.Write.contents (inner_of c.write_all_rows.new.writer)) text)
-                rows front.1,
-          );
-    }
+pub returns-clause-prints : goal.returns-clause-prints
+returns-clause-prints g c =
+    let m = tables c.args.register.now.accepted in
+    puts_text (row_requests c.args.after c.args.until) c.write_all_rows.ensures.prints
+    (λ _ _ _. ap (flat_map (λ (text : List ℕ). text)) (c.new-requests.ensures m) ∙ texts_of row_request (commands_within c.args.after c.args.until m))
+
+pub returns-clause-whole : goal.returns-clause-whole
+returns-clause-whole g c founded in_doubt clean refusal is =
+    let m = tables c.args.register.now.accepted in
+    let rows = commands_within c.args.after c.args.until m in
+    let front = c.write_all_rows.ensures.whole founded in_doubt clean refusal is in
+    let same = ap (λ texts. flat_map (λ (text : List ℕ). text) (take front.0 texts)) (c.new-requests.ensures m)
+    ∙ ap (flat_map (λ (text : List ℕ). text)) (take-map row_request front.0 rows) ∙ texts_of row_request (take front.0 rows) in (
+      front.0,
+      subst (λ text. Appends (g.W.Write.contents (inner_of c.args.writer.now)) (g.W.Write.contents (inner_of c.write_all_rows.new.writer)) text) same front.1,
+    )

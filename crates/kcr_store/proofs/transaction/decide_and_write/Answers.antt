@@ -1,71 +1,182 @@
-use Rattle.std.proofs.Common.{List, subst, ◌∙◌}
+use Rattle.std.proofs.Common.{◌≡◌, ◌∙◌, sym, subst, None, Some, Result, Ok, Err}
+use Rattle.std.specs.Prelude.{IsErrAnd}
 use Rattle.sqlite.specs.Held.{state}
-use Rattle.kcr_history.specs.Changes.{all_changed}
-use Rattle.kcr_history.specs.declared.views.Change.{Change}
+use Rattle.kcr_base.specs.declared.refusal.Refusal.{Refusal}
 use Rattle.kcr_history.specs.Tables.{tables}
+use Rattle.kcr_history.specs.declared.views.Verdict.{Verdict}
+use Rattle.kcr_history.proofs.Steps.{greatest-keys}
+use Rattle.kcr_machine.specs.RowDecision.{is_full_by}
+use Rattle.kcr_machine.proofs.Completed.{still-cleared}
 use Rattle.kcr_rows.proofs.FrameLemmas.{within_then, within_to, within_fails, clean_before}
-use Rattle.kcr_tables.specs.MachineTables.{HoldsTables}
-use Rattle.kcr_store.proofs.KeyLemmas.{fault_goes, handed_goes}
-use Rattle.kcr_store.proofs.StoreLemmas.{steps, next_stores, fault_steps, fault_replied, handed_replied}
+use Rattle.kcr_store.specs.Commands.{GoesByRow}
+use Rattle.kcr_store.specs.TransactionResult.{ends_with, RefusesAsMachine}
+use Rattle.kcr_store.proofs.KeyLemmas.{HasRow, fault_goes, handed_goes, kept_goes, new_goes}
+use Rattle.kcr_store.proofs.StoreLemmas.{IsDecided, held_in, next_stores, refused, fault_steps, steps}
 use Rattle.kcr_store.proofs.transaction.decide_and_write.Goals as goal
 
-pub returns-in_err-verdict-clause-frame : goal.returns-in_err-verdict-clause-frame
-returns-in_err-verdict-clause-frame g c = within_fails _ c.from_residual.ensures.1 (λ refused. refused) c.in_err-verdict.ensures.frame
+-- ---- the key has a row
 
-pub returns-in_err-change_all-clause-frame : goal.returns-in_err-change_all-clause-frame
-returns-in_err-change_all-clause-frame g c =
-    within_then c.in_ok-verdict.ensures.frame
-    (within_fails _ c.from_residual-in_err-change_all.ensures.1 (λ fault clean accepted had number. fault_steps accepted c.args.turn.now.command.now _ fault)
-    c.in_err-change_all.ensures.frame)
+pub returns-in-Some-clause-by_row : goal.returns-in-Some-clause-by_row
+returns-in-Some-clause-by_row g c =
+    let old = state g.S.Store c.args.tx.now.conn.now in
+    let new = state g.S.Store c.find_row.new.tx.conn.now in
+    let x = c.args.command.now in
+    let kept = c.in_ok-row.ensures in
+    let there : HasRow old new x.key (Some c.in-Some.row) = λ clean m held. sym (kept.row clean m held) ∙ c.in-Some.is in
+    kept_goes old new x c.in-Some.row c.decide_repeat.result there kept.frame.tables c.decide_repeat.ensures.by_row
 
-pub returns-clause-frame : goal.returns-clause-frame
-returns-clause-frame g c = within_to _ tt (within_then c.in_ok-verdict.ensures.frame c.in_ok-change_all.ensures.frame)
+pub returns-in-Some-clause-frame : goal.returns-in-Some-clause-frame
+returns-in-Some-clause-frame g c =
+    let old = state g.S.Store c.args.tx.now.conn.now in
+    let new = state g.S.Store c.find_row.new.tx.conn.now in
+    let kept = c.in_ok-row.ensures in
+    let decision : IsDecided old new c.args.count c.args.command.now c.decide_repeat.result =
+    λ clean A had number. c.decide_repeat.ensures.step A (sym (kept.row clean (tables A) (held_in _ _ (had (kept.opened clean)))) ∙ c.in-Some.is) in
+    within_to c.decide_repeat.result (refused old new c.args.count c.args.command.now c.decide_repeat.result decision) kept.frame.within
 
-pub returns-clause-done : goal.returns-clause-done
-returns-clause-done g c clean inside accepted number had =
-    let clean1 = clean_before c.change_all.ensures.frame clean in
-    let was = had (c.in_ok-verdict.ensures.opened clean1) in
-    let decided = c.in_ok-verdict.ensures.decided clean1 accepted had number in
-    let held = c.in_ok-change_all.ensures.tables clean (tables accepted) decided.1 in
-    let verdict = c.in_ok-verdict.verdict in
-    let inside1 = c.in_ok-verdict.ensures.frame.inside clean1 inside in (
-      steps accepted c.args.turn.now.command.now verdict verdict.new_reply decided.0,
-      next_stores accepted c.args.turn.now.command.now verdict verdict.new_reply _ _ was decided.0 (rw c.as_slice.ensures.value at held),
-      c.in_ok-change_all.ensures.frame.inside clean inside1,
-    )
+-- ---- the key is new, and the rows cannot be read or put
 
-pub returns-in_err-verdict-clause-kind : goal.returns-in_err-verdict-clause-kind
-returns-in_err-verdict-clause-kind g c =
-    handed_replied c.args.turn.now.command.now _ c.from_residual.result c.in_err-verdict.ensures.kind c.from_residual.ensures.1
+pub returns-in_err-front-clause-by_row : goal.returns-in_err-front-clause-by_row
+returns-in_err-front-clause-by_row g c =
+    let made = c.from_residual-in_err-front in
+    handed_goes _ _ c.args.command.now _ made.result (fault_goes _ _ c.args.command.now _ c.in_err-front.ensures.frame.within.cause) made.ensures.1
 
-pub returns-in_err-change_all-clause-kind : goal.returns-in_err-change_all-clause-kind
-returns-in_err-change_all-clause-kind g c =
-    let made = c.from_residual-in_err-change_all in
-    fault_replied c.args.turn.now.command.now _ made.result c.in_err-change_all.ensures.frame.cause made.ensures.1
-
-pub returns-clause-kind : goal.returns-clause-kind
-returns-clause-kind g c = c.in_ok-verdict.ensures.kind
-
--- ---- by the row of its key
-
-pub returns-in_err-verdict-clause-by_row : goal.returns-in_err-verdict-clause-by_row
-returns-in_err-verdict-clause-by_row g c =
-    handed_goes _ _ c.args.turn.now.command.now _ c.from_residual.result c.in_err-verdict.ensures.by_row c.from_residual.ensures.1
+pub returns-in_err-view-clause-by_row : goal.returns-in_err-view-clause-by_row
+returns-in_err-view-clause-by_row g c =
+    let made = c.from_residual-in_err-view in
+    handed_goes _ _ c.args.command.now _ made.result (fault_goes _ _ c.args.command.now _ c.in_err-view.ensures.frame.within.cause) made.ensures.1
 
 pub returns-in_err-change_all-clause-by_row : goal.returns-in_err-change_all-clause-by_row
 returns-in_err-change_all-clause-by_row g c =
     let made = c.from_residual-in_err-change_all in
-    let fault = fault_goes _ _ c.args.turn.now.command.now _ c.in_err-change_all.ensures.frame.cause in
-    handed_goes _ _ c.args.turn.now.command.now _ made.result fault made.ensures.1
+    handed_goes _ _ c.args.command.now _ made.result (fault_goes _ _ c.args.command.now _ c.in_err-change_all.ensures.frame.cause) made.ensures.1
+
+pub returns-in_err-change_all-clause-frame : goal.returns-in_err-change_all-clause-frame
+returns-in_err-change_all-clause-frame g c =
+    within_then
+    (within_then (within_then c.in_ok-row.ensures.frame.within c.in_ok-front.ensures.frame.within) c.in_ok-view.ensures.frame.within)
+    (within_fails _ c.from_residual-in_err-change_all.ensures.1 (λ fault clean A had number. fault_steps A c.args.command.now _ fault)
+    c.in_err-change_all.ensures.frame)
+
+-- ---- the key is new, and the rows tell a refusal, which is handed on
+
+handed : (P : Result Verdict Refusal → Type 0) (e : Refusal) (result : Result Verdict Refusal) → IsErrAnd result (λ r. r ≡ e) → P (Err e) → P result
+handed P e (Ok verdict) is p = absurd is
+handed P e (Err r) is p = subst (λ (q : Refusal). P (Err q)) (sym is) p
+
+pub returns-in_err-check_early-clause-by_row : goal.returns-in_err-check_early-clause-by_row
+returns-in_err-check_early-clause-by_row g c =
+    let old = state g.S.Store c.args.tx.now.conn.now in
+    let new = state g.S.Store c.read_early_rows.new.tx.conn.now in
+    let x = c.args.command.now in
+    let made = c.from_residual-in_err-check_early in
+    let none : HasRow old new x.key None =
+    λ clean m held. sym (c.in_ok-row.ensures.row (clean_before c.in_ok-front.ensures.frame.within clean) m held) ∙ c.in_default.is in
+    handed (λ r. GoesByRow old new x (ends_with r)) c.in_err-check_early.field-0.0 made.result made.ensures.1
+    (new_goes old new x (Err c.in_err-check_early.field-0.0) none c.in_err-check_early.ensures.kind)
+
+pub returns-in_err-check_early-clause-frame : goal.returns-in_err-check_early-clause-frame
+returns-in_err-check_early-clause-frame g c =
+    let old = state g.S.Store c.args.tx.now.conn.now in
+    let new = state g.S.Store c.read_early_rows.new.tx.conn.now in
+    let x = c.args.command.now in
+    let made = c.from_residual-in_err-check_early in
+    let kept = c.in_ok-row.ensures in
+    let front = c.in_ok-front.ensures in
+    let decision : IsDecided old new c.args.count x (Err c.in_err-check_early.field-0.0) =
+    λ clean A had number.
+    let before = clean_before front.frame.within clean in
+    let was = had (kept.opened before) in
+    let held = held_in _ _ was in
+    let view = front.view clean (tables A) (kept.frame.tables before (tables A) held) in
+    c.in_err-check_early.ensures.step A was.tables.register (sym (kept.row before (tables A) held) ∙ c.in_default.is) (rw c.in_ok-asked.ensures at view)
+    (number ∙ sym (greatest-keys A was.tables.register)) in
+    handed (λ r. RefusesAsMachine g.S.Store c.args.count x c.args.tx.now c.read_early_rows.new.tx r) c.in_err-check_early.field-0.0 made.result made.ensures.1
+    (within_to _ (refused old new c.args.count x (Err c.in_err-check_early.field-0.0) decision) (within_then kept.frame.within front.frame.within))
+
+-- what the first rows clear is cleared by all of them
+pub decide_new-requires : goal.decide_new-requires
+decide_new-requires g c =
+    record {
+      cleared = still-cleared c.in_ok-front.front c.in_ok-view.view (is_full_by c.args.count) c.args.command.now.act
+          c.in_ok-view.ensures.completes c.in_ok-check_early.ensures.told;
+    }
+
+pub returns-in_err-verdict-clause-by_row : goal.returns-in_err-verdict-clause-by_row
+returns-in_err-verdict-clause-by_row g c =
+    let old = state g.S.Store c.args.tx.now.conn.now in
+    let new = state g.S.Store c.read_remaining_rows.new.tx.conn.now in
+    let x = c.args.command.now in
+    let made = c.from_residual-in_err-verdict in
+    let none : HasRow old new x.key None =
+    λ clean m held.
+    sym (c.in_ok-row.ensures.row (clean_before c.in_ok-front.ensures.frame.within (clean_before c.in_ok-view.ensures.frame.within clean)) m held)
+    ∙ c.in_default.is in
+    handed (λ r. GoesByRow old new x (ends_with r)) c.in_err-verdict.field-0.0 made.result made.ensures.1
+    (new_goes old new x (Err c.in_err-verdict.field-0.0) none c.in_err-verdict.ensures.kind)
+
+pub returns-in_err-verdict-clause-frame : goal.returns-in_err-verdict-clause-frame
+returns-in_err-verdict-clause-frame g c =
+    let old = state g.S.Store c.args.tx.now.conn.now in
+    let new = state g.S.Store c.read_remaining_rows.new.tx.conn.now in
+    let x = c.args.command.now in
+    let made = c.from_residual-in_err-verdict in
+    let kept = c.in_ok-row.ensures in
+    let front = c.in_ok-front.ensures in
+    let seen = c.in_ok-view.ensures in
+    let decision : IsDecided old new c.args.count x (Err c.in_err-verdict.field-0.0) =
+    λ clean A had number.
+    let after = clean_before seen.frame.within clean in
+    let before = clean_before front.frame.within after in
+    let was = had (kept.opened before) in
+    let held = held_in _ _ was in
+    let held1 = kept.frame.tables before (tables A) held in
+    let view = seen.view clean (tables A) (front.frame.tables after (tables A) held1) (front.view after (tables A) held1) in
+    c.in_err-verdict.ensures.step A was.tables.register (sym (kept.row before (tables A) held) ∙ c.in_default.is) (rw c.in_ok-asked.ensures at view)
+    (number ∙ sym (greatest-keys A was.tables.register)) in
+    handed (λ r. RefusesAsMachine g.S.Store c.args.count x c.args.tx.now c.read_remaining_rows.new.tx r) c.in_err-verdict.field-0.0 made.result made.ensures.1
+    (within_to _ (refused old new c.args.count x (Err c.in_err-verdict.field-0.0) decision)
+    (within_then (within_then kept.frame.within front.frame.within) seen.frame.within))
+
+-- ---- the key is new, and the rows are put
+
+pub returns-clause-done : goal.returns-clause-done
+returns-clause-done g c clean inside A number had =
+    let kept = c.in_ok-row.ensures in
+    let front = c.in_ok-front.ensures in
+    let seen = c.in_ok-view.ensures in
+    let put = c.in_ok-change_all.ensures in
+    let x = c.args.command.now in
+    let verdict = c.in_ok-verdict.verdict in
+    let last = clean_before put.frame clean in
+    let after = clean_before seen.frame.within last in
+    let before = clean_before front.frame.within after in
+    let was = had (kept.opened before) in
+    let held = held_in _ _ was in
+    let held1 = kept.frame.tables before (tables A) held in
+    let held2 = front.frame.tables after (tables A) held1 in
+    let view = seen.view last (tables A) held2 (front.view after (tables A) held1) in
+    let decision = c.in_ok-verdict.ensures.step A was.tables.register (sym (kept.row before (tables A) held) ∙ c.in_default.is) (rw c.in_ok-asked.ensures at view)
+    (number ∙ sym (greatest-keys A was.tables.register)) in
+    let made = put.tables clean (tables A) (seen.frame.tables last (tables A) held2) in
+    let within = within_then (within_then kept.frame.within front.frame.within) seen.frame.within in (
+      steps A x verdict verdict.new_reply decision,
+      next_stores A x verdict verdict.new_reply _ _ was decision (rw c.as_slice.ensures.value at made),
+      put.frame.inside clean (within.inside last inside),
+    )
 
 pub returns-clause-by_row : goal.returns-clause-by_row
 returns-clause-by_row g c =
-    let before = clean_before c.change_all.ensures.frame in
-    let said = c.in_ok-verdict.ensures in
-    record {
-      told = λ clean m held. said.by_row.told (before clean) m held;
-      same = λ clean m held some.
-          let none = c.as_slice.ensures.value ∙ said.unchanging (before clean) m held some in
-          subst (λ (l : List Change). HoldsTables (all_changed l m) (state g.S.Store c.change_all.new.tx.conn.now).now) none
-          (c.in_ok-change_all.ensures.tables clean m (said.by_row.same (before clean) m held some));
-    }
+    let old = state g.S.Store c.args.tx.now.conn.now in
+    let new = state g.S.Store c.change_all.new.tx.conn.now in
+    let none : HasRow old new c.args.command.now.key None =
+    λ clean m held.
+    let after = clean_before c.in_ok-view.ensures.frame.within (clean_before c.in_ok-change_all.ensures.frame clean) in
+    sym (c.in_ok-row.ensures.row (clean_before c.in_ok-front.ensures.frame.within after) m held) ∙ c.in_default.is in
+    new_goes old new c.args.command.now (Ok c.in_ok-verdict.verdict) none c.in_ok-verdict.ensures.kind
+
+pub returns-clause-frame : goal.returns-clause-frame
+returns-clause-frame g c =
+    within_to _ tt
+    (within_then (within_then (within_then c.in_ok-row.ensures.frame.within c.in_ok-front.ensures.frame.within) c.in_ok-view.ensures.frame.within)
+    c.in_ok-change_all.ensures.frame)

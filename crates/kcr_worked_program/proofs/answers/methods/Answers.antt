@@ -4,10 +4,4 @@ use Rattle.kcr_worked_program.proofs.answers.methods.Goals as goal
 
 pub returns : goal.returns
 unfolding messages_on_literals
-returns c = record {
-  get = refl;
-  post = refl;
-  small = refl;
-  head = refl;
-  small_head = refl;
-}
+returns c = record { head = refl; small_head = refl }

@@ -1,4 +1,4 @@
-use Rattle.std.proofs.Common.{◌≡◌, sym, ◌∙◌, subst}
+use Rattle.std.proofs.Common.{◌≡◌, refl, sym, ◌∙◌, subst}
 use Rattle.httparse.specs.Spans.{span_bytes}
 use Rattle.kcr_desk.specs.Input.{unread}
 use Rattle.kcr_desk.specs.Framing.{is_head}
@@ -17,12 +17,12 @@ returns-in-Whole-default-Err-clause-found g c =
     let w = rw c.in-Whole-default-Err.field-1-is at c.in-Whole-default-Err.ensures in
     let head_only : c.is_head_method-head_only.result ≡ is_head (span_bytes buf spans.method) =
     cc (c.is_head_method-head_only.ensures, c.of.ensures, c.unread-in-Whole-default-Err.ensures) in
-    rw head_only (failed_ends buf (g.R.Read.remaining c.head.reader.inner) spans w.0 refusal (subst (λ t. IsWhole t spans w.0) c.unread.ensures w.1) w.2)
+    (rw head_only (failed_ends buf (g.R.Read.remaining c.head.reader.inner) spans w.0 refusal (subst (λ t. IsWhole t spans w.0) c.unread.ensures w.1) w.2), w.4)
 
 pub returns-in-Nothing-clause-found : goal.returns-in-Nothing-clause-found
 returns-in-Nothing-clause-found g c =
     let none = subst IsHopeless c.unread.ensures c.in-Nothing.ensures in
-    ends_all (unread c.head.self) _ _ (λ u. no_head (none.no_head u) (none.not_quiet u))
+    (ends_all (unread c.head.self) _ _ (λ u. no_head (none.no_head u) (none.not_quiet u)), refl)
 
 pub returns-then-is_blank_rest-clause-found : goal.returns-then-is_blank_rest-clause-found
 returns-then-is_blank_rest-clause-found g c =
@@ -31,10 +31,12 @@ returns-then-is_blank_rest-clause-found g c =
 
 pub returns-then-not-branch-clause-found : goal.returns-then-not-branch-clause-found
 returns-then-not-branch-clause-found g c =
-    let ended = c.in_ok-fill.ensures.ended c.if-not-branch.true in
-    ends_here (unread c.fill.new.self) _ _ ended.2
-    (no_head (subst HasNoHead (c.unread.ensures ∙ sym ended.1) c.in-More.ensures)
-    (λ q. cc (c.is_blank_rest.ensures.1 (subst IsBlankRest (sym c.unread-then-not-branch.ensures) q), c.if-is_blank_rest.false)))
+    let ended = c.in_ok-fill.ensures.ended c.if-not-branch.true in (
+      ends_here (unread c.fill.new.self) _ _ ended.2
+          (no_head (subst HasNoHead (c.unread.ensures ∙ sym ended.1) c.in-More.ensures)
+          (λ q. cc (c.is_blank_rest.ensures.1 (subst IsBlankRest (sym c.unread-then-not-branch.ensures) q), c.if-is_blank_rest.false))),
+      refl,
+    )
 
 pub returns-in_err-fill-clause-gathered : goal.returns-in_err-fill-clause-gathered
 returns-in_err-fill-clause-gathered g c =

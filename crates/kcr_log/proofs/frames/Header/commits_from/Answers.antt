@@ -1,5 +1,5 @@
-use Rattle.std.proofs.Common.{◌≡◌, ◌+◌, ◌-◌, true, false, if◌then◌else◌, arith, ap, sym, ◌∙◌, refl}
-use Rattle.kcr_log.specs.Frames.{frame_count, carries, commits, commits_from}
+use Rattle.std.proofs.Common.{◌≡◌, ◌-◌, true, false, if◌then◌else◌, arith, sym, ◌∙◌}
+use Rattle.kcr_log.specs.Frames.{frame_count, carries, commits}
 use Rattle.kcr_log.proofs.Counting.{one-more}
 use Rattle.kcr_log.proofs.frames.Header.commits_from.Goals.{then-commits, else-commits}
 use Rattle.kcr_log.proofs.frames.Header.commits_from.Goals as goal

@@ -1,0 +1,115 @@
+-- The bytes of paths and of the texts in bodies.
+use Rattle.std.proofs.Common.{◌≡◌, ℕ, ◌<◌, ◌≤◌, ◌⊎◌, ◌+◌, true, List, [], ◌∷◌, length, codes, inl, inr, refl, arith, All}
+use Rattle.std.specs.Fmt.{decimal}
+use Rattle.std.specs.List.{list_all}
+use Rattle.std.specs.Str.{IsUtf8}
+use Rattle.std.specs.Str.Parse.{AllDigits}
+use Rattle.std.proofs.lemmas.Bool.Decides.{nat_tests}
+use Rattle.std.proofs.lemmas.Fmt.{decimal_is_IsNumeral, length-decimal-le}
+use Rattle.std.proofs.lemmas.List.Elements.{All-nil, All-cons, All-append, All-weaker}
+use Rattle.std.proofs.lemmas.List.Sums.{AllPass-from_list_all}
+use Rattle.std.proofs.lemmas.Str.{IsUtf8-from_ascii}
+use Rattle.std.proofs.lemmas.Str.Ascii.{IsAscii-from_all}
+use Rattle.std.proofs.lemmas.Str.Parse.{digit_at}
+use Rattle.kcr_base.specs.Initials.{IsCapital, IsInitials}
+use Rattle.kcr_base.specs.Key.{IsKeyByte}
+use Rattle.kcr_base.specs.Number.{IsNumber}
+use Rattle.kcr_base.specs.Place.{IsPlace, place_text}
+use Rattle.kcr_base.specs.Serial.{IsDigit, IsSerial}
+use Rattle.kcr_base.specs.declared.place.Facility.TheVariants.{East, West}
+use Rattle.kcr_base.specs.declared.place.Place.{Place}
+use Rattle.kcr_base.specs.declared.place.Place.TheVariants.{Co, Rksh}
+use Rattle.kcr_forms.specs.Forms.{is_key_byte}
+use Rattle.kcr_forms.proofs.Cutting.{Lacks, lacks-by}
+
+-- ---- letters, digits and `-`
+
+-- a piece of a path: some letters, digits and `-`
+pub record IsWord (text : List ℕ) : Type 0 where
+  pub some : 0 < length text
+  pub short : length text ≤ 40
+  pub bytes : All IsKeyByte text
+
+key_byte : (b : ℕ) → is_key_byte b ≡ true → IsKeyByte b
+key_byte b h = grind (arith, nat_tests)
+
+-- the bytes of a literal
+pub literal : (text : List ℕ) → list_all is_key_byte text ≡ true → All IsKeyByte text
+literal text test = All-weaker (λ b. is_key_byte b ≡ true) IsKeyByte key_byte text (AllPass-from_list_all is_key_byte text test)
+
+pub initials-word : (text : List ℕ) → IsInitials text → IsWord text
+initials-word text is = record {
+  some = omega (arith, is.at_least_two);
+  short = omega (arith, is.at_most_four);
+  bytes = All-weaker IsCapital IsKeyByte (λ b h. inl h) text is.capitals;
+}
+
+serial_byte : (b : ℕ) → IsCapital b ⊎ IsDigit b → IsKeyByte b
+serial_byte b (inl h) = inl h
+serial_byte b (inr h) = inr (inr (inl h))
+
+pub serial-word : (text : List ℕ) → IsSerial text → IsWord text
+serial-word text is = record {
+  some = omega (arith, is.at_least_four);
+  short = omega (arith, is.at_most_sixteen);
+  bytes = All-weaker (λ b. IsCapital b ⊎ IsDigit b) IsKeyByte serial_byte text is.each;
+}
+
+digits-bytes : (text : List ℕ) → AllDigits 10 text → All IsKeyByte text
+digits-bytes [] h = All-nil IsKeyByte
+digits-bytes (c ∷ cs) h =
+    let here = digit_at (c ∷ cs) 0 h (omega arith) in
+    let digit : IsDigit c = (omega (arith, here), omega (arith, here)) in
+    All-cons IsKeyByte c cs (inr (inr (inl digit))) (digits-bytes cs h.1)
+
+pub number-word : (limit n : ℕ) → limit < 10000 → IsNumber limit n → IsWord (decimal n)
+number-word limit n few is =
+    let numeral = (decimal_is_IsNumeral n (omega (arith, few, is.until))).0 in
+    record {
+      some = numeral.0;
+      short = omega (arith, length-decimal-le 4 n (omega arith) (omega (arith, few, is.until)) (omega (arith, few, is.until)));
+      bytes = digits-bytes (decimal n) numeral.1;
+    }
+
+place-digit : (n : ℕ) → 1 ≤ n → n ≤ 7 → IsDigit (48 + n)
+place-digit n low high = (omega arith, omega arith)
+
+place-bytes : (place : Place) → IsPlace place → All IsKeyByte (place_text place)
+place-bytes (Co East n) is =
+    All-append IsKeyByte (codes "CO-EAST-") ((48 + n) ∷ []) (literal (codes "CO-EAST-") refl)
+    (All-cons IsKeyByte (48 + n) [] (inr (inr (inl (place-digit n is.0 is.1)))) (All-nil IsKeyByte))
+place-bytes (Co West n) is =
+    All-append IsKeyByte (codes "CO-WEST-") ((48 + n) ∷ []) (literal (codes "CO-WEST-") refl)
+    (All-cons IsKeyByte (48 + n) [] (inr (inr (inl (place-digit n is.0 is.1)))) (All-nil IsKeyByte))
+place-bytes (Rksh n) is =
+    All-append IsKeyByte (codes "RKSH-") ((48 + n) ∷ []) (literal (codes "RKSH-") refl)
+    (All-cons IsKeyByte (48 + n) [] (inr (inr (inl (place-digit n is.0 is.1)))) (All-nil IsKeyByte))
+
+place-some : (place : Place) → 0 < length (place_text place)
+place-some (Co East n) = omega arith
+place-some (Co West n) = omega arith
+place-some (Rksh n) = omega arith
+
+place-short : (place : Place) → length (place_text place) ≤ 40
+place-short (Co East n) = omega arith
+place-short (Co West n) = omega arith
+place-short (Rksh n) = omega arith
+
+pub place-word : (place : Place) → IsPlace place → IsWord (place_text place)
+place-word place is = record { some = place-some place; short = place-short place; bytes = place-bytes place is }
+
+-- ---- what they are not
+
+pub word-slash : (text : List ℕ) → All IsKeyByte text → Lacks 47 text
+word-slash text each = lacks-by IsKeyByte 47 (λ h. grind arith) text each
+
+pub word-below : (b : ℕ) → IsKeyByte b → b < 128
+word-below b h = grind arith
+
+-- ---- ASCII is UTF-8
+
+pub ascii-utf8 : (text : List ℕ) → All (λ b. b < 128) text → IsUtf8 text
+ascii-utf8 text each = IsUtf8-from_ascii text (IsAscii-from_all text each)
+
+pub word-utf8 : (text : List ℕ) → All IsKeyByte text → IsUtf8 text
+word-utf8 text each = ascii-utf8 text (All-weaker IsKeyByte (λ b. b < 128) word-below text each)
