@@ -8,6 +8,7 @@ import ast
 import contextlib
 import functools
 import pathlib
+import random
 import re
 import shutil
 import socket
@@ -67,10 +68,12 @@ def call(program, *words, stream=b"", **others):
 
 
 def free_port():
-    """A port of 127.0.0.1 that nobody has now."""
-    with socket.socket() as probe:
-        probe.bind(("127.0.0.1", 0))
-        return probe.getsockname()[1]
+    """A port of 127.0.0.1 that nobody has now, below those that the system gives to clients: other tests run beside."""
+    while True:
+        port = random.SystemRandom().randrange(10_000, 32_000)
+        with contextlib.suppress(OSError), socket.socket() as probe:
+            probe.bind(("127.0.0.1", port))
+            return port
 
 
 class Server:

@@ -17,7 +17,6 @@ use Rattle.kcr_base.proofs.SameLemmas.{same-itself}
 use Rattle.kcr_base.proofs.ListLemmas.{any-map, some_if}
 use Rattle.kcr_people.specs.declared.Appointment.{Appointment}
 use Rattle.kcr_people.specs.People.{holder_by, lasts_beyond}
-use Rattle.kcr_custody.specs.declared.Bag.{Bag}
 use Rattle.kcr_custody.specs.Custody.{spot_by, lies_in, sealed_items}
 use Rattle.kcr_room.specs.declared.Stay.{Stay}
 use Rattle.kcr_room.specs.Stays.{attendance_in_by, present_in_by, stays_by}

@@ -49,25 +49,18 @@ impl<'a, S: Alter, R: Cursor> Rows<'a, S, R> {
             (GivesNext R.to_come self.old.reading self.new.reading result) }
         ensures peeks { ReadsWithoutBreaking S.Store IsFault self.old.register.now self.new.register.now result }
     {
-        self.register.next_row(&mut self.reading)
+        let register = &mut *self.register;
+        if register.broken {
+            return Err(Refusal::Broken);
+        }
+        next_row(register.alloc, &mut register.conn, &mut self.reading)
     }
 }
 
 impl<S: Alter> Register<S> {
     ghost use Rattle.std.specs.Borrow.{sem};
     ghost use Rattle.kcr_store.specs.Calls.{OfHistory, ReadsWithoutBreaking};
-    ghost use Rattle.kcr_store.specs.Rows.{GivesNext, Begins, Lent, IsRowOf, HasNoRow, MayHaveNoRow};
-
-    /// The next row of a reading. No fault of the device breaks the register here.
-    pub(crate) fn next_row<R: Cursor>(&mut self, reading: &mut R) -> Result<Option<R::Row>, Refusal>
-        ensures gives { OfHistory S.Store self.old self.new (GivesNext R.to_come reading.old reading.new result) }
-        ensures peeks { ReadsWithoutBreaking S.Store IsFault self.old self.new result }
-    {
-        if self.broken {
-            return Err(Refusal::Broken);
-        }
-        next_row(self.alloc, &mut self.conn, reading)
-    }
+    ghost use Rattle.kcr_store.specs.Rows.{Begins, Lent, IsRowOf, HasNoRow, MayHaveNoRow};
 
     /// The rows that a reading gives, one at a time. A broken register answers 35.
     pub fn rows<R: Cursor>(&mut self, reading: R) -> Result<Rows<'_, S, R>, Refusal>
