@@ -18,8 +18,9 @@ import threading
 import time
 
 SECONDS_BETWEEN_LOOKS = 0.25
-# A check takes up to 4.5 GB. Left to itself, `rt ci` supposes twice as much, and leaves a quarter of four processors idle.
-BYTES_OF_A_CHECK = 5_000_000_000
+# Most checks take 1 to 4 GB, and some 6 to 9. Left to itself, `rt ci` supposes more of most, and leaves a quarter of four
+# processors idle.
+BYTES_OF_A_CHECK = 6_000_000_000
 PARTS = ["library", "tests", "edits"]
 TICKS = os.sysconf("SC_CLK_TCK")
 

@@ -254,22 +254,6 @@ fn answer_inquiry<S: Alter>(
     }
 }
 
-/// Answers a message by its method.
-fn answer_by<S: Alter>(
-    alloc: Global,
-    register: &mut Register<S>,
-    paths: &RouteTable,
-    asked: &Request<'_>,
-) -> Response
-    ensures { Answers S.Store register.old asked.now (response_value result) register.new }
-{
-    match Method::of(asked.method) {
-        Method::Post => answer_post(alloc, register, paths, asked),
-        Method::Ask => answer_inquiry(alloc, register, paths, asked),
-        Method::Other => unread_response(alloc, &paths.refuse_method(asked.target)),
-    }
-}
-
 impl<S: Alter> Responder for Register<S> {
     ghost step = { Answers S.Store };
 
@@ -282,9 +266,13 @@ impl<S: Alter> Responder for Register<S> {
         if paths.is_none() {
             *paths = RouteTable::new(alloc).ok();
         }
-        match paths {
-            Some(paths) => answer_by(alloc, self, paths, asked),
-            None => memory_response(),
+        let Some(paths) = paths else {
+            return memory_response();
+        };
+        match Method::of(asked.method) {
+            Method::Post => answer_post(alloc, self, paths, asked),
+            Method::Ask => answer_inquiry(alloc, self, paths, asked),
+            Method::Other => unread_response(alloc, &paths.refuse_method(asked.target)),
         }
     }
 }

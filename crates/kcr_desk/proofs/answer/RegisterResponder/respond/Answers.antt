@@ -2,6 +2,6 @@ use Rattle.kcr_desk.specs.Responses.{response_value}
 use Rattle.kcr_desk.proofs.AnswerLemmas.{memory_answered}
 use Rattle.kcr_desk.proofs.answer.RegisterResponder.respond.Goals as goal
 
-pub returns-in-None : goal.returns-in-None
-returns-in-None g c =
+pub returns-in_default : goal.returns-in_default
+returns-in_default g c =
     memory_answered g.S.Store c.args.self.now (response_value c.memory_response.result) _ _ c.memory_response.ensures
