@@ -32,15 +32,6 @@ map-in f x [] i = absurd i
 map-in f x (z ∷ xs) (inl e) = inl (ap f e)
 map-in f x (z ∷ xs) (inr i) = inr (map-in f x xs i)
 
-pub in-filter_map : {X Y : Type 0} (f : X → Option Y) (y : Y) (xs : List X) → IsIn y (filter_map f xs) → (x : X) × IsIn x xs × (f x ≡ Some y)
-in-filter_map f y [] i = absurd i
-in-filter_map f y (z ∷ xs) i = grind (arith, in-filter_map f y xs)
-
-pub filter_map-in : {X Y : Type 0} (f : X → Option Y) (x : X) (y : Y) (xs : List X) → IsIn x xs → f x ≡ Some y → IsIn y (filter_map f xs)
-filter_map-in f x y [] i e = absurd i
-filter_map-in f x y (z ∷ xs) (inl same) e = rw (sym (ap f same) ∙ e) (inl refl)
-filter_map-in f x y (z ∷ xs) (inr i) e = grind (arith, filter_map-in f x y xs i e)
-
 pub in-filter : {X : Type 0} (test : X → Bool) (x : X) (xs : List X) → IsIn x (filter test xs) → IsIn x xs × (test x ≡ true)
 in-filter test x [] i = absurd i
 in-filter test x (z ∷ xs) i = grind (arith, in-filter test x xs)
@@ -79,10 +70,6 @@ none-in test x xs h i = false_from_ne_true (test x) (λ e. true≢false (sym (in
 -- and if nothing passes it, it finds nothing
 pub none-passes : {X : Type 0} (test : X → Bool) (xs : List X) → ((x : X) → IsIn x xs → test x ≡ false) → list_any test xs ≡ false
 none-passes test xs h = false_from_ne_true (list_any test xs) (λ e. let a = any-in test xs e in true≢false (sym a.2 ∙ h a.0 a.1))
-
-pub filter-none : {X : Type 0} (test : X → Bool) (xs : List X) → ((x : X) → IsIn x xs → test x ≡ false) → filter test xs ≡ []
-filter-none test [] h = refl
-filter-none test (x ∷ xs) h = rw (h x (inl refl)) (filter-none test xs (λ y i. h y (inr i)))
 
 pub same-answers : (a b : Bool) → (a ≡ true → b ≡ true) → (b ≡ true → a ≡ true) → a ≡ b
 same-answers a b f g = grind arith

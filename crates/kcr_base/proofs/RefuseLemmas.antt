@@ -21,15 +21,3 @@ unmet b r h = grind arith
 
 pub met : (b : Bool) (r : Refusal) → when (not b) r ≡ None → b ≡ true
 met b r h = grind arith
-
--- behind the same conditions the first refusal is the same if it is the same of what stands behind them
-pub behind : (os xs ys : List (Option Refusal)) → first_of xs ≡ first_of ys → first_of (os ++ xs) ≡ first_of (os ++ ys)
-behind [] xs ys h = h
-behind (None ∷ os) xs ys h = behind os xs ys h
-behind (Some r ∷ os) xs ys h = refl
-
--- conditions of which the first refusal is told as one stand one after the other
-pub nested : (os xs : List (Option Refusal)) → first_of (first_of os ∷ xs) ≡ first_of (os ++ xs)
-nested [] xs = refl
-nested (None ∷ os) xs = nested os xs
-nested (Some r ∷ os) xs = refl

@@ -44,9 +44,6 @@ abbrev at_most : ℕ → Option ℕ → Bool
 at_most t None = false
 at_most t (Some m) = nat_le t m
 
-abbrev moments : List (ℕ × ℕ) → List ℕ
-moments ms = map (λ m. m.1) ms
-
 abbrev moments_of : ℕ → List (ℕ × ℕ) → List ℕ
 moments_of c ms = map (λ m. m.1) (filter (λ m. m.0 == c) ms)
 

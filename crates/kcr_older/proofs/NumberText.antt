@@ -155,9 +155,6 @@ module _ (schema : Schema) (at : ℕ) (table : Table) (c : Column) (finds : tabl
   abbrev s3 : State
   s3 = record s2 { budget = 99999; last = carried }
 
-  abbrev heading_is : Context → Name
-  heading_is cx = heading cx r.expr number_name
-
   abbrev level_with : List Output → Level
   level_with shown = record { tables = b ∷ []; shown = shown }
 

@@ -9,9 +9,3 @@ pub one_taken : {X : Type 0} (rows more left rest all : List X) (row : X) (given
 one_taken rows more left rest all row given had is next pushed =
     let first : left ≡ row ∷ rest = subst (λ o. IsNextOf left o rest) is next in
     ap (λ l. l ++ rest) pushed ∙ append_assoc rows (row ∷ []) rest ∙ ap (λ l. rows ++ l) (sym first) ∙ had
-
--- no more comes, so all were taken
-pub all_taken : {X : Type 0} (rows left rest all : List X) (given : Option X) → rows ++ left ≡ all → given ≡ None → IsNextOf left given rest → rows ≡ all
-all_taken rows left rest all given had is next =
-    let none : left ≡ [] = (subst (λ o. IsNextOf left o rest) is next).0 in
-    sym (append-nil rows) ∙ ap (λ l. rows ++ l) (sym none) ∙ had

@@ -41,9 +41,6 @@ safe_ties One Two = number_ties 1 2
 safe_ties Two One = number_ties 2 1
 safe_ties Two Two = number_ties 2 2
 
-number_in : (m n : ℕ) → Int (pos m) ≡ Int (pos n) → m ≡ n
-number_in m n h = cc
-
 pub one_safe : (x y : SafeNumber) → safe_digit x ≡ safe_digit y → x ≡ y
 one_safe One One h = refl
 one_safe One Two h = absurd (omega (arith, h))

@@ -48,11 +48,6 @@ by_none : (x : Command) (r : Result Verdict Refusal) → IsOfKind x r → IsResu
 by_none x (Ok v) is = is
 by_none x (Err e) is = is
 
--- for a repeat no row is put
-pub nothing_put : (row : KeyRow) (x : Command) (r : Result Verdict Refusal) → IsRowRepeat row x r → IfOk r (λ v. v.changes.items ≡ [])
-nothing_put row x (Ok v) is = is.changes
-nothing_put row x (Err e) is = tt
-
 -- a key that has no row has none
 pub no_row : {row : Option KeyRow} → row ≡ None → IsSome row → ⊥
 no_row none some = true≢false (sym some ∙ ap is_some none)
@@ -69,10 +64,6 @@ module _ (old new : State) (x : Command) where
   pub handed_goes : (e : Refusal) (r : Result Verdict Refusal) → GoesByRow old new x (Err e) → IsErrAnd r (λ y. y ≡ e) → GoesByRow old new x (ends_with r)
   handed_goes e (Ok v) goes is = absurd is
   handed_goes e (Err y) goes is = subst (λ z. GoesByRow old new x (Err z)) (sym is) goes
-
-  pub faults_go : (r : Result Verdict Refusal) → IfErr r IsFault → IsErr r → GoesByRow old new x (ends_with r)
-  faults_go (Ok v) fault is = absurd (let g : false ≡ true = is in cc)
-  faults_go (Err e) fault is = fault_goes old new x e fault
 
   -- the key has this row, and the tables stay
   pub kept_goes : (row : KeyRow) (r : Result Verdict Refusal) → HasRow old new x.key (Some row)

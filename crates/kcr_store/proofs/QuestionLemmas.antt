@@ -45,16 +45,6 @@ use Rattle.kcr_tables.specs.Refusals.{IsFault}
 use Rattle.kcr_store.specs.Rows.{IsRowOf, HasNoRow}
 use Rattle.kcr_store.proofs.StoreLemmas.{all_pairs, by_code}
 
--- a test keeps something if something passes it
-some_kept : {X : Type 0} (test : X → Bool) (xs : List X) → list_any test xs ≡ not (length (filter test xs) == 0)
-some_kept test [] = refl
-some_kept test (x ∷ xs) = by_test (test x) (some_kept test xs)
-  where
-    by_test : (b : Bool) → list_any test xs ≡ not (length (filter test xs) == 0)
-        → (b || list_any test xs) ≡ not (length (cond b (x ∷ filter test xs) (filter test xs)) == 0)
-    by_test true ih = grind arith
-    by_test false ih = ih
-
 -- ---- what some rows show
 
 -- a row of the ceremony is one
@@ -130,16 +120,6 @@ module _ (A : History) (register : IsRegister A) (t : Tables) (same : SameTables
         (all_pairs _ _ (ascending-map _ (λ item. item.code) (filter (lies_in serial) t.items)
         (ascending-filter _ (lies_in serial) t.items (by_code t.items rises.items))));
   }
-
-  -- the ceremony is planned if it has a row
-  pub planned_shown : (ceremony : ℕ) (rows : List CeremonyRow) → rows ≡ filter (is_of_number ceremony) t.ceremonies
-      → is_ceremony A ceremony ≡ not (length rows == 0)
-  planned_shown ceremony rows is =
-      sym (planned-number A ceremony)
-      ∙ sym (any-map (is_of_number ceremony) (ceremony_row A) (values_of_acts planned_number A))
-      ∙ list_any-IsPermutation (is_of_number ceremony) (ceremonies A) t.ceremonies same.ceremonies
-      ∙ some_kept (is_of_number ceremony) t.ceremonies
-      ∙ ap (λ l. not (length l == 0)) (sym is)
 
   -- who is in the room
   pub present_shown : (ceremony at : ℕ) (rows : List Stay) → IsPermutation (filter (stay_reaches ceremony at) t.stays) rows

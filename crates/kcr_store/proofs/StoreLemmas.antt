@@ -96,44 +96,12 @@ pub refused : (old new : State) (count : ℕ) (x : Command) (r : Result Verdict 
 refused old new count x (Ok v) d = tt
 refused old new count x (Err e) d = λ clean A had is. (refl, λ memory disk. d clean A had is memory)
 
--- a repeat, for which the tables stay
-pub repeated : {Inside : Type 0} (A : History) (x : Command) (row : KeyRow) (new : Database) (r : Result Verdict Refusal) → IsDecision A x r → IsRowRepeat row x r
-    → Stores A new → Inside → IfOk r (λ v. AppliesCommand A x (Ok v.reply) (with_reply A x v.new_reply) × Stores (with_reply A x v.new_reply) new × Inside)
-repeated A x row new (Ok v) d by s inside =
-    (steps A x v v.new_reply d, subst (λ o. Stores (with_reply A x o) new) (sym by.new_reply) s, inside)
-repeated A x row new (Err e) d by s inside = tt
-
 -- out of memory and an I/O error leave the history
 pub fault_steps : (A : History) (x : Command) (e : Refusal) → IsFault e → AppliesCommand A x (Err e) A
 fault_steps A x e (inl memory) = (refl, λ no_memory no_disk. absurd (no_memory memory))
 fault_steps A x e (inr disk) = (refl, λ no_memory no_disk. absurd (no_disk disk))
 
-pub faults : {T : Type 0} (old new : State) (x : Command) (count : ℕ) (r : Result T Refusal) → IfErr r IsFault
-    → IfErr r (λ e. OfStates old new (λ A. count ≡ length A → AppliesCommand A x (Err e) A))
-faults old new x count (Ok v) fault = tt
-faults old new x count (Err e) fault = λ clean A had is. fault_steps A x e fault
-
 -- ---- what a command may get, whatever the tables hold
-
-pub repeat_replied : (x : Command) (row : KeyRow) (r : Result Verdict Refusal) → IsRowRepeat row x r → MayBeReplied x (ends_with r)
-repeat_replied x row (Ok v) is = (Some row, (is.same, is.reply))
-repeat_replied x row (Err e) is = repeat-kind x row (Err e) is
-
-pub new_replied : (x : Command) (r : Result Verdict Refusal) → IsOfKind x r → MayBeReplied x (ends_with r)
-new_replied x (Ok v) is = (None, is)
-new_replied x (Err e) is = inr is
-
--- a refusal that is handed on
-pub handed_replied : (x : Command) (e : Refusal) (r : Result Verdict Refusal) → MayBeRefused x e → IsErrAnd r (λ y. y ≡ e) → MayBeReplied x (ends_with r)
-handed_replied x e (Ok v) may is = absurd is
-handed_replied x e (Err y) may is = subst (MayBeRefused x) (sym is) may
-
-pub fault_replied : (x : Command) (e : Refusal) (r : Result Verdict Refusal) → IsFault e → IsErrAnd r (λ y. y ≡ e) → MayBeReplied x (ends_with r)
-fault_replied x e r fault is = handed_replied x e r (fault-refused x e fault) is
-
-pub faults_replied : (x : Command) (r : Result Verdict Refusal) → IfErr r IsFault → IsErr r → MayBeReplied x (ends_with r)
-faults_replied x (Ok v) fault is = absurd (let g : false ≡ true = is in cc)
-faults_replied x (Err e) fault is = fault-refused x e fault
 
 -- the tables of a history, in the database of a register
 pub brought_stores : (A : History) (db : Database) → IsRegister A → HoldsTables (tables A) db → Stores A db

@@ -235,15 +235,6 @@ kept_as out counted = record {
   counted = λ yes intact. counted yes;
 }
 
--- a register that a fault has broken
-pub torn_as : {S : Type 0} {g : Ghosts S} {conn : Held S} {count : ℕ} {founded : Bool} {H tried : History} → conn.in_transaction ≡ false
-    → (IsTrue founded → AfterCrash H tried (state g conn))
-    → IsConsistentWith g count (record { conn = conn; is_genuine = founded; accepted = H; in_doubt = Some tried })
-torn_as {tried = tried} out crash = record {
-  kept = record { autocommit = out; whole = λ yes intact. absurd (none-some tried (sym intact)); crash = crash };
-  counted = λ yes intact. absurd (none-some tried (sym intact));
-}
-
 -- a call that only reads leaves the register so
 pub read_kept : {S A E : Type 0} {g : Ghosts S} {MayFail : E → Type 0} {r : Result A E} {old new : Held S} {count : ℕ} {founded : Bool} {H : History}
     {in_doubt : Option History} → IsConsistentWith g count (record { conn = old; is_genuine = founded; accepted = H; in_doubt = in_doubt }) → OnlyReads g MayFail old new r

@@ -34,15 +34,6 @@ pub met_whole : {S : Type 0} (register : RegisterState S) (May : Refusal → Typ
 met_whole register May met whole (inl may) = may
 met_whole register May met whole (inr broken) = absurd (never_both register.in_doubt whole broken.1)
 
--- what a call answers over either
-pub meets : {S : Type 0} (register : RegisterState S) (May : Refusal → Type 0) (met : Refusal) → (register.in_doubt ≡ None → May met)
-    → (IsSome register.in_doubt → met ≡ refusal.Broken) → MeetsOver register May met
-meets register May met may broken = by_torn register.in_doubt refl
-  where
-    by_torn : (in_doubt : Option History) → register.in_doubt ≡ in_doubt → MeetsOver register May met
-    by_torn None e = inl (may e)
-    by_torn (Some tried) e = let is : IsSome register.in_doubt = rw e refl in inr (broken is, is)
-
 -- WHAT STOPS A CALL
 
 pub stops_weaker : {W : Type 0} (May Other : Refusal → Type 0) (w : Writing W) (why : Fault) → ((met : Refusal) → May met → Other met)
@@ -59,15 +50,6 @@ stops_weaker May Other w (IntoFile step) weaker stops = absurd stops
 stops_weaker May Other w (Net call) weaker stops = absurd stops
 stops_weaker May Other w Lost weaker stops = absurd stops
 stops_weaker May Other w Words weaker stops = absurd stops
-
--- a report that was not printed whole
-pub print_stops : {S W : Type 0} (register : RegisterState S) (May Denies : Refusal → Type 0) (fault : PrintFault) (w : Writing W)
-    → ((met : Refusal) → IsFault met ⊎ Denies met → May met) → (IsSome register.in_doubt → fault ≡ print.Refused refusal.Broken)
-    → (register.in_doubt ≡ None → Stops Denies fault) → (fault ≡ print.Write → HasFailed w)
-    → StopsReport (MeetsOver register May) w (fault_of_print fault)
-print_stops register May Denies (print.Refused met) w may broken stops written =
-    meets register May met (λ whole. may met (stops whole)) (λ in_doubt. let e = broken in_doubt in cc)
-print_stops register May Denies print.Write w may broken stops written = written refl
 
 -- CAUSES
 
@@ -135,38 +117,6 @@ unfilled path Unnamed is = absurd is
 unfilled path Absent is = refl
 unfilled path Empty is = refl
 
--- what stopped a verification, which reads no input
-pub verify_cause : {R W : Type 0} (why : Fault) (path : List ℕ) (s : Streams R W) → s.after ≡ s.before → StopsReplay s.output why
-    → HasCause (Some Verify) (Some path) s why
-verify_cause (Nothing missing) path s same stops = (inl refl, unfilled path missing stops.0, (same, stops.1))
-verify_cause (Refused met) path s same stops = (Verify, refl, stops)
-verify_cause Unwritten path s same stops = (Verify, refl, stops)
-verify_cause (Open fault) path s same stops = absurd stops
-verify_cause (File step) path s same stops = absurd stops
-verify_cause (Log log) path s same stops = absurd stops
-verify_cause (Into fault) path s same stops = absurd stops
-verify_cause (IntoFile step) path s same stops = absurd stops
-verify_cause (Stream fault) path s same stops = absurd stops
-verify_cause (Net call) path s same stops = absurd stops
-verify_cause Lost path s same stops = absurd stops
-verify_cause Words path s same stops = absurd stops
-
--- what stopped a task that makes a new file, which reads none either
-pub making_cause : {R W : Type 0} (task : Task) → IsMaking (Some task) → ((met : Refusal) → IsFault met → MayMeet task met) → (why : Fault) (path : List ℕ)
-    (s : Streams R W) → s.after ≡ s.before → StopsRebuild s.output why → HasCause (Some task) (Some path) s why
-making_cause task makes may (Into fault) path s same stops = (makes, (same, stops))
-making_cause task makes may (IntoFile step) path s same stops = (makes, (same, stops))
-making_cause task makes may (Nothing missing) path s same stops = (inr makes, unfilled path missing stops.0, (same, stops.1))
-making_cause task makes may (Refused met) path s same stops = (task, refl, may met stops)
-making_cause task makes may Unwritten path s same stops = (task, refl, stops)
-making_cause task makes may (Open fault) path s same stops = absurd stops
-making_cause task makes may (File step) path s same stops = absurd stops
-making_cause task makes may (Log log) path s same stops = absurd stops
-making_cause task makes may (Stream fault) path s same stops = absurd stops
-making_cause task makes may (Net call) path s same stops = absurd stops
-making_cause task makes may Lost path s same stops = absurd stops
-making_cause task makes may Words path s same stops = absurd stops
-
 -- why a register in a file was not opened, after which nothing was read or written
 pub opening_cause : {R W : Type 0} (task : Option Task) (why : Fault) (path : List ℕ) (s : Streams R W) → IsUntouched s → StopsOpening why
     → HasCause task (Some path) s why
@@ -197,22 +147,6 @@ opening_reads (Stream fault) stops = absurd stops
 opening_reads (Net call) stops = absurd stops
 opening_reads Lost stops = absurd stops
 opening_reads Words stops = absurd stops
-
--- why the rows of one were not read, for a task that wants commands
-pub reading_cause : {R W : Type 0} (task : Task) → WantsCommands (Some task) → ((met : Refusal) → IsFault met → MayMeet task met) → (why : Fault)
-    (path : List ℕ) (s : Streams R W) → IsUntouched s → StopsReading why → HasCause (Some task) (Some path) s why
-reading_cause task wants may (Nothing missing) path s still stops = (wants, unfilled path missing stops, still)
-reading_cause task wants may (Refused met) path s still stops = (task, refl, may met stops)
-reading_cause task wants may (Open fault) path s still stops = opening_cause (Some task) (Open fault) path s still stops
-reading_cause task wants may (File step) path s still stops = opening_cause (Some task) (File step) path s still stops
-reading_cause task wants may (Log log) path s still stops = opening_cause (Some task) (Log log) path s still stops
-reading_cause task wants may Unwritten path s still stops = absurd stops
-reading_cause task wants may (Into fault) path s still stops = absurd stops
-reading_cause task wants may (IntoFile step) path s still stops = absurd stops
-reading_cause task wants may (Stream fault) path s still stops = absurd stops
-reading_cause task wants may (Net call) path s still stops = absurd stops
-reading_cause task wants may Lost path s still stops = absurd stops
-reading_cause task wants may Words path s still stops = absurd stops
 
 -- why no new register was made, before anything was written
 pub making_stops : {W : Type 0} (why : Fault) (w : Writing W) → WritesNothing w → StopsMaking why → StopsRebuild w why

@@ -10,17 +10,6 @@ use Rattle.kcr_verify.specs.declared.verification.Verification.{Verification}
 use Rattle.kcr_verify.specs.declared.verification.Verification.TheVariants.{Verified, Differs}
 
 module _ {W : Type 0} (head : List ℕ) (w : Writing W) where
-  -- no difference, or one
-  verification_told : (told : Verification) (status : ℕ) → WritesVerification head told w status
-      → ((status ≡ 0) × WritesVerified head w) ⊎ ((status ≡ 1) × WritesDifference w)
-  verification_told (Verified count) status t = inl (t.0, (count, t.1, t.2))
-  verification_told (Differs difference) status t = inr (t.0, (difference, t.1))
-
-  -- what came of it is told with a status
-  pub told_ends : (Comes : Verification → Type 0) (result : Result ℕ Fault) → EndsVerification head Comes w result
-      → FinishesOrFinds (WritesVerified head w) (WritesDifference w) (WritesVerificationPrefix head w) w result
-  told_ends Comes (Ok status) told = verification_told told.0 status told.2
-  told_ends Comes (Err why) part = part
 
   -- what was begun to be told is the beginning of a line
   verified_front : (told : Verification) → WritesNothing w ⊎ WritesPart w (verified_line head told)
@@ -42,9 +31,3 @@ module _ {W : Type 0} (head : List ℕ) (w : Writing W) where
   packed_ends count (Ok status) t part = (t.0, (count, t.1, t.2))
   packed_ends count (Err why) t (inl same) = inl same
   packed_ends count (Err why) t (inr front) = inr (count, front)
-
--- what finds no problem
-pub finishes_ends : {W : Type 0} (Done Problem Part : Type 0) (w : Writing W) (result : Result ℕ Fault) → Finishes Done Part w result
-    → FinishesOrFinds Done Problem Part w result
-finishes_ends Done Problem Part w (Ok status) done = inl done
-finishes_ends Done Problem Part w (Err why) part = part
