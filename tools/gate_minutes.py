@@ -18,9 +18,6 @@ import threading
 import time
 
 SECONDS_BETWEEN_LOOKS = 0.25
-# Most checks take 1 to 4 GB, and some 6 to 9. Left to itself, `rt ci` supposes more of most, and leaves a quarter of four
-# processors idle.
-BYTES_OF_A_CHECK = 6_000_000_000
 PARTS = ["library", "tests", "edits"]
 TICKS = os.sysconf("SC_CLK_TCK")
 
@@ -119,18 +116,12 @@ def table(sums):
     return "\n".join(lines)
 
 
-def checks_at_once():
-    """One check a processor, as far as memory goes."""
-    memory = os.sysconf("SC_PAGE_SIZE") * os.sysconf("SC_PHYS_PAGES")
-    return max(1, min(len(os.sched_getaffinity(0)), memory // BYTES_OF_A_CHECK))
-
-
 def measured():
     """Runs the gate: its status, its sums and its minutes by the clock."""
     watch = Watch()
     watch.start()
     began = time.monotonic()
-    gate = subprocess.Popen(["rt", "ci"], env={**os.environ, "RT_JOBS": str(checks_at_once())})
+    gate = subprocess.Popen(["rt", "ci"])
     status = gate.wait()
     watch.ended.set()
     watch.join()
@@ -150,7 +141,7 @@ def main():
     for (crate, part), seconds in sorted(sums.items()):
         print(f"measured: {crate.replace(' ', '-')} {part} {seconds:.1f}")
     print(table(sums))
-    print(f"{minutes:.0f} minutes by the clock on {os.cpu_count()} processors, {checks_at_once()} checks at once")
+    print(f"{minutes:.0f} minutes by the clock on {os.cpu_count()} processors")
     sys.exit(status)
 
 
