@@ -10,7 +10,6 @@ use Rattle.kcr_verify.specs.declared.verification.Verification.{Verification}
 use Rattle.kcr_verify.specs.declared.verification.Verification.TheVariants.{Verified, Differs}
 
 module _ {W : Type 0} (head : List ℕ) (w : Writing W) where
-
   -- what was begun to be told is the beginning of a line
   verified_front : (told : Verification) → WritesNothing w ⊎ WritesPart w (verified_line head told)
       → WritesNothing w ⊎ WritesVerificationPrefix head w
