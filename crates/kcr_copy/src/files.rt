@@ -8,6 +8,12 @@ use std::os::unix::fs::MetadataExt;
 /// How many bytes are compared at a time.
 const PIECE: usize = 65_536;
 
+/// The first bytes of each database.
+const MAGIC: &[u8; 16] = b"SQLite format 3\0";
+
+/// The bytes of the largest page. A database that is still being made has no more.
+const LARGEST_PAGE: u64 = 65_536;
+
 /// The name of a file beside one, which ends in this.
 pub(crate) fn beside(rt: &HostRuntime, path: &str, ending: &str) -> io::Result<String> {
     let mut name = String::from_str(rt.alloc(), path)?;
@@ -40,6 +46,23 @@ pub(crate) fn bytes_of(rt: &HostRuntime, path: &str) -> io::Result<Option<Vec<u8
         return Ok(None);
     };
     let mut bytes = Vec::new(rt.alloc());
+    file.read_to_end(&mut bytes)?;
+    Ok(Some(bytes))
+}
+
+/// All bytes of a database's file, or `None` if it is missing. A longer file than a page that does not begin as a
+/// database is not read on: it is `InvalidData`.
+pub(crate) fn database_of(rt: &HostRuntime, path: &str) -> io::Result<Option<Vec<u8>>> {
+    let Some(mut file) = unless_missing(regular(rt, path))? else {
+        return Ok(None);
+    };
+    let mut bytes = Vec::new(rt.alloc());
+    if file.metadata()?.len() > LARGEST_PAGE {
+        if !begins_with(&mut file, MAGIC)? {
+            return Err(ErrorKind::InvalidData.into());
+        }
+        bytes.extend_from_slice(MAGIC)?;
+    }
     file.read_to_end(&mut bytes)?;
     Ok(Some(bytes))
 }

@@ -60,6 +60,7 @@ pub fn fill<D: Disk>(files: &mut Files<D>, bytes: &[u8]) -> Result<(), Unmade>
     requires file { IsTrue (D.Disk.is_usable files.old.db) }
     ensures safe { OnOk result (AreClean D.Disk files.new.log files.new.db
         → LeavesOnly (outcomes D.Disk files.new.log files.new.db) (image [] bytes.now)) }
+    ensures empty { OnOk result (AreClean D.Disk files.new.log files.new.db → IsEmptied D.Disk files.old) }
     ensures filled { IfErr result (λ e. e ≡ Unmade.Filled → Stays D.Disk files.old files.new) }
 {
     match are_empty(files) {
@@ -82,6 +83,7 @@ fn write<D: Disk>(files: &mut Files<D>, bytes: &[u8]) -> io::Result<()>
     requires empty { AreClean D.Disk files.old.log files.old.db → IsEmptied D.Disk files.old }
     ensures safe { OnOk result (AreClean D.Disk files.new.log files.new.db
         → LeavesOnly (outcomes D.Disk files.new.log files.new.db) (image [] bytes.now)) }
+    ensures was { OnOk result (AreClean D.Disk files.new.log files.new.db → IsEmptied D.Disk files.old) }
 {
     files.log.sync()?;
     files.db.write_at(0, bytes)?;

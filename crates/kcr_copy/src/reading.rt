@@ -1,10 +1,12 @@
 //! A register's file and its log, read into memory.
-ghost use Rattle.std.specs.Prelude.{◌≡◌, ◌⊎◌, IfOk, IfErr, IfSome};
+ghost use Rattle.std.specs.Prelude.{IfOk, IfErr};
 ghost use Rattle.kcr_log.specs.Damage.{IsJudged};
 ghost use Rattle.kcr_copy.specs.Unread.{IsCause};
 
 use crate::Unread;
-use crate::files::{begins_still, beside, bytes_of, has_journal, is_still, unless_missing};
+use crate::files::{
+    begins_still, beside, bytes_of, database_of, has_journal, is_still, unless_missing,
+};
 use kcr_log::{Log, judge};
 use std::fs;
 use std::io::{self, ErrorKind};
@@ -33,7 +35,7 @@ pub struct Copied {
 /// at the first frame that is not whole. So what was read is the register as it was after one of its commands.
 fn read_once(rt: &HostRuntime, path: &str) -> io::Result<Option<Copied>> {
     let name = beside(rt, path, "-wal")?;
-    let file = bytes_of(rt, path)?;
+    let file = database_of(rt, path)?;
     let log = bytes_of(rt, name.as_str())?.unwrap_or(Vec::new(rt.alloc()));
     let is_there = file.is_some();
     let file = file.unwrap_or(Vec::new(rt.alloc()));
@@ -68,10 +70,11 @@ fn read_steadily(rt: &HostRuntime, path: &str) -> io::Result<Option<Copied>> {
 
 /// Why nothing was read, by the error.
 fn unread(error: io::Error) -> Unread
-    ensures { (result ≡ Unread.Memory) ⊎ (result ≡ Unread.Closed) }
+    ensures { IsCause result }
 {
     match error.kind() {
         ErrorKind::OutOfMemory => Unread::Memory,
+        ErrorKind::InvalidData => Unread::Broken,
         _ => Unread::Closed,
     }
 }
@@ -91,9 +94,20 @@ fn judged(rt: &HostRuntime, path: &str) -> Result<(Copied, Log), Unread>
     }
 }
 
+/// Whether two readings found the same damage, whatever was written behind it between them.
+fn is_same(one: Log, two: Log) -> bool {
+    match (one, two) {
+        (Log::WrongFrame { first: one, .. }, Log::WrongFrame { first: two, .. }) => one == two,
+        (Log::WrongHead { .. }, Log::WrongHead { .. }) => true,
+        (Log::NoFile { .. }, Log::NoFile { .. }) => true,
+        _ => false,
+    }
+}
+
 /// Reads a register's file and its log into memory, as they were at one moment, also while another process writes
 /// them. Nothing is written, and nothing stays open. The memory is that of the bytes of both. A log that was damaged
-/// after it was safe, and one whose file is missing, is refused if a second reading finds it so.
+/// after it was safe, and one whose file is missing, is refused if two readings in a row find the same damage: of a log
+/// that is written meanwhile, one reading may have an old part before a newer one.
 ///
 /// No clause says what a file gives.
 pub fn copy_of(rt: &HostRuntime, path: &str) -> Result<Copied, Unread>
@@ -103,13 +117,16 @@ pub fn copy_of(rt: &HostRuntime, path: &str) -> Result<Copied, Unread>
     if path.is_empty() || path == ":memory:" || path.starts_with("file:") {
         return Err(Unread::Closed);
     }
-    let (copy, log) = judged(rt, path)?;
-    if log == Log::Sound {
-        return Ok(copy);
+    let mut last = Log::Sound;
+    for _ in 0..TIMES {
+        let (copy, log) = judged(rt, path)?;
+        if log == Log::Sound {
+            return Ok(copy);
+        }
+        if is_same(last, log) {
+            return Err(Unread::Damaged(log));
+        }
+        last = log;
     }
-    let (copy, log) = judged(rt, path)?;
-    if log == Log::Sound {
-        return Ok(copy);
-    }
-    Err(Unread::Damaged(log))
+    Err(Unread::Broken)
 }

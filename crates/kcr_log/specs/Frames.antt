@@ -1,6 +1,6 @@
 -- A write-ahead log as bytes: a head of 32 bytes, and then frames, each of 24 bytes and a page.
-use Rattle.std.specs.Prelude.{ℕ, zero, suc, ◌+◌, ◌-◌, ◌*◌, ◌/◌, ◌==◌, ◌&&◌, not, nat_lt, Bool, if◌then◌else◌, List, length, slice_range}
-use Rattle.sqlite_wal.specs.Format.{be32, checksum}
+use Rattle.std.specs.Prelude.{ℕ, zero, suc, ◌+◌, ◌-◌, ◌*◌, ◌/◌, ◌==◌, ◌&&◌, ◌||◌, not, nat_lt, Bool, false, if◌then◌else◌, List, length, slice_range}
+use Rattle.sqlite_wal.specs.Format.{be32, checksum, count_page}
 use Rattle.kcr_log.specs.declared.frames.Header.{Header}
 use Rattle.kcr_log.specs.declared.frames.Frame.{Frame}
 
@@ -73,3 +73,23 @@ unfoldable pub commits_from : Header → List ℕ → ℕ → ℕ → ℕ
 commits_from header log i zero = 0
 commits_from header log i (suc n) =
     if carries header log i then (if commits header log i then 1 else 0) + commits_from header log (i + 1) n else 0
+
+-- how many of the next n frames end a transaction, whatever lies between them
+unfoldable pub ends_in : Header → List ℕ → ℕ → ℕ → ℕ
+ends_in header log i zero = 0
+ends_in header log i (suc n) = (if commits header log i then 1 else 0) + ends_in header log (i + 1) n
+
+-- where the transaction of frame i begins: behind the last frame before it that ends one
+unfoldable pub start_of : Header → List ℕ → ℕ → ℕ
+start_of header log zero = 0
+start_of header log (suc i) = if commits header log i then i + 1 else start_of header log i
+
+-- Frame i has the salts, and counts the bytes of the transaction that it begins. The engine writes such a frame only
+-- over zeros, and once all before it is safe.
+unfoldable pub begins : Header → List ℕ → ℕ → Bool
+begins header log i = carries header log i && ((frame_of header log i).page == count_page)
+
+-- one of the next n frames begins a counted transaction
+unfoldable pub begins_in : Header → List ℕ → ℕ → ℕ → Bool
+begins_in header log i zero = false
+begins_in header log i (suc n) = begins header log i || begins_in header log (i + 1) n

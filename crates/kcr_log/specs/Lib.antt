@@ -1,4 +1,5 @@
 pub mod Frames
+pub mod Pages
 pub mod Damage
 pub mod Stop
 pub mod Written

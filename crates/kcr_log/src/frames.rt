@@ -1,7 +1,7 @@
 //! The head of a log and its frames, read from bytes.
 ghost use Rattle.std.specs.Prelude.{◌≡◌, ◌+◌, ◌-◌, ◌*◌, ◌^◌, ◌<◌, ◌≤◌, ◌/◌, ◌==◌, length};
 ghost use Rattle.sqlite_wal.specs.Format.{be32};
-ghost use Rattle.kcr_log.specs.Frames.{header_of, is_signed, frame_at, frame_count, frame_of, carries, sum_before, sum_after, checks, commits, commits_from};
+ghost use Rattle.kcr_log.specs.Frames.{header_of, is_signed, frame_at, frame_count, frame_of, carries, sum_before, sum_after, checks, commits, commits_from, ends_in, start_of, begins, begins_in};
 
 use sqlite_wal::checksum_of;
 
@@ -9,7 +9,10 @@ use sqlite_wal::checksum_of;
 const HEAD: usize = 32;
 
 /// The bytes of a frame before its page.
-const FRAME_HEAD: usize = 24;
+pub(crate) const FRAME_HEAD: usize = 24;
+
+/// The page number of a frame that counts the bytes of a transaction.
+pub(crate) const COUNT_PAGE: u32 = 0xff00_0000;
 
 /// The magic number of a log whose checksums read words with the highest byte first. The other one is less by 1.
 const BIG: u32 = 0x377f_0683;
@@ -86,7 +89,7 @@ impl Header {
     }
 
     /// Where frame `i` begins, from 0.
-    fn place(&self, log: &[u8], i: usize) -> usize
+    pub(crate) fn place(&self, log: &[u8], i: usize) -> usize
         requires { i < frame_count self.now log.now }
         ensures at { result ≡ frame_at self.now i }
         ensures whole { result + 24 + self.now.page_size ≤ length log.now }
@@ -188,5 +191,56 @@ impl Header {
             }
         }
         ended
+    }
+
+    /// How many frames from `first` on end a transaction, whatever lies between them.
+    #[tactic(auto, unfolding(crate::specs::Frames::ends_in))]
+    pub(crate) fn ends_from(&self, log: &[u8], first: usize) -> usize
+        ensures value { result ≡ ends_in self.now log.now first (frame_count self.now log.now - first) }
+        ensures few { result ≤ frame_count self.now log.now - first }
+    {
+        let mut ended = 0;
+        for i in first..self.count(log) {
+            if self.commits(log, i) {
+                ended += 1;
+            }
+        }
+        ended
+    }
+
+    /// Where the transaction of frame `i` begins.
+    #[tactic(auto, unfolding(crate::specs::Frames::start_of))]
+    pub(crate) fn start_of(&self, log: &[u8], i: usize) -> usize
+        ensures value { result ≡ start_of self.now log.now i }
+        ensures before { result ≤ i }
+    {
+        let mut start = 0;
+        for j in 0..i {
+            if self.commits(log, j) {
+                start = j + 1;
+            }
+        }
+        start
+    }
+
+    /// Whether frame `i` begins a counted transaction.
+    #[tactic(auto, unfolding(crate::specs::Frames::begins, crate::specs::Frames::carries))]
+    fn begins(&self, log: &[u8], i: usize) -> bool
+        ensures { result ≡ begins self.now log.now i }
+    {
+        self.carries(log, i) && self.frame(log, i).page == COUNT_PAGE
+    }
+
+    /// Whether a frame from `first` on begins a counted transaction.
+    #[tactic(auto, unfolding(crate::specs::Frames::begins_in))]
+    pub(crate) fn begins_from(&self, log: &[u8], first: usize) -> bool
+        ensures { result ≡ begins_in self.now log.now first (frame_count self.now log.now - first) }
+    {
+        for i in first..self.count(log) {
+            if self.begins(log, i) {
+                return true;
+            }
+        }
+        false
     }
 }

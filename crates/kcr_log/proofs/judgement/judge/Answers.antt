@@ -1,4 +1,4 @@
-use Rattle.kcr_log.proofs.Judging.{sound-short}
+use Rattle.kcr_log.proofs.Refuting.{sound-short}
 use Rattle.kcr_log.proofs.judgement.judge.Goals as goal
 
 pub returns-then-log-lt56-clause-judged : goal.returns-then-log-lt56-clause-judged

@@ -1,4 +1,4 @@
-use Rattle.std.proofs.Common.{◌≡◌, ◌-◌, true, false, if◌then◌else◌, arith, sym, ◌∙◌}
+use Rattle.std.proofs.Common.{◌≡◌, true, false, arith, sym, ◌∙◌}
 use Rattle.kcr_log.specs.Frames.{frame_count, carries, commits}
 use Rattle.kcr_log.proofs.Counting.{one-more}
 use Rattle.kcr_log.proofs.frames.Header.commits_from.Goals.{then-commits, else-commits}
