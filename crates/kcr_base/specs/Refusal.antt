@@ -165,6 +165,7 @@ thing_text (Things.Step k) = codes "step " ++ decimal k
 thing_text (Things.Bag serial) = codes "bag " ++ serial
 thing_text (Things.Box number) = codes "box " ++ decimal number
 thing_text (Things.Item code) = codes "item " ++ code
+thing_text (Things.Command number) = codes "command " ++ decimal number
 
 -- initials, a place or a role
 abbrev pub absentee_text : Absentee → List ℕ

@@ -49,6 +49,7 @@ pub enum Thing {
     Bag(Serial),
     Box(u32),
     Item(ItemCode),
+    Command(u32),
 }
 
 /// Who is not in the room: a person, the holder of a place, or anybody trained for a role.
@@ -134,7 +135,7 @@ pub enum Refusal {
     Absent { who: Absentee },
     /// Something keeps the ceremony from closing: the first of steps, room, safes and table.
     Unfinished { part: Part },
-    /// Fewer people in the room fit these seats than there are seats, and this is so of no proper part of them.
+    /// Fewer people in the room fit these seats than there are seats; no proper subset has this property.
     Short { seats: Positions },
     /// Memory could not be had. Nothing changed.
     Memory,
@@ -344,8 +345,8 @@ impl Part {
 }
 
 impl Thing {
-    /// Its text, as `person AA`, `ceremony 61`, `step 3`, `bag BB51184287`, `box 3` or `item HSM4`. The error is out
-    /// of memory.
+    /// Its text, as `person AA`, `ceremony 61`, `step 3`, `bag BB51184287`, `box 3`, `item HSM4` or `command 7`. The
+    /// error is out of memory.
     pub fn text(self, alloc: Global) -> Result<String, AllocError>
         ensures { IfOk result (λ text. string_bytes text ≡ thing_text self) }
     {
@@ -356,6 +357,7 @@ impl Thing {
             Thing::Bag(serial) => labelled(alloc, "bag ", serial.as_str()),
             Thing::Box(number) => numbered(alloc, "box ", number),
             Thing::Item(code) => labelled(alloc, "item ", code.as_str()),
+            Thing::Command(number) => numbered(alloc, "command ", number),
         }
     }
 }

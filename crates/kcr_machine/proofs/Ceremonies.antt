@@ -36,7 +36,7 @@ use Rattle.kcr_history.proofs.Piled.{map-stacked}
 use Rattle.kcr_history.proofs.Words.{planned-number}
 use Rattle.kcr_rules.specs.CeremonyStatus.{ceremony_by}
 use Rattle.kcr_rules.specs.CeremonyRows.{is_open_beside, lies_on_table, planned_row, planned_step_row, planned_step_rows}
-use Rattle.kcr_machine.proofs.NewDecision.{new_key_row}
+use Rattle.kcr_machine.specs.NewDecision.{new_key_row}
 use Rattle.kcr_base.specs.declared.place.Facility.{Facility}
 use Rattle.kcr_custody.specs.declared.Bag.{Bag}
 use Rattle.kcr_custody.specs.declared.SafeNumber.TheVariants.{One, Two}

@@ -36,7 +36,7 @@ use Rattle.kcr_custody.specs.declared.Bag.{Bag}
 use Rattle.kcr_history.specs.declared.views.Change.{Change}
 use Rattle.kcr_history.specs.declared.views.Change.TheVariants.{PutBag, PutItem, PutMark, PutKey}
 use Rattle.kcr_history.specs.Changes.{changed, all_changed, same_safe_row}
-use Rattle.kcr_machine.proofs.NewDecision.{new_key_row}
+use Rattle.kcr_machine.specs.NewDecision.{new_key_row}
 use Rattle.kcr_custody.specs.declared.SafeNumber.{SafeNumber}
 use Rattle.kcr_custody.specs.declared.SafeNumber.TheVariants.{One, Two}
 use Rattle.kcr_custody.specs.declared.SafeRow.{SafeRow}

@@ -31,7 +31,7 @@ use Rattle.std.proofs.lemmas.Option.{same_Some, none-some}
 use Rattle.kcr_rules.specs.ByRows.{early_refusal_by, late_refusal_by, IsCleared, IsCheckResult, has_too_many_steps, seat_request_by, IsSeatedFor, IsUnseatedFor, all_changes_by}
 use Rattle.kcr_machine.specs.RowDecision.{IsReplyDataOf, IsReplyOf, IsOfKind, IsOwnRefusal, MayBeRefused}
 use Rattle.kcr_machine.specs.RowDecision.{is_full_by, RepeatsRow, IsRowRepeat}
-use Rattle.kcr_machine.proofs.NewDecision.{reply_by, AcceptsNew, IsRowDecision}
+use Rattle.kcr_machine.specs.NewDecision.{reply_by, AcceptsNew, IsRowDecision}
 use Rattle.kcr_rules.specs.Signing.{IsSeatedBy, IsUnseatedBy}
 use Rattle.kcr_base.proofs.RefuseLemmas.{none_holds}
 use Rattle.kcr_machine.proofs.Ceremonies.{close-early, close-late, close-leads, open-late, open-leads, plan-late, plan-leads}

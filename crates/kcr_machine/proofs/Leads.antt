@@ -27,7 +27,7 @@ use Rattle.kcr_history.specs.Early.{early_asks}
 use Rattle.kcr_history.specs.Conditions.{fault, is_full, by_history, early_conditions, late_conditions}
 use Rattle.kcr_history.proofs.Words.{row_of_key-keys}
 use Rattle.kcr_rules.specs.ByRows.{changes_by, early_refusal_by, late_refusal_by, all_changes_by}
-use Rattle.kcr_machine.proofs.NewDecision.{new_key_row}
+use Rattle.kcr_machine.specs.NewDecision.{new_key_row}
 use Rattle.kcr_machine.proofs.Keyed.{put-new}
 
 -- THE COMMAND

@@ -1,4 +1,3 @@
-pub mod NewDecision
 pub mod Keyed
 pub mod Leads
 pub mod Scenes

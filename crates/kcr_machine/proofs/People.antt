@@ -41,7 +41,7 @@ use Rattle.kcr_history.specs.declared.commands.Command.{Command}
 use Rattle.kcr_history.specs.declared.views.Change.TheVariants.{PutWithdrawal, PutKey}
 use Rattle.kcr_history.specs.Changes.{same_person, same_appointment}
 use Rattle.kcr_history.proofs.Distinct.{trainings-apart}
-use Rattle.kcr_machine.proofs.NewDecision.{new_key_row}
+use Rattle.kcr_machine.specs.NewDecision.{new_key_row}
 use Rattle.kcr_machine.proofs.LastAppointments.{open-last, person-last, place-last, put-last}
 use Rattle.kcr_machine.proofs.Keyed.{Shown, any-shown, filter-shown, put-new}
 use Rattle.kcr_machine.proofs.Leads.{LateShown, LeadsOn, all_changed-rows, changed_with, command_of, new_key, other-order}

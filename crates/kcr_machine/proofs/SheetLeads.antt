@@ -38,7 +38,7 @@ use Rattle.kcr_history.specs.AsksByKind.{asks_of_act}
 use Rattle.kcr_history.specs.Conditions.{out_of_turn_refusal}
 use Rattle.kcr_history.specs.Machine.{with_command}
 use Rattle.kcr_rules.specs.SheetRows.{sheet_changes_by}
-use Rattle.kcr_machine.proofs.NewDecision.{new_key_row}
+use Rattle.kcr_machine.specs.NewDecision.{new_key_row}
 use Rattle.kcr_machine.proofs.Keyed.{Shown, put-rows}
 use Rattle.kcr_machine.proofs.Leads.{all_changed-rows, changed_with, command_of, new_key, other-order}
 use Rattle.kcr_base.proofs.Members.{IsIn, any-in, filter-in, in-any, in-filter, in-order, map-same-in, none-in, none-passes}

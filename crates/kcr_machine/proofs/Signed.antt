@@ -36,7 +36,7 @@ use Rattle.kcr_history.specs.Machine.{SeatRequest, reply_to, IsRegister, seat_re
 use Rattle.kcr_rules.specs.CeremonyStatus.{ceremony_by, facility_of_row}
 use Rattle.kcr_rules.specs.Signing.{step_by, seats_by, next_step_by, on_seat, fits_of, room_by, IsSeatedBy, IsUnseatedBy, staff, mark_change}
 use Rattle.kcr_rules.specs.Signing.{seat_changes, exception_change}
-use Rattle.kcr_machine.proofs.NewDecision.{new_key_row}
+use Rattle.kcr_machine.specs.NewDecision.{new_key_row}
 use Rattle.kcr_laws.proofs.Alone.{rooms}
 use Rattle.kcr_laws.proofs.Done.{next_signed}
 use Rattle.kcr_laws.proofs.Staffed.{fits-on}

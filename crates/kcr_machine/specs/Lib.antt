@@ -1,2 +1,3 @@
 pub mod RowDecision
 pub mod Whole
+pub mod NewDecision

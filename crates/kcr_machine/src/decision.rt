@@ -9,6 +9,7 @@ ghost use Rattle.kcr_history.specs.Machine.{IsRegister, IsDecision};
 ghost use Rattle.kcr_rules.specs.ByRows.{IsCheckResult, IsCleared};
 ghost use Rattle.kcr_machine.specs.RowDecision.{IsRowRepeat, is_full_by};
 ghost use Rattle.kcr_machine.specs.RowDecision.{IsOfKind, IsOwnRefusal};
+ghost use Rattle.kcr_machine.specs.NewDecision.{IsRowDecision};
 
 use kcr_base::Refusal;
 use kcr_history::{
@@ -92,7 +93,10 @@ pub fn decide_new(
         → IsViewOf (asks_of command.now) (tables A) view.now → accepted ≡ greatest_number (tables A).keys
         → IsDecision A command.now result }
 
-    // Whatever the rows are, the reply is of the act's kind, or the refusal is one that acts of this kind may get.
+    // Whatever the rows are, the result is by them: the act's first refusal, or its changes with the row of the command,
+    // and the reply with the next number. So the reply is of the act's kind, or the refusal is one that acts of this
+    // kind may get.
+    ensures by_rows { IsRowDecision view.now accepted command.now result }
     ensures kind { IsOfKind command.now result }
 {
     let full = MAX_COMMANDS <= accepted;

@@ -48,7 +48,7 @@ pub fn mark(view: &View, ceremony: u32) -> Option<Moment>
         .map(|row| row.at)
 }
 
-/// The facility of a ceremony that is there; of another any.
+/// Returns the ceremony's facility; any facility if there is no such ceremony.
 pub fn facility(row: &Option<CeremonyRow>) -> Facility
     ensures { result ≡ CeremonyStatus.facility_of_row row.now }
 {

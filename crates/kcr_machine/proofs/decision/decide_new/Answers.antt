@@ -1,7 +1,7 @@
 use Rattle.std.proofs.Common.{rules, ◌+◌, Some, Ok}
 use Rattle.kcr_history.specs.declared.commands.ReplyData.{ReplyData}
 use Rattle.kcr_history.specs.declared.views.Verdict.{Verdict}
-use Rattle.kcr_machine.proofs.NewDecision.{IsRowDecision}
+use Rattle.kcr_machine.specs.NewDecision.{IsRowDecision}
 use Rattle.kcr_machine.proofs.Decided.{decision, decision-kind}
 use Rattle.kcr_machine.proofs.decision.decide_new.Goals as goal
 
@@ -18,5 +18,6 @@ returns c =
     let told : IsRowDecision c.args.view.now c.args.accepted c.args.command.now (Ok verdict) = search rules in
     record {
       step = λ A h new v e. decision A c.args.command.now c.args.view.now c.args.accepted (Ok verdict) h new v e c.requires.cleared told;
+      by_rows = told;
       kind = decision-kind c.args.command.now c.args.view.now c.args.accepted (Ok verdict) told tt;
     }
