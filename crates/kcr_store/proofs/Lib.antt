@@ -5,3 +5,5 @@ pub mod OpenLemmas
 pub mod ShownLemmas
 pub mod QuestionLemmas
 pub mod ListingLemmas
+pub mod ByRows
+pub mod StopLemmas

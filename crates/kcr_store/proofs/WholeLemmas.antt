@@ -1,5 +1,5 @@
 -- What one transaction leaves of a register.
-use Rattle.std.proofs.Common.{◌≡◌, Bool, ℕ, length, inl, inr, Option, Some, None, true, false, Result, Ok, Err, IfOk, OnOk, IsTrue, refl, sym, ap, subst, ◌∙◌}
+use Rattle.std.proofs.Common.{◌≡◌, Bool, ℕ, length, inl, inr, Option, Some, None, true, false, Result, Ok, Err, IfOk, OnOk, IsTrue, refl, sym, ap, subst, ◌∙◌, arith}
 use Rattle.sqlite.specs.declared.error.ErrorCode.TheVariants.{OutOfMemory}
 use Rattle.sqlite.specs.declared.error.Error.{Error}
 use Rattle.sqlite.specs.declared.error.Error.TheVariants.{SqliteFailure}
@@ -15,19 +15,24 @@ use Rattle.kcr_history.specs.declared.commands.Command.{Command}
 use Rattle.kcr_rows.proofs.InsideLemmas.{was_clean, survives_on}
 use Rattle.kcr_rows.specs.Frame.{state_in, StaysInTransaction}
 use Rattle.kcr_rows.proofs.FrameLemmas.{clean_before}
-use Rattle.kcr_store.specs.Commands.{AppliesCommand, with_reply, number_after}
+use Rattle.kcr_store.specs.Commands.{AppliesCommand, IsSameOrNext, TakesStep, with_reply, number_after}
+use Rattle.kcr_store.specs.TransactionResult.{EndsCommand, result_of}
+use Rattle.kcr_store.specs.declared.transaction.TransactionResult.{TransactionResult}
+use Rattle.kcr_store.specs.declared.transaction.TransactionResult.TheVariants.{Accepted, Refused, InDoubt}
 use Rattle.kcr_history.specs.declared.views.Verdict.{Verdict}
 use Rattle.kcr_store.proofs.StoreLemmas.{counts_after}
 use Rattle.kcr_store.specs.Stored.{IsTables, Stores}
 use Rattle.kcr_history.specs.History.{History}
-use Rattle.kcr_store.specs.Register.{IsDurableWith, IsConsistent, IsConsistentWith, IsDurable, CrashKeeps, AfterCrash, RegisterState}
+use Rattle.kcr_store.specs.Register.{IsDurableWith, IsDurable, CrashKeeps, AfterCrash, RegisterState, RegisterHistory, StandsAt}
 use Rattle.kcr_store.specs.Register as register
+use Rattle.kcr_store.specs.Register.{whole}
 use Rattle.std.proofs.lemmas.Bool.{true≢false}
 use Rattle.std.proofs.lemmas.Option.{none-some}
-use Rattle.std.specs.Prelude.{◌↔◌, IsSome, is_some, unwrap_or}
+use Rattle.std.specs.Prelude.{◌↔◌, ◌≢◌, IsSome, is_some, unwrap_or}
 use Rattle.kcr_base.specs.declared.refusal.Refusal.{Refusal}
-use Rattle.kcr_base.specs.declared.refusal.Refusal.TheVariants.{Disk}
-use Rattle.kcr_store.specs.Calls.{ReadsHistory, ReadsWithoutBreaking, BreaksOnFault, after_fault}
+use Rattle.kcr_base.specs.declared.refusal.Refusal.TheVariants.{Broken, Disk}
+use Rattle.kcr_history.specs.declared.commands.Reply.{Reply}
+use Rattle.kcr_store.specs.Calls.{CommitsNothing, Leads, ReadsHistory, ReadsWithoutBreaking, BreaksOnFault, after_fault, left_at}
 use Rattle.kcr_store.specs.Frame.{OnlyReads, StaysOutside}
 
 -- within the transaction
@@ -201,6 +206,7 @@ pub read_back : {S A E : Type 0} (g : Ghosts S) (old end : Held S) {MayFail : E 
     → (HasCleanDisk (state g end) → IsRolledBack (state_in g mid) (state g end)) → end.in_transaction ≡ false → OnlyReads g MayFail old end r
 read_back g old end {begun = begun} {mid = mid} left is then back out = record {
   autocommit = out;
+  survives = (undone_outside g old begun.conn.now is (state_in g mid) left.survives end then out).survives;
   clean = λ clean. begun_clean g old begun.conn.now is (clean_before left (was_clean (state_in g mid) (state g end) _ then clean));
   whole = λ A was. whole_undone A (state_in g begun) (state_in g mid) (begins g A old begun.conn.now is was) left.survives left.kept (state g end) then back;
   cause = left.cause;
@@ -223,79 +229,221 @@ pub still_counted : {S A E : Type 0} {g : Ghosts S} {MayFail : E → Type 0} {r 
     → OnlyReads g MayFail old new r → IsDurableWith count accepted (state g old) → IsDurableWith count accepted (state g new)
 still_counted left was = record { whole = left.whole _ was.whole; counts = λ clean. was.counts (left.clean clean) }
 
--- a register whose connection is whole
-pub kept_as : {S : Type 0} {g : Ghosts S} {conn : Held S} {count : ℕ} {founded : Bool} {H : History} {in_doubt : Option History} → conn.in_transaction ≡ false
-    → (IsTrue founded → IsDurableWith count H (state g conn)) → IsConsistentWith g count (record { conn = conn; is_genuine = founded; accepted = H; in_doubt = in_doubt })
-kept_as out counted = record {
-  kept = record {
-    autocommit = out;
-    whole = λ yes intact. (counted yes).whole;
-    crash = λ yes clean db may. inl ((counted yes).whole.crash clean db may);
-  };
-  counted = λ yes intact. counted yes;
+-- ---- how a command ended
+
+module _ {count : ℕ} {A : History} {x : Command} {new : State} where
+  -- it was refused, and all is as it was
+  pub refused_ends : {e : Refusal} → AppliesCommand A x (Err e) A → IsDurableWith count A new → EndsCommand count A x (Refused e) new
+  refused_ends step was = record {
+    next = A;
+    step = step;
+    candidate = inl refl;
+    shows = λ _. was;
+    crash = λ clean db may. inl (was.whole.crash clean db may);
+  }
+
+  -- it was accepted
+  pub accepted_ends : {v : Verdict} → AppliesCommand A x (Ok v.reply) (with_reply A x v.new_reply)
+      → IsDurableWith (number_after count v.new_reply) (with_reply A x v.new_reply) new → EndsCommand count A x (Accepted v) new
+  accepted_ends {v} step stands = record {
+    next = with_reply A x v.new_reply;
+    step = step;
+    candidate = inr (step.0, step.1);
+    shows = λ _. stands;
+    crash = λ clean db may. inr (stands.whole.crash clean db may);
+  }
+
+  -- the commit failed, and may stand
+  pub doubtful_ends : (v : Verdict) → AppliesCommand A x (Ok v.reply) (with_reply A x v.new_reply)
+      → AfterCrash A (with_reply A x v.new_reply) new → EndsCommand count A x InDoubt new
+  doubtful_ends v step crash = record {
+    next = with_reply A x v.new_reply;
+    step = (refl, λ memory disk. absurd (disk refl));
+    candidate = inr (step.0, step.1);
+    shows = λ is. absurd (true≢false is);
+    crash = crash;
+  }
+
+-- ---- where a register stands
+
+-- a whole database that nothing has broken
+pub stands_whole : {S : Type 0} {g : Ghosts S} {A : History} {r : RegisterState S} → r.is_broken ≡ false → IsDurableWith r.last_number A (state g r.conn)
+    → StandsAt g (whole A) r
+stands_whole is was = record { broken = is; shows = λ _. was; crash = λ clean db may. inl (was.whole.crash clean db may) }
+
+-- a broken one, of which a crash leaves the one history or the other
+pub stands_broken : {S : Type 0} {g : Ghosts S} {A B : History} {r : RegisterState S} → IsTrue r.is_broken → AfterCrash A B (state g r.conn)
+    → StandsAt g (record { accepted = A; in_doubt = Some B }) r
+stands_broken {B = B} is crash = record { broken = is; shows = λ none. absurd (none-some B (sym none)); crash = crash }
+
+-- what is None is nothing
+none_some : {X : Type 0} {o : Option X} → o ≡ None → IsSome o → ⊥
+none_some none some = true≢false (sym some ∙ ap is_some none)
+
+-- of a register that is not broken no history is in doubt
+pub not_in_doubt : (d : Option History) → is_some d ≡ false → d ≡ None
+not_in_doubt None _ = refl
+not_in_doubt (Some B) is = absurd (true≢false is)
+
+module _ {S : Type 0} {g : Ghosts S} {r : RegisterState S} {s : RegisterHistory} (is : r.is_broken ≡ false) (at : StandsAt g s r) where
+  pub none_in_doubt : s.in_doubt ≡ None
+  none_in_doubt = not_in_doubt s.in_doubt (sym at.broken ∙ is)
+
+  pub counted_at : IsDurableWith r.last_number s.accepted (state g r.conn)
+  counted_at = at.shows none_in_doubt
+
+-- ---- a command over a register that is not broken
+
+module _ {S : Type 0} (g : Ghosts S) (old new : RegisterState S) (x : Command) (is : old.is_broken ≡ false) where
+  takes : (s : RegisterHistory) (after : RegisterHistory) (result : Result Reply Refusal) → s.in_doubt ≡ None → AppliesCommand s.accepted x result after.accepted
+      → (IsSome after.in_doubt ↔ (result ≡ Err Disk)) → IsSameOrNext s.accepted x (unwrap_or after.in_doubt after.accepted) → TakesStep s x result after
+  takes s after result none step breaks tried = record {
+    broken = λ some. absurd (none_some none some);
+    step = λ _. step;
+    breaks = λ _. breaks;
+    tried = λ _. tried;
+  }
+
+  pub accepted_leads : (v : Verdict) → new.is_broken ≡ false → new.last_number ≡ number_after old.last_number v.new_reply
+      → (HasCleanDisk (state g new.conn) → (A : History) → IsDurableWith old.last_number A (state g old.conn)
+      → EndsCommand old.last_number A x (Accepted v) (state g new.conn))
+      → Leads g old new (λ s after. TakesStep s x (Ok v.reply) after)
+  accepted_leads v still number ends clean s at =
+      let e = ends clean s.accepted (counted_at is at) in (
+        whole e.next,
+        stands_whole still (subst (λ n. IsDurableWith n e.next (state g new.conn)) (sym number) (e.shows refl)),
+        takes s (whole e.next) (Ok v.reply) (none_in_doubt is at) e.step (λ some. absurd (true≢false (sym some)), λ ok. absurd (let p = ok in cc)) e.candidate,
+      )
+
+  pub refused_leads : (e : Refusal) → e ≢ Disk → new.is_broken ≡ false → new.last_number ≡ old.last_number
+      → (HasCleanDisk (state g new.conn) → (A : History) → IsDurableWith old.last_number A (state g old.conn)
+      → EndsCommand old.last_number A x (Refused e) (state g new.conn))
+      → Leads g old new (λ s after. TakesStep s x (Err e) after)
+  refused_leads refusal other still number ends clean s at =
+      let e = ends clean s.accepted (counted_at is at) in (
+        whole s.accepted,
+        stands_whole still (subst (λ n. IsDurableWith n s.accepted (state g new.conn)) (sym number) (e.shows refl)),
+        takes s (whole s.accepted) (Err refusal) (none_in_doubt is at) e.step
+            (λ some. absurd (true≢false (sym some)), λ same. absurd (other (let p = same in cc))) (inl refl),
+      )
+
+  pub failed_leads : IsTrue new.is_broken
+      → (HasCleanDisk (state g new.conn) → (A : History) → IsDurableWith old.last_number A (state g old.conn)
+      → EndsCommand old.last_number A x (Refused Disk) (state g new.conn))
+      → Leads g old new (λ s after. TakesStep s x (Err Disk) after)
+  failed_leads broken ends clean s at =
+      let e = ends clean s.accepted (counted_at is at) in (
+        record { accepted = s.accepted; in_doubt = Some s.accepted },
+        stands_broken broken (λ clean db may. inl ((e.shows refl).whole.crash clean db may)),
+        takes s (record { accepted = s.accepted; in_doubt = Some s.accepted }) (Err Disk) (none_in_doubt is at) e.step (λ _. refl, λ _. refl) (inl refl),
+      )
+
+  pub doubtful_leads : IsTrue new.is_broken
+      → (HasCleanDisk (state g new.conn) → (A : History) → IsDurableWith old.last_number A (state g old.conn)
+      → EndsCommand old.last_number A x InDoubt (state g new.conn))
+      → Leads g old new (λ s after. TakesStep s x (Err Disk) after)
+  doubtful_leads broken ends clean s at =
+      let e = ends clean s.accepted (counted_at is at) in (
+        record { accepted = s.accepted; in_doubt = Some e.next },
+        stands_broken broken e.crash,
+        takes s (record { accepted = s.accepted; in_doubt = Some e.next }) (Err Disk) (none_in_doubt is at) e.step (λ _. refl, λ _. refl) e.candidate,
+      )
+
+-- a broken register stays as it was
+pub broken_leads : {S : Type 0} (g : Ghosts S) (old : RegisterState S) (x : Command) → IsTrue old.is_broken
+    → Leads g old old (λ s after. TakesStep s x (Err Broken) after)
+broken_leads g old x is clean s at =
+    let some : IsSome s.in_doubt = sym at.broken ∙ is in (
+      s,
+      at,
+      record {
+        broken = λ _. (refl, refl);
+        step = λ none. absurd (none_some none some);
+        breaks = λ none. absurd (none_some none some);
+        tried = λ none. absurd (none_some none some);
+      },
+    )
+
+-- ---- a call that only reads
+
+module _ {S A E : Type 0} {g : Ghosts S} {MayFail : E → Type 0} {r : Result A E} {old new : RegisterState S} where
+  -- it leaves the register where it stood
+  pub still_stands : old.is_broken ≡ false → new.is_broken ≡ false → new.last_number ≡ old.last_number → OnlyReads g MayFail old.conn new.conn r
+      → (s : RegisterHistory) → StandsAt g s old → StandsAt g s new
+  still_stands is still number left s at =
+      let was = still_counted left (counted_at is at) in
+      record {
+        broken = still ∙ sym is ∙ at.broken;
+        shows = λ _. subst (λ n. IsDurableWith n s.accepted (state g new.conn)) (sym number) was;
+        crash = λ clean db may. inl (was.whole.crash clean db may);
+      }
+
+-- what is not touched commits nothing, and neither do two calls that do not
+pub commits_nothing : {S : Type 0} (g : Ghosts S) (a : RegisterState S) → CommitsNothing g a a
+commits_nothing g a = record {
+  clean = omega arith;
+  shield = λ shielded. shielded;
+  counts = omega arith;
+  limit = refl;
+  closes = λ clean live. inl live;
+  crash = λ clean db may. inl may;
 }
 
--- a call that only reads leaves the register so
-pub read_kept : {S A E : Type 0} {g : Ghosts S} {MayFail : E → Type 0} {r : Result A E} {old new : Held S} {count : ℕ} {founded : Bool} {H : History}
-    {in_doubt : Option History} → IsConsistentWith g count (record { conn = old; is_genuine = founded; accepted = H; in_doubt = in_doubt }) → OnlyReads g MayFail old new r
-    → in_doubt ≡ None → IsConsistentWith g count (record { conn = new; is_genuine = founded; accepted = H; in_doubt = in_doubt })
-read_kept was left none = kept_as left.autocommit (λ yes. still_counted left (was.counted yes none))
+pub commits_still_nothing : {S : Type 0} (g : Ghosts S) (a b c : RegisterState S) → CommitsNothing g a b → CommitsNothing g b c
+    → CommitsNothing g a c
+commits_still_nothing g a b c one two =
+    survives_then (state g a.conn) (state g b.conn) (state g c.conn) (λ _. ⊥) (λ _. ⊥) (λ _. ⊥) (λ _ db none. none) (λ _ db none. none)
+    one two
 
--- a register that is not broken is none that is
-pub not_broken : {S : Type 0} (seen : RegisterState S) → seen.in_doubt ≡ None → IsSome seen.in_doubt → ⊥
-not_broken seen whole some = true≢false (sym some ∙ ap is_some whole)
-
--- a call that only reads over the connection of a register that is not broken
-pub peeked : {S A : Type 0} {g : Ghosts S} {MayFail : Refusal → Type 0} {r : Result A Refusal} {old new : RegisterState S} → old.in_doubt ≡ None
-    → new ≡ record old { conn = new.conn } → OnlyReads g MayFail old.conn new.conn r → IsConsistent g new → ReadsWithoutBreaking g MayFail old new r
-peeked {old = old} whole is left kept = record {
-  broken = λ some. absurd (not_broken old whole some);
-  cause = λ _. left.cause;
-  same = record { accepted = ap (λ s. s.accepted) is; in_doubt = ap (λ s. s.in_doubt) is; founded = ap (λ s. s.is_genuine) is };
-  clean = left.clean;
-  kept = kept;
-}
+-- over the connection of a register that is not broken
+pub peeked : {S A : Type 0} {g : Ghosts S} {MayFail : Refusal → Type 0} {r : Result A Refusal} {old new : RegisterState S} → old.is_broken ≡ false
+    → new ≡ record old { conn = new.conn } → OnlyReads g MayFail old.conn new.conn r → ReadsWithoutBreaking g MayFail old new r
+peeked {old = old} unbroken is left =
+    let same = ap (λ s. s.is_broken) is in
+    record {
+      broken = λ yes. absurd (true≢false (sym yes ∙ unbroken));
+      cause = λ _. left.cause;
+      same = record { unbroken = same; nothing = left.survives; stands = still_stands unbroken (same ∙ unbroken) (ap (λ s. s.last_number) is) left };
+      clean = left.clean;
+      kept = record { autocommit = left.autocommit };
+    }
 
 -- the same if an I/O error then breaks the register
-module _ {S A : Type 0} {r : Result A Refusal} (old mid new : RegisterState S) (whole : old.in_doubt ≡ None) (is : mid ≡ record old { conn = mid.conn })
-    (settled : BreaksOnFault mid new r) where
-  -- beside whether it is broken, all is as it was
-  pub handed : {X : Type 0} (f : RegisterState S → X) → f (after_fault mid) ≡ f mid → f new ≡ f mid
-  handed f same = elim settled [ inl in_doubt ↦ ap f in_doubt.1 ∙ same | inr other ↦ ap f other.1 ]
+module _ {S A : Type 0} {r : Result A Refusal} {g : Ghosts S} {MayFail : Refusal → Type 0} (old mid new : RegisterState S) (unbroken : old.is_broken ≡ false)
+    (is : mid ≡ record old { conn = mid.conn }) (left : OnlyReads g MayFail old.conn mid.conn r) where
+  mid_unbroken : mid.is_broken ≡ false
+  mid_unbroken = ap (λ s. s.is_broken) is ∙ unbroken
 
-  was_same : {X : Type 0} (f : RegisterState S → X) → f (after_fault mid) ≡ f mid → f new ≡ f (record old { conn = mid.conn })
-  was_same f same = handed f same ∙ ap f is
+  mid_stands : (s : RegisterHistory) → StandsAt g s old → StandsAt g s mid
+  mid_stands = still_stands unbroken mid_unbroken (ap (λ s. s.last_number) is) left
 
-  breaks : IsSome new.in_doubt ↔ (r ≡ Err Disk)
-  breaks = elim settled [
-    | inl in_doubt ↦ (λ _. in_doubt.0, λ _. ap (λ (s : RegisterState S). is_some s.in_doubt) in_doubt.1)
-    | inr other ↦ (
-      λ some. absurd (not_broken old whole (ap (λ (s : RegisterState S). is_some s.in_doubt) (sym is ∙ sym other.1) ∙ some)),
-      λ disk. absurd (other.0 disk),
-    )
-  ]
-
-  still_kept : (g : Ghosts S) → IsConsistent g mid → IsConsistent g new
-  still_kept g kept = elim settled [
-    | inl in_doubt ↦ subst (IsConsistent g) (sym in_doubt.1) (record {
-      autocommit = kept.autocommit;
-      whole = λ _ intact. absurd (none-some (unwrap_or mid.in_doubt mid.accepted) (sym intact));
-      crash = kept.crash;
-    })
-    | inr other ↦ subst (IsConsistent g) (sym other.1) kept
-  ]
-
-  pub looked : {g : Ghosts S} {MayFail : Refusal → Type 0} → OnlyReads g MayFail old.conn mid.conn r → IsConsistent g mid → ReadsHistory g MayFail old new r
-  looked {g = g} left kept = record {
-    broken = λ some. absurd (not_broken old whole some);
+  reads_broken : r ≡ Err Disk → ReadsHistory g MayFail old (after_fault mid) r
+  reads_broken disk = record {
+    broken = λ yes. absurd (true≢false (sym yes ∙ unbroken));
     cause = λ _. left.cause;
-    breaks = λ _. breaks;
-    same = was_same (λ s. s.accepted) refl;
-    tried = λ _. was_same (λ s. unwrap_or s.in_doubt s.accepted) refl ∙ ap (λ t. unwrap_or t old.accepted) whole;
-    founded = was_same (λ s. s.is_genuine) refl;
-    clean = λ clean. left.clean (subst (λ (h : Held S). HasCleanDisk (state g h)) (handed (λ s. s.conn) refl) clean);
-    kept = still_kept g kept;
+    breaks = λ _. (λ _. disk, λ _. refl);
+    nothing = left.survives;
+    stands = λ s at. stands_broken refl (mid_stands s at).crash;
+    clean = left.clean;
+    kept = record { autocommit = left.autocommit };
   }
+
+  reads_whole : r ≢ Err Disk → ReadsHistory g MayFail old mid r
+  reads_whole other = record {
+    broken = λ yes. absurd (true≢false (sym yes ∙ unbroken));
+    cause = λ _. left.cause;
+    breaks = λ _. (λ yes. absurd (true≢false (sym yes ∙ mid_unbroken)), λ disk. absurd (other disk));
+    nothing = left.survives;
+    stands = λ s at. subst (λ b. StandsAt g (left_at b s) mid) (sym mid_unbroken) (mid_stands s at);
+    clean = left.clean;
+    kept = record { autocommit = left.autocommit };
+  }
+
+  pub looked : BreaksOnFault mid new r → ReadsHistory g MayFail old new r
+  looked settled = elim settled [
+    | inl fault ↦ subst (λ (n : RegisterState S). ReadsHistory g MayFail old n r) (sym fault.1) (reads_broken fault.0)
+    | inr other ↦ subst (λ (n : RegisterState S). ReadsHistory g MayFail old n r) (sym other.1) (reads_whole other.0)
+  ]
 
 -- what is said of a value under a premise that the call's success gives
 pub if_ok : {T E : Type 0} (P : Type 0) (Q : T → Type 0) (r : Result T E) → OnOk r P → (P → IfOk r Q) → IfOk r Q

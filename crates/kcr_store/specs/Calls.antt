@@ -1,44 +1,58 @@
--- What a call of a register leaves, whatever it answers.
-use Rattle.std.specs.Prelude.{◌≡◌, ◌↔◌, Some, None, IsTrue, IsSome, Result, Err, IfErr, unwrap_or}
+-- What a call of a register says of its history, and what it leaves.
+use Rattle.std.specs.Prelude.{◌≡◌, ◌↔◌, Bool, true, false, if◌then◌else◌, Some, IsTrue, IsSome, Result, Err, IfErr, unwrap_or}
 use Rattle.std.specs.Prelude.{◌⊎◌, ◌≢◌}
 use Rattle.sqlite.specs.Store.{Ghosts}
-use Rattle.sqlite.specs.State.{HasCleanDisk}
+use Rattle.sqlite.specs.State.{HasCleanDisk, Survives}
 use Rattle.sqlite.specs.Held.{state}
 use Rattle.kcr_base.specs.declared.refusal.Refusal.{Refusal}
 use Rattle.kcr_base.specs.declared.refusal.Refusal.TheVariants.{Broken, Disk}
 use Rattle.kcr_history.specs.History.{History}
-use Rattle.kcr_store.specs.Register.{RegisterState, IsConsistent}
+use Rattle.kcr_store.specs.Register.{RegisterState, RegisterHistory, IsConsistent, StandsAt, whole}
 
--- its history stays, and so does whether it is broken
-pub record KeepsHistory {S : Type 0} (old new : RegisterState S) : Type 0 where
-  pub accepted : new.accepted ≡ old.accepted
-  pub in_doubt : new.in_doubt ≡ old.in_doubt
-  pub founded : new.is_genuine ≡ old.is_genuine
+-- whatever its database holds, nothing was committed: a crash leaves nothing that it would not have left before
+abbrev pub CommitsNothing : {S : Type 0} → Ghosts S → RegisterState S → RegisterState S → Type 0
+CommitsNothing g old new = Survives (state g old.conn) (state g new.conn) (λ _. ⊥)
 
--- said of the history of a register that is not broken, by a call that leaves the disk clean
+-- the register stands where it stood, broken or not as it was
+pub record KeepsStand {S : Type 0} (g : Ghosts S) (old new : RegisterState S) : Type 0 where
+  pub unbroken : new.is_broken ≡ old.is_broken
+  pub nothing : CommitsNothing g old new
+  pub stands : (s : RegisterHistory) → StandsAt g s old → StandsAt g s new
+
+-- said of each history at which the register stood, by a call that leaves the disk clean: it stands at another, and
+-- this is said of the two
+abbrev pub Leads : {S : Type 0} → Ghosts S → RegisterState S → RegisterState S → (RegisterHistory → RegisterHistory → Type 0)
+    → Type 0
+Leads g old new Says =
+    HasCleanDisk (state g new.conn) → (s : RegisterHistory) → StandsAt g s old
+    → (after : RegisterHistory) × StandsAt g after new × Says s after
+
+-- said of each history of a register that is not broken, by a call that leaves the disk clean
 abbrev pub OfHistory : {S : Type 0} → Ghosts S → RegisterState S → RegisterState S → (History → Type 0) → Type 0
-OfHistory g old new Says =
-    IsTrue old.is_genuine → old.in_doubt ≡ None → HasCleanDisk (state g new.conn) → Says old.accepted
+OfHistory g old new Says = HasCleanDisk (state g new.conn) → (A : History) → StandsAt g (whole A) old → Says A
 
--- a register that a fault has broken: a crash may leave the history that it had
+-- once a fault has broken it, a crash may leave the history that it had
+abbrev pub left_at : Bool → RegisterHistory → RegisterHistory
+left_at is_broken s = if is_broken then record s { in_doubt = Some (unwrap_or s.in_doubt s.accepted) } else s
+
+-- a register that a fault has broken
 abbrev pub after_fault : {S : Type 0} → RegisterState S → RegisterState S
-after_fault seen = record seen { in_doubt = Some (unwrap_or seen.in_doubt seen.accepted) }
+after_fault seen = record seen { is_broken = true }
 
 -- an I/O error has broken it, and after anything else it is as it was
 abbrev pub BreaksOnFault : {A S : Type 0} → RegisterState S → RegisterState S → Result A Refusal → Type 0
 BreaksOnFault old new result =
     ((result ≡ Err Disk) × (new ≡ after_fault old)) ⊎ ((result ≢ Err Disk) × (new ≡ old))
 
--- a call that reads: its history stays, and an I/O error alone breaks it. A broken one says so and stays as it
+-- a call that reads: it stands where it did, and an I/O error alone breaks it. A broken one says so and stays as it
 -- was, and a refusal of another is one of those that it may give
 pub record ReadsHistory {A S : Type 0} (g : Ghosts S) (MayFail : Refusal → Type 0) (old new : RegisterState S)
     (result : Result A Refusal) : Type 0 where
-  pub broken : IsSome old.in_doubt → (result ≡ Err Broken) × (new ≡ old)
-  pub cause : old.in_doubt ≡ None → IfErr result MayFail
-  pub breaks : old.in_doubt ≡ None → IsSome new.in_doubt ↔ (result ≡ Err Disk)
-  pub same : new.accepted ≡ old.accepted
-  pub tried : old.in_doubt ≡ None → unwrap_or new.in_doubt new.accepted ≡ old.accepted
-  pub founded : new.is_genuine ≡ old.is_genuine
+  pub broken : IsTrue old.is_broken → (result ≡ Err Broken) × (new ≡ old)
+  pub cause : old.is_broken ≡ false → IfErr result MayFail
+  pub breaks : old.is_broken ≡ false → IsTrue new.is_broken ↔ (result ≡ Err Disk)
+  pub nothing : CommitsNothing g old new
+  pub stands : (s : RegisterHistory) → StandsAt g s old → StandsAt g (left_at new.is_broken s) new
   -- a disk that is honest at the end was so at the beginning
   pub clean : HasCleanDisk (state g new.conn) → HasCleanDisk (state g old.conn)
   pub kept : IsConsistent g new
@@ -46,8 +60,8 @@ pub record ReadsHistory {A S : Type 0} (g : Ghosts S) (MayFail : Refusal → Typ
 -- the same for a call after which not even an I/O error breaks the register
 pub record ReadsWithoutBreaking {A S : Type 0} (g : Ghosts S) (MayFail : Refusal → Type 0) (old new : RegisterState S)
     (result : Result A Refusal) : Type 0 where
-  pub broken : IsSome old.in_doubt → (result ≡ Err Broken) × (new ≡ old)
-  pub cause : old.in_doubt ≡ None → IfErr result MayFail
-  pub same : KeepsHistory old new
+  pub broken : IsTrue old.is_broken → (result ≡ Err Broken) × (new ≡ old)
+  pub cause : old.is_broken ≡ false → IfErr result MayFail
+  pub same : KeepsStand g old new
   pub clean : HasCleanDisk (state g new.conn) → HasCleanDisk (state g old.conn)
   pub kept : IsConsistent g new

@@ -1,9 +1,9 @@
 -- What a command makes of a register, and what a question is answered.
-use Rattle.std.specs.Prelude.{◌≡◌, ◌≢◌, ◌⊎◌, ℕ, true, false, Option, Some, None, Result, Ok, Err, MatchResult, IsSome, OnOk}
+use Rattle.std.specs.Prelude.{◌≡◌, ◌≢◌, ◌⊎◌, ◌↔◌, unwrap_or, ℕ, true, false, Option, Some, None, Result, Ok, Err, MatchResult, IsSome, OnOk}
 use Rattle.sqlite.specs.State.{State, HasCleanDisk}
 use Rattle.kcr_base.specs.Same.{same_text}
 use Rattle.kcr_base.specs.declared.refusal.Refusal.{Refusal}
-use Rattle.kcr_base.specs.declared.refusal.Refusal.TheVariants.{Memory, Disk, Key}
+use Rattle.kcr_base.specs.declared.refusal.Refusal.TheVariants.{Memory, Disk, Key, Broken}
 use Rattle.kcr_history.specs.declared.commands.ReplyData.{ReplyData}
 use Rattle.kcr_history.specs.declared.commands.Command.{Command}
 use Rattle.kcr_history.specs.declared.commands.Reply.{Reply}
@@ -16,6 +16,7 @@ use Rattle.kcr_history.specs.Views.{row_of_key}
 use Rattle.kcr_machine.specs.RowDecision.{IsReplyOf, IsOwnRefusal, MayBeRefused}
 use Rattle.kcr_tables.specs.MachineTables.{HoldsTables}
 use Rattle.kcr_tables.specs.Refusals.{IsFault}
+use Rattle.kcr_store.specs.Register.{RegisterHistory}
 use Rattle.kcr_history.specs.Questions.{IsShown, NamesAsked, IsMissing}
 use Rattle.kcr_history.specs.Tables.{tables}
 use Rattle.kcr_history.specs.declared.questions.Question.{Question}
@@ -44,6 +45,15 @@ number_after count (Some reply) = reply.accepted
 -- the history, or the one to which the machine goes from it if it accepts the command
 abbrev pub IsSameOrNext : History → Command → History → Type 0
 IsSameOrNext A command A' = (A' ≡ A) ⊎ ((a : ReplyData) × machine A command (Accepts a) A')
+
+-- a command over a register that stands at the one history leaves it at the other: a broken one says so; another goes
+-- the machine's step, and a fault of the device breaks it, and then a crash may have left the history with the command
+pub record TakesStep (before : RegisterHistory) (x : Command) (result : Result Reply Refusal) (after : RegisterHistory)
+    : Type 0 where
+  pub broken : IsSome before.in_doubt → (result ≡ Err Broken) × (after ≡ before)
+  pub step : before.in_doubt ≡ None → AppliesCommand before.accepted x result after.accepted
+  pub breaks : before.in_doubt ≡ None → IsSome after.in_doubt ↔ (result ≡ Err Disk)
+  pub tried : before.in_doubt ≡ None → IsSameOrNext before.accepted x (unwrap_or after.in_doubt after.accepted)
 
 -- what a question may be refused with, whatever the history: out of memory, an I/O error, or that what it asks
 -- for is unknown

@@ -22,11 +22,12 @@ pub record StaysOutside {S : Type 0} (g : Ghosts S) (MayLeave : Trees → Type 0
   pub autocommit : new.in_transaction ≡ false
   pub survives : Survives (state g old) (state g new) MayLeave
 
--- it ends outside of a transaction and leaves a register that was whole so, on a disk that was clean where it is; an
--- error is one of those that it may give
+-- it ends outside of a transaction, having committed nothing, and leaves a register that was whole so, on a disk that was
+-- clean where it is; an error is one of those that it may give
 pub record OnlyReads {A E : Type 0} {S : Type 0} (g : Ghosts S) (MayFail : E → Type 0) (old new : Held S)
     (result : Result A E) : Type 0 where
   pub autocommit : new.in_transaction ≡ false
+  pub survives : Survives (state g old) (state g new) (λ _. ⊥)
   pub clean : HasCleanDisk (state g new) → HasCleanDisk (state g old)
   pub whole : (A : History) → IsDurable A (state g old) → IsDurable A (state g new)
   pub cause : IfErr result MayFail

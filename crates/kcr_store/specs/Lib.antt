@@ -10,3 +10,4 @@ pub mod Rows
 pub mod FullView
 pub mod DatabaseRows
 pub mod NamedRows
+pub mod ByRows

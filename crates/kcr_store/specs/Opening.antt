@@ -1,8 +1,9 @@
 -- What an opening finds and makes.
-use Rattle.std.specs.Prelude.{◌≡◌, ◌⊎◌, ◌≢◌, ◌+◌, ℕ, ℤ, pos, [], length, IsTrue, Some, Result, MatchResult}
+use Rattle.std.specs.Prelude.{◌≡◌, ◌⊎◌, ◌≢◌, ◌+◌, ℕ, ℤ, pos, [], length, IsTrue, Some, Result, MatchResult, unwrap_or}
 use Rattle.sqlite.specs.Effect.{Database}
 use Rattle.sqlite.specs.Files.{HoldsDatabase, AreFoundIn, IsEmpty}
 use Rattle.sqlite.specs.State.{State, HasCleanDisk, IsLive}
+use Rattle.sqlite.specs.Store.{Ghosts}
 use Rattle.sqlite.specs.Tree.{Trees}
 use Rattle.sqlite_wal.specs.Recovery.{Image}
 use Rattle.kcr_history.specs.History.{History}
@@ -11,7 +12,7 @@ use Rattle.kcr_older.specs.OldFiles.{AreTablesAs, HoldsHistoryAs}
 use Rattle.kcr_older.specs.Kind.{IsForeign, IsOfOtherVersion, IsTaken, no_schema, version_in}
 use Rattle.kcr_store.specs.declared.«open».OpenFault.{OpenFault}
 use Rattle.kcr_store.specs.declared.«open».OpenFault.TheVariants.{Foreign, Version}
-use Rattle.kcr_store.specs.Register.{IsSynced}
+use Rattle.kcr_store.specs.Register.{IsSynced, RegisterHistory, RegisterState, StandsAt, whole}
 use Rattle.kcr_store.specs.Stored.{IsTables}
 
 -- why a database is refused: for its version if it has the number of another one, and as foreign if it is neither
@@ -71,3 +72,20 @@ abbrev pub FilesHoldHistory : History → Image → Type 0
 FilesHoldHistory accepted image =
     ((db : Trees) × HoldsDatabase image db × HoldsHistory accepted db)
     ⊎ ((accepted ≡ []) × ((db : Trees) → AreFoundIn image db → IsEmpty db))
+
+-- A STOP, AND THE NEXT OPENING
+
+-- the history that a crash may leave in place of what was accepted; that itself, of a register that nothing has broken
+abbrev pub tried : RegisterHistory → History
+tried s = unwrap_or s.in_doubt s.accepted
+
+-- the files hold the tables of what was accepted, or those of the history that was tried
+abbrev pub LeavesEither : RegisterHistory → Image → Type 0
+LeavesEither s left = ∥ FilesHoldHistory s.accepted left ⊎ FilesHoldHistory (tried s) left ∥₁
+
+-- a register that stands at each history of which the files held the tables stands at one of the two
+abbrev pub OpensAtEither : {S : Type 0} → Ghosts S → RegisterHistory → Image → Type 0
+OpensAtEither {S} g s left =
+    (next : RegisterState S)
+    → ((A : History) → FilesHoldHistory A left → StandsAt g (whole A) next)
+    → ∥ StandsAt g (whole s.accepted) next ⊎ StandsAt g (whole (tried s)) next ∥₁

@@ -1,11 +1,10 @@
 -- What a register is between two calls.
-use Rattle.std.specs.Prelude.{◌≡◌, ◌⊎◌, ℕ, Bool, false, length, Option, None, IsTrue, unwrap_or, refl}
-use Rattle.std.specs.Coded.{Coded, code_by, coded×, coded_list, coded_option, coded_bool}
+use Rattle.std.specs.Prelude.{◌≡◌, ◌⊎◌, ℕ, Bool, false, length, Option, None, IsTrue, is_some, unwrap_or, refl}
+use Rattle.std.specs.Coded.{Coded, code_by, coded×, coded_ℕ, coded_bool}
 use Rattle.sqlite.specs.Store.{Ghosts}
 use Rattle.sqlite.specs.Tree.{Trees}
 use Rattle.sqlite.specs.State.{State, HasCleanDisk}
 use Rattle.sqlite.specs.Held.{Held, held_code, state}
-use Rattle.kcr_history.specs.contracts.commands.Entry as entry
 use Rattle.kcr_history.specs.History.{History}
 use Rattle.kcr_store.specs.Stored.{IsTables, Stores}
 
@@ -33,35 +32,40 @@ pub record IsDurableWith (count : ℕ) (accepted : History) (s : State) : Type 0
   pub whole : IsDurable accepted s
   pub counts : HasCleanDisk s → count ≡ length accepted
 
-abbrev pub history_code : Coded History
-history_code = coded_list entry.the_row.coded
-
--- what contracts see of a register: its connection, the history of what it accepted, and, once it is broken, the
--- history that a crash may leave in place of that
+-- what contracts see of a register: its connection, whether an I/O error has broken it, and the number that it keeps of
+-- its last command. Of its history they see nothing: that is what its database holds
 pub record RegisterState (S : Type 0) : Type 0 where
   pub conn : Held S
-  -- its database was empty at first, or held the tables of a history
-  pub is_genuine : Bool
-  pub accepted : History
-  pub in_doubt : Option History
+  pub is_broken : Bool
+  pub last_number : ℕ
 
 abbrev pub register_state_code : {S : Type 0} → Coded S → Coded (RegisterState S)
 register_state_code {S} store =
-    code_by (Held S × (Bool × (History × Option History)))
-    (coded× (held_code store) (coded× coded_bool (coded× history_code (coded_option history_code))))
-    (λ s. (s.conn, (s.is_genuine, (s.accepted, s.in_doubt))))
-    (λ p. let (conn, (is_genuine, (accepted, in_doubt))) = p in
-    record { conn = conn; is_genuine = is_genuine; accepted = accepted; in_doubt = in_doubt })
+    code_by (Held S × (Bool × ℕ))
+    (coded× (held_code store) (coded× coded_bool coded_ℕ))
+    (λ s. (s.conn, (s.is_broken, s.last_number)))
+    (λ p. let (conn, (is_broken, last_number)) = p in
+    record { conn = conn; is_broken = is_broken; last_number = last_number })
     (λ _. refl)
 
 -- a fact of every register
 pub record IsConsistent {S : Type 0} (g : Ghosts S) (r : RegisterState S) : Type 0 where
   pub autocommit : r.conn.in_transaction ≡ false
-  pub whole : IsTrue r.is_genuine → r.in_doubt ≡ None → IsDurable r.accepted (state g r.conn)
-  -- broken or not, a crash leaves the history or the one that was tried
-  pub crash : IsTrue r.is_genuine → AfterCrash r.accepted (unwrap_or r.in_doubt r.accepted) (state g r.conn)
 
--- the same with the number that a register keeps of its last command
-pub record IsConsistentWith {S : Type 0} (g : Ghosts S) (count : ℕ) (r : RegisterState S) : Type 0 where
-  pub kept : IsConsistent g r
-  pub counted : IsTrue r.is_genuine → r.in_doubt ≡ None → IsDurableWith count r.accepted (state g r.conn)
+-- WHERE A REGISTER STANDS
+
+-- what was accepted and, once the register is broken, the history that a crash may leave in place of that
+pub record RegisterHistory : Type 0 where
+  pub accepted : History
+  pub in_doubt : Option History
+
+-- this history, of a register that nothing has broken
+abbrev pub whole : History → RegisterHistory
+whole A = record { accepted = A; in_doubt = None }
+
+-- the register stands at this history: its database holds its tables, if its disk returns what was written
+pub record StandsAt {S : Type 0} (g : Ghosts S) (s : RegisterHistory) (r : RegisterState S) : Type 0 where
+  pub broken : r.is_broken ≡ is_some s.in_doubt
+  pub shows : s.in_doubt ≡ None → IsDurableWith r.last_number s.accepted (state g r.conn)
+  -- broken or not, a crash leaves the tables of the one history or of the other
+  pub crash : AfterCrash s.accepted (unwrap_or s.in_doubt s.accepted) (state g r.conn)

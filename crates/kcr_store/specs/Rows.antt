@@ -1,5 +1,5 @@
 -- What a register gives one row at a time, and the row of one ceremony.
-use Rattle.std.specs.Prelude.{◌≡◌, ◌⊎◌, ℕ, false, IsTrue, IsSome, List, Option, None, Result, Err, IfOk, OnErr}
+use Rattle.std.specs.Prelude.{◌≡◌, ◌⊎◌, ℕ, false, IsTrue, List, Option, None, Result, Err, IfOk, OnErr}
 use Rattle.std.specs.Borrow.{Fml, RattleType, MutBor, RestsIfErr}
 use Rattle.sqlite.specs.Store.{Ghosts}
 use Rattle.kcr_base.specs.declared.refusal.Refusal.{Refusal}
@@ -21,9 +21,9 @@ use Rattle.kcr_store.specs.declared.rows.Rows.{Rows}
 -- rows that stand where the reading does: the register is whole and as it was; there are no rows of a broken one
 pub record Begins {S R Row : Type 0} (old : RegisterState S) (given : R) (result : Result (Rows S R Row) Refusal) : Type 0 where
   pub same : IfOk result (λ rows. rows.register.now ≡ old)
-  pub whole : IfOk result (λ _. old.in_doubt ≡ None)
+  pub whole : IfOk result (λ _. old.is_broken ≡ false)
   pub reading : IfOk result (λ rows. rows.reading ≡ given)
-  pub broken : OnErr result ((result ≡ Err Refusals.Broken) × IsSome old.in_doubt)
+  pub broken : OnErr result ((result ≡ Err Refusals.Broken) × IsTrue old.is_broken)
 
 -- the rows hold the register until they are gone; if there are none it is as it was
 abbrev pub Lent : (S : RattleType) (g : Ghosts S.Denot) {R Row : Type 0}

@@ -1,6 +1,7 @@
 -- What the end of a command says.
 use Rattle.std.specs.Prelude.{◌≡◌, ℕ, Bool, true, false, length, Result, Ok, Err}
 use Rattle.sqlite.specs.Store.{Ghosts}
+use Rattle.sqlite.specs.State.{State}
 use Rattle.sqlite.specs.declared.transaction.Transaction.{Transaction}
 use Rattle.kcr_base.specs.declared.refusal.Refusal.{Refusal}
 use Rattle.kcr_base.specs.declared.refusal.Refusal.TheVariants.{Disk}
@@ -9,7 +10,8 @@ use Rattle.kcr_history.specs.declared.commands.Reply.{Reply}
 use Rattle.kcr_history.specs.declared.views.Verdict.{Verdict}
 use Rattle.kcr_history.specs.History.{History}
 use Rattle.kcr_rows.specs.Frame.{StaysInTransaction}
-use Rattle.kcr_store.specs.Commands.{AppliesCommand, number_after}
+use Rattle.kcr_store.specs.Commands.{AppliesCommand, IsSameOrNext, number_after}
+use Rattle.kcr_store.specs.Register.{IsDurableWith, AfterCrash}
 use Rattle.kcr_store.specs.Stored.{OfStored}
 use Rattle.kcr_store.specs.declared.transaction.TransactionResult.{TransactionResult}
 use Rattle.kcr_store.specs.declared.transaction.TransactionResult.TheVariants.{Accepted, Refused, InDoubt}
@@ -21,39 +23,34 @@ ends_with (Err refusal) = Err refusal
 
 -- what the caller is answered
 abbrev pub result_of : TransactionResult → Result Reply Refusal
-result_of (Accepted v p) = Ok v.reply
+result_of (Accepted v) = Ok v.reply
 result_of (Refused e) = Err e
-result_of (InDoubt p) = Err Disk
+result_of InDoubt = Err Disk
 
--- the history that stands, after the old one
-abbrev pub history_after : History → TransactionResult → History
-history_after old (Accepted v p) = p.entries
-history_after old (Refused e) = old
-history_after old (InDoubt p) = old
-
--- the history that a crash may leave in place of the old one
-abbrev pub in_doubt_after : History → TransactionResult → History
-in_doubt_after old (Accepted v p) = p.entries
-in_doubt_after old (Refused e) = old
-in_doubt_after old (InDoubt p) = p.entries
+-- the history that stands, after one and the next
+abbrev pub history_after : History → History → TransactionResult → History
+history_after old next (Accepted v) = next
+history_after old next _ = old
 
 -- the number of the last command that stands, after the old one
 abbrev pub last_number_after : ℕ → TransactionResult → ℕ
-last_number_after old (Accepted v p) = number_after old v.new_reply
-last_number_after old (Refused e) = old
-last_number_after old (InDoubt p) = old
+last_number_after old (Accepted v) = number_after old v.new_reply
+last_number_after old _ = old
 
 -- the commit may stand or not
 abbrev pub is_in_doubt : TransactionResult → Bool
-is_in_doubt (Accepted v p) = false
-is_in_doubt (Refused e) = false
-is_in_doubt (InDoubt p) = true
+is_in_doubt InDoubt = true
+is_in_doubt _ = false
 
--- the flag that goes with the history
-abbrev pub is_genuine_after : Bool → TransactionResult → Bool
-is_genuine_after old (Accepted v p) = p.is_genuine
-is_genuine_after old (Refused e) = old
-is_genuine_after old (InDoubt p) = p.is_genuine
+-- a command over a database that was whole, with the tables of this history and its number, ended so: it leads to the
+-- next history if it was accepted, and a crash leaves the one or the other
+pub record EndsCommand (count : ℕ) (A : History) (x : Command) (ended : TransactionResult) (new : State) : Type 0 where
+  pub next : History
+  pub step : AppliesCommand A x (result_of ended) (history_after A next ended)
+  pub candidate : IsSameOrNext A x next
+  pub shows : is_in_doubt ended ≡ false
+      → IsDurableWith (last_number_after count ended) (history_after A next ended) new
+  pub crash : AfterCrash A next new
 
 -- a call within the transaction of a command, before which there were N: over the tables of a history its refusal
 -- is the machine's

@@ -11,7 +11,6 @@
 
 mod database_rows;
 mod full_view;
-mod ghost_history;
 mod lists;
 mod named_rows;
 mod open;

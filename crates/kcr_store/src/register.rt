@@ -1,35 +1,34 @@
 //! The register itself.
-ghost use Rattle.std.specs.Prelude.{[], false, true, ◌≡◌, ◌↔◌, IsTrue, IsSome, IfOk, IfErr, OnOk, Ok, Err, Some, None};
-ghost use Rattle.std.specs.Prelude.{unwrap_or};
+ghost use Rattle.std.specs.Prelude.{[], false, true, ◌≡◌, ◌↔◌, IsTrue, IfOk, IfErr, OnOk, Ok, Err, None};
 ghost use Rattle.sqlite.specs.State.{HasCleanDisk};
 ghost use Rattle.sqlite.specs.Held.{state};
-ghost use Rattle.kcr_store.specs.Commands.{AppliesCommand, GoesByRow, IsSameOrNext, IsQuestionResult, MayBeReplied, MayRefuseQuestion};
+ghost use Rattle.kcr_history.specs.History.{History};
+ghost use Rattle.kcr_store.specs.ByRows.{RepliesBy};
+ghost use Rattle.kcr_store.specs.Commands.{GoesByRow, IsQuestionResult, MayBeReplied, MayRefuseQuestion, TakesStep};
 
 use crate::full_view::{audit_database, full_view, read_table};
-use crate::ghost_history::GhostHistory;
 use crate::open::{OpenFault, connect, open_or_migrate};
 use crate::transaction::{TransactionResult, number_after, run_command, run_query};
 use kcr_base::Refusal;
 use kcr_history::{Command, Finding, FullView, Question, Reply, Shown};
 use kcr_tables::TableRow;
-use sqlite::{Alter, Connection, FileFrom, FileStore, MemStore, Unknown};
+use sqlite::{Alter, Connection, FileFrom, FileStore, MemStore, Start};
+use sqlite_disk::Disk;
 use std::alloc::Global;
 use std::marker::Model;
 
-/// The commands that were accepted, kept in a database. Clauses see its connection, the history of what it accepted,
-/// and, once it is broken, the history that a crash may leave in place of that one.
+/// The commands that were accepted, kept in a database. Clauses see its connection, whether it is broken, and the
+/// number of its last command; of what it accepted they speak by what the database holds (`StandsAt`).
 pub struct Register<S: Alter> {
     pub(crate) conn: Connection<S>,
     pub(crate) broken: bool,
-    past: GhostHistory,
     /// The number of its last command.
     last_number: u32,
-    in_doubt: GhostHistory,
     pub(crate) alloc: Global,
 }
 
-/// A register in a file, whatever the file held before.
-pub type FileRegister = Register<FileStore<FileFrom<Unknown>>>;
+/// A register in a file of which this stands for what it held.
+pub type FileRegister<F> = Register<FileStore<FileFrom<F>>>;
 
 impl<S: Alter + Drop> Drop for Register<S> {
     fn drop(self) {
@@ -38,55 +37,47 @@ impl<S: Alter + Drop> Drop for Register<S> {
 }
 
 impl<S: Alter> Model for Register<S> {
-    ghost use Rattle.std.specs.Prelude.{Some, None, if◌then◌else◌};
-    ghost use Rattle.kcr_store.specs.Register.{RegisterState, register_state_code, IsConsistentWith};
+    ghost use Rattle.kcr_store.specs.Register.{RegisterState, register_state_code, IsConsistent};
 
     ghost Value = { RegisterState S };
 
     ghost coded = { register_state_code S.code };
 
-    ghost view = { λ r. record {
-      conn = r.conn;
-      is_genuine = r.past.is_genuine;
-      accepted = r.past.entries;
-      in_doubt = if r.broken then Some r.in_doubt.entries else None;
-    } };
+    ghost view = { λ r. record { conn = r.conn; is_broken = r.broken; last_number = r.last_number } };
 
-    ghost invariant = { λ r. IsConsistentWith S.Store r.last_number
-        (record {
-          conn = r.conn;
-          is_genuine = r.past.is_genuine;
-          accepted = r.past.entries;
-          in_doubt = if r.broken then Some r.in_doubt.entries else None;
-        }) };
+    ghost invariant = { λ r. IsConsistent S.Store
+        (record { conn = r.conn; is_broken = r.broken; last_number = r.last_number }) };
 }
 
 impl<S: Alter + Drop> Register<S> {
-    ghost use Rattle.std.specs.Prelude.{Bool, MatchResult, ◌⊎◌, ◌≢◌};
+    ghost use Rattle.std.specs.Prelude.{MatchResult, ◌⊎◌, ◌≢◌};
     ghost use Rattle.sqlite.specs.Held.{Held};
     ghost use Rattle.sqlite.specs.State.{Survives};
-    ghost use Rattle.kcr_history.specs.History.{History};
     ghost use Rattle.kcr_older.specs.Kind.{IsForeignSchema, IsTaken, no_schema};
-    ghost use Rattle.kcr_store.specs.Register.{IsConsistent};
+    ghost use Rattle.kcr_store.specs.Register.{IsConsistent, StandsAt, whole};
     ghost use Rattle.kcr_store.specs.Opening.{IsGenuine, IsOpeningOf, RefusesAs};
 
     /// Takes a database that is empty or a register's. An empty one gets its tables, and a register of version 1 or 2
     /// is migrated to this version, which is 3, each in one transaction: the stays are made of the sheet, and there are
-    /// no withdrawals. The history that it begins with is the one that the caller's proof names, if it is true of
-    /// the database. Any other database is refused: one with the number of another version for its version, whatever
-    /// else it has, and the rest as foreign. An opening that fails leaves the database as it was, but if the device
-    /// failed: then a crash leaves it as it was or as it was to become.
+    /// no withdrawals. It stands at each history of which the database held the tables. Any other database is refused:
+    /// one with the number of another version for its version, whatever else it has, and the rest as foreign. An
+    /// opening that fails leaves the database as it was, but if the device failed: then a crash leaves it as it was or
+    /// as it was to become.
     pub fn adopt(
         alloc: Global,
         connection: Connection<S>,
     ) -> Result<Register<S>, (OpenFault, Connection<S>)>
-        ghost past: { Bool × History }
         requires autocommit { connection.in_transaction ≡ false }
-        requires founded { IsTrue past.0 → IsGenuine past.1 (state S.Store connection) }
-        ensures adopted { IfOk result (λ r. (r.is_genuine ≡ past.0) × (r.accepted ≡ past.1) × (r.in_doubt ≡ None)) }
+        ensures unbroken { IfOk result (λ r. r.is_broken ≡ false) }
         ensures kept { IfOk result (IsConsistent S.Store) }
-        ensures taken { IfErr result (λ e. IsTrue past.0 → IsTrue (state S.Store connection).is_open
-            → HasCleanDisk (state S.Store e.1) → (e.0 ≡ OpenFault.Memory) ⊎ (e.0 ≡ OpenFault.Disk)) }
+
+        // Of whatever history the database was, at that the register stands; and such a database is refused only for
+        // memory or the device.
+        ensures adopted { IfOk result (λ r. (A : History) → IsGenuine A (state S.Store connection)
+            → StandsAt S.Store (whole A) r) }
+        ensures taken { IfErr result (λ e. (A : History) → IsGenuine A (state S.Store connection)
+            → IsTrue (state S.Store connection).is_open → HasCleanDisk (state S.Store e.1)
+            → (e.0 ≡ OpenFault.Memory) ⊎ (e.0 ≡ OpenFault.Disk)) }
 
         // What is taken is empty or a register's, and each refusal is what its name says: no database is two of these.
         ensures answer { MatchResult result
@@ -98,25 +89,22 @@ impl<S: Alter + Drop> Register<S> {
         ensures left { IfErr result (λ e. e.0 ≢ OpenFault.Disk
             → Survives (state S.Store connection) (state S.Store e.1) (λ _. ⊥)) }
 
+        // The connection that it gives back is outside of a transaction: so it can be adopted again.
+        ensures outside { IfErr result (λ e. e.1.in_transaction ≡ false) }
+
         // A crash leaves what was there, or what the opening makes of it.
         ensures crash { MatchResult result
             (λ r. Survives (state S.Store connection) (state S.Store r.conn) (IsOpeningOf (state S.Store connection).now))
             (λ e. Survives (state S.Store connection) (state S.Store e.1) (IsOpeningOf (state S.Store connection).now)) }
     {
-        let past = GhostHistory::any();
         let mut conn = connection;
         match open_or_migrate(alloc, &mut conn) {
-            Ok(count) => {
-                let tried = GhostHistory::copied(&past);
-                Ok(Register {
-                    conn,
-                    broken: false,
-                    past,
-                    last_number: count,
-                    in_doubt: tried,
-                    alloc,
-                })
-            }
+            Ok(count) => Ok(Register {
+                conn,
+                broken: false,
+                last_number: count,
+                alloc,
+            }),
             Err(fault) => Err((fault, conn)),
         }
     }
@@ -127,8 +115,7 @@ impl<S: Alter + Drop> Register<S> {
         requires empty { (state S.Store connection).now.schema ≡ no_schema }
         requires opened { IsTrue (state S.Store connection).is_open }
         requires certain { (conn : Held S) → HasCleanDisk (state S.Store conn) }
-        ensures new { IfOk result (λ r. (r.is_genuine ≡ true) × (r.accepted ≡ []) × (r.in_doubt ≡ None)
-            × IsConsistent S.Store r) }
+        ensures new { IfOk result (λ r. StandsAt S.Store (whole []) r × IsConsistent S.Store r) }
         ensures fault { IfErr result (λ e. (e ≡ OpenFault.Memory) ⊎ (e ≡ OpenFault.Disk)) }
     {
         match Register::adopt(alloc, connection) {
@@ -141,13 +128,12 @@ impl<S: Alter + Drop> Register<S> {
 impl Register<MemStore> {
     ghost use Rattle.std.specs.Prelude.{◌⊎◌};
     ghost use Rattle.sqlite.specs.Steps.{over_memory};
-    ghost use Rattle.kcr_store.specs.Register.{IsConsistent};
+    ghost use Rattle.kcr_store.specs.Register.{IsConsistent, StandsAt, whole};
 
     /// A new register in memory, with no command. It is lost with the process. When out of memory there is none: the
     /// fault is `Memory`, or `Disk` as the store tells it, and never `Foreign` or `Version`.
     pub fn in_memory(alloc: Global) -> Result<Register<MemStore>, OpenFault>
-        ensures new { IfOk result (λ r. (r.is_genuine ≡ true) × (r.accepted ≡ []) × (r.in_doubt ≡ None)
-            × IsConsistent over_memory r) }
+        ensures new { IfOk result (λ r. StandsAt over_memory (whole []) r × IsConsistent over_memory r) }
         ensures fault { IfErr result (λ e. (e ≡ OpenFault.Memory) ⊎ (e ≡ OpenFault.Disk)) }
     {
         let Ok(connection) = Connection::open_in_memory(alloc) else {
@@ -157,23 +143,52 @@ impl Register<MemStore> {
     }
 }
 
-impl Register<FileStore<FileFrom<Unknown>>> {
+impl<F: Start> Register<FileStore<FileFrom<F>>> {
     ghost use Rattle.sqlite.specs.Files.{over_files};
-    ghost use Rattle.kcr_store.specs.Register.{IsConsistent};
+    ghost use Rattle.sqlite.specs.WalFiles.{image_at};
+    ghost use Rattle.kcr_store.specs.Opening.{FilesHoldHistory};
+    ghost use Rattle.kcr_store.specs.Register.{IsConsistent, StandsAt, whole};
 
     /// Opens the register in the file at the path and its log beside it, as `adopt` takes a database; a file that is
-    /// not there is made. No clause knows what the file held, so nothing is promised of its history; a caller whose
-    /// proof knows it calls `connect` and `adopt`. `Disk` comes also if another process has the file open, if it
+    /// not there is made. `start` stands for what the two held, which no code can read: the register stands at each
+    /// history of which that was the tables. `Disk` comes also if another process has the file open, if it
     /// is no database, and for the name `:memory:`.
-    pub fn open(rt: &HostRuntime, path: &str) -> Result<FileRegister, OpenFault>
-        ensures unknown { IfOk result (λ r. (r.is_genuine ≡ false) × (r.accepted ≡ []) × (r.in_doubt ≡ None)) }
+    pub fn open_from(rt: &HostRuntime, path: &str, start: F) -> Result<FileRegister<F>, OpenFault>
+        ensures unbroken { IfOk result (λ r. r.is_broken ≡ false) }
+        ensures stands { IfOk result (λ r. (A : History) → FilesHoldHistory A (image_at F.Start)
+            → StandsAt over_files (whole A) r) }
         ensures kept { IfOk result (IsConsistent over_files) }
     {
-        let connection = connect(rt, path, Unknown)?;
+        let connection = connect(rt, path, start)?;
         match Register::adopt(rt.alloc(), connection) {
             Ok(register) => Ok(register),
             Err((fault, _)) => Err(fault),
         }
+    }
+}
+
+impl<D: Disk + Drop> Register<FileStore<D>> {
+    ghost use Rattle.sqlite.specs.Files.{over_files};
+    ghost use Rattle.sqlite_store.specs.FileStore.{view, state as stored};
+    ghost use Rattle.sqlite_trees.specs.View.{IsClean};
+    ghost use Rattle.sqlite_wal.specs.Recovery.{Image};
+    ghost use Rattle.kcr_store.specs.Opening.{LeavesEither, OpensAtEither};
+    ghost use Rattle.kcr_store.specs.Register.{RegisterHistory, StandsAt};
+
+    /// Lets go of its files, as a stop between two calls does: nothing is written to them. What they are after a crash,
+    /// and where the register stands that is opened from that, is what the register's history says. `N` is the store of
+    /// that one.
+    pub fn stop<N: Alter>(self) -> FileStore<D>
+        // Each image of the two files that a crash may leave holds the tables of what was accepted, or those of the
+        // history that was tried.
+        ensures left { IsClean (view result) → (s : RegisterHistory) → StandsAt over_files s self → (left : Image)
+            → (stored result).may_leave left → LeavesEither s left }
+
+        // So whatever is opened from one, as `open_from` opens it, stands at one of the two.
+        ensures opens { IsClean (view result) → (s : RegisterHistory) → StandsAt over_files s self → (left : Image)
+            → (stored result).may_leave left → OpensAtEither N.Store s left }
+    {
+        self.close().into_store()
     }
 }
 
@@ -183,8 +198,8 @@ impl<S: Alter> Register<S> {
     ghost use Rattle.kcr_store.specs.FullView.{FindsIn, AreRows, IsListed};
     ghost use Rattle.kcr_tables.specs.MachineTables.{HoldsTables};
     ghost use Rattle.kcr_tables.specs.Refusals.{IsFault};
-    ghost use Rattle.kcr_store.specs.Register.{IsConsistent, AfterCrash, CrashKeeps};
-    ghost use Rattle.kcr_store.specs.Calls.{OfHistory, ReadsHistory, BreaksOnFault, after_fault};
+    ghost use Rattle.kcr_store.specs.Register.{IsConsistent};
+    ghost use Rattle.kcr_store.specs.Calls.{Leads, OfHistory, ReadsHistory, BreaksOnFault, after_fault};
     ghost use Rattle.kcr_store.specs.Shown.{IsShownByRows};
 
     /// Decides a command as one transaction. Where the machine accepts it, its reply comes only once it is durable.
@@ -193,63 +208,50 @@ impl<S: Alter> Register<S> {
     /// leave the tables before the command or those after it, and every later call answers 35.
     pub fn apply(&mut self, command: &Command) -> Result<Reply, Refusal>
         // A broken register answers 35 and stays as it is.
-        ensures broken { IsSome self.old.in_doubt → (result ≡ Err Refusal.Broken) × (self.new ≡ self.old) }
+        ensures broken { IsTrue self.old.is_broken → (result ≡ Err Refusal.Broken) × (self.new ≡ self.old) }
 
-        // As long as the disk returns what was written, the command is a step of the machine.
-        ensures step { IsTrue self.old.is_genuine → self.old.in_doubt ≡ None → HasCleanDisk (state S.Store self.new.conn)
-            → AppliesCommand self.old.accepted command.now result self.new.accepted }
+        // As long as the disk returns what was written: from whatever history the register stood at, the command is a
+        // step of the machine, and the register stands at the history after it.
+        ensures step { Leads S.Store self.old self.new (λ s after. TakesStep s command.now result after) }
+
+        // By whatever rows the tables hold: they and the number of the last command decide the command, and the database
+        // then has them with the changes that go with the reply.
+        ensures by_rows { self.old.is_broken ≡ false → HasCleanDisk (state S.Store self.new.conn) → (m : Tables)
+            → (IsTrue (state S.Store self.old.conn).is_open → HoldsTables m (state S.Store self.old.conn).now)
+            → RepliesBy m self.old.last_number command.now result (state S.Store self.new.conn) }
 
         // Whatever the database holds, the reply is one to a command of this kind, or what a row keeps for this very
         // command, and a refusal is one that this kind may get.
-        ensures kind { self.old.in_doubt ≡ None → MayBeReplied command.now result }
+        ensures kind { self.old.is_broken ≡ false → MayBeReplied command.now result }
 
         // Whatever rows the tables hold, a command whose key has a row gets what this row keeps, and no row changes.
         // It is refused only for its key (11), if the row is of another command, or for a fault.
-        ensures by_row { self.old.in_doubt ≡ None
+        ensures by_row { self.old.is_broken ≡ false
             → GoesByRow (state S.Store self.old.conn) (state S.Store self.new.conn) command.now result }
 
-        // An I/O error breaks it, and nothing else does. Broken or not, a crash then leaves the tables of the
-        // history, or of the one that was tried.
-        ensures breaks { self.old.in_doubt ≡ None → IsSome self.new.in_doubt ↔ (result ≡ Err Refusal.Disk) }
-        ensures tried { IsTrue self.old.is_genuine → self.old.in_doubt ≡ None → HasCleanDisk (state S.Store self.new.conn)
-            → IsSameOrNext self.old.accepted command.now (unwrap_or self.new.in_doubt self.new.accepted) }
-        ensures crash { IsTrue self.old.is_genuine → self.old.in_doubt ≡ None
-            → AfterCrash self.old.accepted (unwrap_or self.new.in_doubt self.new.accepted) (state S.Store self.new.conn) }
-
-        // After a reply the store serves, and a crash leaves the tables with the command.
+        // An I/O error breaks it, and nothing else does. After a reply the store serves.
+        ensures breaks { self.old.is_broken ≡ false → IsTrue self.new.is_broken ↔ (result ≡ Err Refusal.Disk) }
         ensures served { HasCleanDisk (state S.Store self.new.conn)
             → OnOk result (IsTrue (state S.Store self.new.conn).is_open) }
-        ensures durable { IsTrue self.old.is_genuine
-            → OnOk result (CrashKeeps self.new.accepted (state S.Store self.new.conn)) }
 
         // A disk that is honest at the end was so at the beginning.
         ensures clean { HasCleanDisk (state S.Store self.new.conn) → HasCleanDisk (state S.Store self.old.conn) }
-        ensures founded { self.new.is_genuine ≡ self.old.is_genuine }
         ensures kept { IsConsistent S.Store self.new }
     {
         if self.broken {
             return Err(Refusal::Broken);
         }
-        match run_command(
-            self.alloc,
-            &mut self.conn,
-            &self.past,
-            self.last_number,
-            command,
-        ) {
-            TransactionResult::Accepted(verdict, past) => {
+        match run_command(self.alloc, &mut self.conn, self.last_number, command) {
+            TransactionResult::Accepted(verdict) => {
                 self.last_number = number_after(self.last_number, verdict.new_reply);
-                self.past = past;
                 Ok(verdict.reply)
             }
             TransactionResult::Refused(Refusal::Disk) => {
-                self.in_doubt = GhostHistory::copied(&self.past);
                 self.broken = true;
                 Err(Refusal::Disk)
             }
             TransactionResult::Refused(refusal) => Err(refusal),
-            TransactionResult::InDoubt(past) => {
-                self.in_doubt = past;
+            TransactionResult::InDoubt => {
                 self.broken = true;
                 Err(Refusal::Disk)
             }
@@ -279,7 +281,7 @@ impl<S: Alter> Register<S> {
     /// breaks the register; a broken one answers 35.
     pub fn table_rows<R: TableRow>(&mut self) -> Result<Vec<R>, Refusal>
         // Whatever rows the table holds, these are they; of a history they are those of its table.
-        ensures rows { self.old.in_doubt ≡ None → HasCleanDisk (state S.Store self.new.conn) → (m : Tables)
+        ensures rows { self.old.is_broken ≡ false → HasCleanDisk (state S.Store self.new.conn) → (m : Tables)
             → HoldsTables m (state S.Store self.old.conn).now
             → IfOk result (λ rows. AreRows R.table.rows_in m rows.items) }
         ensures shown { OfHistory S.Store self.old self.new
@@ -297,7 +299,7 @@ impl<S: Alter> Register<S> {
     /// their number. It changes nothing. Its refusals, and what they leave, are those of `table_rows`.
     pub fn all_rows(&mut self) -> Result<FullView, Refusal>
         // Whatever rows the tables hold, these are they; of a history they are those of its tables.
-        ensures rows { self.old.in_doubt ≡ None → HasCleanDisk (state S.Store self.new.conn) → (m : Tables)
+        ensures rows { self.old.is_broken ≡ false → HasCleanDisk (state S.Store self.new.conn) → (m : Tables)
             → HoldsTables m (state S.Store self.old.conn).now → IfOk result (IsListed m) }
         ensures shown { OfHistory S.Store self.old self.new
             (λ A. IfOk result (λ all. IsRegister A × IsListed (tables A) all)) }
@@ -316,7 +318,7 @@ impl<S: Alter> Register<S> {
     /// answers 35.
     pub fn audit(&mut self) -> Result<Option<Finding>, Refusal>
         // Whatever rows the tables hold, what is found is true of them, and nothing of an earlier kind is.
-        ensures found { self.old.in_doubt ≡ None → HasCleanDisk (state S.Store self.new.conn) → (m : Tables)
+        ensures found { self.old.is_broken ≡ false → HasCleanDisk (state S.Store self.new.conn) → (m : Tables)
             → HoldsTables m (state S.Store self.old.conn).now → IfOk result (FindsIn m) }
         ensures nothing { OfHistory S.Store self.old self.new (λ _. IfOk result (λ found. found ≡ None)) }
         ensures looks { ReadsHistory S.Store IsFault self.old self.new result }
@@ -345,10 +347,17 @@ impl<S: Alter> Register<S> {
 
     /// Whether an I/O error has broken it.
     pub fn is_broken(&self) -> bool
-        ensures value { IsTrue result ↔ IsSome self.now.in_doubt }
+        ensures value { result ≡ self.now.is_broken }
         ensures kept { IsConsistent S.Store self.now }
     {
         self.broken
+    }
+
+    /// The number of the last command that was accepted; 0 if none was.
+    pub fn last_number(&self) -> u32
+        ensures { result ≡ self.now.last_number }
+    {
+        self.last_number
     }
 
     /// Breaks it after a fault that a caller met, so that every later call answers 35.
@@ -356,10 +365,7 @@ impl<S: Alter> Register<S> {
         ensures same { self.new ≡ after_fault self.old }
         ensures kept { IsConsistent S.Store self.new }
     {
-        if !self.broken {
-            self.in_doubt = GhostHistory::copied(&self.past);
-            self.broken = true;
-        }
+        self.broken = true;
     }
 
     /// Gives the connection back.
@@ -369,9 +375,7 @@ impl<S: Alter> Register<S> {
         let Register {
             conn,
             broken: _,
-            past: _,
             last_number: _,
-            in_doubt: _,
             alloc: _,
         } = self;
         conn

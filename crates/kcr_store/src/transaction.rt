@@ -13,17 +13,17 @@ ghost use Rattle.kcr_store.specs.Frame.{IfCleanOver, OfDurable, OnlyReads};
 ghost use Rattle.kcr_store.specs.Stored.{Stores, OfStored};
 ghost use Rattle.kcr_history.specs.Questions.{ArePeopleShown, AreCustodiansShown, IsBagShown, IsRoomShown};
 ghost use Rattle.kcr_store.specs.Commands as steps;
-ghost use Rattle.kcr_store.specs.Commands.{AppliesCommand, with_reply, IsSameOrNext, IsQuestionResult, IsQuestionRefusal, MayBeReplied, MayRefuseQuestion};
+ghost use Rattle.kcr_store.specs.Commands.{AppliesCommand, with_reply, IsQuestionResult, IsQuestionRefusal, MayBeReplied, MayRefuseQuestion};
 ghost use Rattle.kcr_store.specs.Commands.{GoesByRow};
+ghost use Rattle.kcr_store.specs.ByRows.{DecidesBy, RepliesBy};
 ghost use Rattle.kcr_store.specs.TransactionResult.{ends_with};
-ghost use Rattle.kcr_store.specs.Register.{IsDurableWith, AfterCrash};
+ghost use Rattle.kcr_store.specs.Register.{IsDurableWith};
 ghost use Rattle.kcr_store.specs.Rows.{GivesNext, IsRowOf, HasNoRow, MayHaveNoRow};
-ghost use Rattle.kcr_store.specs.TransactionResult.{history_after, in_doubt_after, last_number_after, result_of, is_in_doubt};
-ghost use Rattle.kcr_store.specs.TransactionResult.{is_genuine_after, RefusesAsMachine};
-ghost use Rattle.kcr_store.specs.Shown.{IsShownByRows};
+ghost use Rattle.kcr_store.specs.TransactionResult.{EndsCommand, RefusesAsMachine, result_of};
+ghost use Rattle.kcr_store.specs.Shown.{IsShownByRows, IsShownOf};
+ghost use Rattle.kcr_tables.specs.Frame.{OfTables};
 
 use crate::full_view::read_full_view;
-use crate::ghost_history::GhostHistory;
 use crate::lists::{find_ceremony, read_custody, read_sheet, read_steps};
 use crate::shown::{custodians_shown, people_shown};
 use kcr_base::{CeremonyNumber, Day, Key, Moment, Refusal, Serial, Thing};
@@ -58,6 +58,10 @@ fn decide_and_write<S: Alter>(
         AppliesCommand A command.now (Ok verdict.reply) (with_reply A command.now verdict.new_reply)
         × Stores (with_reply A command.now verdict.new_reply) new.now × IsTrue new.in_transaction)) }
 
+    // By whatever rows the tables hold: they decide the command, and the transaction then holds them with its changes.
+    ensures by_rows { IfClean S.Store tx.old tx.new (λ old new. (m : Tables) → (IsTrue old.is_open → HoldsTables m old.now)
+        → DecidesBy m count command.now result new.now) }
+
     // Whatever the tables hold, the reply or the refusal is one of a command of this kind.
     ensures kind { MayBeReplied command.now (ends_with result) }
 
@@ -77,14 +81,14 @@ fn decide_and_write<S: Alter>(
     Ok(verdict)
 }
 
-/// How one command ended, with the history that stands now.
+/// How one command ended.
 #[derive(Drop)]
 pub(crate) enum TransactionResult {
-    Accepted(Verdict, GhostHistory),
+    Accepted(Verdict),
     /// Nothing was changed.
     Refused(Refusal),
     /// The commit failed, and a crash may leave what it would have made.
-    InDoubt(GhostHistory),
+    InDoubt,
 }
 
 /// The number of the last command after one that is not refused: that of its reply, or the same after a repeat.
@@ -102,43 +106,35 @@ pub(crate) fn number_after(count: u32, new_reply: Option<ReplyData>) -> u32
 pub(crate) fn run_command<S: Alter>(
     alloc: Global,
     conn: &mut Connection<S>,
-    past: &GhostHistory,
     count: u32,
     command: &Command,
 ) -> TransactionResult
     requires autocommit { conn.old.in_transaction ≡ false }
     ensures autocommit { conn.new.in_transaction ≡ false }
     ensures clean { HasCleanDisk (state S.Store conn.new) → HasCleanDisk (state S.Store conn.old) }
-    ensures founded { is_genuine_after past.now.is_genuine result ≡ past.now.is_genuine }
-    ensures step { IsDurableWith count past.now.entries (state S.Store conn.old) → HasCleanDisk (state S.Store conn.new)
-        → AppliesCommand past.now.entries command.now (result_of result) (history_after past.now.entries result) }
+    ensures step { IfCleanOver S.Store conn.old conn.new (λ old new. (A : History) → IsDurableWith count A old
+        → EndsCommand count A command.now result new) }
+    ensures by_rows { IfCleanOver S.Store conn.old conn.new (λ old new. (m : Tables)
+        → (IsTrue old.is_open → HoldsTables m old.now) → RepliesBy m count command.now (result_of result) new) }
     ensures kind { MayBeReplied command.now (result_of result) }
     ensures by_row { GoesByRow (state S.Store conn.old) (state S.Store conn.new) command.now (result_of result) }
     ensures served { IfCleanOver S.Store conn.old conn.new (λ _ new. OnOk (result_of result) (IsTrue new.is_open)) }
-    ensures candidate { IsDurableWith count past.now.entries (state S.Store conn.old)
-        → HasCleanDisk (state S.Store conn.new)
-        → IsSameOrNext past.now.entries command.now (in_doubt_after past.now.entries result) }
-    ensures whole { IsDurableWith count past.now.entries (state S.Store conn.old) → is_in_doubt result ≡ false
-        → IsDurableWith (last_number_after count result) (history_after past.now.entries result) (state S.Store conn.new) }
-    ensures tried { IsDurableWith count past.now.entries (state S.Store conn.old)
-        → AfterCrash past.now.entries (in_doubt_after past.now.entries result) (state S.Store conn.new) }
 {
     let mut tx = conn.transaction();
     let verdict = match decide_and_write(alloc, &mut tx, count, command) {
         Ok(verdict) => verdict,
         Err(refusal) => return TransactionResult::Refused(refusal),
     };
-    let after = GhostHistory::after_verdict(past, command, &verdict.new_reply);
     match tx.commit() {
-        Ok(()) => TransactionResult::Accepted(verdict, after),
+        Ok(()) => TransactionResult::Accepted(verdict),
         Err(Error::SqliteFailure(ErrorCode::OutOfMemory)) => {
             // The store may be shut, and then the commit may stand.
             match conn.prepare("COMMIT") {
                 Ok(_) => TransactionResult::Refused(Refusal::Memory),
-                Err(_) => TransactionResult::InDoubt(after),
+                Err(_) => TransactionResult::InDoubt,
             }
         }
-        Err(_) => TransactionResult::InDoubt(after),
+        Err(_) => TransactionResult::InDoubt,
     }
 }
 
@@ -216,6 +212,7 @@ fn read_people<S: Alter>(
     tx: &mut Transaction<'_, S>,
 ) -> Result<Vec<PersonShown>, Refusal>
     ensures shown { OfStored S.Store tx.old tx.new (λ A. IfOk result (λ rows. ArePeopleShown A rows.items)) }
+    ensures by_tables { OfTables S.Store tx.old tx.new result (λ t rows. IsShownOf t.rows Question.People (Shown.People rows)) }
     ensures by_rows { IfOk result (λ rows. IsShownByRows Question.People (Shown.People rows)) }
     ensures frame { StaysInTransaction S.Store IsFault tx.old tx.new result }
 {

@@ -11,6 +11,7 @@ use Rattle.kcr_rows.proofs.FrameLemmas.{within_then, within_to, within_fails, cl
 use Rattle.kcr_store.specs.Commands.{GoesByRow}
 use Rattle.kcr_store.specs.TransactionResult.{ends_with, RefusesAsMachine}
 use Rattle.kcr_store.proofs.KeyLemmas.{HasRow, fault_goes, handed_goes, kept_goes, new_goes}
+use Rattle.kcr_store.proofs.ByRows.{by_early, by_fault, by_late, by_repeat, handed_on}
 use Rattle.kcr_store.proofs.StoreLemmas.{IsDecided, held_in, next_stores, refused, fault_steps, steps}
 use Rattle.kcr_store.proofs.transaction.decide_and_write.Goals as goal
 
@@ -180,3 +181,73 @@ returns-clause-frame g c =
     within_to _ tt
     (within_then (within_then (within_then c.in_ok-row.ensures.frame.within c.in_ok-front.ensures.frame.within) c.in_ok-view.ensures.frame.within)
     c.in_ok-change_all.ensures.frame)
+
+-- ---- by whatever rows the tables hold
+
+pub returns-in-Some-clause-by_rows : goal.returns-in-Some-clause-by_rows
+returns-in-Some-clause-by_rows g c clean m had =
+    let kept = c.in_ok-row.ensures in
+    let held = had (kept.opened clean) in
+    by_repeat m c.args.count c.args.command.now _ c.in-Some.row c.decide_repeat.result (sym (kept.row clean m held) ∙ c.in-Some.is)
+    c.decide_repeat.ensures.by_row (kept.frame.tables clean m held)
+
+pub returns-in_err-front-clause-by_rows : goal.returns-in_err-front-clause-by_rows
+returns-in_err-front-clause-by_rows g c clean m had =
+    let made = c.from_residual-in_err-front in
+    handed_on m c.args.count c.args.command.now _ _ made.result (by_fault m c.args.count c.args.command.now _ _ c.in_err-front.ensures.frame.within.cause) made.ensures.1
+
+pub returns-in_err-view-clause-by_rows : goal.returns-in_err-view-clause-by_rows
+returns-in_err-view-clause-by_rows g c clean m had =
+    let made = c.from_residual-in_err-view in
+    handed_on m c.args.count c.args.command.now _ _ made.result (by_fault m c.args.count c.args.command.now _ _ c.in_err-view.ensures.frame.within.cause) made.ensures.1
+
+pub returns-in_err-change_all-clause-by_rows : goal.returns-in_err-change_all-clause-by_rows
+returns-in_err-change_all-clause-by_rows g c clean m had =
+    let made = c.from_residual-in_err-change_all in
+    handed_on m c.args.count c.args.command.now _ _ made.result (by_fault m c.args.count c.args.command.now _ _ c.in_err-change_all.ensures.frame.cause) made.ensures.1
+
+pub returns-in_err-check_early-clause-by_rows : goal.returns-in_err-check_early-clause-by_rows
+returns-in_err-check_early-clause-by_rows g c clean m had =
+    let made = c.from_residual-in_err-check_early in
+    let kept = c.in_ok-row.ensures in
+    let front = c.in_ok-front.ensures in
+    let before = clean_before front.frame.within clean in
+    let held = had (kept.opened before) in
+    let view = front.view clean m (kept.frame.tables before m held) in
+    handed_on m c.args.count c.args.command.now _ c.in_err-check_early.field-0.0 made.result
+    (by_early m c.args.count c.args.command.now _ (sym (kept.row before m held) ∙ c.in_default.is) c.in_ok-front.front c.in_err-check_early.field-0.0
+    (rw c.in_ok-asked.ensures at view) c.in_err-check_early.ensures.told) made.ensures.1
+
+pub returns-in_err-verdict-clause-by_rows : goal.returns-in_err-verdict-clause-by_rows
+returns-in_err-verdict-clause-by_rows g c clean m had =
+    let made = c.from_residual-in_err-verdict in
+    let kept = c.in_ok-row.ensures in
+    let front = c.in_ok-front.ensures in
+    let seen = c.in_ok-view.ensures in
+    let after = clean_before seen.frame.within clean in
+    let before = clean_before front.frame.within after in
+    let held = had (kept.opened before) in
+    let held1 = kept.frame.tables before m held in
+    let view = seen.view clean m (front.frame.tables after m held1) (front.view after m held1) in
+    handed_on m c.args.count c.args.command.now _ c.in_err-verdict.field-0.0 made.result
+    (by_late m c.args.count c.args.command.now _ (sym (kept.row before m held) ∙ c.in_default.is) c.in_ok-view.view (Err c.in_err-verdict.field-0.0)
+    (rw c.in_ok-asked.ensures at view) (still-cleared c.in_ok-front.front c.in_ok-view.view (is_full_by c.args.count) c.args.command.now.act
+    c.in_ok-view.ensures.completes c.in_ok-check_early.ensures.told) c.in_err-verdict.ensures.by_rows tt) made.ensures.1
+
+pub returns-clause-by_rows : goal.returns-clause-by_rows
+returns-clause-by_rows g c clean m had =
+    let kept = c.in_ok-row.ensures in
+    let front = c.in_ok-front.ensures in
+    let seen = c.in_ok-view.ensures in
+    let put = c.in_ok-change_all.ensures in
+    let last = clean_before put.frame clean in
+    let after = clean_before seen.frame.within last in
+    let before = clean_before front.frame.within after in
+    let held = had (kept.opened before) in
+    let held1 = kept.frame.tables before m held in
+    let held2 = front.frame.tables after m held1 in
+    let view = seen.view last m held2 (front.view after m held1) in
+    let made = put.tables clean m (seen.frame.tables last m held2) in
+    by_late m c.args.count c.args.command.now _ (sym (kept.row before m held) ∙ c.in_default.is) c.in_ok-view.view (Ok c.in_ok-verdict.verdict)
+    (rw c.in_ok-asked.ensures at view) (still-cleared c.in_ok-front.front c.in_ok-view.view (is_full_by c.args.count) c.args.command.now.act
+    c.in_ok-view.ensures.completes c.in_ok-check_early.ensures.told) c.in_ok-verdict.ensures.by_rows (rw c.as_slice.ensures.value at made)

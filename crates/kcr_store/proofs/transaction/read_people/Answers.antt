@@ -44,3 +44,18 @@ returns-clause-by_rows g c =
         each = subst₂ HaveRoles c.deref.ensures.value c.deref-2.ensures.value c.in_ok-people_shown.ensures.roles;
       },
     )
+
+pub returns-clause-by_tables : goal.returns-clause-by_tables
+returns-clause-by_tables g c clean t held =
+    let clean2 = clean_before c.in_ok-withdrawals.ensures.frame.within clean in
+    let clean1 = clean_before c.in_ok-trainings.ensures.frame.within clean2 in
+    let held1 = c.in_ok-people.ensures.frame.holds clean1 t held in
+    let held2 = c.in_ok-trainings.ensures.frame.holds clean2 t held1 in
+    let rows : List PersonShown = c.in_ok-people_shown.field-0.items in
+    let HaveRoles : List Training → List Withdrawal → Type 0 =
+    λ taught withdrawn. All (λ (shown : PersonShown). AreRolesOf taught withdrawn shown.who shown.roles.items) rows in
+    record {
+      people = c.in_ok-people_shown.ensures.people ∙ c.in_ok-people.ensures.rows clean1 t held;
+      each = subst₂ HaveRoles (c.deref.ensures.value ∙ c.in_ok-trainings.ensures.rows clean2 t held1)
+          (c.deref-2.ensures.value ∙ c.in_ok-withdrawals.ensures.rows clean t held2) c.in_ok-people_shown.ensures.roles;
+    }

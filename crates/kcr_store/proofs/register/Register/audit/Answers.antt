@@ -1,12 +1,8 @@
 use Rattle.std.proofs.Common.{refl}
-use Rattle.kcr_store.proofs.WholeLemmas.{looked, read_kept}
+use Rattle.kcr_store.proofs.WholeLemmas.{looked}
 use Rattle.kcr_store.proofs.register.Register.audit.Goals as goal
-
-pub invariant_of-self : goal.invariant_of-self
-invariant_of-self g c = read_kept c.self.invariant c.audit_database-found.ensures.frame (rw c.if-self.false refl)
 
 pub returns-clause-looks : goal.returns-clause-looks
 returns-clause-looks g c =
-    let left = c.audit_database-found.ensures.frame in
-    let kept = (read_kept c.self.invariant left (rw c.if-self.false refl)).kept in
-    rw (← c.self.view_is, c.note_disk_fault.ensures.same) (looked _ _ _ (rw c.if-self.false refl) refl c.note_disk_fault.ensures.settled left kept)
+    rw (← c.self.view_is, c.note_disk_fault.ensures.same)
+    (looked _ _ _ (rw c.if-self.false refl) refl c.audit_database-found.ensures.frame c.note_disk_fault.ensures.settled)

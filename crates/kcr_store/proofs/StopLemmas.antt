@@ -1,0 +1,40 @@
+-- What a stop leaves of a register's files.
+use Rattle.std.proofs.Common.{◌⊎◌, IsTrue, inl, inr}
+use Rattle.std.proofs.Math.Logic.{∥∥₁_map}
+use Rattle.sqlite.proofs.Theorems.{opens_again}
+use Rattle.sqlite.specs.Files.{HoldsDatabase}
+use Rattle.sqlite.specs.Held.{AreDatabases}
+use Rattle.sqlite.specs.State.{State, HasCleanDisk}
+use Rattle.sqlite.specs.Store.{Ghosts}
+use Rattle.sqlite.specs.Tree.{Trees}
+use Rattle.sqlite_disk.specs.declared.Disk.{Ghosts as DiskGhosts}
+use Rattle.sqlite_store.specs.FileStore.{view, recovers, state as stored}
+use Rattle.sqlite_store.specs.declared.store.FileStore.{FileStore}
+use Rattle.sqlite_wal.specs.Recovery.{Image}
+use Rattle.kcr_history.specs.History.{History}
+use Rattle.kcr_store.specs.Opening.{FilesHoldHistory, LeavesEither, OpensAtEither, tried}
+use Rattle.kcr_store.specs.Register.{AfterCrash, RegisterHistory, RegisterState, StandsAt, whole}
+use Rattle.kcr_store.specs.Stored.{IsTables}
+
+held : (s : RegisterHistory) (left : Image) (db : Trees) → HoldsDatabase left db → IsTables s.accepted db ⊎ IsTables (tried s) db
+    → FilesHoldHistory s.accepted left ⊎ FilesHoldHistory (tried s) left
+held s left db holds (inl tables) = inl (inl (db, holds, inl tables))
+held s left db holds (inr tables) = inr (inl (db, holds, inl tables))
+
+-- each image that a crash may leave of the store holds the tables of one of the two histories
+pub left_either : {D : Type 0} {g : DiskGhosts D} (it : FileStore D g) (old : State) → IsTrue (view it).is_numbered → AreDatabases (recovers it)
+    → HasCleanDisk old → ((db : Trees) → recovers it db → old.may_leave db) → (s : RegisterHistory) → AfterCrash s.accepted (tried s) old
+    → (left : Image) → (stored it).may_leave left → LeavesEither s left
+left_either it old numbered sound clean outcomes s crash left may =
+    ∥∥₁_map (opens_again it numbered sound left may)
+    (λ found. held s left found.0 found.2 (crash clean found.0 (outcomes found.0 found.1)))
+
+opened : {S : Type 0} (g : Ghosts S) (next : RegisterState S) (s : RegisterHistory) (left : Image)
+    → ((A : History) → FilesHoldHistory A left → StandsAt g (whole A) next)
+    → FilesHoldHistory s.accepted left ⊎ FilesHoldHistory (tried s) left → StandsAt g (whole s.accepted) next ⊎ StandsAt g (whole (tried s)) next
+opened g next s left stands (inl held) = inl (stands s.accepted held)
+opened g next s left stands (inr held) = inr (stands (tried s) held)
+
+-- what is opened from one stands at one of the two
+pub opens_either : {S : Type 0} (g : Ghosts S) (s : RegisterHistory) (left : Image) → LeavesEither s left → OpensAtEither g s left
+opens_either g s left either next stands = ∥∥₁_map either (opened g next s left stands)
