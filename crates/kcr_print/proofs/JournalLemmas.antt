@@ -22,11 +22,10 @@ use Rattle.kcr_history.specs.declared.row_types.KeyRow.{KeyRow}
 use Rattle.kcr_journal.specs.Journal.{journal, row_line}
 use Rattle.kcr_journal.proofs.EntryLemmas.{IsGood, good-entries, rows-are}
 use Rattle.kcr_store.specs.Register.{RegisterState}
-use Rattle.kcr_store.specs.Stored.{IsTables}
 use Rattle.kcr_print.specs.Journal.{PrintsJournal, row_journal}
 use Rattle.kcr_print.specs.Reports.{IsPrinted, Prints}
 use Rattle.kcr_print.specs.declared.fault.PrintFault.{PrintFault}
-use Rattle.kcr_print.proofs.RequestLemmas.{past_is, all_take}
+use Rattle.kcr_print.proofs.RequestLemmas.{past_is, all_take, held_by}
 
 none : KeyRow
 none = record { key = []; accepted = 0; command = []; reply = [] }
@@ -41,26 +40,11 @@ rows_tell asked A is values =
 
 -- so it is with every register: its file holds the tables, whatever a crash may leave
 pub journal_lines : {S W : Type 0} (g : Ghosts S) {contents : W → Option (List ℕ)} {before now : RegisterState S} {x y : Counted W} {r : Result ⊤ PrintFault}
-    (asked : Option ℕ) → (HasCleanDisk (state g now.conn) → ∥ ((db : Trees) × (state g now.conn).may_leave db) ∥₁)
+    (asked : Option ℕ) → (HasCleanDisk (state g before.conn) → ∥ ((db : Trees) × (state g before.conn).may_leave db) ∥₁)
     → Prints g contents before now x y r (λ _ _. ⊥) (λ _. ⊥) (row_journal asked) → PrintsJournal g contents before now x y r asked
-journal_lines {S} g {contents = contents} {before = before} {now = now} {x = x} {y = y} {r = r} asked left prints = record {
+journal_lines g {contents = contents} {before = before} {x = x} {y = y} {r = r} asked left prints = record {
   prints = prints;
-  lines = λ founded in_doubt clean values.
-      subst (λ (text : List ℕ). IsPrinted (λ _. ⊥) text r (contents (inner_of x)) (contents (inner_of y))) (same founded in_doubt clean values)
-      (prints.printed founded in_doubt clean);
+  lines = λ clean A at values.
+      subst (λ (text : List ℕ). IsPrinted (λ _. ⊥) text r (contents (inner_of x)) (contents (inner_of y)))
+      (held_by g before left A at (prints.clean clean) (λ register. rows_tell asked A register values)) (prints.printed clean A at);
 }
-  where
-    tell : IsRegister before.accepted → AreValues before.accepted → row_journal asked before.accepted ≡ journal asked before.accepted
-    tell is values = rows_tell asked before.accepted is values
-
-    by_either : (db : Trees) → before.in_doubt ≡ None → AreValues before.accepted
-        → IsTables now.accepted db ⊎ IsTables (unwrap_or now.in_doubt now.accepted) db
-        → row_journal asked before.accepted ≡ journal asked before.accepted
-    by_either db in_doubt values (inl tables) = tell (subst IsRegister prints.leaves.same tables.register) values
-    by_either db in_doubt values (inr tables) = tell (subst IsRegister (prints.leaves.tried in_doubt) tables.register) values
-
-    same : IsTrue before.is_genuine → before.in_doubt ≡ None → HasCleanDisk (state g now.conn) → AreValues before.accepted
-        → row_journal asked before.accepted ≡ journal asked before.accepted
-    same founded in_doubt clean values =
-        ∥∥₁_elim (left clean) (Coded-set (coded_list coded_ℕ) _ _)
-        (λ found. by_either found.0 in_doubt values (prints.kept.crash (subst IsTrue (sym prints.leaves.founded) founded) clean found.0 found.1))

@@ -1,6 +1,5 @@
 -- The texts of the rows that are read are the parts of the reports.
 use Rattle.std.proofs.Common.{◌≡◌, ℕ, false, List, [], ◌∷◌, ◌++◌, map, filter, reverse, refl, ap, ◌∙◌}
-use Rattle.std.specs.Prelude.{None, IsTrue}
 use Rattle.std.specs.List.{flat_map}
 use Rattle.std.specs.Coded.{coded_ℕ, coded_list}
 use base.Stored.{Coded-set}
@@ -29,7 +28,7 @@ use Rattle.kcr_history.specs.Questions.{with_seated, with_name, with_items, is_l
 use Rattle.kcr_reading.specs.Remaining.{seated_steps, named_stays, packed_bags, loose_items}
 use Rattle.kcr_tables.specs.MachineTables.{TreesHoldTables}
 use Rattle.kcr_reading.proofs.StayLemmas.{one_attendance}
-use Rattle.kcr_store.specs.Register.{RegisterState, IsConsistent}
+use Rattle.kcr_store.specs.Register.{RegisterState, StandsAt, whole}
 use Rattle.kcr_print.specs.Lines.{seated_lines, named_line, packed_lines, code_line}
 
 -- lines that are the same row by row
@@ -81,11 +80,11 @@ attendance_text A db k ceremony =
     stays_text A ceremony ∙ ap (flat_map (stay_line (people A))) (one_attendance ceremony sheets k.stands.rows.stays k.kept.stays.rising)
 
 -- so it is with every register: its file holds the tables, whatever a crash may leave
-pub register_attendance : {S : Type 0} (g : Ghosts S) (r : RegisterState S) → IsConsistent g r
+pub register_attendance : {S : Type 0} (g : Ghosts S) (r : RegisterState S)
     → (HasCleanDisk (state g r.conn) → ∥ ((db : Trees) × (state g r.conn).may_leave db) ∥₁)
-    → IsTrue r.is_genuine → r.in_doubt ≡ None → HasCleanDisk (state g r.conn) → (ceremony : ℕ)
-    → flat_map named_line (named_stays ceremony (tables r.accepted))
-    ≡ flat_map (stay_line (people r.accepted)) (attendance_in_by (stays_by (sheet r.accepted)) ceremony)
-register_attendance g r kept left founded in_doubt clean ceremony =
-    let whole = kept.whole founded in_doubt in
-    ∥∥₁_elim (left clean) (Coded-set (coded_list coded_ℕ) _ _) (λ found. attendance_text r.accepted found.0 (whole.crash clean found.0 found.1).kept ceremony)
+    → HasCleanDisk (state g r.conn) → (A : History) → StandsAt g (whole A) r → (ceremony : ℕ)
+    → flat_map named_line (named_stays ceremony (tables A))
+    ≡ flat_map (stay_line (people A)) (attendance_in_by (stays_by (sheet A)) ceremony)
+register_attendance g r left clean A at ceremony =
+    ∥∥₁_elim (left clean) (Coded-set (coded_list coded_ℕ) _ _)
+    (λ found. attendance_text A found.0 ((at.shows refl).whole.crash clean found.0 found.1).kept ceremony)

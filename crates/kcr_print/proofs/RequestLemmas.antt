@@ -35,8 +35,7 @@ use Rattle.kcr_history.specs.declared.row_types.KeyRow.{KeyRow}
 use Rattle.kcr_history.proofs.Steps.{numbers}
 use Rattle.kcr_reading.specs.Commands.{only, numbered, commands_past, commands_within}
 use Rattle.kcr_store.specs.Calls.{OfHistory}
-use Rattle.kcr_store.specs.Register.{RegisterState}
-use Rattle.kcr_store.specs.Stored.{IsTables}
+use Rattle.kcr_store.specs.Register.{RegisterState, StandsAt, whole}
 use Rattle.kcr_wire.proofs.Again.{act-again}
 use Rattle.kcr_print.specs.Reports.{IsPrinted, Prints, RefusesBetweenRows}
 use Rattle.kcr_print.specs.declared.fault.PrintFault.{PrintFault}
@@ -175,44 +174,34 @@ front_tells A h values d after until n =
     ∙ entries_tell (take n entries) (all_take P n entries all)
     ∙ ap (flat_map request_text) (sym (take-map (λ (entry : Entry). entry.command) n entries))
 
--- so it is with every register: its file holds the tables, whatever a crash may leave
+-- texts that are the same of each register's history are so of the history at which a register stands: its file holds the
+-- tables, whatever a crash may leave
+pub held_by : {S : Type 0} (g : Ghosts S) (r : RegisterState S) → (HasCleanDisk (state g r.conn) → ∥ ((db : Trees) × (state g r.conn).may_leave db) ∥₁)
+    → (A : History) → StandsAt g (whole A) r → HasCleanDisk (state g r.conn) → {texts other : List ℕ} → (IsRegister A → texts ≡ other) → texts ≡ other
+held_by g r left A at clean then =
+    ∥∥₁_elim (left clean) (Coded-set (coded_list coded_ℕ) _ _) (λ found. then ((at.shows refl).whole.crash clean found.0 found.1).register)
+
+-- so it is with every register
 pub export_requests : {S W : Type 0} (g : Ghosts S) {contents : W → Option (List ℕ)} {before now : RegisterState S} {x y : Counted W} {r : Result ⊤ PrintFault}
-    (after until : ℕ) → (HasCleanDisk (state g now.conn) → ∥ ((db : Trees) × (state g now.conn).may_leave db) ∥₁)
+    (after until : ℕ) → (HasCleanDisk (state g before.conn) → ∥ ((db : Trees) × (state g before.conn).may_leave db) ∥₁)
     → Prints g contents before now x y r (λ _ _. ⊥) (λ _. ⊥) (row_requests after until)
     → OfHistory g before now (λ A. RefusesBetweenRows row_request (commands_within after until (tables A)) r (contents (inner_of x)) (contents (inner_of y)))
     → Exports g contents before now x y r after until
-export_requests g {contents = contents} {before = before} {now = now} {x = x} {y = y} {r = r} after until left prints whole = record {
+export_requests g {contents = contents} {before = before} {x = x} {y = y} {r = r} after until left prints rows = record {
   prints = prints;
-  requests = λ founded in_doubt clean values.
-      subst (λ (text : List ℕ). IsPrinted (λ _. ⊥) text r (contents (inner_of x)) (contents (inner_of y))) (same founded in_doubt clean values)
-      (prints.printed founded in_doubt clean);
-  whole = λ founded in_doubt clean values refusal is.
-      let front = whole founded in_doubt clean refusal is in (
+  requests = λ clean A at values.
+      subst (λ (text : List ℕ). IsPrinted (λ _. ⊥) text r (contents (inner_of x)) (contents (inner_of y)))
+      (held_by g before left A at (prints.clean clean) (λ register. rows_tell A register values none after until)) (prints.printed clean A at);
+  whole = λ clean A at values refusal is.
+      let front = rows clean A at refusal is in (
         front.0,
         subst (λ (text : List ℕ). Appends (contents (inner_of x)) (contents (inner_of y)) text)
-            (held (λ register. front_tells before.accepted register values none after until front.0) founded in_doubt clean) front.1,
+            (held_by g before left A at (prints.clean clean) (λ register. front_tells A register values none after until front.0)) front.1,
       );
 }
   where
     none : KeyRow
     none = record { key = []; accepted = 0; command = []; reply = [] }
-
-    -- what holds if the history is a register's
-    by_either : {texts other : List ℕ} → (IsRegister before.accepted → texts ≡ other) → (db : Trees) → before.in_doubt ≡ None
-        → IsTables now.accepted db ⊎ IsTables (unwrap_or now.in_doubt now.accepted) db → texts ≡ other
-    by_either then db in_doubt (inl tables) = then (subst IsRegister prints.leaves.same tables.register)
-    by_either then db in_doubt (inr tables) = then (subst IsRegister (prints.leaves.tried in_doubt) tables.register)
-
-    held : {texts other : List ℕ} → (IsRegister before.accepted → texts ≡ other) → IsTrue before.is_genuine → before.in_doubt ≡ None
-        → HasCleanDisk (state g now.conn) → texts ≡ other
-    held then founded in_doubt clean =
-        ∥∥₁_elim (left clean) (Coded-set (coded_list coded_ℕ) _ _)
-        (λ found. by_either then found.0 in_doubt (prints.kept.crash (subst IsTrue (sym prints.leaves.founded) founded) clean found.0 found.1))
-
-    same : IsTrue before.is_genuine → before.in_doubt ≡ None → HasCleanDisk (state g now.conn) → AreValues before.accepted
-        → row_requests after until before.accepted ≡ requests_between after until before.accepted
-    same founded in_doubt clean values =
-        held (λ register. rows_tell before.accepted register values none after until) founded in_doubt clean
 
 -- EXPORTS, ONE AFTER THE OTHER
 

@@ -1,6 +1,6 @@
 -- Rows that are written one after the other.
 use Rattle.std.proofs.Common.{◌≡◌, ℕ, zero, suc, List, [], ◌∷◌, ◌++◌, take, drop, refl, sym, ap, ◌∙◌, subst, append_assoc, append-nil}
-use Rattle.std.specs.Prelude.{Option, Some, Result, Ok, Err, IsErr}
+use Rattle.std.specs.Prelude.{Option, Some, None, Result, Ok, Err, IsErr}
 use Rattle.std.specs.Io.KnownBytes.{Appends}
 use Rattle.std.specs.List.{flat_map}
 use Rattle.std.proofs.lemmas.Bool.{false≢true}
@@ -11,7 +11,7 @@ use Rattle.kcr_history.specs.Tables as machine
 use Rattle.kcr_history.specs.Tables.{tables}
 use Rattle.kcr_reading.specs.Remaining.{IsNextOf}
 use Rattle.kcr_store.specs.Register.{RegisterState}
-use Rattle.kcr_store.specs.Calls.{KeepsHistory, OfHistory}
+use Rattle.kcr_store.specs.Calls.{KeepsStand, OfHistory}
 use Rattle.kcr_print.specs.Written.{Writes, WritesPrefix}
 use Rattle.kcr_print.proofs.PartLemmas.{of_kept}
 use Rattle.kcr_print.proofs.WrittenLemmas.{appends_both, appends_nothing, front_both, front_longer}
@@ -82,10 +82,25 @@ writes_err (Err e) a b whole h p = p
 
 -- the row that a call gave was the first of those to come, by the history that the calls before it kept
 pub row_given : {S R Row : Type 0} (g : Ghosts S) (to_come : R → machine.Tables → List Row) (a b c : RegisterState S)
-    {before after : R} {given : Option Row} {row : Row} → KeepsHistory a b
+    {before after : R} {given : Option Row} {row : Row} → KeepsStand g a b
     → OfHistory g b c (λ A. IsNextOf (to_come before (tables A)) given (to_come after (tables A))) → given ≡ Some row
     → OfHistory g a c (λ A. to_come before (tables A) ≡ row ∷ to_come after (tables A))
-row_given {Row = Row} g to_come a b c {before} {after} {given} keeps gives is founded in_doubt clean =
+row_given {Row = Row} g to_come a b c {before} {after} {given} keeps gives is clean A at =
     let Says : History → Type 0 = λ A. IsNextOf (to_come before (tables A)) given (to_come after (tables A)) in
-    subst (λ (o : Option Row). IsNextOf (to_come before (tables a.accepted)) o (to_come after (tables a.accepted))) is
-    (of_kept g a b c Says keeps gives founded in_doubt clean)
+    subst (λ (o : Option Row). IsNextOf (to_come before (tables A)) o (to_come after (tables A))) is
+    (of_kept g a b c Says keeps gives clean A at)
+
+-- that a call gave none says that none was to come
+pub none_given : {S R Row : Type 0} (g : Ghosts S) (to_come : R → machine.Tables → List Row) (a b c : RegisterState S)
+    {before : R} (after : R) {given : Option Row} → KeepsStand g a b
+    → OfHistory g b c (λ A. IsNextOf (to_come before (tables A)) given (to_come after (tables A))) → given ≡ None
+    → OfHistory g a c (λ A. to_come before (tables A) ≡ [])
+none_given {Row = Row} g to_come a b c {before} after {given} keeps gives is clean A at =
+    let Says : History → Type 0 = λ A. IsNextOf (to_come before (tables A)) given (to_come after (tables A)) in
+    (subst (λ (o : Option Row). IsNextOf (to_come before (tables A)) o (to_come after (tables A))) is (of_kept g a b c Says keeps gives clean A at)).0
+
+-- no row is left
+pub goes_end : {X : Type 0} (f : X → List ℕ) (a b : Option (List ℕ)) (whole : List ℕ) (before : List X) → Goes a b whole (flat_map f before) → before ≡ []
+    → Appends a b whole
+goes_end f a b whole before g e =
+    subst (Appends a b) (sym (g.is ∙ ap (λ rows. g.text ++ flat_map f rows) e ∙ append-nil g.text)) g.written

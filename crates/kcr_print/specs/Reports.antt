@@ -1,6 +1,6 @@
 -- What a call that writes a report leaves.
-use Rattle.std.specs.Prelude.{◌≡◌, ◌≢◌, ◌<◌, ◌⊎◌, ◌↔◌, ⊤, ℕ, List, Option, None, Result, Err, IfErr, MatchResult}
-use Rattle.std.specs.Prelude.{IsSome, IsTrue, OnOk, take, unwrap_or}
+use Rattle.std.specs.Prelude.{◌≡◌, ◌≢◌, ◌<◌, ◌⊎◌, ◌↔◌, ⊤, ℕ, false, List, Option, Result, Err, IfErr, MatchResult}
+use Rattle.std.specs.Prelude.{IsTrue, OnOk, take}
 use Rattle.std.specs.List.{flat_map}
 use Rattle.std.specs.Io.KnownBytes.{Appends}
 use Rattle.sqlite.specs.Store.{Ghosts}
@@ -13,8 +13,8 @@ use Rattle.kcr_base.specs.declared.refusal.Refusal.TheVariants as Refusals
 use Rattle.kcr_history.specs.Ceremonies.{is_ceremony}
 use Rattle.kcr_history.specs.History.{History}
 use Rattle.kcr_tables.specs.Refusals.{IsFault}
-use Rattle.kcr_store.specs.Register.{RegisterState, IsConsistent}
-use Rattle.kcr_store.specs.Calls.{KeepsHistory, OfHistory}
+use Rattle.kcr_store.specs.Register.{RegisterState, RegisterHistory, IsConsistent, StandsAt}
+use Rattle.kcr_store.specs.Calls.{CommitsNothing, KeepsStand, OfHistory, left_at}
 use Rattle.kcr_store.specs.Rows.{IsNotPlanned, NamesCeremony}
 use Rattle.kcr_print.specs.Written.{WritesPrefix}
 use Rattle.kcr_print.specs.declared.fault.PrintFault.{PrintFault}
@@ -40,12 +40,12 @@ abbrev pub RefusesBetweenRows
 RefusesBetweenRows lines rows result old new =
     (refusal : Refusal) → result ≡ Err (Refused refusal) → (n : ℕ) × Appends old new (flat_map lines (take n rows))
 
--- a call that reads a register that is not broken: its history stays, and an I/O error alone breaks it
-pub record KeepsRegister {S : Type 0} (before after : RegisterState S) (result : Result ⊤ PrintFault) : Type 0 where
-  pub same : after.accepted ≡ before.accepted
-  pub breaks : before.in_doubt ≡ None → IsSome after.in_doubt ↔ (result ≡ Err (Refused Refusals.Disk))
-  pub tried : before.in_doubt ≡ None → unwrap_or after.in_doubt after.accepted ≡ before.accepted
-  pub founded : after.is_genuine ≡ before.is_genuine
+-- a call that reads a register that is not broken: it stands where it did, nothing was committed, and an I/O error alone
+-- breaks it
+pub record KeepsRegister {S : Type 0} (g : Ghosts S) (before after : RegisterState S) (result : Result ⊤ PrintFault) : Type 0 where
+  pub nothing : CommitsNothing g before after
+  pub breaks : before.is_broken ≡ false → IsTrue after.is_broken ↔ (result ≡ Err (Refused Refusals.Disk))
+  pub stands : (s : RegisterHistory) → StandsAt g s before → StandsAt g (left_at after.is_broken s) after
 
 -- the writer's count tells whether a write failed
 pub record CountsWriteFaults {W : Type 0} (old new : Counted W) (result : Result ⊤ PrintFault) : Type 0 where
@@ -60,7 +60,7 @@ pub record PrintsPart {S W : Type 0} (g : Ghosts S) (contents : W → Option (Li
   pub printed : OfHistory g before after
       (λ A. IsPrinted (Denies A) (text A) result (contents (inner_of old)) (contents (inner_of new)))
   pub cause : IfErr result (Stops MayDeny)
-  pub keeps : KeepsHistory before after
+  pub keeps : KeepsStand g before after
   pub clean : HasCleanDisk (state g after.conn) → HasCleanDisk (state g before.conn)
   pub kept : IsConsistent g after
   pub told : CountsWriteFaults old new result
@@ -70,11 +70,11 @@ pub record PrintsPart {S W : Type 0} (g : Ghosts S) (contents : W → Option (Li
 pub record Prints {S W : Type 0} (g : Ghosts S) (contents : W → Option (List ℕ))
     (before after : RegisterState S) (old new : Counted W) (result : Result ⊤ PrintFault)
     (Denies : History → Refusal → Type 0) (MayDeny : Refusal → Type 0) (text : History → List ℕ) : Type 0 where
-  pub broken : IsSome before.in_doubt → (result ≡ Err (Refused Refusals.Broken)) × (after ≡ before) × (new ≡ old)
+  pub broken : IsTrue before.is_broken → (result ≡ Err (Refused Refusals.Broken)) × (after ≡ before) × (new ≡ old)
   pub printed : OfHistory g before after
       (λ A. IsPrinted (Denies A) (text A) result (contents (inner_of old)) (contents (inner_of new)))
-  pub cause : before.in_doubt ≡ None → IfErr result (Stops MayDeny)
-  pub leaves : KeepsRegister before after result
+  pub cause : before.is_broken ≡ false → IfErr result (Stops MayDeny)
+  pub leaves : KeepsRegister g before after result
   pub clean : HasCleanDisk (state g after.conn) → HasCleanDisk (state g before.conn)
   pub kept : IsConsistent g after
   pub told : CountsWriteFaults old new result

@@ -1,6 +1,6 @@
 //! The parts of the reports. None of them breaks the register after an I/O error.
 
-ghost use Rattle.std.specs.Prelude.{◌≡◌, None};
+ghost use Rattle.std.specs.Prelude.{◌≡◌, false};
 ghost use Rattle.std.specs.List.{flat_map};
 ghost use Rattle.kcr_history.specs.Prints as prints;
 ghost use Rattle.kcr_history.specs.Tables.{tables};
@@ -37,7 +37,7 @@ fn write_all_rows<S: Alter, P: PrintLines, R: Cursor<Row = P>, W: Write>(
     writer: &mut Counted<W>,
 ) -> Result<(), PrintFault>
     requires kept { IsConsistent S.Store register.old }
-    requires whole { register.old.in_doubt ≡ None }
+    requires whole { register.old.is_broken ≡ false }
     ensures prints { PrintsPart S.Store W.contents register.old register.new writer.old writer.new result (λ _ _. ⊥)
         (λ _. ⊥) (λ A. flat_map P.lines (R.to_come reading (tables A))) }
     ensures whole { OfHistory S.Store register.old register.new (λ A. RefusesBetweenRows P.lines
@@ -55,7 +55,7 @@ pub(crate) fn print_script<S: Alter, W: Write>(
     writer: &mut Counted<W>,
 ) -> Result<(), PrintFault>
     requires kept { IsConsistent S.Store register.old }
-    requires whole { register.old.in_doubt ≡ None }
+    requires whole { register.old.is_broken ≡ false }
     ensures { PrintsCeremonyPart prints.annotated ceremony S.Store W.contents register.old register.new writer.old
         writer.new result }
 {
@@ -75,7 +75,7 @@ pub(crate) fn print_attendance<S: Alter, W: Write>(
     writer: &mut Counted<W>,
 ) -> Result<(), PrintFault>
     requires kept { IsConsistent S.Store register.old }
-    requires whole { register.old.in_doubt ≡ None }
+    requires whole { register.old.is_broken ≡ false }
     ensures { PrintsCeremonyPart prints.attendance ceremony S.Store W.contents register.old register.new writer.old
         writer.new result }
 {
@@ -91,7 +91,7 @@ pub(crate) fn print_custody<S: Alter, W: Write>(
     writer: &mut Counted<W>,
 ) -> Result<(), PrintFault>
     requires kept { IsConsistent S.Store register.old }
-    requires whole { register.old.in_doubt ≡ None }
+    requires whole { register.old.is_broken ≡ false }
     ensures { PrintsPart S.Store W.contents register.old register.new writer.old writer.new result
         (λ _ _. ⊥) (λ _. ⊥) (λ A. prints.custody A) }
 {
@@ -109,7 +109,7 @@ pub(crate) fn print_requests<S: Alter, W: Write>(
     writer: &mut Counted<W>,
 ) -> Result<(), PrintFault>
     requires kept { IsConsistent S.Store register.old }
-    requires whole { register.old.in_doubt ≡ None }
+    requires whole { register.old.is_broken ≡ false }
     ensures prints { PrintsPart S.Store W.contents register.old register.new writer.old writer.new result
         (λ _ _. ⊥) (λ _. ⊥) (row_requests after until) }
     ensures whole { OfHistory S.Store register.old register.new (λ A. RefusesBetweenRows row_request
@@ -129,7 +129,7 @@ pub(crate) fn print_journal<S: Alter, W: Write>(
     writer: &mut Counted<W>,
 ) -> Result<(), PrintFault>
     requires kept { IsConsistent S.Store register.old }
-    requires whole { register.old.in_doubt ≡ None }
+    requires whole { register.old.is_broken ≡ false }
     ensures { PrintsPart S.Store W.contents register.old register.new writer.old writer.new result
         (λ _ _. ⊥) (λ _. ⊥) (row_journal asked) }
 {

@@ -27,7 +27,7 @@ fn note_disk_fault<S: Alter>(
 ) -> Result<(), PrintFault>
     requires { IsConsistent S.Store register.old }
     ensures same { result ≡ outcome }
-    ensures leaves { KeepsRegister register.old register.new outcome }
+    ensures leaves { KeepsRegister S.Store register.old register.new outcome }
     ensures connection { register.new.conn ≡ register.old.conn }
     ensures kept { IsConsistent S.Store register.new }
 {

@@ -1,13 +1,13 @@
 //! Rows of a register, written one at a time.
 
-ghost use Rattle.std.specs.Prelude.{◌≡◌, IfErr, None};
+ghost use Rattle.std.specs.Prelude.{◌≡◌, IfErr, false};
 ghost use Rattle.std.specs.List.{flat_map};
 ghost use Rattle.sqlite.specs.Held.{state};
 ghost use Rattle.sqlite.specs.State.{HasCleanDisk};
 ghost use Rattle.kcr_base.specs.Counted.{inner_of};
 ghost use Rattle.kcr_history.specs.Tables.{tables};
 ghost use Rattle.kcr_store.specs.Register.{IsConsistent};
-ghost use Rattle.kcr_store.specs.Calls.{KeepsHistory, OfHistory};
+ghost use Rattle.kcr_store.specs.Calls.{KeepsStand, OfHistory};
 ghost use Rattle.kcr_print.specs.Reports.{Stops, CountsWriteFaults, RefusesUnwritten, RefusesBetweenRows};
 ghost use Rattle.kcr_print.specs.Written.{Writes};
 
@@ -54,8 +54,8 @@ pub(crate) fn write_rows<S: Alter, P: PrintLines, R: Cursor<Row = P>, W: Write>(
     ensures whole { OfHistory S.Store rows.old.register.now rows.new.register.now (λ A. RefusesBetweenRows P.lines
         (R.to_come rows.old.reading (tables A)) result
         (W.contents (inner_of writer.old)) (W.contents (inner_of writer.new))) }
-    ensures cause { rows.old.register.now.in_doubt ≡ None → IfErr result (Stops (λ _. ⊥)) }
-    ensures same { KeepsHistory rows.old.register.now rows.new.register.now }
+    ensures cause { rows.old.register.now.is_broken ≡ false → IfErr result (Stops (λ _. ⊥)) }
+    ensures same { KeepsStand S.Store rows.old.register.now rows.new.register.now }
     ensures clean { HasCleanDisk (state S.Store rows.new.register.now.conn)
         → HasCleanDisk (state S.Store rows.old.register.now.conn) }
     ensures kept { IsConsistent S.Store rows.new.register.now }

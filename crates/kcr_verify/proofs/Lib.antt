@@ -1,3 +1,4 @@
+pub mod StandLemmas
 pub mod OrderLemmas
 pub mod NumberLemmas
 pub mod SeatingLemmas

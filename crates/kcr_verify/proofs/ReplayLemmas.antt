@@ -1,8 +1,8 @@
 -- Commands that the machine takes one after the other, as rows tell them.
 use Rattle.std.proofs.Common.{◌≡◌, ◌≢◌, ℕ, ◌+◌, ◌<◌, ◌≤◌, Bool, true, false, List, [], ◌∷◌, ◌++◌, length, drop, get_or, Option, Some, None, inl, inr, refl, sym}
-use Rattle.std.proofs.Common.{ap, ap₂, ◌∙◌, subst, arith, ◌⊎◌}
+use Rattle.std.proofs.Common.{ap, ap₂, ◌∙◌, subst, arith, ◌⊎◌, map}
 use Rattle.std.specs.Prelude.{MatchOption}
-use Rattle.std.proofs.lemmas.List.{append-nil, drop_all, drop_more}
+use Rattle.std.proofs.lemmas.List.{append-nil, drop_all, drop_more, length-map, length-reverse}
 use Rattle.kcr_base.specs.Rows.{IsIn}
 use Rattle.kcr_base.specs.Same.{same_text}
 use Rattle.kcr_base.specs.declared.refusal.Refusal.{Refusal}
@@ -10,7 +10,7 @@ use Rattle.kcr_base.proofs.Members.{in-front, in-behind}
 use Rattle.kcr_base.proofs.SameLemmas.{same-is}
 use Rattle.kcr_history.specs.History.{History, entry_of}
 use Rattle.kcr_history.specs.Conditions.{fault}
-use Rattle.kcr_history.specs.Machine.{Accepts, SeatRequest, seat_request, reply_to, with_command, IsAcceptedWith, seats, DecidesNew, DecidesRepeat, machine, IsOfMachine}
+use Rattle.kcr_history.specs.Machine.{Accepts, SeatRequest, seat_request, reply_to, with_command, IsAcceptedWith, seats, DecidesNew, DecidesRepeat, machine, IsOfMachine, IsRegister}
 use Rattle.kcr_history.specs.Tables.{key_row}
 use Rattle.kcr_history.specs.declared.commands.ReplyData.{ReplyData}
 use Rattle.kcr_history.specs.declared.commands.Command.{Command}
@@ -18,10 +18,10 @@ use Rattle.kcr_history.specs.declared.commands.Entry.{Entry}
 use Rattle.kcr_history.specs.declared.row_types.KeyRow.{KeyRow}
 use Rattle.kcr_history.proofs.Steps.{of_machine}
 use Rattle.kcr_laws.proofs.Accepted.{same_reply, other_outcome}
-use Rattle.kcr_verify.specs.Verification.{Declines, HaveOwnKeys, IsNotNext, StopsFor, StopsIn, Takes, rows_by_number}
+use Rattle.kcr_verify.specs.Verification.{AreValues, Declines, HaveOwnKeys, IsNotNext, StopsFor, StopsIn, Takes, rows_by_number}
 use Rattle.kcr_verify.specs.declared.verification.Difference.{Difference}
 use Rattle.kcr_verify.specs.declared.verification.Difference.TheVariants as Differences
-use Rattle.kcr_verify.proofs.NumberLemmas.{NumbersCount, append_one, one_more}
+use Rattle.kcr_verify.proofs.NumberLemmas.{IsGiven, NumbersCount, append_one, one_more}
 
 -- ONE COMMAND
 
@@ -191,3 +191,22 @@ none_taken rows A new = record {
   rows_are = ap (λ (B : History). rows_by_number B ++ rows) (sym new);
   count = ap length new;
 }
+
+-- THE WAY OVER THE ROWS
+
+-- the commands of the rows up to this index led there
+pub record GoesOn (rows : List KeyRow) (index : ℕ) (B : History) : Type 0 where
+  pub taken : HaveOwnKeys rows → HasTaken rows index B
+  pub own : (A : History) → IsRegister A → AreValues A → rows ≡ rows_by_number A → IsGiven A rows index B
+  pub of_machine : IsOfMachine B
+
+nothing_left : (later B : History) → length later ≡ 0 → B ≡ later ++ B
+nothing_left [] B none = refl
+nothing_left (entry ∷ later) B none = absurd (omega (arith, none))
+
+-- at the end, where the rows are those of a history
+pub all_given : (A : History) (rows : List KeyRow) (index : ℕ) (B : History) → length rows ≤ index → IsGiven A rows index B → B ≡ A
+all_given A rows index B end given =
+    let left : length given.0 ≡ 0 = sym (length-map given.0 key_row) ∙ sym (length-reverse (map key_row given.0))
+    ∙ ap length (sym given.2 ∙ drop_all index rows end) in
+    nothing_left given.0 B left ∙ sym given.1

@@ -1,5 +1,5 @@
 -- What a verification of a register's tables says.
-use Rattle.std.specs.Prelude.{◌≡◌, ◌≢◌, ◌⊎◌, ℕ, ◌+◌, List, [], ◌∷◌, ◌++◌, Result, true, Option, None, Some, IfOk, IfErr}
+use Rattle.std.specs.Prelude.{◌≡◌, ◌≢◌, ◌⊎◌, ℕ, ◌+◌, List, [], ◌∷◌, ◌++◌, Result, false, Option, None, Some, IfOk, IfErr}
 use Rattle.std.specs.Prelude.{IsPermutation, MatchOption, length, map, reverse, codes}
 use Rattle.std.specs.declared.cmp.Ordering.{Ordering}
 use Rattle.std.specs.Ordering.{nat_cmp}
@@ -14,7 +14,7 @@ use Rattle.kcr_base.specs.Rows.{IsIn}
 use Rattle.kcr_base.specs.declared.refusal.Refusal.{Refusal}
 use Rattle.kcr_history.specs.History.{History}
 use Rattle.kcr_history.specs.Laws.{IsSeatedFirst, HasFirstSeatings}
-use Rattle.kcr_history.specs.Machine.{machine, Accepts, Refuses, IsOfMachine, seat_request}
+use Rattle.kcr_history.specs.Machine.{machine, Accepts, Refuses, IsOfMachine, IsRegister, seat_request}
 use Rattle.kcr_history.specs.Tables.{Tables, tables, key_row}
 use Rattle.kcr_history.specs.Texts.{reply_text, command_text}
 use Rattle.kcr_history.specs.declared.commands.Act.{Act}
@@ -23,8 +23,9 @@ use Rattle.kcr_history.specs.declared.commands.Command.{Command}
 use Rattle.kcr_history.specs.declared.commands.Entry.{Entry}
 use Rattle.kcr_history.specs.declared.row_types.KeyRow.{KeyRow}
 use Rattle.kcr_history.specs.declared.views.FullView.{FullView}
-use Rattle.kcr_store.specs.Register.{RegisterState, IsConsistent}
-use Rattle.kcr_store.specs.FullView.{AreRows}
+use Rattle.kcr_store.specs.Calls.{left_at}
+use Rattle.kcr_store.specs.FullView.{AreRows, IsListed}
+use Rattle.kcr_store.specs.Register.{RegisterHistory, RegisterState, IsConsistent, StandsAt, whole}
 use Rattle.kcr_tables.specs.Refusals.{IsFault}
 use Rattle.kcr_rows.specs.Rows as stored
 use Rattle.kcr_verify.specs.FirstRow.{DiffersAt, IsFirstRow}
@@ -81,33 +82,35 @@ HasRows Keys m view = IsPermutation m.keys view.keys.items
 
 -- end: written by tools/tables.py
 
--- a register whose history is known, and that no fault has broken
+-- a register that no fault has broken
 pub record IsIntact {S : Type 0} (g : Ghosts S) (register : RegisterState S) : Type 0 where
-  pub founded : register.is_genuine ≡ true
-  pub in_doubt : register.in_doubt ≡ None
+  pub unbroken : register.is_broken ≡ false
   pub kept : IsConsistent g register
 
--- one of these that has no command yet
+-- one that stands at no command
 pub record IsFresh {S : Type 0} (g : Ghosts S) (register : RegisterState S) : Type 0 where
-  pub intact : IsIntact g register
-  pub empty : register.accepted ≡ []
+  pub stands : StandsAt g (whole []) register
+  pub kept : IsConsistent g register
 
 -- what a call that may write leaves of an intact register: only a fault breaks it
-pub record StaysGenuine {A S : Type 0} (g : Ghosts S) (old new : RegisterState S) (result : Result A Refusal) : Type 0 where
-  pub founded : new.is_genuine ≡ true
-  pub in_doubt : IfOk result (λ _. new.in_doubt ≡ None)
+pub record StaysIntact {A S : Type 0} (g : Ghosts S) (old new : RegisterState S) (result : Result A Refusal) : Type 0 where
+  pub unbroken : IfOk result (λ _. new.is_broken ≡ false)
   pub cause : IfErr result IsFault
   pub clean : HasCleanDisk (state g new.conn) → HasCleanDisk (state g old.conn)
   pub kept : IsConsistent g new
 
 -- what a call that only reads leaves of such a register, whatever it answers
 pub record OnlyLooks {A S : Type 0} (g : Ghosts S) (old new : RegisterState S) (result : Result A Refusal) : Type 0 where
-  pub founded : new.is_genuine ≡ true
-  pub in_doubt : IfOk result (λ _. new.in_doubt ≡ None)
-  pub same : new.accepted ≡ old.accepted
+  pub unbroken : IfOk result (λ _. new.is_broken ≡ false)
+  pub stands : (s : RegisterHistory) → StandsAt g s old → StandsAt g (left_at new.is_broken s) new
   pub cause : IfErr result IsFault
   pub clean : HasCleanDisk (state g new.conn) → HasCleanDisk (state g old.conn)
   pub kept : IsConsistent g new
+
+-- if its disk returned what was written, a register stands somewhere, and this is said of what it accepted
+abbrev pub EndsAt : {S : Type 0} → Ghosts S → RegisterState S → (History → Type 0) → Type 0
+EndsAt g register Says =
+    HasCleanDisk (state g register.conn) → (after : RegisterHistory) × StandsAt g after register × Says after.accepted
 
 -- COMMANDS IN ORDER
 
@@ -307,3 +310,37 @@ abbrev pub IsToldOf : History → Verification → Type 0
 IsToldOf A told =
     ((told ≡ Verified (length A)) × IsOfMachine A)
     ⊎ ((number : ℕ) × (told ≡ Differs (Differences.Reply number)) × IsFirstOther A number)
+
+-- WHAT A FRESH REGISTER IS LED TO
+
+-- what giving a row's command says of the history before it and the one after it
+pub record GivesRow (row : KeyRow) (A B : History) (result : Result (Option Difference) Refusal) : Type 0 where
+  -- whatever the row says, the machine leads to the register's history
+  pub of_machine : IsOfMachine A → IsOfMachine B
+  -- the machine takes the command as the row says, or does not for the reason that is told
+  pub told : IfOk result (λ difference. MatchOption difference (Takes row A B) (λ why. Declines why row A B))
+  -- where it is the row of the next entry of a history, the register then has the entry, or its reply differs since its
+  -- recorded seating is not the first one
+  pub own : (entry : Entry) → IsRegister (entry ∷ A) → AreValues (entry ∷ A) → row ≡ key_row entry
+      → IfOk result (HasNext A entry B)
+
+-- what giving the commands of these rows, one after the other, says of the history that an empty register then has
+pub record GivesRows (rows : List KeyRow) (B : History) (result : Result (Option Difference) Refusal) : Type 0 where
+  pub of_machine : IsOfMachine B
+  -- it has the commands of all rows, or of those before the one that is not the next, as told
+  pub told : IfOk result (λ difference. MatchOption difference (HaveOwnKeys rows → rows ≡ rows_by_number B)
+      (λ why. StopsFor why rows B))
+  pub own : (A : History) → IsRegister A → AreValues A → rows ≡ rows_by_number A → IfOk result (HasAll A B)
+
+-- what a rebuilding from all rows of a database says of that history
+pub record Rebuilds (rows : FullView) (B : History) (result : Result Verification Refusal) : Type 0 where
+  -- whatever the rows say, the machine leads to it
+  pub of_machine : IsOfMachine B
+  -- what is told of the rows is so, whoever wrote them, and the fresh register has the commands that it says
+  pub told : IfOk result (λ told. IsVerification rows B told)
+  -- of a history that the machine leads to nothing differs
+  pub own : (A : History) → IsOfMachine A → AreValues A → IsListed (tables A) rows
+      → IfOk result (λ told. (told ≡ Verified (length A)) × (B ≡ A))
+  -- of a register's history the reply of the first command differs whose recorded seating is not the first one; if
+  -- there is none, nothing does
+  pub register : (A : History) → IsRegister A → AreValues A → IsListed (tables A) rows → IfOk result (IsToldOf A)

@@ -3,11 +3,10 @@ ghost use Rattle.std.specs.Prelude.{◌≡◌, ◌≢◌, ◌↔◌, IsTrue, Non
 ghost use Rattle.std.specs.Prelude.{string_bytes, unwrap_or};
 ghost use Rattle.std.specs.List.{AllByRecursion};
 ghost use Rattle.std.specs.List.Sorted.{IsSorted};
-ghost use Rattle.sqlite.specs.State.{HasCleanDisk};
-ghost use Rattle.sqlite.specs.Held.{state};
 ghost use Rattle.kcr_history.specs.Machine.{IsRegister};
 ghost use Rattle.kcr_history.specs.Tables as machine;
 ghost use Rattle.kcr_history.specs.Tables.{key_row};
+ghost use Rattle.kcr_store.specs.Calls.{OfHistory};
 ghost use Rattle.kcr_store.specs.FullView.{AreRows};
 ghost use Rattle.kcr_tables.specs.Refusals.{IsFault};
 ghost use Rattle.kcr_verify.specs.declared.compare.TableName.{TableName as Named};
@@ -337,12 +336,11 @@ fn compare_rows<S: Alter, R: TableRow + Compared + Quoted>(
     rows: &[R],
 ) -> Result<Option<RowDifference>, Refusal>
     requires { IsIntact S.Store register.old }
-    ensures rows { HasCleanDisk (state S.Store register.new.conn)
-        → IfOk result (λ found. MatchOption found (AreRows R.table.rows_in (machine.tables register.new.accepted) rows.now)
-        (λ row. (¬ AreRows R.table.rows_in (machine.tables register.new.accepted) rows.now)
-        × IsFirstRow R.table.rows_in R.row_of (machine.tables register.new.accepted) rows.now row)) }
-    ensures register { HasCleanDisk (state S.Store register.new.conn)
-        → IfOk result (λ _. IsRegister register.new.accepted) }
+    ensures rows { OfHistory S.Store register.old register.new (λ A. IfOk result (λ found.
+        MatchOption found (AreRows R.table.rows_in (machine.tables A) rows.now)
+        (λ row. (¬ AreRows R.table.rows_in (machine.tables A) rows.now)
+        × IsFirstRow R.table.rows_in R.row_of (machine.tables A) rows.now row))) }
+    ensures register { OfHistory S.Store register.old register.new (λ A. IfOk result (λ _. IsRegister A)) }
     ensures frame { OnlyLooks S.Store register.old register.new result }
 {
     let own = register.table_rows::<R>()?;
@@ -358,12 +356,10 @@ fn compare_commands<S: Alter>(
 ) -> Result<Option<RowDifference>, Refusal>
     requires intact { IsIntact S.Store register.old }
     requires order { IsSorted by_number rows.now }
-    ensures rows { HasCleanDisk (state S.Store register.new.conn)
-        → IfOk result (λ found. MatchOption found (IsPermutation (map key_row register.new.accepted) rows.now)
-        (λ row. (¬ IsPermutation (map key_row register.new.accepted) rows.now)
-        × IsFirstCommand (map key_row register.new.accepted) rows.now row)) }
-    ensures register { HasCleanDisk (state S.Store register.new.conn)
-        → IfOk result (λ _. IsRegister register.new.accepted) }
+    ensures rows { OfHistory S.Store register.old register.new (λ A. IfOk result (λ found.
+        MatchOption found (IsPermutation (map key_row A) rows.now)
+        (λ row. (¬ IsPermutation (map key_row A) rows.now) × IsFirstCommand (map key_row A) rows.now row))) }
+    ensures register { OfHistory S.Store register.old register.new (λ A. IfOk result (λ _. IsRegister A)) }
     ensures frame { OnlyLooks S.Store register.old register.new result }
 {
     numbers_count_commands();
@@ -383,10 +379,9 @@ fn compare_table<S: Alter>(
 ) -> Result<Option<RowDifference>, Refusal>
     requires intact { IsIntact S.Store register.old }
     requires order { IsSorted by_number rows.now.keys.items }
-    ensures rows { HasCleanDisk (state S.Store register.new.conn)
-        → IfOk result (λ found. IsCompared table (machine.tables register.new.accepted) rows.now found) }
-    ensures register { HasCleanDisk (state S.Store register.new.conn)
-        → IfOk result (λ _. IsRegister register.new.accepted) }
+    ensures rows { OfHistory S.Store register.old register.new
+        (λ A. IfOk result (λ found. IsCompared table (machine.tables A) rows.now found)) }
+    ensures register { OfHistory S.Store register.old register.new (λ A. IfOk result (λ _. IsRegister A)) }
     ensures frame { OnlyLooks S.Store register.old register.new result }
 {
     match table {
@@ -420,10 +415,10 @@ fn first_differing<S: Alter>(
 ) -> Result<Option<(TableName, RowDifference)>, Refusal>
     requires intact { IsIntact S.Store register.old }
     requires order { IsSorted by_number rows.now.keys.items }
-    ensures none { HasCleanDisk (state S.Store register.new.conn) → IfOk result (λ found. found ≡ None
-        → AllByRecursion (λ table. HasRows table (machine.tables register.new.accepted) rows.now) tables.now) }
-    ensures some { HasCleanDisk (state S.Store register.new.conn)
-        → IfOk result (λ found. IfSome found (IsFirst tables.now register.new.accepted rows.now)) }
+    ensures none { OfHistory S.Store register.old register.new (λ A. IfOk result (λ found. found ≡ None
+        → AllByRecursion (λ table. HasRows table (machine.tables A) rows.now) tables.now)) }
+    ensures some { OfHistory S.Store register.old register.new
+        (λ A. IfOk result (λ found. IfSome found (IsFirst tables.now A rows.now))) }
     ensures frame { OnlyLooks S.Store register.old register.new result }
 {
     for table in tables {
@@ -444,12 +439,11 @@ pub(crate) fn first_difference<S: Alter>(
 ) -> Result<Option<(TableName, RowDifference)>, Refusal>
     requires intact { IsIntact S.Store register.old }
     requires order { IsSorted by_number rows.now.keys.items }
-    ensures none { HasCleanDisk (state S.Store register.new.conn) → IfOk result (λ found. found ≡ None
-        → (table : Named) → HasRows table (machine.tables register.new.accepted) rows.now) }
-    ensures some { HasCleanDisk (state S.Store register.new.conn)
-        → IfOk result (λ found. IfSome found (IsFirst compared register.new.accepted rows.now)) }
-    ensures register { HasCleanDisk (state S.Store register.new.conn)
-        → IfOk result (λ _. IsRegister register.new.accepted) }
+    ensures none { OfHistory S.Store register.old register.new (λ A. IfOk result (λ found. found ≡ None
+        → (table : Named) → HasRows table (machine.tables A) rows.now)) }
+    ensures some { OfHistory S.Store register.old register.new
+        (λ A. IfOk result (λ found. IfSome found (IsFirst compared A rows.now))) }
+    ensures register { OfHistory S.Store register.old register.new (λ A. IfOk result (λ _. IsRegister A)) }
     ensures frame { OnlyLooks S.Store register.old register.new result }
 {
     if let Some(row) = compare_table(alloc, register, TableName::Keys, rows)? {

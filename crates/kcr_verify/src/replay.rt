@@ -1,13 +1,6 @@
 //! The commands of a register, given to another.
-ghost use Rattle.std.specs.Prelude.{◌≡◌, ◌∷◌, IfOk, MatchOption};
-ghost use Rattle.sqlite.specs.State.{HasCleanDisk};
-ghost use Rattle.sqlite.specs.Held.{state};
-ghost use Rattle.kcr_history.specs.History.{History};
-ghost use Rattle.kcr_history.specs.Machine.{IsOfMachine, IsRegister};
-ghost use Rattle.kcr_history.specs.Tables.{key_row};
-ghost use Rattle.kcr_history.specs.declared.commands.Entry.{Entry as Accepted};
-ghost use Rattle.kcr_verify.specs.Verification.{AreValues, HasAll, HasNext, IsFresh, IsIntact, StaysGenuine};
-ghost use Rattle.kcr_verify.specs.Verification.{Declines, HaveOwnKeys, StopsFor, Takes, rows_by_number};
+ghost use Rattle.kcr_store.specs.Calls.{Leads};
+ghost use Rattle.kcr_verify.specs.Verification.{EndsAt, GivesRow, GivesRows, IsFresh, IsIntact, StaysIntact};
 
 use crate::verification::Difference;
 use kcr_base::Refusal;
@@ -25,23 +18,9 @@ fn replay_one<S: Alter>(
     register: &mut Register<S>,
 ) -> Result<Option<Difference>, Refusal>
     requires { IsIntact S.Store register.old }
-    ensures frame { StaysGenuine S.Store register.old register.new result }
-
-    // Whatever the row says, the machine leads to the register's history.
-    ensures of_machine { HasCleanDisk (state S.Store register.new.conn) → IsOfMachine register.old.accepted
-        → IsOfMachine register.new.accepted }
-
-    // The machine takes the command as the row says, or does not for the reason that is told.
-    ensures told { HasCleanDisk (state S.Store register.new.conn) → IfOk result (λ difference. MatchOption difference
-        (Takes row.now register.old.accepted register.new.accepted)
-        (λ why. Declines why row.now register.old.accepted register.new.accepted)) }
-
-    // Where it is the row of the next entry of a history, the register then has the entry, or its reply differs since
-    // its recorded seating is not the first one.
-    ensures own { HasCleanDisk (state S.Store register.new.conn) → (entry : Accepted)
-        → IsRegister (entry ∷ register.old.accepted) → AreValues (entry ∷ register.old.accepted)
-        → row.now ≡ key_row entry
-        → IfOk result (HasNext register.old.accepted entry register.new.accepted) }
+    ensures frame { StaysIntact S.Store register.old register.new result }
+    ensures led { Leads S.Store register.old register.new
+        (λ s after. GivesRow row.now s.accepted after.accepted result) }
 {
     let Some(act) = paths.read_act(alloc, row.command.as_bytes())? else {
         return Ok(Some(Difference::Command(row.accepted)));
@@ -69,15 +48,8 @@ pub(crate) fn replay<S: Alter>(
     register: &mut Register<S>,
 ) -> Result<Option<Difference>, Refusal>
     requires { IsFresh S.Store register.old }
-    ensures frame { StaysGenuine S.Store register.old register.new result }
-    ensures of_machine { HasCleanDisk (state S.Store register.new.conn) → IsOfMachine register.new.accepted }
-
-    // The register has the commands of all rows, or of those before the one that is not the next, as told.
-    ensures told { HasCleanDisk (state S.Store register.new.conn) → IfOk result (λ difference. MatchOption difference
-        (HaveOwnKeys rows.now → rows.now ≡ rows_by_number register.new.accepted)
-        (λ why. StopsFor why rows.now register.new.accepted)) }
-    ensures own { HasCleanDisk (state S.Store register.new.conn) → (A : History) → IsRegister A → AreValues A
-        → rows.now ≡ rows_by_number A → IfOk result (HasAll A register.new.accepted) }
+    ensures frame { StaysIntact S.Store register.old register.new result }
+    ensures led { EndsAt S.Store register.new (λ B. GivesRows rows.now B result) }
 {
     numbers_count_commands();
     let paths = RouteTable::new(alloc)?;

@@ -1,7 +1,5 @@
 //! The verification of a register.
 ghost use Rattle.std.specs.Prelude.{◌≡◌, IfOk, IfErr, length};
-ghost use Rattle.sqlite.specs.State.{HasCleanDisk};
-ghost use Rattle.sqlite.specs.Held.{state};
 ghost use Rattle.sqlite.specs.Steps.{over_memory};
 ghost use Rattle.kcr_history.specs.History.{History};
 ghost use Rattle.kcr_history.specs.Machine.{IsOfMachine, IsRegister};
@@ -9,8 +7,8 @@ ghost use Rattle.kcr_history.specs.Tables.{Tables, tables};
 ghost use Rattle.kcr_history.specs.declared.views.FullView.{FullView as View};
 ghost use Rattle.kcr_store.specs.FullView.{IsListed};
 ghost use Rattle.kcr_tables.specs.Refusals.{IsFault};
-ghost use Rattle.kcr_verify.specs.Verification.{AreValues, HaveOwnKeys, IsFresh, IsVerification, IsToldOf};
-ghost use Rattle.kcr_verify.specs.Verification.{StaysGenuine};
+ghost use Rattle.kcr_verify.specs.Verification.{AreValues, EndsAt, HaveOwnKeys, IsFresh, IsToldOf, IsVerification};
+ghost use Rattle.kcr_verify.specs.Verification.{Rebuilds, StaysIntact};
 
 use crate::compare::{RowDifference, TableName, first_difference};
 use crate::replay::replay;
@@ -60,8 +58,8 @@ fn empty(alloc: Global) -> Result<Register<MemStore>, Refusal>
 /// Gives the commands among these rows, which are those of a register, to an empty register, `fresh`, and compares its
 /// tables with the rows, one table after the other.
 ///
-/// Whatever is said of where the rows come from, the fresh register is founded by its making, so all that is promised
-/// of a register holds of it with no premise about them. After `Verified` its tables are the rows. After a difference it
+/// Whatever is said of where the rows come from, the fresh register stands at no command by its making, so all that is
+/// promised of a register holds of it with no premise about them. After `Verified` its tables are the rows. After a difference it
 /// has the commands before the one that is named, that one too if its reply differs, and all of them if a table
 /// does.
 /// Beside out of memory (33) it meets only a fault of the fresh register's device (34), which breaks that register;
@@ -71,28 +69,15 @@ pub fn rebuild<S: Alter>(
     rows: FullView,
     fresh: &mut Register<S>,
 ) -> Result<Verification, Refusal>
-    // The fresh register is founded, whole, and not broken, and has no command.
+    // The fresh register is not broken, and stands at no command.
     requires { IsFresh S.Store fresh.old }
 
-    // Whatever the rows say, the machine leads to the fresh register's history.
-    ensures of_machine { HasCleanDisk (state S.Store fresh.new.conn) → IsOfMachine fresh.new.accepted }
+    // If its device returned what was written, the fresh register stands at a history that the machine leads to, of
+    // which all this is so.
+    ensures led { EndsAt S.Store fresh.new (λ B. Rebuilds rows B result) }
 
-    // What is told of the rows is so, whoever wrote them, and the fresh register has the commands that it says.
-    ensures told { HasCleanDisk (state S.Store fresh.new.conn)
-        → IfOk result (λ told. IsVerification rows fresh.new.accepted told) }
-
-    // Of a history that the machine leads to nothing differs.
-    ensures own { HasCleanDisk (state S.Store fresh.new.conn) → (A : History) → IsOfMachine A → AreValues A
-        → IsListed (tables A) rows
-        → IfOk result (λ told. (told ≡ Verification.Verified (length A)) × (fresh.new.accepted ≡ A)) }
-
-    // Of a register's history the reply of the first command differs whose recorded seating is not the first one; if
-    // there is none, nothing does.
-    ensures register { HasCleanDisk (state S.Store fresh.new.conn) → (A : History) → IsRegister A → AreValues A
-        → IsListed (tables A) rows → IfOk result (IsToldOf A) }
-
-    // The fresh register stays founded and whole, and only a fault breaks it: out of memory or one of its device.
-    ensures frame { StaysGenuine S.Store fresh.old fresh.new result }
+    // Only a fault breaks it: out of memory or one of its device.
+    ensures frame { StaysIntact S.Store fresh.old fresh.new result }
 {
     numbers_count_commands();
     let mut rows = rows;
@@ -116,12 +101,12 @@ pub fn rebuild<S: Alter>(
 pub fn verify(alloc: Global, rows: FullView) -> Result<Verification, Refusal>
     ensures told { IfOk result (λ told. (A : History) × IsVerification rows A told) }
 
-    // Of a history that the machine leads to nothing differs.
+    // Of a history that the machine leads to, with commands of values, nothing differs.
     ensures own { (A : History) → IsOfMachine A → AreValues A → IsListed (tables A) rows
         → IfOk result (λ told. told ≡ Verification.Verified (length A)) }
 
-    // Of a register's history the reply of the first command differs whose recorded seating is not the first one; if
-    // there is none, nothing does.
+    // Of a register's history with commands of values, the reply of the first command differs whose recorded seating is
+    // not the first one; if there is none, nothing does.
     ensures register { (A : History) → IsRegister A → AreValues A → IsListed (tables A) rows
         → IfOk result (IsToldOf A) }
     ensures cause { IfErr result IsFault }

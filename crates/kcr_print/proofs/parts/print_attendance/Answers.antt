@@ -37,6 +37,5 @@ returns g c =
     ends_planned read row.row rest.clean rest.cause
     (puts_then (row_line (λ _. header_line) row.peeks row.row head.written head.cause head.told)
     (puts_reading named_line named_stays stays c.new.ensures c.get.ensures.value
-    (λ founded in_doubt now.
-    register_attendance g.S.Store read row.peeks.kept (g.met.S.Store.survives read.conn.store) founded in_doubt (rest.clean now) c.get.result)
+    (λ now A at. register_attendance g.S.Store read (g.met.S.Store.survives read.conn.store) (rest.clean now) A at c.get.result)
     rest))

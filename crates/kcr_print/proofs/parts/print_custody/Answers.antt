@@ -21,21 +21,18 @@ loose_part A = flat_map loose_line (items_in_order A)
 
 pub returns-in_err-write_all_rows : goal.returns-in_err-write_all_rows
 returns-in_err-write_all_rows g c =
-    let safes = puts_text safe_part c.in_err-write_all_rows.ensures.prints (λ _ _ _. ap (flat_map safe_line) (c.new.ensures (tables c.args.register.now.accepted))) in
+    let safes = puts_text safe_part c.in_err-write_all_rows.ensures.prints (λ _ A _. ap (flat_map safe_line) (c.new.ensures (tables A))) in
     puts_err _ _ c.from_residual.ensures.1 (puts_more loose_part (puts_more bag_part safes))
 
 pub returns-in_err-write_all_rows-2 : goal.returns-in_err-write_all_rows-2
 returns-in_err-write_all_rows-2 g c =
-    let A = c.write_all_rows.new.register.accepted in
-    let safes = puts_text safe_part c.in_ok-write_all_rows.ensures.prints (λ _ _ _. ap (flat_map safe_line) (c.new.ensures (tables c.args.register.now.accepted))) in
-    let bags = puts_text bag_part c.in_err-write_all_rows-2.ensures.prints (λ _ _ _. ap (flat_map packed_lines) (c.new-2.ensures (tables A)) ∙ bags_text A) in
+    let safes = puts_text safe_part c.in_ok-write_all_rows.ensures.prints (λ _ A _. ap (flat_map safe_line) (c.new.ensures (tables A))) in
+    let bags = puts_text bag_part c.in_err-write_all_rows-2.ensures.prints (λ _ A _. ap (flat_map packed_lines) (c.new-2.ensures (tables A)) ∙ bags_text A) in
     puts_err _ _ c.from_residual-in_err-write_all_rows-2.ensures.1 (puts_more loose_part (puts_then safes bags))
 
 pub returns : goal.returns
 returns g c =
-    let A = c.write_all_rows.new.register.accepted in
-    let B = c.write_all_rows-2.new.register.accepted in
-    let safes = puts_text safe_part c.in_ok-write_all_rows.ensures.prints (λ _ _ _. ap (flat_map safe_line) (c.new.ensures (tables c.args.register.now.accepted))) in
-    let bags = puts_text bag_part c.in_ok-write_all_rows-2.ensures.prints (λ _ _ _. ap (flat_map packed_lines) (c.new-2.ensures (tables A)) ∙ bags_text A) in
-    let loose = puts_text loose_part c.write_all_rows-3.ensures.prints (λ _ _ _. ap (flat_map loose_line) (c.new-3.ensures (tables B)) ∙ loose_text B) in
+    let safes = puts_text safe_part c.in_ok-write_all_rows.ensures.prints (λ _ A _. ap (flat_map safe_line) (c.new.ensures (tables A))) in
+    let bags = puts_text bag_part c.in_ok-write_all_rows-2.ensures.prints (λ _ A _. ap (flat_map packed_lines) (c.new-2.ensures (tables A)) ∙ bags_text A) in
+    let loose = puts_text loose_part c.write_all_rows-3.ensures.prints (λ _ A _. ap (flat_map loose_line) (c.new-3.ensures (tables A)) ∙ loose_text A) in
     puts_then (puts_then safes bags) loose

@@ -8,4 +8,4 @@ use Rattle.kcr_print.proofs.parts.print_journal.Goals as goal
 pub returns : goal.returns
 returns g c =
     puts_text (row_journal c.args.asked) c.write_all_rows.ensures.prints
-    (λ _ _ _. ap (flat_map (λ (line : List ℕ). line)) (c.new-lines.ensures (tables c.args.register.now.accepted)))
+    (λ _ A _. ap (flat_map (λ (line : List ℕ). line)) (c.new-lines.ensures (tables A)))

@@ -12,15 +12,14 @@ use Rattle.kcr_print.proofs.parts.print_requests.Goals as goal
 
 pub returns-clause-prints : goal.returns-clause-prints
 returns-clause-prints g c =
-    let m = tables c.args.register.now.accepted in
     puts_text (row_requests c.args.after c.args.until) c.write_all_rows.ensures.prints
-    (λ _ _ _. ap (flat_map (λ (text : List ℕ). text)) (c.new-requests.ensures m) ∙ texts_of row_request (commands_within c.args.after c.args.until m))
+    (λ _ A _. let m = tables A in ap (flat_map (λ (text : List ℕ). text)) (c.new-requests.ensures m) ∙ texts_of row_request (commands_within c.args.after c.args.until m))
 
 pub returns-clause-whole : goal.returns-clause-whole
-returns-clause-whole g c founded in_doubt clean refusal is =
-    let m = tables c.args.register.now.accepted in
+returns-clause-whole g c clean A at refusal is =
+    let m = tables A in
     let rows = commands_within c.args.after c.args.until m in
-    let front = c.write_all_rows.ensures.whole founded in_doubt clean refusal is in
+    let front = c.write_all_rows.ensures.whole clean A at refusal is in
     let same = ap (λ texts. flat_map (λ (text : List ℕ). text) (take front.0 texts)) (c.new-requests.ensures m)
     ∙ ap (flat_map (λ (text : List ℕ). text)) (take-map row_request front.0 rows) ∙ texts_of row_request (take front.0 rows) in (
       front.0,

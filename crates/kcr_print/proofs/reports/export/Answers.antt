@@ -3,4 +3,4 @@ use Rattle.kcr_print.proofs.reports.export.Goals as goal
 
 pub returns : goal.returns
 returns g c =
-    export_requests g.S.Store c.args.after c.args.until (g.met.S.Store.survives c.export_rows.new.register.conn.store) c.export_rows.ensures.prints c.export_rows.ensures.whole
+    export_requests g.S.Store c.args.after c.args.until (g.met.S.Store.survives c.args.register.now.conn.store) c.export_rows.ensures.prints c.export_rows.ensures.whole

@@ -3,4 +3,4 @@ use Rattle.kcr_print.proofs.reports.journal.Goals as goal
 
 pub returns : goal.returns
 returns g c =
-    journal_lines g.S.Store c.args.asked (g.met.S.Store.survives c.journal_rows.new.register.conn.store) c.journal_rows.ensures
+    journal_lines g.S.Store c.args.asked (g.met.S.Store.survives c.args.register.now.conn.store) c.journal_rows.ensures

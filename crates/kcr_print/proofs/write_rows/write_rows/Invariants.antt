@@ -5,7 +5,7 @@ use Rattle.sqlite.specs.State.{HasCleanDisk}
 use Rattle.kcr_base.specs.Counted.{inner_of, failures_of}
 use Rattle.kcr_history.specs.Tables.{tables}
 use Rattle.kcr_store.specs.Register.{IsConsistent}
-use Rattle.kcr_store.specs.Calls.{KeepsHistory, OfHistory}
+use Rattle.kcr_store.specs.Calls.{KeepsStand, OfHistory}
 use Rattle.kcr_print.proofs.RowLemmas.{Goes, Gone}
 use Rattle.kcr_print.proofs.write_rows.write_rows.Given as goal
 
@@ -20,7 +20,7 @@ invariant-loop g l = record {
   gone : OfHistory g.S.Store l.initial.rows.register.now l.rows.register.now
       (λ A. Gone g.P.PrintLines.lines (g.W.Write.contents (inner_of l.initial.writer)) (g.W.Write.contents (inner_of l.writer))
       (g.R.Cursor.to_come l.initial.rows.reading (tables A)) (g.R.Cursor.to_come l.rows.reading (tables A)));
-  keeps : KeepsHistory l.initial.rows.register.now l.rows.register.now;
+  keeps : KeepsStand g.S.Store l.initial.rows.register.now l.rows.register.now;
   clean : HasCleanDisk (state g.S.Store l.rows.register.now.conn) → HasCleanDisk (state g.S.Store l.initial.rows.register.now.conn);
   kept : IsConsistent g.S.Store l.rows.register.now;
   calm : failures_of l.writer ≡ failures_of l.initial.writer;

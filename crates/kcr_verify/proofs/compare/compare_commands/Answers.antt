@@ -1,8 +1,6 @@
-use Rattle.std.proofs.Common.{map, refl, sym, ◌∙◌, subst, IsPermutation, IsSorted}
+use Rattle.std.proofs.Common.{map, sym, ◌∙◌, subst, IsPermutation, IsSorted}
 use Rattle.std.proofs.lemmas.List.Sorted.{IsPermutation-refl, IsPermutation-trans}
 use Rattle.std.proofs.lemmas.Result.{IfOk-weaker}
-use Rattle.kcr_history.specs.History.{History}
-use Rattle.kcr_history.specs.Machine.{IsRegister}
 use Rattle.kcr_history.specs.Tables.{key_row}
 use Rattle.kcr_verify.proofs.FirstRowLemmas.{compared_commands}
 use Rattle.kcr_verify.proofs.NumberLemmas.{in_number_order}
@@ -10,26 +8,21 @@ use Rattle.kcr_verify.specs.Verification.{by_number}
 use Rattle.kcr_verify.proofs.compare.compare_commands.Goals as goal
 
 pub returns-clause-register : goal.returns-clause-register
-returns-clause-register g c clean =
-    let A = subst IsRegister (sym c.in_ok-commands.ensures.looks.same)
-    (c.in_ok-commands.ensures.shown (rw c.requires.intact.founded refl) c.requires.intact.in_doubt clean).0 in
-    IfOk-weaker c.first_row.result _ _ (λ found _. A) c.first_row.ensures.row
+returns-clause-register g c clean A at =
+    IfOk-weaker c.first_row.result _ _ (λ found _. (c.in_ok-commands.ensures.shown clean A at).0) c.first_row.ensures.row
 
 pub returns-clause-rows : goal.returns-clause-rows
-returns-clause-rows g c clean =
-    let A = c.table_rows.new.self.accepted in
+returns-clause-rows g c clean A at =
     let read = c.in_ok-commands.commands.items in
     let own = c.sort_by_number.new.rows.items in
     let rows = c.args.rows.now in
-    let shown = c.in_ok-commands.ensures.shown (rw c.requires.intact.founded refl) c.requires.intact.in_doubt clean in
-    let h = subst IsRegister (sym c.in_ok-commands.ensures.looks.same) shown.0 in
-    let same : IsPermutation (map key_row A) read = subst (λ (A : History). IsPermutation (map key_row A) read)
-    (sym c.in_ok-commands.ensures.looks.same) shown.1.same in
+    let shown = c.in_ok-commands.ensures.shown clean A at in
+    let same : IsPermutation (map key_row A) read = shown.1.same in
     let count = c.numbers_count_commands.ensures in
     let put = c.sort_by_number.ensures in
     let value = c.deref.ensures.value in
-    let one = λ (these : IsPermutation (map key_row A) rows). value ∙ in_number_order count A read own h same put.same put.order
-    ∙ sym (in_number_order count A rows rows h these (IsPermutation-refl rows) c.requires.order) in
+    let one = λ (these : IsPermutation (map key_row A) rows). value ∙ in_number_order count A read own shown.0 same put.same put.order
+    ∙ sym (in_number_order count A rows rows shown.0 these (IsPermutation-refl rows) c.requires.order) in
     IfOk-weaker c.first_row.result _ _
     (compared_commands (map key_row A) _ rows
     (subst (IsPermutation (map key_row A)) (sym value) (IsPermutation-trans (map key_row A) read own same put.same))

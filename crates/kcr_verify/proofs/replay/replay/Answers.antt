@@ -1,87 +1,118 @@
-use Rattle.std.proofs.Common.{rules, ◌≡◌, ◌≢◌, ◌+◌, ◌<◌, ◌++◌, length, get_or, sym, ap, ◌∙◌, subst, arith}
+use Rattle.std.proofs.Common.{rules, ◌≡◌, ◌≢◌, ◌+◌, ◌<◌, length, get_or, [], refl, sym, subst, arith}
 use Rattle.std.proofs.lemmas.List.{append-nil}
-use Rattle.kcr_history.specs.History.{History}
-use Rattle.kcr_history.specs.Machine.{IsOfMachine}
 use Rattle.kcr_laws.proofs.Seatings.{machine_first}
+use Rattle.kcr_store.proofs.WholeLemmas.{counted_at, stands_whole}
+use Rattle.kcr_store.specs.Register.{whole}
 use Rattle.kcr_verify.proofs.NumberLemmas.{IsGiven, next_row}
-use Rattle.kcr_verify.proofs.ReplayLemmas.{all_taken, none_taken, stops_for, stops_number, taken_on}
+use Rattle.kcr_verify.proofs.ReplayLemmas.{all_given, all_taken, none_taken, stops_for, stops_number, taken_on}
 use Rattle.kcr_verify.proofs.replay.replay.Goals as goal
 
-pub returns-then-row-index-clause-told : goal.returns-then-row-index-clause-told
-returns-then-row-index-clause-told g c clean =
+pub returns-then-row-index-clause-led : goal.returns-then-row-index-clause-led
+returns-then-row-index-clause-led g c clean =
     let low : c.loop-index.index < length c.args.rows.now = search rules in
-    let at : get_or c.args.rows.now c.loop-index.index c.index-rows-index.result ≡ c.index-rows-index.result = search rules in
+    let here : get_or c.args.rows.now c.loop-index.index c.index-rows-index.result ≡ c.index-rows-index.result = search rules in
     let number : c.index-rows-index.result.accepted ≢ c.loop-index.index + 1 = search rules in
-    stops_number c.args.rows.now c.loop-index.index c.loop-index.register.accepted c.index-rows-index.result (c.loop-index.invariant.taken clean) low at number
-
-pub returns-then-row-index-clause-own : goal.returns-then-row-index-clause-own
-returns-then-row-index-clause-own g c clean A h values is =
-    let low : c.loop-index.index < length c.args.rows.now = search rules in
-    let at : get_or c.args.rows.now c.loop-index.index c.index-rows-index.result ≡ c.index-rows-index.result = search rules in
-    let next = next_row c.numbers_count_commands.ensures A h values c.args.rows.now c.loop-index.index c.loop-index.register.accepted c.index-rows-index.result
-    (c.loop-index.invariant.own clean A h values is) low at in
-    let number : c.index-rows-index.result.accepted ≡ c.loop-index.index + 1 = next.number in
-    absurd (search rules)
-
-pub returns-in-Ok-Some-clause-told : goal.returns-in-Ok-Some-clause-told
-returns-in-Ok-Some-clause-told g c clean =
-    let low : c.loop-index.index < length c.args.rows.now = search rules in
-    let at : get_or c.args.rows.now c.loop-index.index c.index-rows-index.result ≡ c.index-rows-index.result = search rules in
-    let number : c.index-rows-index.result.accepted ≡ c.loop-index.index + 1 = search rules in
-    stops_for _ c.args.rows.now c.loop-index.index c.loop-index.register.accepted c.index-rows-index.result _
-    (c.loop-index.invariant.taken (c.in-Ok-Some.ensures.frame.clean clean)) low at number (rw c.in-Ok-Some.field-0-is at c.in-Ok-Some.ensures.told clean)
-
-pub returns-in-Ok-Some-clause-own : goal.returns-in-Ok-Some-clause-own
-returns-in-Ok-Some-clause-own g c clean A h values is =
-    let low : c.loop-index.index < length c.args.rows.now = search rules in
-    let at : get_or c.args.rows.now c.loop-index.index c.index-rows-index.result ≡ c.index-rows-index.result = search rules in
-    let next = next_row c.numbers_count_commands.ensures A h values c.args.rows.now c.loop-index.index c.loop-index.register.accepted c.index-rows-index.result
-    (c.loop-index.invariant.own (c.in-Ok-Some.ensures.frame.clean clean) A h values is) low at in
-    let differs = rw c.in-Ok-Some.field-0-is at c.in-Ok-Some.ensures.own clean next.entry next.grown next.values next.row_is in
-    let before = c.in-Ok-Some.ensures.frame.clean clean in (
-      next.entry.reply.accepted,
-      differs.0,
+    let at = c.loop-index.invariant.led clean in (
+      whole at.0,
+      at.1,
       record {
-        later = next.then.0;
-        entry = next.entry;
-        before = c.loop-index.register.accepted;
-        whole = next.then.1;
-        counted = c.numbers_count_commands.ensures c.loop-index.register.accepted next.entry next.grown;
-        first = machine_first c.loop-index.register.accepted (c.loop-index.invariant.of_machine before);
-        other = differs.1;
+        of_machine = at.2.of_machine;
+        told = stops_number c.args.rows.now c.loop-index.index at.0 c.index-rows-index.result at.2.taken low here number;
+        own = λ A h values is.
+            let next = next_row c.numbers_count_commands.ensures A h values c.args.rows.now c.loop-index.index at.0 c.index-rows-index.result
+            (at.2.own A h values is) low here in
+            absurd (number next.number);
       },
     )
 
+pub returns-in-Ok-Some-clause-led : goal.returns-in-Ok-Some-clause-led
+returns-in-Ok-Some-clause-led g c clean =
+    let low : c.loop-index.index < length c.args.rows.now = search rules in
+    let here : get_or c.args.rows.now c.loop-index.index c.index-rows-index.result ≡ c.index-rows-index.result = search rules in
+    let number : c.index-rows-index.result.accepted ≡ c.loop-index.index + 1 = search rules in
+    let at = c.loop-index.invariant.led (c.in-Ok-Some.ensures.frame.clean clean) in
+    let end = c.in-Ok-Some.ensures.led clean (whole at.0) at.1 in (
+      end.0,
+      end.1,
+      record {
+        of_machine = end.2.of_machine at.2.of_machine;
+        told = stops_for _ c.args.rows.now c.loop-index.index at.0 c.index-rows-index.result end.0.accepted at.2.taken low here number
+            (rw c.in-Ok-Some.field-0-is at end.2.told);
+        own = λ A h values is.
+            let next = next_row c.numbers_count_commands.ensures A h values c.args.rows.now c.loop-index.index at.0 c.index-rows-index.result
+            (at.2.own A h values is) low here in
+            let differs = rw c.in-Ok-Some.field-0-is at end.2.own next.entry next.grown next.values next.row_is in (
+              next.entry.reply.accepted,
+              differs.0,
+              record {
+                later = next.then.0;
+                entry = next.entry;
+                before = at.0;
+                whole = next.then.1;
+                counted = c.numbers_count_commands.ensures at.0 next.entry next.grown;
+                first = machine_first at.0 at.2.of_machine;
+                other = differs.1;
+              },
+            );
+      },
+    )
+
+pub returns-in-Err-clause-led : goal.returns-in-Err-clause-led
+returns-in-Err-clause-led g c clean =
+    let at = c.loop-index.invariant.led (c.in-Err.ensures.frame.clean clean) in
+    let end = c.in-Err.ensures.led clean (whole at.0) at.1 in
+    (end.0, end.1, record { of_machine = end.2.of_machine at.2.of_machine; told = tt; own = λ A h values is. tt })
+
 pub loop-index-init : goal.loop-index-init
 loop-index-init g c = record {
-  intact = c.requires.intact;
+  intact = record { unbroken = c.requires.stands.broken; kept = c.requires.kept };
   clean = λ now. now;
-  of_machine = λ now. subst IsOfMachine (sym c.requires.empty) tt;
-  taken = λ now own. none_taken c.args.rows.now c.args.register.now.accepted c.requires.empty;
-  own = λ now A h values is. (A, sym (append-nil A) ∙ ap (λ (l : History). A ++ l) (sym c.requires.empty), is, ap length c.requires.empty);
+  led = λ now. (
+    [],
+    c.requires.stands,
+    record {
+      taken = λ own. none_taken c.args.rows.now [] refl;
+      own = λ A h values is. (A, sym (append-nil A), is, refl);
+      of_machine = tt;
+    },
+  );
 }
 
 pub loop-index-preserved : goal.loop-index-preserved
 loop-index-preserved g c = record {
   intact = search rules;
   clean = λ now. c.loop-index.invariant.clean (c.in-Ok-None.ensures.frame.clean now);
-  taken = λ now own.
+  led = λ now.
       let low : c.loop-index.index < length c.args.rows.now = search rules in
-      let at : get_or c.args.rows.now c.loop-index.index c.index-rows-index.result ≡ c.index-rows-index.result = search rules in
+      let here : get_or c.args.rows.now c.loop-index.index c.index-rows-index.result ≡ c.index-rows-index.result = search rules in
       let number : c.index-rows-index.result.accepted ≡ c.loop-index.index + 1 = search rules in
-      let was = c.in-Ok-None.ensures.frame.clean now in
-      taken_on c.numbers_count_commands.ensures c.args.rows.now c.loop-index.index c.loop-index.register.accepted c.index-rows-index.result
-      (c.loop-index.invariant.of_machine was) own (c.loop-index.invariant.taken was own) low at number _ (rw c.in-Ok-None.field-0-is at c.in-Ok-None.ensures.told now);
-  own = λ now A h values is.
-      let low : c.loop-index.index < length c.args.rows.now = search rules in
-      let at : get_or c.args.rows.now c.loop-index.index c.index-rows-index.result ≡ c.index-rows-index.result = search rules in
-      let next = next_row c.numbers_count_commands.ensures A h values c.args.rows.now c.loop-index.index c.loop-index.register.accepted
-      c.index-rows-index.result (c.loop-index.invariant.own (c.in-Ok-None.ensures.frame.clean now) A h values is) low at in
-      let has = rw c.in-Ok-None.field-0-is at c.in-Ok-None.ensures.own now next.entry next.grown next.values next.row_is in
-      subst (IsGiven A c.args.rows.now (c.loop-index.index + 1)) (sym has) next.then;
-  of_machine = λ now. c.in-Ok-None.ensures.of_machine now (c.loop-index.invariant.of_machine (c.in-Ok-None.ensures.frame.clean now));
+      let at = c.loop-index.invariant.led (c.in-Ok-None.ensures.frame.clean now) in
+      let end = c.in-Ok-None.ensures.led now (whole at.0) at.1 in
+      let unbroken = c.in-Ok-None.ensures.frame.unbroken in (
+        end.0.accepted,
+        stands_whole unbroken (counted_at unbroken end.1),
+        record {
+          taken = λ own.
+              taken_on c.numbers_count_commands.ensures c.args.rows.now c.loop-index.index at.0 c.index-rows-index.result at.2.of_machine own
+              (at.2.taken own) low here number end.0.accepted (rw c.in-Ok-None.field-0-is at end.2.told);
+          own = λ A h values is.
+              let next = next_row c.numbers_count_commands.ensures A h values c.args.rows.now c.loop-index.index at.0 c.index-rows-index.result
+              (at.2.own A h values is) low here in
+              let has = rw c.in-Ok-None.field-0-is at end.2.own next.entry next.grown next.values next.row_is in
+              subst (IsGiven A c.args.rows.now (c.loop-index.index + 1)) (sym has) next.then;
+          of_machine = end.2.of_machine at.2.of_machine;
+        },
+      );
 }
 
-pub returns-clause-told : goal.returns-clause-told
-returns-clause-told g c clean own =
-    all_taken c.args.rows.now c.loop-index.index c.loop-index.register.accepted (omega arith) (c.loop-index.invariant.taken clean own)
+pub returns-clause-led : goal.returns-clause-led
+returns-clause-led g c clean =
+    let at = c.loop-index.invariant.led clean in (
+      whole at.0,
+      at.1,
+      record {
+        of_machine = at.2.of_machine;
+        told = λ own. all_taken c.args.rows.now c.loop-index.index at.0 (omega arith) (at.2.taken own);
+        own = λ A h values is. all_given A c.args.rows.now c.loop-index.index at.0 (omega arith) (at.2.own A h values is);
+      },
+    )

@@ -1,6 +1,0 @@
-use Rattle.std.proofs.Common.{true, []}
-use Rattle.kcr_verify.proofs.new_register.init.Given as goal
-
--- an empty database has no history
-abbrev pub ghost-adopt : goal.ghost-adopt
-ghost-adopt g a = (true, [])
