@@ -1,6 +1,6 @@
 -- What the register answers to one message, from what its calls say.
-use Rattle.std.proofs.Common.{◌≡◌, List, ℕ, refl, sym, ap, ◌∙◌, arith, inl, inr}
-use Rattle.std.specs.Prelude.{◌⊎◌, ◌≢◌, ◌↔◌, true, false, Option, Some, None, Result, Err, MatchOption, MatchResult, IsSome, IsTrue}
+use Rattle.std.proofs.Common.{◌≡◌, List, ℕ, refl, sym, ap, subst, ◌∙◌, arith, inl, inr}
+use Rattle.std.specs.Prelude.{◌⊎◌, ◌≢◌, ◌↔◌, Bool, true, false, is_some, unwrap_or, Option, Some, None, Result, Err, MatchOption, MatchResult, IsSome, IsTrue}
 use Rattle.sqlite.specs.Held.{state}
 use Rattle.sqlite.specs.State.{HasCleanDisk}
 use Rattle.sqlite.specs.Store.{Ghosts}
@@ -9,9 +9,9 @@ use Rattle.kcr_base.specs.declared.refusal.Refusal.{Refusal}
 use Rattle.kcr_base.specs.declared.refusal.Refusal.TheVariants as Refusals
 use Rattle.kcr_history.specs.History.{History}
 use Rattle.kcr_history.specs.Refusals.{carries}
-use Rattle.kcr_store.specs.Calls.{ReadsHistory, OfHistory}
-use Rattle.kcr_store.specs.Register.{RegisterState}
-use Rattle.kcr_desk.specs.Answers.{RegisterHistory, history_of, json_response, refusal_response, RespondsOrMemory, ReadsAsHistory, RespondsRefusal, RespondsUnread, Replies, Answered, AnswersReading}
+use Rattle.kcr_store.specs.Calls.{Leads, ReadsHistory, OfHistory, left_at}
+use Rattle.kcr_store.specs.Register.{RegisterState, StandsAt}
+use Rattle.kcr_desk.specs.Answers.{RegisterHistory, whole, json_response, refusal_response, RespondsOrMemory, ReadsAsHistory, RespondsRefusal, RespondsUnread, Replies, Answered, AnswersReading}
 use Rattle.kcr_desk.specs.Texts.{ResponseValue}
 use Rattle.kcr_wire.specs.Endpoints.{allow_of, if_method}
 use Rattle.kcr_wire.specs.declared.allow.Allow.{Allow}
@@ -43,67 +43,117 @@ not_some (Some x) h = absurd (h refl)
 still : (before after : RegisterHistory) → after.accepted ≡ before.accepted → before.in_doubt ≡ None → after.in_doubt ≡ None → after ≡ before
 still before after p q r = λ i. record { accepted = p i; in_doubt = (r ∙ sym q) i }
 
+-- a history of which none is in doubt
+whole_is : (s : RegisterHistory) → s.in_doubt ≡ None → s ≡ whole s.accepted
+whole_is s none = λ i. record { accepted = s.accepted; in_doubt = none i }
+
 -- A RESULT THAT IS TOLD
+
+-- what a result makes of the history at which the register stood
+abbrev pub Makes : {Value : Type 0} → (RegisterHistory → RegisterHistory → Result Value Refusal → Type 0) → Result Value Refusal
+    → RegisterHistory → RegisterHistory → Type 0
+Makes Does result s end = (s.in_doubt ≡ None → Does s end result) × (IsSome s.in_doubt → end ≡ s)
 
 module _ {S Value : Type 0} (g : Ghosts S) (before after : RegisterState S) (told : ResponseValue) (told_by : Result Value Refusal → ResponseValue)
     (as_refusal : (r : Refusal) → told_by (Err r) ≡ refusal_response None r) (result : Result Value Refusal) where
-  abbrev ends_clean : Type 0
-  ends_clean = HasCleanDisk (state g after.conn)
-
-  abbrev wants_memory : Type 0
-  wants_memory = RespondsRefusal (history_of before) told (history_of after) Refusals.Memory
-
   -- a broken register says so. With one that is whole the result does this, or something else if memory runs out
-  by_torn : (Does : Result Value Refusal → Type 0) (in_doubt : Option History)
-      → (IsSome in_doubt → (result ≡ Err Refusals.Broken) × (after ≡ before)) → (in_doubt ≡ None → Does result)
-      → (in_doubt ≡ None → told ≡ refusal_response None Refusals.Memory → result ≢ Err Refusals.Disk
-      → wants_memory ⊎ ((r : Result Value Refusal) × (told ≡ told_by r) × Does r))
+  answered_by : (s end : RegisterHistory) (Does : Result Value Refusal → Type 0) (in_doubt : Option History)
+      → (IsSome in_doubt → (result ≡ Err Refusals.Broken) × (end ≡ s)) → (in_doubt ≡ None → Does result)
+      → (in_doubt ≡ None → told ≡ refusal_response None Refusals.Memory → result ≢ Err Refusals.Disk → end ≡ s)
       → RespondsOrMemory told_by result told
-      → wants_memory ⊎ MatchOption in_doubt ((r : Result Value Refusal) × (told ≡ told_by r) × Does r)
-      (λ _. RespondsRefusal (history_of before) told (history_of after) Refusals.Broken)
-  by_torn Does None broken does wanting (inl tells) = inr (result, tells, does refl)
-  by_torn Does None broken does wanting (inr m) = wanting refl m.0 m.1
-  by_torn Does (Some t) broken does wanting (inl tells) =
-      let b = broken refl in inr (tells ∙ ap told_by b.0 ∙ as_refusal Refusals.Broken, ap history_of b.1)
-  by_torn Does (Some t) broken does wanting (inr m) = absurd (m.2 (broken refl).0)
+      → RespondsRefusal s told end Refusals.Memory ⊎ MatchOption in_doubt ((r : Result Value Refusal) × (told ≡ told_by r) × Does r)
+      (λ _. RespondsRefusal s told end Refusals.Broken)
+  answered_by s end Does None broken does stays (inl tells) = inr (result, tells, does refl)
+  answered_by s end Does None broken does stays (inr m) = inl (m.0, stays refl m.0 m.1)
+  answered_by s end Does (Some t) broken does stays (inl tells) =
+      let b = broken refl in inr (tells ∙ ap told_by b.0 ∙ as_refusal Refusals.Broken, b.1)
+  answered_by s end Does (Some t) broken does stays (inr m) = absurd (m.2 (broken refl).0)
+
+  replied_by : (MayBe : Result Value Refusal → Type 0) (is_broken : Bool) → MayBe (Err Refusals.Memory)
+      → (IsTrue is_broken → (result ≡ Err Refusals.Broken) × (after.is_broken ≡ is_broken)) → (is_broken ≡ false → MayBe result)
+      → (is_broken ≡ false → IsTrue after.is_broken ↔ (result ≡ Err Refusals.Disk)) → RespondsOrMemory told_by result told
+      → Replies told_by MayBe is_broken told after.is_broken
+  replied_by MayBe false memory broken may breaks (inl tells) = (result, tells, (may refl, breaks refl))
+  replied_by MayBe false memory broken may breaks (inr m) = (
+    Err Refusals.Memory,
+    m.0 ∙ sym (as_refusal Refusals.Memory),
+    (memory, ((λ some. absurd (m.1 ((breaks refl).0 some))), (λ is. cc))),
+  )
+  replied_by MayBe true memory broken may breaks (inl tells) =
+      let b = broken refl in (tells ∙ ap told_by b.0 ∙ as_refusal Refusals.Broken, b.1)
+  replied_by MayBe true memory broken may breaks (inr m) = absurd (m.2 (broken refl).0)
 
   -- what is done of the result, if out of memory is told in its place only if the history stays
   pub result_answered : (Does : RegisterHistory → RegisterHistory → Result Value Refusal → Type 0) (MayBe : Result Value Refusal → Type 0)
-      → MayBe (Err Refusals.Memory) → (before.in_doubt ≡ None → MayBe result)
-      → (IsSome before.in_doubt → (result ≡ Err Refusals.Broken) × (after ≡ before))
-      → (before.in_doubt ≡ None → IsSome after.in_doubt ↔ (result ≡ Err Refusals.Disk))
-      → (IsTrue before.is_genuine → before.in_doubt ≡ None → ends_clean → Does (history_of before) (history_of after) result)
-      → (told ≡ refusal_response None Refusals.Memory → Does (history_of before) (history_of after) result → after.accepted ≡ before.accepted)
-      → (ends_clean → HasCleanDisk (state g before.conn)) → after.is_genuine ≡ before.is_genuine → RespondsOrMemory told_by result told
+      → MayBe (Err Refusals.Memory) → (before.is_broken ≡ false → MayBe result)
+      → (IsTrue before.is_broken → (result ≡ Err Refusals.Broken) × (after ≡ before))
+      → (before.is_broken ≡ false → IsTrue after.is_broken ↔ (result ≡ Err Refusals.Disk))
+      → Leads g before after (Makes Does result)
+      → ((s end : RegisterHistory) → told ≡ refusal_response None Refusals.Memory → Does s end result → end.accepted ≡ s.accepted)
+      → (HasCleanDisk (state g after.conn) → HasCleanDisk (state g before.conn)) → RespondsOrMemory told_by result told
       → Answered g before told after
       (λ old new. MatchOption old.in_doubt ((r : Result Value Refusal) × (told ≡ told_by r) × Does old new r)
       (λ _. RespondsRefusal old told new Refusals.Broken))
       (λ old new. Replies told_by MayBe old told new)
-  result_answered Does MayBe memory may broken breaks does stays clean founded tells = record {
-    founded = founded;
+  result_answered Does MayBe memory may broken breaks leads stays clean tells = record {
     clean = clean;
-    reply = by_torn (λ r. MayBe r × (IsSome after.in_doubt ↔ (r ≡ Err Refusals.Disk))) before.in_doubt broken (λ none. (may none, breaks none))
-        (λ none m n. inr (
-          Err Refusals.Memory,
-          m ∙ sym (as_refusal Refusals.Memory),
-          (memory, ((λ some. absurd (n ((breaks none).0 some))), (λ is. cc))),
-        )) tells;
-    answer = λ is_genuine is_clean.
-        by_torn (Does (history_of before) (history_of after)) before.in_doubt broken (λ none. does is_genuine none is_clean)
-        (λ none m n.
-        let calm : after.in_doubt ≡ None = not_some after.in_doubt (λ in_doubt. n ((breaks none).0 in_doubt)) in
-        inl (m, still (history_of before) (history_of after) (stays m (does is_genuine none is_clean)) none calm)) tells;
+    reply = inr (replied_by MayBe before.is_broken memory (λ yes. let b = broken yes in (b.0, ap (λ (r : RegisterState S). r.is_broken) b.1)) may breaks tells);
+    answer = λ now s at.
+        let end = leads now s at in (
+          end.0,
+          end.1,
+          answered_by s end.0 (Does s end.0) s.in_doubt (λ some. ((broken (at.broken ∙ some)).0, end.2.1 some)) end.2.0
+              (λ none m n.
+              let whole_before : before.is_broken ≡ false = at.broken ∙ ap is_some none in
+              let calm : end.0.in_doubt ≡ None = not_some end.0.in_doubt (λ some. n ((breaks whole_before).0 (end.1.broken ∙ some))) in
+              still s end.0 (stays s end.0 m (end.2.0 none)) none calm)
+              tells,
+        );
   }
 
   -- what only reads
+  read_breaks : (s : RegisterHistory) → s.in_doubt ≡ None → (b : Bool) → IsSome (left_at b s).in_doubt ↔ IsTrue b
+  read_breaks s none true = (λ _. refl, λ _. refl)
+  read_breaks s none false = (λ some. ap is_some (sym none) ∙ some, λ yes. ap is_some none ∙ yes)
+
+  read_same : (s : RegisterHistory) (b : Bool) → (left_at b s).accepted ≡ s.accepted
+  read_same s true = refl
+  read_same s false = refl
+
+  read_tried : (s : RegisterHistory) → s.in_doubt ≡ None → (b : Bool) → unwrap_or (left_at b s).in_doubt (left_at b s).accepted ≡ s.accepted
+  read_tried s none true = ap (λ o. unwrap_or o s.accepted) none
+  read_tried s none false = ap (λ o. unwrap_or o s.accepted) none
+
+  read_stays : (s : RegisterHistory) → IsSome s.in_doubt → (d : Option History) → s.in_doubt ≡ d → left_at true s ≡ s
+  read_stays s some None is = absurd (let no = sym some ∙ ap is_some is in cc)
+  read_stays s some (Some t) is = λ i. record { accepted = s.accepted; in_doubt = (ap (λ o. Some (unwrap_or o s.accepted)) is ∙ sym is) i }
+
   pub reading_answered : (Says : History → Result Value Refusal → Type 0) (MayBe : Result Value Refusal → Type 0) {MayFail : Refusal → Type 0}
-      → MayBe (Err Refusals.Memory) → (before.in_doubt ≡ None → MayBe result) → ReadsHistory g MayFail before after result
+      → MayBe (Err Refusals.Memory) → (before.is_broken ≡ false → MayBe result) → ReadsHistory g MayFail before after result
       → OfHistory g before after (λ A. Says A result) → RespondsOrMemory told_by result told
       → AnswersReading g before told after told_by MayBe Says
   reading_answered Says MayBe memory may looks says =
       result_answered (λ old new r. ReadsAsHistory Says old.accepted r new) MayBe memory may looks.broken looks.breaks
-      (λ founded none clean. record { says = says founded none clean; same = looks.same; breaks = looks.breaks none; tried = looks.tried none })
-      (λ m does. looks.same) looks.clean looks.founded
+      (λ clean s at. (
+        left_at after.is_broken s,
+        looks.stands s at,
+        (
+          (λ none.
+              let intact : before.is_broken ≡ false = at.broken ∙ ap is_some none in
+              let to = read_breaks s none after.is_broken in
+              let breaks = looks.breaks intact in
+              record {
+                says = says clean s.accepted (subst (λ (t : RegisterHistory). StandsAt g t before) (whole_is s none) at);
+                same = read_same s after.is_broken;
+                breaks = (λ some. breaks.0 (to.0 some), λ is. to.1 (breaks.1 is));
+                tried = read_tried s none after.is_broken;
+              }),
+          (λ some.
+              let yes : IsTrue after.is_broken = ap (λ (r : RegisterState S). r.is_broken) (looks.broken (at.broken ∙ some)).1 ∙ at.broken ∙ some in
+              subst (λ (b : Bool). left_at b s ≡ s) (sym yes) (read_stays s some s.in_doubt refl)),
+        ),
+      ))
+      (λ s end m does. does.same) looks.clean
 
 -- NOTHING WAS ASKED OF THE REGISTER
 
@@ -112,18 +162,19 @@ is_memory Refusals.Memory = inl refl
 is_memory r = inr (λ e. cc)
 
 module _ {S : Type 0} (g : Ghosts S) (before : RegisterState S) (told : ResponseValue) where
-  pub memory_answered : (Answer Reply : RegisterHistory → RegisterHistory → Type 0) → told ≡ refusal_response None Refusals.Memory
-      → Answered g before told before Answer Reply
+  pub memory_answered : (Answer : RegisterHistory → RegisterHistory → Type 0) (Reply : Bool → Bool → Type 0)
+      → told ≡ refusal_response None Refusals.Memory → Answered g before told before Answer Reply
   memory_answered Answer Reply tells =
-      record { founded = refl; clean = λ clean. clean; reply = inl (tells, refl); answer = λ founded clean. inl (tells, refl) }
+      record { clean = λ clean. clean; reply = inl (tells, refl); answer = λ clean s at. (s, at, inl (tells, refl)) }
 
   -- what was read is no request
-  pub refused_answered : {Request : Type 0} (target : List ℕ) (Takes Replies : RegisterHistory → RegisterHistory → Request → Type 0)
+  pub refused_answered : {Request : Type 0} (target : List ℕ) (Takes : RegisterHistory → RegisterHistory → Request → Type 0)
+      (Replies : Bool → Bool → Request → Type 0)
       (expected : Result Request Refusal) (r : Refusal) → (r ≢ Refusals.Memory → expected ≡ Err r) → TellsRefusal (if_method r (allow_of target)) r told
       → Answered g before told before (λ old new. MatchResult expected (Takes old new) (RespondsUnread old target told new))
       (λ old new. MatchResult expected (Replies old new) (RespondsUnread old target told new))
   refused_answered target Takes Replies expected r reads (inr c) = memory_answered _ _ c.1
   refused_answered target Takes Replies expected r reads (inl e) = elim (is_memory r) [
     | inl m ↦ memory_answered _ _ (e ∙ ap (λ q. refusal_response (if_method q (allow_of target)) q) m)
-    | inr n ↦ rw (reads n) (record { founded = refl; clean = λ clean. clean; reply = inr (e, refl); answer = λ founded clean. inr (e, refl) })
+    | inr n ↦ rw (reads n) (record { clean = λ clean. clean; reply = inr (e, refl); answer = λ clean s at. (s, at, inr (e, refl)) })
   ]

@@ -3,7 +3,7 @@ use Rattle.std.proofs.Common.{ℕ, ◌+◌, List, [], ◌∷◌, ◌++◌, refl,
 use Rattle.std.specs.Prelude.{Result, Ok, Err}
 use Rattle.sqlite.specs.Store.{Ghosts}
 use Rattle.kcr_store.specs.Register.{RegisterState}
-use Rattle.kcr_desk.specs.Answers.{RegisterHistory, AreOfMachine, AreRegisters, IsAnswer, IsReply, history_of}
+use Rattle.kcr_desk.specs.Answers.{RegisterHistory, AreOfMachine, AreRegisters, IsAnswer, IsReply}
 use Rattle.kcr_desk.specs.Connections.{Connects, Ends, Leads, Runs}
 use Rattle.kcr_desk.specs.Run.{Request, Exchange, Run}
 use Rattle.kcr_desk.specs.Streams.{Streams}
@@ -36,28 +36,27 @@ module _ {S : Type 0} (g : Ghosts S) where
   -- no connection was served
   pub connects_none : (a : RegisterState S) → Connects g a a 0
   connects_none a = record {
-    answers = λ founded clean. ([], refl, refl);
+    answers = λ clean s at. (s, at, ([], refl, refl));
     replies = ([], refl, refl);
-    founded = refl;
     clean = λ clean. clean;
   }
 
   -- one was served that was not read
   pub connects_unread : (a : RegisterState S) → Connects g a a 1
   connects_unread a = record {
-    answers = λ founded clean. leads_unread IsAnswer (history_of a);
-    replies = leads_unread IsReply (history_of a);
-    founded = refl;
+    answers = λ clean s at. (s, at, leads_unread IsAnswer s);
+    replies = leads_unread IsReply a.is_broken;
     clean = λ clean. clean;
   }
 
   -- some were served, and then others
   pub connects_both : (a b c : RegisterState S) (m n : ℕ) → Connects g a b m → Connects g b c n → Connects g a c (m + n)
   connects_both a b c m n first later = record {
-    answers = λ founded clean. leads_both IsAnswer (history_of a) (history_of b) (history_of c) m n (first.answers founded (later.clean clean))
-        (later.answers (first.founded ∙ founded) clean);
-    replies = leads_both IsReply (history_of a) (history_of b) (history_of c) m n first.replies later.replies;
-    founded = later.founded ∙ first.founded;
+    answers = λ clean s at.
+        let one = first.answers (later.clean clean) s at in
+        let two = later.answers clean one.0 one.1 in
+        (two.0, two.1, leads_both IsAnswer s one.0 two.0 m n one.2 two.2);
+    replies = leads_both IsReply a.is_broken b.is_broken c.is_broken m n first.replies later.replies;
     clean = λ clean. first.clean (later.clean clean);
   }
 

@@ -1,6 +1,7 @@
 -- What a report that was printed into memory is told.
-use Rattle.std.proofs.Common.{◌≡◌, ℕ, List, [], refl, ap, inl, inr}
-use Rattle.std.specs.Prelude.{◌↔◌, ◌⊎◌, ⊤, Option, Some, Result, Ok, Err, IfErr, OnOk, IsTrue}
+use Rattle.std.proofs.Common.{◌≡◌, ◌∙◌, ℕ, List, [], Bool, false, refl, ap, sym, subst, inl, inr}
+use Rattle.std.proofs.lemmas.Bool.{true≢false}
+use Rattle.std.specs.Prelude.{◌↔◌, ◌⊎◌, ◌<◌, ◌≤◌, ⊤, Option, Some, Result, Ok, Err, IfErr, MatchResult, OnOk, IsTrue, length}
 use Rattle.sqlite.specs.Store.{Ghosts}
 use Rattle.kcr_base.specs.declared.counted.Counted.{Counted}
 use Rattle.kcr_base.specs.declared.refusal.Refusal.{Refusal}
@@ -9,15 +10,16 @@ use Rattle.kcr_forms.specs.Values.{AreValues}
 use Rattle.kcr_history.specs.Ceremonies.{is_ceremony}
 use Rattle.kcr_history.specs.History.{History}
 use Rattle.kcr_tables.specs.Refusals.{IsFault}
-use Rattle.kcr_store.specs.Register.{RegisterState}
-use Rattle.kcr_store.specs.Calls.{ReadsHistory, OfHistory}
+use Rattle.kcr_store.specs.Register.{IsConsistent, RegisterState, StandsAt}
+use Rattle.kcr_store.specs.Calls.{ReadsHistory, OfHistory, left_at}
 use Rattle.kcr_store.specs.Rows.{IsNotPlanned, MayHaveNoRow, NamesCeremony}
+use Rattle.kcr_store.proofs.WholeLemmas.{commits_nothing}
 use Rattle.kcr_print.specs.Reports.{IsPrinted, Prints, Stops}
 use Rattle.kcr_print.specs.Requests.{Exports}
 use Rattle.kcr_print.specs.declared.fault.PrintFault.{PrintFault}
 use Rattle.kcr_print.specs.declared.fault.PrintFault.TheVariants.{Refused, Write}
 use Rattle.kcr_desk.specs.declared.response.MediaType.{MediaType}
-use Rattle.kcr_desk.specs.Answers.{IsReported, IsText, IsFeed, feed, MayBeReported, MayBeText, outcome_of, report_response, RespondsOrMemory, AnswersReading}
+use Rattle.kcr_desk.specs.Answers.{IsReported, IsText, IsFeed, feed, no_command, MayBeFed, MayBeReported, MayBeText, outcome_of, report_response, RespondsOrMemory, AnswersReading}
 use Rattle.kcr_desk.specs.Texts.{ResponseValue}
 use Rattle.kcr_desk.proofs.AnswerLemmas.{reading_answered}
 
@@ -45,6 +47,13 @@ is_text text_of A (Ok done) text printed = printed
 is_text text_of A (Err (Refused refusal)) text printed = undenied refusal printed.1
 is_text text_of A (Err Write) text printed = inl refl
 
+is_feed : (number : ℕ) (A : History) (outcome : Result ⊤ PrintFault) (text : List ℕ) → number ≤ length A
+    → IsPrinted (λ _. ⊥) (feed number A) outcome (Some []) (Some text) → MatchResult (outcome_of outcome text)
+    (λ t. (number ≤ length A) × (t ≡ feed number A)) (λ refusal. IsFault refusal ⊎ ((length A < number) × (refusal ≡ no_command number)))
+is_feed number A (Ok done) text enough printed = (enough, printed)
+is_feed number A (Err (Refused refusal)) text enough printed = inl (undenied refusal printed.1)
+is_feed number A (Err Write) text enough printed = inl (inl refl)
+
 -- a report that is not whole is refused as it may be
 may_fail : {MayDeny MayFail : Refusal → Type 0} → ((r : Refusal) → IsFault r ⊎ MayDeny r → MayFail r) → (outcome : Result ⊤ PrintFault) (text : List ℕ)
     → IfErr outcome (Stops MayDeny) → IfErr (outcome_of outcome text) MayFail
@@ -67,9 +76,8 @@ module _ {S W : Type 0} (g : Ghosts S) {contents : W → Option (List ℕ)} {bef
         broken = λ some. let b = prints.broken some in (ap (λ o. outcome_of o text) b.0, b.1);
         cause = λ none. may_fail may outcome text (prints.cause none);
         breaks = λ none. let b = leaves.breaks none in ((λ some. disk.0 (b.0 some)), (λ is. b.1 (disk.1 is)));
-        same = leaves.same;
-        tried = leaves.tried;
-        founded = leaves.founded;
+        nothing = leaves.nothing;
+        stands = leaves.stands;
         clean = prints.clean;
         kept = prints.kept;
       } in
@@ -85,7 +93,7 @@ module _ {S W : Type 0} (g : Ghosts S) {contents : W → Option (List ℕ)} {bef
       → AnswersReading g before told after (report_response kind) (MayBeReported ceremony) (IsReported report ceremony)
   report_answered report ceremony prints printed planned =
       says_answered (NamesCeremony ceremony) (MayHaveNoRow ceremony) (IsReported report ceremony) (λ r h. h) prints
-      (λ f none c. reported report ceremony before.accepted outcome text (printed f none c) (planned f none c))
+      (λ c A at. reported report ceremony A outcome text (printed c A at) (planned c A at))
 
   -- a report of the whole register
   pub text_answered : {D : History → Refusal → Type 0} {t : History → List ℕ} (text_of : History → List ℕ)
@@ -95,13 +103,35 @@ module _ {S W : Type 0} (g : Ghosts S) {contents : W → Option (List ℕ)} {bef
       → AnswersReading g before told after (report_response kind) MayBeText (IsText text_of)
   text_answered text_of prints printed =
       says_answered (λ _. ⊥) IsFault (IsText text_of) (λ r h. undenied r h) prints
-      (λ f none c. is_text text_of before.accepted outcome text (printed f none c))
+      (λ c A at. is_text text_of A outcome text (printed c A at))
 
   -- the feed
   pub feed_answered : {n u : ℕ} (number : ℕ) → Exports g contents before after x y outcome n u
       → OfHistory g before after (λ A. AreValues A → IsPrinted (λ _. ⊥) (feed number A) outcome (Some []) (Some text))
-      → RespondsOrMemory (report_response kind) (outcome_of outcome text) told
-      → AnswersReading g before told after (report_response kind) MayBeText (IsFeed number)
-  feed_answered number exports requests =
-      says_answered (λ _. ⊥) IsFault (IsFeed number) (λ r h. undenied r h) exports.prints
-      (λ f none c values. is_text (feed number) before.accepted outcome text (requests f none c values))
+      → (before.is_broken ≡ false → number ≤ before.last_number) → RespondsOrMemory (report_response kind) (outcome_of outcome text) told
+      → AnswersReading g before told after (report_response kind) (MayBeFed number) (IsFeed number)
+  feed_answered number exports requests enough =
+      says_answered (λ _. ⊥) (λ refusal. IsFault refusal ⊎ (refusal ≡ no_command number)) (IsFeed number) (λ r h. inl (undenied r h)) exports.prints
+      (λ c A at values. let counts = (at.shows refl).counts (exports.prints.clean c) in
+      is_feed number A outcome text (subst (λ n. number ≤ n) counts (enough at.broken)) (requests c A at values))
+
+-- the number that a feed begins behind is none of a command
+pub unknown_answered : {S : Type 0} (g : Ghosts S) (register : RegisterState S) (told : ResponseValue) (kind : MediaType) (number : ℕ)
+    → IsConsistent g register → register.is_broken ≡ false → register.last_number < number
+    → RespondsOrMemory (report_response kind) (Err (no_command number)) told
+    → AnswersReading g register told register (report_response kind) (MayBeFed number) (IsFeed number)
+unknown_answered g register told kind number kept unbroken few =
+    let MayFail : Refusal → Type 0 = λ refusal. IsFault refusal ⊎ (refusal ≡ no_command number) in
+    let unknown : Result (List ℕ) Refusal = Err (no_command number) in
+    let looks : ReadsHistory g MayFail register register unknown = record {
+      broken = λ yes. absurd (true≢false (sym yes ∙ unbroken));
+      cause = λ _. inr refl;
+      breaks = λ _. (λ yes. absurd (true≢false (sym yes ∙ unbroken)), λ is. cc);
+      nothing = commits_nothing g register;
+      stands = λ s at. subst (λ (b : Bool). StandsAt g (left_at b s) register) (sym unbroken) at;
+      clean = λ clean. clean;
+      kept = kept;
+    } in
+    reading_answered g register register told (report_response kind) (λ r. refl) unknown (IsFeed number) (MayBeFed number)
+    (inl (inl refl)) looks.cause looks
+    (λ clean A at values. inr (subst (λ (n : ℕ). n < number) ((at.shows refl).counts clean) few, refl))

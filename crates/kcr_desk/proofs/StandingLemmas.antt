@@ -5,11 +5,12 @@ use Rattle.kcr_base.specs.Counted.{failures_of, nonempty_reads_of}
 use Rattle.sqlite.specs.Held.{state}
 use Rattle.sqlite.specs.State.{HasCleanDisk}
 use Rattle.sqlite.specs.Store.{Ghosts}
-use Rattle.kcr_store.specs.Register.{RegisterState}
+use Rattle.kcr_store.specs.Register.{RegisterState, StandsAt}
+use Rattle.kcr_store.specs.Calls.{Leads}
 use Rattle.kcr_desk.specs.declared.fault.DeskFault.{DeskFault}
 use Rattle.kcr_desk.specs.declared.fault.DeskFault.TheVariants.{Read, Write, Memory}
 use Rattle.kcr_desk.specs.declared.stream.Served.{Served}
-use Rattle.kcr_desk.specs.Answers.{history_of, Answers, IsAnswer, IsReply}
+use Rattle.kcr_desk.specs.Answers.{Answers, IsAnswer, IsReply}
 use Rattle.kcr_desk.specs.Connections.{Ends}
 use Rattle.kcr_desk.specs.Run.{Request, Exchange, Run, IsServed, IsServedInPart}
 use Rattle.kcr_desk.specs.Streams.{Streams, BreaksStream}
@@ -23,22 +24,17 @@ module _ {S : Type 0} (g : Ghosts S) where
   run_clean before after [] run clean = subst is_clean (sym run) clean
   run_clean before after (x ∷ xs) run clean = run.1.clean (run_clean run.0 after xs run.2 clean)
 
-  pub run_founded : (before after : RegisterState S) (xs : List Exchange) → Run (Answers g) before xs after → after.is_genuine ≡ before.is_genuine
-  run_founded before after [] run = ap (λ register. register.is_genuine) (sym run)
-  run_founded before after (x ∷ xs) run = run_founded run.0 after xs run.2 ∙ run.1.founded
+  pub run_replies : (before after : RegisterState S) (xs : List Exchange) → Run (Answers g) before xs after → Run IsReply before.is_broken xs after.is_broken
+  run_replies before after [] run = ap (λ (r : RegisterState S). r.is_broken) run
+  run_replies before after (x ∷ xs) run = (run.0.is_broken, run.1.reply, run_replies run.0 after xs run.2)
 
-  pub run_replies : (before after : RegisterState S) (xs : List Exchange) → Run (Answers g) before xs after → Run IsReply (history_of before) xs (history_of after)
-  run_replies before after [] run = ap history_of run
-  run_replies before after (x ∷ xs) run = (history_of run.0, run.1.reply, run_replies run.0 after xs run.2)
-
-  pub run_answers : (before after : RegisterState S) → IsTrue before.is_genuine → is_clean after → (xs : List Exchange) → Run (Answers g) before xs after
-      → Run IsAnswer (history_of before) xs (history_of after)
-  run_answers before after founded clean [] run = ap history_of run
-  run_answers before after founded clean (x ∷ xs) run = (
-    history_of run.0,
-    run.1.answer founded (run_clean run.0 after xs run.2 clean),
-    run_answers run.0 after (run.1.founded ∙ founded) clean xs run.2,
-  )
+  -- from whatever history the register stands at
+  pub run_answers : (before after : RegisterState S) (xs : List Exchange) → Run (Answers g) before xs after → Leads g before after (λ s end. Run IsAnswer s xs end)
+  run_answers before after [] run clean s at = (s, subst (StandsAt g s) run at, refl)
+  run_answers before after (x ∷ xs) run clean s at =
+      let one = run.1.answer (run_clean run.0 after xs run.2 clean) s at in
+      let rest = run_answers run.0 after xs run.2 clean one.0 one.1 in
+      (rest.0, rest.1, (one.0, one.2, rest.2))
 
 -- a stream that was served by these steps was so by others, if these lead as those do
 module _ {S R : Type 0} {step : S → Request → ResponseValue → S → Type 0} {other : R → Request → ResponseValue → R → Type 0} {input a b : Option (List ℕ)}
@@ -68,6 +64,26 @@ pub is_open_stay_of : {S T R W : Type 0} (step : S → Request → ResponseValue
     → Ends step s before after result → Ends other s first last result
 is_open_stay_of step other s before after first last (Ok served) leads ends = served_by leads ends
 is_open_stay_of step other s before after first last (Err fault) leads ends = broken_by leads ends
+
+-- a stream that a register ended: from whatever history it stood at, by the machine
+pub ends_answered : {S R W : Type 0} (g : Ghosts S) (s : Streams R W) (before after : RegisterState S) (result : Result Served DeskFault)
+    → Ends (Answers g) s before after result → Leads g before after (λ stand end. Ends IsAnswer s stand end result)
+ends_answered g s before after (Ok served) ends clean stand at =
+    let run = run_answers g before after ends.exchanges ends.run clean stand at in (
+      run.0,
+      run.1,
+      record {
+        exchanges = ends.exchanges;
+        ending = ends.ending;
+        cut = ends.cut;
+        run = run.2;
+        written = ends.written;
+        requests = ends.requests;
+      },
+    )
+ends_answered g s before after (Err fault) ends clean stand at =
+    let run = run_answers g before after ends.exchanges ends.run clean stand at in
+    (run.0, run.1, record { exchanges = ends.exchanges; next = ends.next; begins = ends.begins; run = run.2; written = ends.written })
 
 -- what the counts of the reader and of the writer tell of a fault
 pub broken_stream : {T R W : Type 0} (s : Streams R W) (result : Result T DeskFault)

@@ -1,6 +1,6 @@
 -- What a message is told, and what it leaves of the register.
-use Rattle.std.specs.Prelude.{◌+◌, ◌≡◌, ◌⊎◌, ◌↔◌, ◌≢◌, ⊤, ℕ, List, Option, None, Result, Ok, Err, MatchOption, MatchResult}
-use Rattle.std.specs.Prelude.{IfErr, IsSome, IsTrue, unwrap_or}
+use Rattle.std.specs.Prelude.{◌+◌, ◌<◌, ◌≤◌, ◌≡◌, ◌⊎◌, ◌↔◌, ◌≢◌, ⊤, ℕ, Bool, List, length, Option, None, Result, Ok, Err}
+use Rattle.std.specs.Prelude.{IfErr, IsSome, IsTrue, MatchBool, MatchOption, MatchResult, unwrap_or}
 use Rattle.sqlite.specs.Held.{state}
 use Rattle.sqlite.specs.State.{HasCleanDisk}
 use Rattle.sqlite.specs.Store.{Ghosts}
@@ -9,6 +9,7 @@ use Rattle.kcr_forms.specs.Values.{AreValues}
 use Rattle.kcr_base.specs.Refusal.{status_of}
 use Rattle.kcr_base.specs.declared.refusal.Refusal.{Refusal}
 use Rattle.kcr_base.specs.declared.refusal.Refusal.TheVariants as Refusals
+use Rattle.kcr_base.specs.declared.refusal.Thing.TheVariants as Things
 use Rattle.kcr_history.specs.History.{History}
 use Rattle.kcr_history.specs.Machine.{IsOfMachine, IsRegister}
 use Rattle.kcr_history.specs.Refusals.{refusal_text}
@@ -18,6 +19,8 @@ use Rattle.kcr_history.specs.Ceremonies.{is_ceremony}
 use Rattle.kcr_history.specs.Prints.{annotated, attendance, custody}
 use Rattle.kcr_tables.specs.Refusals.{IsFault}
 use Rattle.kcr_store.specs.Register.{RegisterState}
+pub use Rattle.kcr_store.specs.Register.{RegisterHistory, whole}
+use Rattle.kcr_store.specs.Calls.{Leads}
 use Rattle.kcr_store.specs.Rows.{HasNoRow, MayHaveNoRow}
 use Rattle.kcr_store.specs.Shown.{IsShownByRows}
 use Rattle.kcr_store.specs.Commands.{AppliesCommand, IsSameOrNext, IsQuestionResult, MayBeReplied, MayRefuseQuestion}
@@ -40,19 +43,6 @@ use Rattle.kcr_print.specs.declared.fault.PrintFault.{PrintFault}
 use Rattle.kcr_print.specs.declared.fault.PrintFault.TheVariants.{Refused, Write}
 use Rattle.kcr_desk.specs.Run.{Request}
 use Rattle.kcr_desk.specs.Texts.{ResponseValue}
-
--- what the register is to the desk: the history of what it accepted and, once it is broken, the history that a crash
--- may have left
-pub record RegisterHistory : Type 0 where
-  pub accepted : History
-  pub in_doubt : Option History
-
--- a register with this history that nothing has broken
-abbrev pub whole : History → RegisterHistory
-whole A = record { accepted = A; in_doubt = None }
-
-abbrev pub history_of : {S : Type 0} → RegisterState S → RegisterHistory
-history_of register = record { accepted = register.accepted; in_doubt = register.in_doubt }
 
 -- 200 with a text of this kind
 abbrev pub ok_response : MediaType → List ℕ → ResponseValue
@@ -113,16 +103,24 @@ IsText text_of A result = MatchResult result (λ text. text ≡ text_of A) IsFau
 abbrev pub feed : ℕ → History → List ℕ
 feed after A = requests_between after (after + 1000) A
 
--- of a history whose commands are of values the feed; or out of memory, or an I/O error
+-- the refusal of the number of a command that was never accepted
+abbrev pub no_command : ℕ → Refusal
+no_command number = Refusals.Unknown (Things.Command number)
+
+-- of a history whose commands are of values the feed, unless the number that it begins behind is greater than that of
+-- the last command: then this is refused; or out of memory, or an I/O error
 abbrev pub IsFeed : ℕ → History → Result (List ℕ) Refusal → Type 0
-IsFeed after A result = AreValues A → IsText (feed after) A result
+IsFeed after A result =
+    AreValues A
+    → MatchResult result (λ text. (after ≤ length A) × (text ≡ feed after A))
+    (λ refusal. IsFault refusal ⊎ ((length A < after) × (refusal ≡ no_command after)))
 
 -- the refusal is told, and the register stays as it was
-abbrev pub RespondsRefusal : RegisterHistory → ResponseValue → RegisterHistory → Refusal → Type 0
+abbrev pub RespondsRefusal : {Stand : Type 0} → Stand → ResponseValue → Stand → Refusal → Type 0
 RespondsRefusal before told after refusal = (told ≡ refusal_response None refusal) × (after ≡ before)
 
 -- the same of a message that could not be read
-abbrev pub RespondsUnread : RegisterHistory → List ℕ → ResponseValue → RegisterHistory → Refusal → Type 0
+abbrev pub RespondsUnread : {Stand : Type 0} → Stand → List ℕ → ResponseValue → Stand → Refusal → Type 0
 RespondsUnread before target told after refusal =
     (told ≡ refusal_response (if_method refusal (allow_of target)) refusal) × (after ≡ before)
 
@@ -151,8 +149,8 @@ TakesInquiry before told after (inquiry.Attendance ceremony) =
     TakesReading (report_response Csv) (IsReported attendance ceremony) before told after
 TakesInquiry before told after inquiry.Custody =
     TakesReading (report_response Text) (IsText custody) before told after
-TakesInquiry before told after (inquiry.Commands count) =
-    TakesReading (report_response Text) (IsFeed count) before told after
+TakesInquiry before told after (inquiry.Commands number) =
+    TakesReading (report_response Text) (IsFeed number) before told after
 
 -- a POST is a command, a GET or a HEAD asks for something, and any other method is refused
 abbrev pub AnswersBy : Method → RegisterHistory → Request → ResponseValue → RegisterHistory → Type 0
@@ -184,18 +182,22 @@ MayBeReported ceremony result = IfErr result (MayHaveNoRow ceremony)
 abbrev pub MayBeText : Result (List ℕ) Refusal → Type 0
 MayBeText result = IfErr result IsFault
 
+-- what a feed may get
+abbrev pub MayBeFed : ℕ → Result (List ℕ) Refusal → Type 0
+MayBeFed after result = IfErr result (λ refusal. IsFault refusal ⊎ (refusal ≡ no_command after))
+
 -- a request that could be read is told its result, one that it may get, and an I/O error alone breaks the
--- register; of its history nothing is said. A broken one says so, and stays as it was
-abbrev pub Replies : {Value : Type 0} → (Result Value Refusal → ResponseValue) → (Result Value Refusal → Type 0) → RegisterHistory
-    → ResponseValue → RegisterHistory → Type 0
+-- register; what it holds is not told. A broken one says so, and stays as it was
+abbrev pub Replies : {Value : Type 0} → (Result Value Refusal → ResponseValue) → (Result Value Refusal → Type 0) → Bool
+    → ResponseValue → Bool → Type 0
 Replies {Value} told_by MayBe before told after =
-    MatchOption before.in_doubt
+    MatchBool before
+    (RespondsRefusal before told after Refusals.Broken)
     ((result : Result Value Refusal) × (told ≡ told_by result)
-    × (MayBe result × (IsSome after.in_doubt ↔ (result ≡ Err Refusals.Disk))))
-    (λ _. RespondsRefusal before told after Refusals.Broken)
+    × (MayBe result × (IsTrue after ↔ (result ≡ Err Refusals.Disk))))
 
 -- a question, or a report
-abbrev pub RepliesInquiry : RegisterHistory → ResponseValue → RegisterHistory → Inquiry → Type 0
+abbrev pub RepliesInquiry : Bool → ResponseValue → Bool → Inquiry → Type 0
 RepliesInquiry before told after (inquiry.Question question) =
     Replies shown_response (MayBeShown question) before told after
 RepliesInquiry before told after (inquiry.Script ceremony) =
@@ -204,11 +206,11 @@ RepliesInquiry before told after (inquiry.Attendance ceremony) =
     Replies (report_response Csv) (MayBeReported ceremony) before told after
 RepliesInquiry before told after inquiry.Custody =
     Replies (report_response Text) MayBeText before told after
-RepliesInquiry before told after (inquiry.Commands count) =
-    Replies (report_response Text) MayBeText before told after
+RepliesInquiry before told after (inquiry.Commands number) =
+    Replies (report_response Text) (MayBeFed number) before told after
 
 -- a POST is a command, a GET or a HEAD asks for something, and any other method is refused
-abbrev pub RepliesBy : Method → RegisterHistory → Request → ResponseValue → RegisterHistory → Type 0
+abbrev pub RepliesBy : Method → Bool → Request → ResponseValue → Bool → Type 0
 RepliesBy Post before asked told after =
     MatchResult (command_of asked.target asked.body)
     (λ x. Replies reply_response (MayBeReplied x) before told after)
@@ -218,7 +220,7 @@ RepliesBy Ask before asked told after =
 RepliesBy Other before asked told after = RespondsUnread before asked.target told after (refused_of asked.target)
 
 -- what a message is told by any register, whatever its database holds and whatever its disk does
-abbrev pub IsReply : RegisterHistory → Request → ResponseValue → RegisterHistory → Type 0
+abbrev pub IsReply : Bool → Request → ResponseValue → Bool → Type 0
 IsReply before asked told after =
     RespondsRefusal before told after Refusals.Memory
     ⊎ RepliesBy (method_of asked.method) before asked told after
@@ -237,18 +239,15 @@ AreOfMachine s = IsOfMachine s.accepted × IsOfMachine (unwrap_or s.in_doubt s.a
 abbrev pub AreOfValues : RegisterHistory → Type 0
 AreOfValues s = AreValues s.accepted × AreValues (unwrap_or s.in_doubt s.accepted)
 
--- a message is answered by a register: in any case a reply; and over a database that was empty or a register's at
--- first, as long as its disk is clean, the answer
+-- a message is answered by a register: in any case a reply; and from whatever history the register stands at, as long
+-- as its disk is clean, the answer
 pub record Answered
     {S : Type 0} (g : Ghosts S) (before : RegisterState S) (told : ResponseValue) (after : RegisterState S)
-    (Answer Reply : RegisterHistory → RegisterHistory → Type 0) : Type 0 where
-  pub founded : after.is_genuine ≡ before.is_genuine
+    (Answer : RegisterHistory → RegisterHistory → Type 0) (Reply : Bool → Bool → Type 0) : Type 0 where
   pub clean : HasCleanDisk (state g after.conn) → HasCleanDisk (state g before.conn)
-  pub reply : RespondsRefusal (history_of before) told (history_of after) Refusals.Memory
-      ⊎ Reply (history_of before) (history_of after)
-  pub answer : IsTrue before.is_genuine → HasCleanDisk (state g after.conn)
-      → RespondsRefusal (history_of before) told (history_of after) Refusals.Memory
-      ⊎ Answer (history_of before) (history_of after)
+  pub reply : RespondsRefusal before.is_broken told after.is_broken Refusals.Memory
+      ⊎ Reply before.is_broken after.is_broken
+  pub answer : Leads g before after (λ s end. RespondsRefusal s told end Refusals.Memory ⊎ Answer s end)
 
 -- a command
 abbrev pub AnswersCommand : {S : Type 0} → Ghosts S → RegisterState S → ResponseValue → RegisterState S → Command → Type 0

@@ -1,10 +1,11 @@
 -- How a connection ends, and what connections make of a register.
-use Rattle.std.specs.Prelude.{◌≡◌, ℕ, List, [], ◌∷◌, length, Result, MatchResult, IsTrue}
+use Rattle.std.specs.Prelude.{◌≡◌, ℕ, List, [], ◌∷◌, length, Result, MatchResult}
 use Rattle.sqlite.specs.Held.{state}
 use Rattle.sqlite.specs.State.{HasCleanDisk}
 use Rattle.sqlite.specs.Store.{Ghosts}
 use Rattle.kcr_store.specs.Register.{RegisterState}
-use Rattle.kcr_desk.specs.Answers.{IsAnswer, IsReply, history_of}
+use Rattle.kcr_store.specs.Calls.{Leads as Moves}
+use Rattle.kcr_desk.specs.Answers.{IsAnswer, IsReply}
 use Rattle.kcr_desk.specs.Run.{Request, Exchange, Run, IsServed, IsServedInPart}
 use Rattle.kcr_desk.specs.Streams.{Streams, input_of, bytes_before, bytes_after}
 use Rattle.kcr_desk.specs.Texts.{ResponseValue}
@@ -33,8 +34,6 @@ Leads step before after count =
 -- this number of connections was served, one after the other, and nothing else changed the register. A socket does not
 -- tell its bytes to proofs, so the messages are those that were answered
 pub record Connects {S : Type 0} (g : Ghosts S) (before after : RegisterState S) (count : ℕ) : Type 0 where
-  pub answers : IsTrue before.is_genuine → HasCleanDisk (state g after.conn)
-      → Leads IsAnswer (history_of before) (history_of after) count
-  pub replies : Leads IsReply (history_of before) (history_of after) count
-  pub founded : after.is_genuine ≡ before.is_genuine
+  pub answers : Moves g before after (λ s end. Leads IsAnswer s end count)
+  pub replies : Leads IsReply before.is_broken after.is_broken count
   pub clean : HasCleanDisk (state g after.conn) → HasCleanDisk (state g before.conn)

@@ -1,5 +1,5 @@
 //! What the register is asked by a message, and what the message is told.
-ghost use Rattle.std.specs.Prelude.{◌≡◌, ◌⊎◌, None, IsTrue};
+ghost use Rattle.std.specs.Prelude.{◌≡◌, ◌⊎◌, ◌<◌, ◌≤◌, false, None, IsTrue};
 ghost use Rattle.sqlite.specs.Held.{state};
 ghost use Rattle.sqlite.specs.State.{HasCleanDisk};
 ghost use Rattle.kcr_store.specs.Commands.{IsQuestionResult};
@@ -10,7 +10,7 @@ ghost use Rattle.kcr_desk.specs.Answers.{Answers, AnswersAs, AnswersCommand, Ans
 ghost use Rattle.kcr_desk.specs.Answers.{IsReported, json_response, refusal_response, shown_response, report_response};
 ghost use Rattle.kcr_desk.specs.Answers.{RespondsOrMemory, refusal_of};
 ghost use Rattle.kcr_desk.specs.Answers.{outcome_of, MayBeReported, MayBeShown, MayBeText, IsText};
-ghost use Rattle.kcr_desk.specs.Answers.{IsFeed};
+ghost use Rattle.kcr_desk.specs.Answers.{IsFeed, MayBeFed};
 ghost use Rattle.kcr_desk.specs.declared.response.MediaType.TheVariants as kinds;
 ghost use Rattle.kcr_history.specs.Prints as prints;
 ghost use Rattle.kcr_desk.specs.Responses.{response_value};
@@ -18,7 +18,7 @@ ghost use Rattle.kcr_desk.specs.Responses.{response_value};
 use crate::responder::{Request, Responder};
 use crate::response::{Body, Heading, MediaType, Response, refusal_heading};
 use http::StatusCode;
-use kcr_base::{CeremonyNumber, Counted, Refusal, Text};
+use kcr_base::{CeremonyNumber, Counted, Refusal, Text, Thing};
 use kcr_forms::laws::acts_are_values;
 use kcr_history::{Command, Question, fixed_text};
 use kcr_print::{PrintFault, annotated, attendance_csv, custody, export};
@@ -191,16 +191,51 @@ fn answer_custody<S: Alter>(alloc: Global, register: &mut Register<S>) -> Respon
 /// The most commands of one answer.
 const MAX_FEED_COMMANDS: u32 = 1_000;
 
+/// Whether the client has more commands than the register, which is not broken.
+fn is_ahead<S: Alter>(register: &Register<S>, after: After) -> bool
+    ensures ahead { IsTrue result → (register.now.is_broken ≡ false) × (register.now.last_number < after) }
+    ensures behind { result ≡ false → register.now.is_broken ≡ false → after ≤ register.now.last_number }
+{
+    !register.is_broken() && register.last_number() < after.get()
+}
+
+/// Tells that no command with this number was accepted.
+fn answer_unknown<S: Alter>(alloc: Global, register: &Register<S>, after: After) -> Response
+    requires unbroken { register.now.is_broken ≡ false }
+    requires few { register.now.last_number < after }
+    ensures { AnswersReading S.Store register.now (response_value result) register.now
+        (report_response kinds.Text) (MayBeFed after) (IsFeed after) }
+{
+    // Any use of a register tells that it is whole.
+    let _ = register.is_broken();
+    let thing = Thing::Command(after.get());
+    refusal_response(alloc, None, &Refusal::Unknown { thing })
+}
+
 /// Writes the requests of the commands behind those that the client has into memory, and tells them.
-fn answer_commands<S: Alter>(alloc: Global, register: &mut Register<S>, after: After) -> Response
+fn answer_feed<S: Alter>(alloc: Global, register: &mut Register<S>, after: After) -> Response
+    requires enough { register.old.is_broken ≡ false → after ≤ register.old.last_number }
     ensures { AnswersReading S.Store register.old (response_value result) register.new
-        (report_response kinds.Text) MayBeText (IsFeed after) }
+        (report_response kinds.Text) (MayBeFed after) (IsFeed after) }
 {
     let after = after.get();
     let mut page = Counted::new(Vec::new(alloc));
     let outcome = export(alloc, register, after, after + MAX_FEED_COMMANDS, &mut page);
     let text = page.into_inner();
     report_response(alloc, MediaType::Text, text, outcome)
+}
+
+/// Tells the commands behind those that the client has. One that has more than were accepted is told that its last one
+/// is unknown: it followed another register.
+fn answer_commands<S: Alter>(alloc: Global, register: &mut Register<S>, after: After) -> Response
+    ensures { AnswersReading S.Store register.old (response_value result) register.new
+        (report_response kinds.Text) (MayBeFed after) (IsFeed after) }
+{
+    if is_ahead(register, after) {
+        answer_unknown(alloc, register, after)
+    } else {
+        answer_feed(alloc, register, after)
+    }
 }
 
 /// Asks the register for what a GET or HEAD asks for, and tells it.

@@ -1,10 +1,9 @@
 //! One connection.
-ghost use Rattle.std.specs.Prelude.{◌+◌, ◌≤◌, ◌↔◌, ℕ, IfErr, IsSome, IsTrue};
-ghost use Rattle.sqlite.specs.Held.{state};
-ghost use Rattle.sqlite.specs.State.{HasCleanDisk};
+ghost use Rattle.std.specs.Prelude.{◌≡◌, ◌+◌, ◌≤◌, ℕ, IfErr};
+ghost use Rattle.kcr_store.specs.Calls.{Leads as Moves};
 ghost use Rattle.kcr_base.specs.Counted.{nonempty_reads_of};
 ghost use Rattle.kcr_store.specs.Register.{IsConsistent};
-ghost use Rattle.kcr_desk.specs.Answers.{RegisterHistory, AreOfMachine, AreRegisters, IsAnswer, IsReply, history_of};
+ghost use Rattle.kcr_desk.specs.Answers.{RegisterHistory, AreOfMachine, AreRegisters, IsAnswer, IsReply};
 ghost use Rattle.kcr_desk.specs.Connections.{Connects, Ends, Leads};
 ghost use Rattle.kcr_desk.specs.Streams.{BreaksStream, streams};
 
@@ -36,20 +35,19 @@ pub fn one<R: Read, W: Write, S: Alter>(
 ) -> Ended
     // The bytes written are the answers of the messages of the input, by a run of the machine, or a prefix of them
     // after a fault. The register has the commands of this run and no other.
-    ensures answered { IsTrue register.old.is_genuine → HasCleanDisk (state S.Store register.new.conn)
-        → Ends IsAnswer (streams R.remaining W.contents reader.old reader.new writer.old writer.new)
-        (history_of register.old) (history_of register.new) result.stream }
+    ensures answered { Moves S.Store register.old register.new (λ s after.
+        Ends IsAnswer (streams R.remaining W.contents reader.old reader.new writer.old writer.new) s after result.stream) }
 
     // Whatever the database held, each message gets one reply, in their order.
     ensures replied { Ends IsReply (streams R.remaining W.contents reader.old reader.new writer.old writer.new)
-        (history_of register.old) (history_of register.new) result.stream }
+        register.old.is_broken register.new.is_broken result.stream }
 
     // The stream ends by `Read` only if a read failed or 1,000,000 reads gave a byte, and by `Write` only if a write
     // failed.
     ensures cause { IfErr result.stream (BreaksStream
         (streams R.remaining W.contents reader.old reader.new writer.old writer.new)) }
     ensures bound { nonempty_reads_of reader.new ≤ nonempty_reads_of reader.old + 1000000 }
-    ensures broken { IsTrue result.is_broken ↔ IsSome register.new.in_doubt }
+    ensures broken { result.is_broken ≡ register.new.is_broken }
     ensures connects { Connects S.Store register.old register.new 1 }
     ensures kept { IsConsistent S.Store register.new }
 {

@@ -1,10 +1,11 @@
 //! The desk over a register.
-ghost use Rattle.std.specs.Prelude.{◌≡◌, ◌+◌, ◌≤◌, List, IfErr, IsTrue};
+ghost use Rattle.std.specs.Prelude.{◌+◌, ◌≤◌, List, IfErr};
+ghost use Rattle.kcr_store.specs.Calls.{Leads};
 ghost use Rattle.sqlite.specs.Held.{state};
 ghost use Rattle.sqlite.specs.State.{HasCleanDisk};
 ghost use Rattle.kcr_base.specs.Counted.{nonempty_reads_of};
 ghost use Rattle.kcr_store.specs.Register.{IsConsistent};
-ghost use Rattle.kcr_desk.specs.Answers.{RegisterHistory, IsAnswer, IsReply, history_of};
+ghost use Rattle.kcr_desk.specs.Answers.{RegisterHistory, IsAnswer, IsReply};
 ghost use Rattle.kcr_desk.specs.Answers.{AreRegisters, AreOfMachine, AreOfValues};
 ghost use Rattle.kcr_desk.specs.Connections.{Ends};
 ghost use Rattle.kcr_desk.specs.Run.{Exchange, Run};
@@ -32,18 +33,16 @@ pub fn serve<R: Read, W: Write, S: Alter>(
 ) -> Result<Served, DeskFault>
     // The bytes written are exactly the answers of the messages of the input, by a run of the machine. After a fault
     // they are a prefix of those, and the register stands after the commands that it took.
-    ensures answered { IsTrue register.old.is_genuine → HasCleanDisk (state S.Store register.new.conn)
-        → Ends IsAnswer (streams R.remaining W.contents reader.old reader.new writer.old writer.new)
-        (history_of register.old) (history_of register.new) result }
+    ensures answered { Leads S.Store register.old register.new (λ s after.
+        Ends IsAnswer (streams R.remaining W.contents reader.old reader.new writer.old writer.new) s after result) }
 
     // Whatever the database held and whatever its disk does, each message gets one answer, in their order, and it is a
     // reply to it. After a fault a prefix of such replies was written.
     ensures replied { Ends IsReply (streams R.remaining W.contents reader.old reader.new writer.old writer.new)
-        (history_of register.old) (history_of register.new) result }
+        register.old.is_broken register.new.is_broken result }
 
-    // The register is whole, and stays as founded as it was. A disk that is clean at the end was so at the beginning.
+    // The register is outside of a transaction. A disk that is clean at the end was so at the beginning.
     ensures kept { IsConsistent S.Store register.new }
-    ensures founded { register.new.is_genuine ≡ register.old.is_genuine }
     ensures clean { HasCleanDisk (state S.Store register.new.conn) → HasCleanDisk (state S.Store register.old.conn) }
 
     // The fault is `Read` only if a read failed or 1,000,000 reads gave a byte, and `Write` only if a write failed.

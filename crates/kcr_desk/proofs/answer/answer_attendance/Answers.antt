@@ -8,4 +8,4 @@ pub returns : goal.returns
 returns g c =
     let e = c.attendance_csv-outcome.ensures in
     report_answered g.S.Store _ Csv c.into_inner-text.result.items attendance c.args.ceremony
-    e.prints (λ founded whole clean. search (rules, e.prints.printed founded whole clean)) e.planned c.report_response.ensures
+    e.prints (λ clean A at. search (rules, e.prints.printed clean A at)) e.planned c.report_response.ensures

@@ -10,8 +10,15 @@ returns-in-Ok g c =
     let e = c.in-Ok.ensures in
     result_answered g.S.Store _ _ _ reply_response (λ r. refl) (Ok c.in-Ok.reply)
     (λ old new r. AppliesAsMachine old.accepted c.args.command.now r new) (MayBeReplied c.args.command.now) (inr refl) e.kind e.broken e.breaks
-    (λ f none clean. record { values = c.acts_are_values.ensures; step = e.step f none clean; breaks = e.breaks none; tried = e.tried f none clean })
-    (λ memory does. absurd (text_is_not_memory _ _ c.json_response.ensures memory)) e.clean e.founded (inl c.json_response.ensures)
+    (λ clean s at. let end = e.step clean s at in (
+      end.0,
+      end.1,
+      (
+        (λ none. record { values = c.acts_are_values.ensures; step = end.2.step none; breaks = end.2.breaks none; tried = end.2.tried none }),
+        (λ some. (end.2.broken some).1),
+      ),
+    ))
+    (λ s end memory does. absurd (text_is_not_memory _ _ c.json_response.ensures memory)) e.clean (inl c.json_response.ensures)
 
 pub returns-in-Err : goal.returns-in-Err
 returns-in-Err g c =
@@ -19,5 +26,12 @@ returns-in-Err g c =
     let told_by = reply_response in
     result_answered g.S.Store _ _ _ told_by (λ r. refl) (Err c.in-Err.refusal)
     (λ old new r. AppliesAsMachine old.accepted c.args.command.now r new) (MayBeReplied c.args.command.now) (inr refl) e.kind e.broken e.breaks
-    (λ f none clean. record { values = c.acts_are_values.ensures; step = e.step f none clean; breaks = e.breaks none; tried = e.tried f none clean })
-    (λ memory does. does.step.0) e.clean e.founded (refused_or_memory told_by _ c.in-Err.refusal refl c.refusal_response.ensures)
+    (λ clean s at. let end = e.step clean s at in (
+      end.0,
+      end.1,
+      (
+        (λ none. record { values = c.acts_are_values.ensures; step = end.2.step none; breaks = end.2.breaks none; tried = end.2.tried none }),
+        (λ some. (end.2.broken some).1),
+      ),
+    ))
+    (λ s end memory does. does.step.0) e.clean (refused_or_memory told_by _ c.in-Err.refusal refl c.refusal_response.ensures)

@@ -1,4 +1,4 @@
-use Rattle.kcr_desk.specs.Answers.{IsAnswer, IsReply, history_of}
+use Rattle.kcr_desk.specs.Answers.{IsAnswer, IsReply}
 use Rattle.kcr_desk.specs.Streams.{streams}
 use Rattle.kcr_desk.proofs.ConnectionLemmas.{leads_one}
 use Rattle.kcr_desk.proofs.connection.one.Goals as goal
@@ -8,11 +8,9 @@ returns-clause-connects g c =
     let s = streams g.R.Read.remaining g.W.Write.contents c.args.reader.now c.serve-stream.new.reader c.args.writer.now
     c.serve-stream.new.writer in
     let served = c.serve-stream.ensures in
-    let before = history_of c.args.register.now in
-    let after = history_of c.serve-stream.new.register in
     record {
-      answers = λ founded clean. leads_one IsAnswer s before after c.serve-stream.result (served.answered founded clean);
-      replies = leads_one IsReply s before after c.serve-stream.result served.replied;
-      founded = served.founded;
+      answers = λ clean stand at.
+          let run = served.answered clean stand at in (run.0, run.1, leads_one IsAnswer s stand run.0 c.serve-stream.result run.2);
+      replies = leads_one IsReply s c.args.register.now.is_broken c.serve-stream.new.register.is_broken c.serve-stream.result served.replied;
       clean = served.clean;
     }

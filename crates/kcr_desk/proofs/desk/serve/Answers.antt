@@ -1,16 +1,15 @@
-use Rattle.kcr_desk.specs.Answers.{Answers, IsAnswer, IsReply, history_of}
+use Rattle.kcr_desk.specs.Answers.{Answers, IsReply}
 use Rattle.kcr_desk.specs.Streams.{streams}
-use Rattle.kcr_desk.proofs.StandingLemmas.{run_clean, run_founded, run_replies, run_answers, broken_stream, is_open_stay_of, ran}
+use Rattle.kcr_desk.proofs.StandingLemmas.{run_clean, run_replies, broken_stream, ends_answered, is_open_stay_of, ran}
 use Rattle.kcr_desk.proofs.desk.serve.Goals as goal
 
 pub returns-clause-answered : goal.returns-clause-answered
-returns-clause-answered g c founded clean =
+returns-clause-answered g c =
     let s = streams g.R.Read.remaining g.W.Write.contents c.args.reader.now c.serve_stream-result.new.reader c.args.writer.now
     c.serve_stream-result.new.writer in
     let before = c.args.register.now in
     let after = c.serve_stream-result.new.responder in
-    is_open_stay_of (Answers g.S.Store) IsAnswer s before after (history_of before) (history_of after) c.serve_stream-result.result
-    (run_answers g.S.Store before after founded clean) c.serve_stream-result.ensures.served
+    ends_answered g.S.Store s before after c.serve_stream-result.result c.serve_stream-result.ensures.served
 
 pub returns-clause-replied : goal.returns-clause-replied
 returns-clause-replied g c =
@@ -18,17 +17,8 @@ returns-clause-replied g c =
     c.serve_stream-result.new.writer in
     let before = c.args.register.now in
     let after = c.serve_stream-result.new.responder in
-    is_open_stay_of (Answers g.S.Store) IsReply s before after (history_of before) (history_of after) c.serve_stream-result.result
+    is_open_stay_of (Answers g.S.Store) IsReply s before after before.is_broken after.is_broken c.serve_stream-result.result
     (run_replies g.S.Store before after) c.serve_stream-result.ensures.served
-
-pub returns-clause-founded : goal.returns-clause-founded
-returns-clause-founded g c =
-    let s = streams g.R.Read.remaining g.W.Write.contents c.args.reader.now c.serve_stream-result.new.reader c.args.writer.now
-    c.serve_stream-result.new.writer in
-    let before = c.args.register.now in
-    let after = c.serve_stream-result.new.responder in
-    let run = ran (Answers g.S.Store) s before after c.serve_stream-result.result c.serve_stream-result.ensures.served in
-    run_founded g.S.Store before after run.0 run.1
 
 pub returns-clause-clean : goal.returns-clause-clean
 returns-clause-clean g c =
