@@ -1,10 +1,12 @@
 -- Why a task was not done to its end, and what is told of it.
 use Rattle.std.specs.Fmt.{decimal}
-use Rattle.std.specs.Prelude.{◌≡◌, ◌≢◌, ◌⊎◌, ℕ, List, ◌++◌, codes, Option, Some, None, IsSome}
+use Rattle.std.specs.Prelude.{◌≡◌, ◌≢◌, ◌⊎◌, ℕ, Bool, List, ◌++◌, codes, Option, Some, None, IsSome, IsTrue}
+use Rattle.std.specs.Prelude.{if◌then◌else◌}
+use Rattle.kcr_base.specs.declared.counted.Counted.{Counted}
 use Rattle.kcr_base.specs.Refusal.{number_of, word_of, thing_text}
 use Rattle.kcr_base.specs.declared.refusal.Refusal.{Refusal}
 use Rattle.kcr_base.specs.declared.refusal.Refusal.TheVariants as refusal
-use Rattle.kcr_desk.specs.Streams.{Streams, Writing, BreaksStream, HasFailed, IsUntouched, WritesNothing}
+use Rattle.kcr_desk.specs.Streams.{Streams, Writing, BreaksStream, HasFailed, IsUntouched, WritesNothing, writing}
 use Rattle.kcr_desk.specs.declared.fault.DeskFault.TheVariants as stream
 use Rattle.kcr_print.specs.declared.fault.PrintFault.{PrintFault}
 use Rattle.kcr_print.specs.declared.fault.PrintFault.TheVariants as print
@@ -14,14 +16,14 @@ use Rattle.kcr_store.specs.declared.«open».OpenFault.TheVariants as opening
 use Rattle.kcr_log.specs.declared.judgement.Log.TheVariants as logs
 use Rattle.kcr_tables.specs.Refusals.{IsFault}
 use Rattle.kcr_verify.specs.declared.new_register.CreateFault.TheVariants as fresh
-use Rattle.kcr_print.specs.Written.{WritesPrefix}
 use Rattle.kcr_fault.specs.Lines.{ended, found_line, into_head, missing_line, name_of, net_head, numbered, open_head}
 use Rattle.kcr_fault.specs.Lines.{damage_lines}
-use Rattle.kcr_fault.specs.Notes.{IsMissing, IsNoted, IsUnfilled}
+use Rattle.kcr_fault.specs.Notes.{IsMissing, IsNoted, IsUnfilled, WritesLines}
 use Rattle.kcr_fault.specs.declared.fault.Fault.{Fault}
 use Rattle.kcr_fault.specs.declared.fault.Fault.TheVariants.{Open, File, Log, Nothing, Into, IntoFile, Stream, Refused}
 use Rattle.kcr_fault.specs.declared.fault.Fault.TheVariants.{Unwritten, Net, Lost, Words}
 use Rattle.kcr_fault.specs.declared.fault.Call.TheVariants as call
+use Rattle.kcr_words.specs.declared.words.Serving.{Serving}
 use Rattle.kcr_words.specs.declared.words.Task.{Task}
 use Rattle.kcr_words.specs.declared.words.Report.TheVariants.{Print, Attendance}
 use Rattle.kcr_words.specs.declared.words.Task.TheVariants.{Run, Serve, Write, Verify, Rebuild, Pack}
@@ -35,8 +37,8 @@ named other = codes "\n"
 abbrev pub refusal_line : Refusal → List ℕ
 refusal_line r = codes "refused: " ++ (numbered (number_of r) (word_of r) ++ named r)
 
--- the line of a fault for which no memory is needed: of some the first of two, and of a refusal, and of a register with
--- no command, that there was none
+-- the line of a fault for which no memory is needed: of a refusal, and of a register with no command, it says that there
+-- was none
 abbrev pub reason_of : Fault → List ℕ
 reason_of (Open opening.Memory) = ended (codes "open: memory")
 reason_of (Open opening.Disk) = ended (codes "open: disk")
@@ -60,31 +62,39 @@ reason_of Words = ended (codes "fault: memory")
 
 -- the port that a task names, 0 if it has none
 abbrev pub port_of : Option Task → ℕ
-port_of (Some (Serve port connections idle)) = port
+port_of (Some (Serve serving)) = serving.port
 port_of other = 0
 
--- the line that tells it, or the two lines of a file, a log and a port, with what the words name: the task, the file of
--- the register and that of a new one
-abbrev pub line_of : Option Task → Option (List ℕ) → Option (List ℕ) → Fault → List ℕ
-line_of task file into (Refused r) = refusal_line r
-line_of task file into (Log log) = damage_lines log
-line_of task file into (Nothing missing) = missing_line file missing
-line_of task file into (File step) = found_line (open_head step) (name_of file)
-line_of task file into (IntoFile step) = found_line (into_head step) (name_of into)
-line_of task file into (Net call) = found_line (net_head call) (decimal (port_of task))
-line_of task file into Lost = found_line (codes "fault: file\nlost: ") (name_of file)
-line_of task file into other = reason_of other
+-- the line of a fault and a second one that names what failed, with what the words name: the task, the file of the
+-- register and that of a new one. Of some faults there is no more to tell
+abbrev pub explained_lines : Option Task → Option (List ℕ) → Option (List ℕ) → Fault → List ℕ
+explained_lines task file into (Log log) = damage_lines log
+explained_lines task file into (File step) = found_line (open_head step) (name_of file)
+explained_lines task file into (IntoFile step) = found_line (into_head step) (name_of into)
+explained_lines task file into (Net call) = found_line (net_head call) (decimal (port_of task))
+explained_lines task file into Lost = found_line (codes "fault: file\nlost: ") (name_of file)
+explained_lines task file into other = reason_of other
+
+-- the line that tells a fault, or if it is explained its lines; of a refusal, and of a register without commands, the line
+-- says all
+abbrev pub lines_of : Bool → Option Task → Option (List ℕ) → Option (List ℕ) → Fault → List ℕ
+lines_of is_explained task file into (Refused r) = refusal_line r
+lines_of is_explained task file into (Nothing missing) = missing_line file missing
+lines_of is_explained task file into other =
+    if is_explained then explained_lines task file into other else reason_of other
 
 -- the lines of a fault, or the one for which no memory is needed
-abbrev pub IsLineOf : Option Task → Option (List ℕ) → Option (List ℕ) → Fault → List ℕ → Type 0
-IsLineOf task file into fault line = (line ≡ line_of task file into fault) ⊎ (line ≡ reason_of fault)
+abbrev pub AreLinesOf : Bool → Option Task → Option (List ℕ) → Option (List ℕ) → Fault → List ℕ → Type 0
+AreLinesOf is_explained task file into fault lines =
+    (lines ≡ lines_of is_explained task file into fault) ⊎ (lines ≡ reason_of fault)
 
--- the lines of a fault stand on standard error, as far as they could be written, behind what a report has told before
+-- the lines of a fault stand on standard error, unless a write failed; before them only a note, if it is explained
 abbrev pub TellsFault
-    : Option Task → Option (List ℕ) → Option (List ℕ) → Fault → Option (List ℕ) → Option (List ℕ) → Type 0
-TellsFault task file into fault old new =
-    (between : Option (List ℕ)) × IsNoted task file old between
-    × ((line : List ℕ) × IsLineOf task file into fault line × WritesPrefix between new line)
+    : {W : Type 0} → Bool → Option Task → Option (List ℕ) → Option (List ℕ) → Fault → Writing W → Type 0
+TellsFault {W} is_explained task file into fault w =
+    (between : Counted W) × IsNoted (IsTrue is_explained) task file (writing w.contents w.before between)
+    × ((lines : List ℕ) × AreLinesOf is_explained task file into fault lines
+    × WritesLines (writing w.contents between w.after) lines)
 
 -- why a report was not written whole
 abbrev pub fault_of_print : PrintFault → Fault
@@ -96,18 +106,18 @@ fault_of_print print.Write = Unwritten
 -- as answers
 abbrev pub MayMeet : Task → Refusal → Type 0
 MayMeet Run met = ⊥
-MayMeet (Serve port connections idle) met = (met ≡ refusal.Memory) ⊎ (met ≡ refusal.Broken)
+MayMeet (Serve serving) met = (met ≡ refusal.Memory) ⊎ (met ≡ refusal.Broken)
 MayMeet (Write (Print ceremony)) met = MayHaveNoRow ceremony met
 MayMeet (Write (Attendance ceremony)) met = MayHaveNoRow ceremony met
 MayMeet other met = IsFault met
 
 -- a refusal that a call may give, or, over a register that was broken before, that it is broken
 abbrev pub MeetsOver : {S : Type 0} → RegisterState S → (Refusal → Type 0) → Refusal → Type 0
-MeetsOver register May met = May met ⊎ ((met ≡ refusal.Broken) × IsSome register.in_doubt)
+MeetsOver register May met = May met ⊎ ((met ≡ refusal.Broken) × IsTrue register.is_broken)
 
 -- the task is to listen on a port
 abbrev pub IsServe : Task → Type 0
-IsServe task = (port : ℕ) × (connections : ℕ) × (idle : ℕ) × (task ≡ Serve port connections idle)
+IsServe task = (serving : Serving) × (task ≡ Serve serving)
 
 -- what caused the fault of a task over a register that was opened: each fault comes only from a task that can have it.
 -- That memory ran out, that the device failed, that the port is taken and that the file is gone has no further cause
@@ -183,12 +193,11 @@ StopsRebuild w (Into fault) = WritesNothing w
 StopsRebuild w (IntoFile step) = WritesNothing w
 StopsRebuild w other = StopsReplay w other
 
--- why a port is left before all connections were served: none could be accepted, none can be read for lack of memory,
--- the file is gone, or the register is broken now
+-- why a port is left before all connections were served: none could be accepted, the file is gone, or the register is
+-- broken now
 abbrev pub StopsListening : {S : Type 0} → RegisterState S → Fault → Type 0
 StopsListening register fault =
-    (fault ≡ Net call.Accepting) ⊎ ((fault ≡ Lost)
-    ⊎ ((fault ≡ Refused refusal.Memory) ⊎ ((fault ≡ Refused refusal.Broken) × IsSome register.in_doubt)))
+    (fault ≡ Net call.Accepting) ⊎ ((fault ≡ Lost) ⊎ ((fault ≡ Refused refusal.Broken) × IsTrue register.is_broken))
 
 -- the same for the whole task of listening, which binds the port and writes a line first
 abbrev pub StopsServing : {S W : Type 0} → RegisterState S → Writing W → Fault → Type 0

@@ -15,7 +15,7 @@ use Rattle.kcr_fault.specs.declared.fault.Call.TheVariants.{Binding, Accepting}
 use Rattle.kcr_fault.specs.declared.fault.Missing.{Missing}
 use Rattle.kcr_fault.specs.declared.fault.Missing.TheVariants.{Unnamed, Absent, Empty}
 use Rattle.kcr_fault.specs.declared.fault.Step.{Step}
-use Rattle.kcr_fault.specs.declared.fault.Step.TheVariants.{Opening, Locking, Reading}
+use Rattle.kcr_fault.specs.declared.fault.Step.TheVariants.{Missing as NotThere, Opening, Locking, Reading}
 
 abbrev pub ended : List ℕ → List ℕ
 ended text = text ++ 10 ∷ []
@@ -94,12 +94,14 @@ missing_line file Empty = codes "note: " ++ (name_of file ++ codes " has no comm
 
 -- how the two lines begin of a register's file that failed; its name and an end of line follow
 abbrev pub open_head : Step → List ℕ
+open_head NotThere = codes "open: disk\nmissing: "
 open_head Opening = codes "open: disk\nopening: "
 open_head Locking = codes "open: disk\nlocking: "
 open_head Reading = codes "open: disk\nreading: "
 
 -- the same for a new register's file
 abbrev pub into_head : Step → List ℕ
+into_head NotThere = codes "into: disk\nmissing: "
 into_head Opening = codes "into: disk\nopening: "
 into_head Locking = codes "into: disk\nlocking: "
 into_head Reading = codes "into: disk\nreading: "

@@ -1,17 +1,17 @@
 //! Why a task was not done to its end, and the line that tells it.
 ghost use Rattle.std.specs.Prelude.{◌≡◌, ℕ, List, Some, IfOk, option_map, string_bytes};
-ghost use Rattle.kcr_print.specs.Written.{WritesPrefix};
-ghost use Rattle.kcr_fault.specs.Faults.{IsLineOf, refusal_line, reason_of, line_of, port_of};
-ghost use Rattle.kcr_fault.specs.Notes.{IsTold};
+ghost use Rattle.kcr_desk.specs.Streams.{writing};
+ghost use Rattle.kcr_fault.specs.Faults.{AreLinesOf, refusal_line, reason_of, explained_lines, lines_of, port_of};
+ghost use Rattle.kcr_fault.specs.Notes.{IsTold, WritesLines};
 ghost use Rattle.kcr_words.specs.Tasks.{file_in, into_in};
 ghost use Rattle.kcr_fault.specs.Lines.{damage_lines, log_line, name_of, missing_line, open_head, into_head, net_head};
 
 use crate::lines::{around, numbered};
 use itoa::Buffer;
-use kcr_base::Refusal;
+use kcr_base::{Counted, Refusal};
 use kcr_desk::DeskFault;
 use kcr_log::Log;
-use kcr_print::{PrintFault, WriteFailed};
+use kcr_print::{PrintFault, WriteFailed, write_whole};
 use kcr_store::OpenFault;
 use kcr_verify::CreateFault;
 use kcr_words::{Order, Task};
@@ -21,6 +21,8 @@ use std::io::Write;
 /// At what a file failed.
 #[derive(Clone, Copy, PartialEq, Eq)]
 pub enum Step {
+    /// It is not there, and is not made.
+    Missing,
     /// It could not be opened, or is no file that a register is in.
     Opening,
     /// Another process has it open.
@@ -207,6 +209,7 @@ fn open_head(step: Step) -> &'static str
     ensures { result.now ≡ open_head step }
 {
     match step {
+        Step::Missing => "open: disk\nmissing: ",
         Step::Opening => "open: disk\nopening: ",
         Step::Locking => "open: disk\nlocking: ",
         Step::Reading => "open: disk\nreading: ",
@@ -218,6 +221,7 @@ fn into_head(step: Step) -> &'static str
     ensures { result.now ≡ into_head step }
 {
     match step {
+        Step::Missing => "into: disk\nmissing: ",
         Step::Opening => "into: disk\nopening: ",
         Step::Locking => "into: disk\nlocking: ",
         Step::Reading => "into: disk\nreading: ",
@@ -239,20 +243,18 @@ fn port_of(task: Task) -> u16
     ensures { result ≡ port_of (Some task) }
 {
     match task {
-        Task::Serve(port, _, _) => port,
+        Task::Serve(serving) => serving.port,
         _ => 0,
     }
 }
 
-/// The line of a fault, with what the words name. The error is out of memory.
-fn lines(alloc: Global, order: &Order<'_>, fault: &Fault) -> Result<String, AllocError>
-    ensures { IfOk result (λ lines. string_bytes lines ≡ line_of (Some order.now.task)
+/// The line of a fault and a second one that names what failed, with what the words name. The error is out of memory.
+fn explained_lines(alloc: Global, order: &Order<'_>, fault: &Fault) -> Result<String, AllocError>
+    ensures { IfOk result (λ lines. string_bytes lines ≡ explained_lines (Some order.now.task)
         (file_in order.now) (into_in order.now) fault.now) }
 {
     match fault {
-        Fault::Refused(refusal) => refused(alloc, refusal),
         Fault::Log(log) => damaged(alloc, log),
-        Fault::Nothing(kind) => missing_text(alloc, *kind, order.file),
         Fault::File(step) => around(alloc, open_head(*step), name_of(order.file), "\n"),
         Fault::IntoFile(step) => around(alloc, into_head(*step), name_of(order.into), "\n"),
         Fault::Net(call) => {
@@ -266,6 +268,24 @@ fn lines(alloc: Global, order: &Order<'_>, fault: &Fault) -> Result<String, Allo
         }
         Fault::Lost => around(alloc, "fault: file\nlost: ", name_of(order.file), "\n"),
         other => String::from_str(alloc, reason(*other)),
+    }
+}
+
+/// The line of a fault, or its lines if the order asks to explain. The error is out of memory.
+fn lines(alloc: Global, order: &Order<'_>, fault: &Fault) -> Result<String, AllocError>
+    ensures { IfOk result (λ lines. string_bytes lines ≡ lines_of order.now.is_explained (Some order.now.task)
+        (file_in order.now) (into_in order.now) fault.now) }
+{
+    match fault {
+        Fault::Refused(refusal) => refused(alloc, refusal),
+        Fault::Nothing(kind) => missing_text(alloc, *kind, order.file),
+        other => {
+            if order.is_explained {
+                explained_lines(alloc, order, other)
+            } else {
+                String::from_str(alloc, reason(*other))
+            }
+        }
     }
 }
 
@@ -290,35 +310,39 @@ fn reason(fault: Fault) -> &'static str
     }
 }
 
-/// Writes a line, as far as it can be written.
-pub fn write_line<F: Write>(faults: &mut F, line: &str)
-    ensures { WritesPrefix (F.contents faults.old) (F.contents faults.new) line.now }
+/// Writes lines. What a failed write leaves is lost.
+pub fn write_line<F: Write>(faults: &mut Counted<F>, line: &str)
+    ensures { WritesLines (writing F.contents faults.old faults.new) line.now }
 {
-    let bytes = line.as_bytes();
-    let mut at = 0;
-    while at < bytes.len() {
-        match faults.write(&bytes[at..]) {
-            Ok(0) => return,
-            Ok(count) => at += count,
-            Err(_) => return,
-        }
+    match write_whole(faults, line.as_bytes()) {
+        Ok(()) => {}
+        Err(_) => {}
     }
 }
 
-/// Writes that there is no register with commands, as far as it can be written; nothing if no memory is found for
-/// the line.
-pub fn write_missing<F: Write>(alloc: Global, faults: &mut F, kind: Missing, file: Option<&str>)
-    ensures { IsTold (option_map (λ n. n.now) file.entry) kind (F.contents faults.old) (F.contents faults.new) }
+/// Writes that there is no register with commands; nothing if no memory is found for the line.
+pub fn write_missing<F: Write>(
+    alloc: Global,
+    faults: &mut Counted<F>,
+    kind: Missing,
+    file: Option<&str>,
+)
+    ensures { IsTold (option_map (λ n. n.now) file.entry) kind (writing F.contents faults.old faults.new) }
 {
     if let Ok(line) = missing_text(alloc, kind, file) {
         write_line(faults, line.as_str());
     }
 }
 
-/// Writes the lines of a fault, as far as they can be written. If no memory is found for them, the one that needs none.
-pub fn write_fault<F: Write>(alloc: Global, faults: &mut F, order: &Order<'_>, fault: &Fault)
-    ensures { (line : List ℕ) × IsLineOf (Some order.now.task) (file_in order.now) (into_in order.now) fault.now line
-        × WritesPrefix (F.contents faults.old) (F.contents faults.new) line }
+/// Writes the lines of a fault. If no memory is found for them, the one that needs none.
+pub fn write_fault<F: Write>(
+    alloc: Global,
+    faults: &mut Counted<F>,
+    order: &Order<'_>,
+    fault: &Fault,
+)
+    ensures { (lines : List ℕ) × AreLinesOf order.now.is_explained (Some order.now.task) (file_in order.now)
+        (into_in order.now) fault.now lines × WritesLines (writing F.contents faults.old faults.new) lines }
 {
     match lines(alloc, order, fault) {
         Ok(lines) => write_line(faults, lines.as_str()),

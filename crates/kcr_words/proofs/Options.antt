@@ -1,5 +1,5 @@
 -- Words that are taken give each required option of their subcommand.
-use Rattle.std.proofs.Common.{◌≡◌, ◌&&◌, ◌==◌, ℕ, zero, suc, Bool, true, false, not, cond, List, [], ◌∷◌, Option, Some, None, refl, sym, ap, ◌∙◌, subst, length}
+use Rattle.std.proofs.Common.{◌≡◌, ◌⊎◌, ◌&&◌, ◌==◌, ℕ, zero, suc, Bool, true, false, not, cond, List, [], ◌∷◌, Option, Some, None, refl, sym, ap, ◌∙◌, subst, length}
 use Rattle.std.proofs.Common.{drop, arith, inl, inr}
 use Rattle.std.specs.Prelude.{is_some, fold, find, MatchOption, option_and_then, slice_get, encode_utf8}
 use Rattle.std.specs.List.{AllByRecursion, list_any}
@@ -20,8 +20,8 @@ use Rattle.clap.specs.Walk.{option, option_met, reacted, row_text, rows_after, s
 use Rattle.clap.specs.Walk.{reading_by, used_as, values_or_missing, with_values, without, word_met}
 use Rattle.clap.specs.declared.error.kind.ErrorKind.TheVariants as kind
 use Rattle.clap.specs.declared.builder.action.ArgAction.{ArgAction}
-use Rattle.clap.specs.declared.builder.action.ArgAction.TheVariants.{Set, Help}
-use Rattle.clap.specs.declared.parser.matches.ValueSource.TheVariants.{CommandLine}
+use Rattle.clap.specs.declared.builder.action.ArgAction.TheVariants.{Set, SetTrue, Help}
+use Rattle.clap.specs.declared.parser.matches.ValueSource.TheVariants.{CommandLine, DefaultValue}
 use Rattle.clap.specs.declared.builder.value_parser.Reading.TheVariants.{AsWritten}
 use Rattle.clap.specs.declared.builder.value_parser.ValueParser.{ValueParser}
 use Rattle.clap.specs.declared.builder.value_parser.ValueParser.TheVariants.{Unsigned}
@@ -205,15 +205,25 @@ first_row name how source values (r ∷ rs) none =
 only_one : (empty one : Bool) → cond empty (kind.InvalidValue ∷ []) (cond one [] (kind.WrongNumberOfValues ∷ [])) ≡ [] → one ≡ true
 only_one empty one e = grind arith
 
--- an option that sets another value keeps it
-pub other_keeps : (s : Shape) (holds : Row → Bool) (name : Text) (a : Rule) → action_of a ≡ Set → bytes_eq a.id name ≡ false → Keeps s (HasRow holds name) a
-other_keeps s holds name a set differ values rows none p =
-    let how = reading_by a in
-    let given = values_or_missing a values in
-    let same = with_other a.id name how CommandLine given differ (without a.id rows) ∙ without_other a.id name differ rows in
-    let kept : HasRow holds name (used_as Set a.id how given rows) =
-    subst (λ (o : Option Row). MatchOption o (Unit {0}) (λ r. holds r ≡ true)) (sym same) p in
-    subst (λ (x : ArgAction). HasRow holds name (used_as x a.id how given rows)) (sym set) kept
+-- the option has one value, or is a flag
+abbrev pub SetsOne : Rule → Type 0
+SetsOne a = (action_of a ≡ Set) ⊎ (action_of a ≡ SetTrue)
+
+-- an option that sets another value keeps it, and so does a flag
+pub other_keeps : (s : Shape) (holds : Row → Bool) (name : Text) (a : Rule) → SetsOne a → bytes_eq a.id name ≡ false → Keeps s (HasRow holds name) a
+other_keeps s holds name a sets differ values rows none p = by_action sets
+  where
+    given : List Text
+    given = values_or_missing a values
+
+    kept : HasRow holds name (with_values a.id (reading_by a) CommandLine given (without a.id rows))
+    kept =
+        let same = with_other a.id name (reading_by a) CommandLine given differ (without a.id rows) ∙ without_other a.id name differ rows in
+        subst (λ (o : Option Row). MatchOption o (Unit {0}) (λ r. holds r ≡ true)) (sym same) p
+
+    by_action : SetsOne a → HasRow holds name (used a values rows)
+    by_action (inl set) = subst (λ (x : ArgAction). HasRow holds name (used_as x a.id (reading_by a) given rows)) (sym set) kept
+    by_action (inr set) = subst (λ (x : ArgAction). HasRow holds name (used_as x a.id (reading_by a) given rows)) (sym set) kept
 
 -- and so does the one that asks for help
 pub help_keeps : (s : Shape) (P : List Row → Type 0) (a : Rule) → action_of a ≡ Help → Keeps s P a
@@ -261,23 +271,40 @@ text_keeps s name once = given_keeps s is_text name None once refl (λ v free. r
 
 -- ---- so a subcommand that is taken has it
 
-no_defaults : (c : List Rule) (rows : List Row) → AllByRecursion (λ a. a.defaults ≡ []) c → fold with_default rows c ≡ rows
-no_defaults [] rows none = refl
-no_defaults (a ∷ c) rows none =
-    let same : with_default rows a ≡ rows = grind (arith, none.0) in
-    ap (λ (now : List Row). fold with_default now c) same ∙ no_defaults c rows none.1
+-- the option has no default, or is another one
+abbrev pub IsLeft : Text → Rule → Type 0
+IsLeft name a = (a.defaults ≡ []) ⊎ (bytes_eq a.id name ≡ false)
+
+-- a default of another option leaves the row of this one
+default_left : (name : Text) (a : Rule) (rows : List Row) → IsLeft name a
+    → find (λ r. bytes_eq r.id name) (with_default rows a) ≡ find (λ r. bytes_eq r.id name) rows
+default_left name a rows (inl none) = let same : with_default rows a ≡ rows = grind (arith, none) in ap (find (λ r. bytes_eq r.id name)) same
+default_left name a rows (inr differ) = by_row (has_row a.id rows) a.defaults refl refl
+  where
+    by_row : (has : Bool) (ds : List Text) → has_row a.id rows ≡ has → a.defaults ≡ ds
+        → find (λ r. bytes_eq r.id name) (with_default rows a) ≡ find (λ r. bytes_eq r.id name) rows
+    by_row true ds has is = let same : with_default rows a ≡ rows = grind (arith, has) in ap (find (λ r. bytes_eq r.id name)) same
+    by_row false [] has is = let same : with_default rows a ≡ rows = grind (arith, has, is) in ap (find (λ r. bytes_eq r.id name)) same
+    by_row false (d ∷ ds) has is =
+        let same : with_default rows a ≡ with_values a.id (reading_by a) DefaultValue (d ∷ ds) rows = grind (arith, has, is) in
+        ap (find (λ r. bytes_eq r.id name)) same ∙ with_other a.id name (reading_by a) DefaultValue (d ∷ ds) differ rows
+
+defaults_left : (name : Text) (c : List Rule) (rows : List Row) → AllByRecursion (IsLeft name) c
+    → find (λ r. bytes_eq r.id name) (fold with_default rows c) ≡ find (λ r. bytes_eq r.id name) rows
+defaults_left name [] rows left = refl
+defaults_left name (a ∷ c) rows left = defaults_left name c (with_default rows a) left.1 ∙ default_left name a rows left.0
 
 -- nothing that is required is missing
 none_missing : (help sub missing : Bool) → check_kinds help sub missing ≡ [] → missing ≡ false
 none_missing help sub missing e = grind arith
 
 required_row : (s : Shape) (holds : Row → Bool) (name : Text) → AllByRecursion (Keeps s (HasRow holds name)) s.rules
-    → AllByRecursion (λ a. a.defaults ≡ []) s.rules
+    → AllByRecursion (IsLeft name) s.rules
     → s.subcommand_negates_reqs ≡ false
     → ((rows : List Row) → list_any (λ a. a.required && not (is_given a.id rows)) s.rules ≡ false → is_given name rows ≡ true)
     → (words : List Text) → level_fault s [] nothing_held words false [] ≡ []
     → (r : Row) × (find (λ r. bytes_eq r.id name) (rows_after s.rules [] words) ≡ Some r) × (holds r ≡ true)
-required_row s holds name keeps plain-rules negates required words none =
+required_row s holds name keeps left negates required words none =
     let end = (walk s.rules [] nothing_held words).held in
     let rows = finished s.rules end in
     let check = check_fault s rows false in
@@ -287,7 +314,9 @@ required_row s holds name keeps plain-rules negates required words none =
     let last = both_empty (defaults_fault (settled s.rules end).rows s.rules) check settling.1 in
     let walked-over : HasRow holds name end.rows = walk_keeps s (HasRow holds name) keeps [] (walk_from nothing_held) words each.0 tt in
     let at-end : HasRow holds name (settled s.rules end).rows = settles s (HasRow holds name) keeps end settling.0 walked-over in
-    let has : HasRow holds name rows = subst (HasRow holds name) (sym (no_defaults s.rules (settled s.rules end).rows plain-rules)) at-end in
+    let has : HasRow holds name rows =
+    subst (λ (o : Option Row). MatchOption o (Unit {0}) (λ r. holds r ≡ true))
+    (sym (defaults_left name s.rules (settled s.rules end).rows left)) at-end in
     let missing = list_any (λ a. a.required && not (is_given a.id rows)) s.rules in
     let all-there : (not (s.subcommand_negates_reqs && false) && missing) ≡ false = none_missing _ _ _ last.1 in
     let off : (not (s.subcommand_negates_reqs && false) && missing) ≡ missing = ap (λ (b : Bool). not (b && false) && missing) negates in
@@ -300,18 +329,18 @@ required_row s holds name keeps plain-rules negates required words none =
     by_row (Some r) has given = (r, refl, has)
 
 pub required_number : (s : Shape) (name : Text) (most : ℕ) → AllByRecursion (Keeps s (HasRow (is_number most) name)) s.rules
-    → AllByRecursion (λ a. a.defaults ≡ []) s.rules
+    → AllByRecursion (IsLeft name) s.rules
     → s.subcommand_negates_reqs ≡ false
     → ((rows : List Row) → list_any (λ a. a.required && not (is_given a.id rows)) s.rules ≡ false → is_given name rows ≡ true)
     → (words : List Text) → level_fault s [] nothing_held words false [] ≡ [] → is_some (number_at 1 most name (rows_after s.rules [] words)) ≡ true
-required_number s name most keeps plain-rules negates required words none =
-    let row = required_row s (is_number most) name keeps plain-rules negates required words none in
+required_number s name most keeps left negates required words none =
+    let row = required_row s (is_number most) name keeps left negates required words none in
     ap (λ (o : Option Row). is_some (option_and_then (number_between 1 most) (option_and_then row_text o))) row.1 ∙ row.2
 
-pub required_text : (s : Shape) (name : Text) → AllByRecursion (Keeps s (HasRow is_text name)) s.rules → AllByRecursion (λ a. a.defaults ≡ []) s.rules
+pub required_text : (s : Shape) (name : Text) → AllByRecursion (Keeps s (HasRow is_text name)) s.rules → AllByRecursion (IsLeft name) s.rules
     → s.subcommand_negates_reqs ≡ false
     → ((rows : List Row) → list_any (λ a. a.required && not (is_given a.id rows)) s.rules ≡ false → is_given name rows ≡ true)
     → (words : List Text) → level_fault s [] nothing_held words false [] ≡ [] → is_some (first_of name (rows_after s.rules [] words)) ≡ true
-required_text s name keeps plain-rules negates required words none =
-    let row = required_row s is_text name keeps plain-rules negates required words none in
+required_text s name keeps left negates required words none =
+    let row = required_row s is_text name keeps left negates required words none in
     ap (λ (o : Option Row). is_some (option_and_then (λ r. slice_get r.values 0) o)) row.1 ∙ row.2

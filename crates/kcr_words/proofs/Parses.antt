@@ -1,5 +1,5 @@
 -- The program's command line is simple, so its matches are exact.
-use Rattle.std.proofs.Common.{◌≡◌, ◌⊎◌, List, [], ◌∷◌, true, Option, Some, None, option_map, refl, sym, ap, inl, inr, ◌∙◌}
+use Rattle.std.proofs.Common.{◌≡◌, ◌⊎◌, Bool, codes, List, [], ◌∷◌, true, Option, Some, None, option_map, refl, sym, ap, inl, inr, ◌∙◌}
 use Rattle.std.specs.Prelude.{Box}
 use Rattle.std.specs.Box.{box_value}
 use Rattle.clap.specs.declared.error.kind.ErrorKind.{ErrorKind}
@@ -11,7 +11,7 @@ use Rattle.clap.specs.declared.parser.matches.SubCommand.{SubCommand}
 use Rattle.clap.specs.declared.parser.matches.ArgMatches.TheViews.{out-SubCommand}
 use Rattle.clap.proofs.OnLiterals.{clap_on_literals}
 use Rattle.kcr_words.specs.Commands.{tool_app}
-use Rattle.kcr_words.specs.Tasks.{met_in, faults_of, task_of, task_at, file_of, file_at, into_of, into_at}
+use Rattle.kcr_words.specs.Tasks.{met_in, faults_of, task_of, task_at, file_of, file_at, into_of, into_at, flag_at, is_existing, is_explained}
 use Rattle.kcr_words.specs.declared.words.Task.{Task}
 use Rattle.clap.specs.declared.parser.matches.ArgMatches.TheViews.{out-ArgMatches}
 
@@ -79,3 +79,14 @@ pub into_is : (words : List Text) (name : Text) (rows : List Row) (file : Option
     → into_of words ≡ file
 unfolding into_of
 into_is words name rows file e h = rw e (sym h)
+
+-- the flags that they have
+pub existing_is : (words : List Text) (name : Text) (rows : List Row) (is : Bool) → met_in words ≡ Some (name, rows) → is ≡ flag_at (codes "existing") rows
+    → is_existing words ≡ is
+unfolding is_existing
+existing_is words name rows is e h = rw e (sym h)
+
+pub explained_is : (words : List Text) (name : Text) (rows : List Row) (is : Bool) → met_in words ≡ Some (name, rows) → is ≡ flag_at (codes "explain") rows
+    → is_explained words ≡ is
+unfolding is_explained
+explained_is words name rows is e h = rw e (sym h)

@@ -19,8 +19,9 @@ use Rattle.std.specs.Option.{option_map_or}
 use Rattle.clap.specs.Faults.{check_fault, defaults_fault, settle_fault, entered_fault, built_fault, level_fault, walk_fault, turn_fault, word_fault}
 use Rattle.clap.specs.Faults.{step_fault}
 use Rattle.clap.specs.Simple.{App, built, built_leaf, names_of, label_of, entered, rows_at, argument_words, new_shape, filled, help_rule}
-use Rattle.kcr_words.specs.Commands.{tool_app, file_rule, choice_rule, number_rule, of_ceremony, into_file}
+use Rattle.kcr_words.specs.Commands.{tool_app, file_rule, flag_rule, choice_rule, number_rule, of_ceremony, into_file, explained}
 use Rattle.kcr_words.specs.Tasks.{task_at, met_in, faults_of, number_at, ceremony_at, into_at}
+use Rattle.kcr_words.specs.declared.words.Serving.{Serving}
 use Rattle.kcr_words.specs.declared.words.Task.{Task}
 use Rattle.kcr_words.specs.declared.words.Report.TheVariants.{Print, Attendance}
 use Rattle.kcr_words.specs.declared.words.Task.TheVariants.{Serve, Write, Rebuild, Pack}
@@ -170,44 +171,56 @@ verify_holds words none = refl
 some_made : {X Y : Type 0} (f : X → Y) (o : Option X) → is_some o ≡ true → is_some (option_map f o) ≡ true
 some_made f o is = grind arith
 
-both_there : (idle : ℕ) (a b : Option ℕ) → is_some a ≡ true → is_some b ≡ true
-    → is_some (option_and_then (λ port. option_map (λ connections. Serve port connections idle) b) a) ≡ true
-both_there idle a b one two = grind arith
+both_there : (serving : ℕ → ℕ → Serving) (a b : Option ℕ) → is_some a ≡ true → is_some b ≡ true
+    → is_some (option_and_then (λ port. option_map (λ connections. Serve (serving port connections)) b) a) ≡ true
+both_there serving a b one two = grind arith
 
--- a subcommand about a ceremony, whose rules are the file, the ceremony, help
+-- a subcommand about a ceremony, whose rules are the file, the ceremony, the flag of all, help
 abbrev about : Text → Shape
-about name = built_leaf (of_ceremony name).top
+about name = built_leaf (explained (of_ceremony name)).top
 
 ceremony_there : (name : Text) (words : List Text) → level_fault (about name) [] nothing_held words false [] ≡ []
     → is_some (ceremony_at (rows_after (about name).rules [] words)) ≡ true
 ceremony_there name words none =
     required_number (about name) (codes "ceremony") 9999 (
-      other_keeps (about name) (is_number 9999) (codes "ceremony") (filled file_rule) refl refl,
+      other_keeps (about name) (is_number 9999) (codes "ceremony") (filled file_rule) (inl refl) refl,
       (
         number_keeps (about name) (codes "ceremony") 9999 refl,
-        (help_keeps (about name) _ (filled help_rule) refl, tt),
+        (
+          other_keeps (about name) (is_number 9999) (codes "ceremony") (filled (flag_rule (codes "explain"))) (inr refl) refl,
+          (help_keeps (about name) _ (filled help_rule) refl, tt),
+        ),
       ),
     )
-    (refl, (refl, (refl, tt))) refl (λ rows free. grind arith) words none
+    (inl refl, (inl refl, (inr refl, (inl refl, tt)))) refl (λ rows free. grind arith) words none
 
 serve_port : (words : List Text) → level_fault (sub 1) [] nothing_held words false [] ≡ []
     → is_some (number_at 1 65535 (codes "port") (rows_after (sub 1).rules [] words)) ≡ true
 unfolding tool_app
 serve_port words none =
     required_number (sub 1) (codes "port") 65535 (
-      other_keeps (sub 1) (is_number 65535) (codes "port") (filled file_rule) refl refl,
+      other_keeps (sub 1) (is_number 65535) (codes "port") (filled file_rule) (inl refl) refl,
       (
-        number_keeps (sub 1) (codes "port") 65535 refl,
+        other_keeps (sub 1) (is_number 65535) (codes "port") (filled (flag_rule (codes "existing"))) (inr refl) refl,
         (
-          other_keeps (sub 1) (is_number 65535) (codes "port") (filled (number_rule (codes "connections") 1000000)) refl refl,
+          number_keeps (sub 1) (codes "port") 65535 refl,
           (
-            other_keeps (sub 1) (is_number 65535) (codes "port") (filled (choice_rule (codes "idle") 1 300)) refl refl,
-            (help_keeps (sub 1) _ (filled help_rule) refl, tt),
+            other_keeps (sub 1) (is_number 65535) (codes "port") (filled (number_rule (codes "connections") 1000000)) (inl refl) refl,
+            (
+              other_keeps (sub 1) (is_number 65535) (codes "port") (filled (choice_rule (codes "idle") 1 300)) (inl refl) refl,
+              (
+                other_keeps (sub 1) (is_number 65535) (codes "port") (filled (choice_rule (codes "longest") 1 86400)) (inl refl) refl,
+                (
+                  other_keeps (sub 1) (is_number 65535) (codes "port") (filled (flag_rule (codes "explain"))) (inr refl) refl,
+                  (help_keeps (sub 1) _ (filled help_rule) refl, tt),
+                ),
+              ),
+            ),
           ),
         ),
       ),
     )
-    (refl, (refl, (refl, (refl, (refl, tt))))) refl
+    (inl refl, (inr refl, (inl refl, (inl refl, (inl refl, (inl refl, (inr refl, (inl refl, tt)))))))) refl
     (λ rows free. grind arith) words none
 
 serve_connections : (words : List Text) → level_fault (sub 1) [] nothing_held words false [] ≡ []
@@ -215,19 +228,28 @@ serve_connections : (words : List Text) → level_fault (sub 1) [] nothing_held 
 unfolding tool_app
 serve_connections words none =
     required_number (sub 1) (codes "connections") 1000000 (
-      other_keeps (sub 1) (is_number 1000000) (codes "connections") (filled file_rule) refl refl,
+      other_keeps (sub 1) (is_number 1000000) (codes "connections") (filled file_rule) (inl refl) refl,
       (
-        other_keeps (sub 1) (is_number 1000000) (codes "connections") (filled (number_rule (codes "port") 65535)) refl refl,
+        other_keeps (sub 1) (is_number 1000000) (codes "connections") (filled (flag_rule (codes "existing"))) (inr refl) refl,
         (
-          number_keeps (sub 1) (codes "connections") 1000000 refl,
+          other_keeps (sub 1) (is_number 1000000) (codes "connections") (filled (number_rule (codes "port") 65535)) (inl refl) refl,
           (
-            other_keeps (sub 1) (is_number 1000000) (codes "connections") (filled (choice_rule (codes "idle") 1 300)) refl refl,
-            (help_keeps (sub 1) _ (filled help_rule) refl, tt),
+            number_keeps (sub 1) (codes "connections") 1000000 refl,
+            (
+              other_keeps (sub 1) (is_number 1000000) (codes "connections") (filled (choice_rule (codes "idle") 1 300)) (inl refl) refl,
+              (
+                other_keeps (sub 1) (is_number 1000000) (codes "connections") (filled (choice_rule (codes "longest") 1 86400)) (inl refl) refl,
+                (
+                  other_keeps (sub 1) (is_number 1000000) (codes "connections") (filled (flag_rule (codes "explain"))) (inr refl) refl,
+                  (help_keeps (sub 1) _ (filled help_rule) refl, tt),
+                ),
+              ),
+            ),
           ),
         ),
       ),
     )
-    (refl, (refl, (refl, (refl, (refl, tt))))) refl
+    (inl refl, (inr refl, (inl refl, (inl refl, (inl refl, (inl refl, (inr refl, (inl refl, tt)))))))) refl
     (λ rows free. grind arith) words none
 
 serve_holds : HoldsTask (sub 1)
@@ -242,21 +264,24 @@ attendance_holds : HoldsTask (sub 3)
 unfolding tool_app
 attendance_holds words none = some_made Write _ (some_made Attendance _ (ceremony_there (codes "attendance") words none))
 
--- a subcommand that makes a new file, whose rules are the file, the new file, help
+-- a subcommand that makes a new file, whose rules are the file, the new file, the flag of all, help
 abbrev making : Text → Shape
-making name = built_leaf (into_file name).top
+making name = built_leaf (explained (into_file name)).top
 
 into_there : (name : Text) (words : List Text) → level_fault (making name) [] nothing_held words false [] ≡ []
     → is_some (into_at (rows_after (making name).rules [] words)) ≡ true
 into_there name words none =
     required_text (making name) (codes "into") (
-      other_keeps (making name) is_text (codes "into") (filled file_rule) refl refl,
+      other_keeps (making name) is_text (codes "into") (filled file_rule) (inl refl) refl,
       (
         text_keeps (making name) (codes "into") refl,
-        (help_keeps (making name) _ (filled help_rule) refl, tt),
+        (
+          other_keeps (making name) is_text (codes "into") (filled (flag_rule (codes "explain"))) (inr refl) refl,
+          (help_keeps (making name) _ (filled help_rule) refl, tt),
+        ),
       ),
     )
-    (refl, (refl, (refl, tt))) refl
+    (inl refl, (inl refl, (inr refl, (inl refl, tt)))) refl
     (λ rows free. grind arith) words none
 
 rebuild_holds : HoldsTask (sub 9)

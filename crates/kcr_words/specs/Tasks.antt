@@ -11,6 +11,7 @@ use Rattle.kcr_words.specs.Commands.{tool_app}
 use Rattle.kcr_words.specs.declared.words.WordsFault.{WordsFault}
 use Rattle.kcr_words.specs.declared.words.WordsFault.TheVariants as WordsFaults
 use Rattle.kcr_words.specs.declared.words.Order.{Order}
+use Rattle.kcr_words.specs.declared.words.Serving.{Serving}
 use Rattle.kcr_words.specs.declared.words.Report.{Report}
 use Rattle.kcr_words.specs.declared.words.Report.TheVariants.{Print, Attendance, Custody, Export, Journal, Audit}
 use Rattle.kcr_words.specs.declared.words.Task.{Task}
@@ -40,15 +41,24 @@ number_at least most name rows = option_and_then (number_between least most) (on
 abbrev pub ceremony_at : List Row → Option ℕ
 ceremony_at = number_at 1 9999 (codes "ceremony")
 
--- for how many seconds a connection may be silent between two messages: 5 where no number was named
+-- for how many seconds a connection may be silent between two messages: 5 if no number was named
 abbrev pub idle_at : List Row → ℕ
 idle_at rows = unwrap_or (number_at 1 300 (codes "idle") rows) 5
 
--- the port, the number of connections and the seconds of silence that were named
+-- for how many seconds a connection may last in all: 300 if no number was named
+abbrev pub longest_at : List Row → ℕ
+longest_at rows = unwrap_or (number_at 1 86400 (codes "longest") rows) 300
+
+-- what was named of a server
+abbrev pub serving : List Row → ℕ → ℕ → Serving
+serving rows port connections =
+    record { port = port; connections = connections; idle = idle_at rows; longest = longest_at rows }
+
+-- the port, the number of connections and the seconds that were named
 abbrev pub serve_at : List Row → Option Task
 serve_at rows = option_and_then
     (λ port. option_map
-    (λ connections. Serve port connections (idle_at rows)) (number_at 1 1000000 (codes "connections") rows))
+    (λ connections. Serve (serving rows port connections)) (number_at 1 1000000 (codes "connections") rows))
     (number_at 1 65535 (codes "port") rows)
 
 -- the number of a command that was named
@@ -87,6 +97,10 @@ task_at p =
 abbrev pub file_at : List Row → Option Text
 file_at rows = first_of (codes "file") rows
 
+-- the words have this flag: `clap` gives it a text of its own, which is `true` only then
+abbrev pub flag_at : Text → List Row → Bool
+flag_at name rows = option_map_or (λ text. bytes_eq text (codes "true")) (first_of name rows) false
+
 -- the subcommand that the words name, with its matches
 unfoldable pub met_in : List Text → Option (Text × List Row)
 met_in words = subcommand_of tool_app words
@@ -106,6 +120,18 @@ file_of words = option_and_then (λ p. file_at p.1) (met_in words)
 -- the file of the new register that they name, if they name one
 unfoldable pub into_of : List Text → Option Text
 into_of words = option_and_then (λ p. into_at p.1) (met_in words)
+
+-- the words have this flag of their subcommand
+abbrev pub has_flag : Text → List Text → Bool
+has_flag name words = option_map_or (λ p. flag_at name p.1) (met_in words) false
+
+-- the register's file is opened only if it exists
+unfoldable pub is_existing : List Text → Bool
+is_existing words = has_flag (codes "existing") words
+
+-- what failed is told in lines of its own
+unfoldable pub is_explained : List Text → Bool
+is_explained words = has_flag (codes "explain") words
 
 -- sqlite gives such a name to a file beside another
 abbrev pub is_companion : Text → Bool

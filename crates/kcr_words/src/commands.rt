@@ -2,11 +2,12 @@
 ghost use Rattle.std.specs.Prelude.{◌≡◌, codes, false, IfOk};
 ghost use Rattle.clap.specs.Words.{App, app_of, rule_of, with_rule, with_subcommand};
 ghost use Rattle.clap.specs.declared.builder.command.Command.TheViews.{out-Command};
-ghost use Rattle.kcr_words.specs.Commands.{choice_rule, file_rule, number_rule, text_rule, root_app, of_file, of_ceremony};
-ghost use Rattle.kcr_words.specs.Commands.{serve_app, export_app, journal_app, into_file, tool_app};
+ghost use Rattle.kcr_words.specs.Commands.{choice_rule, file_rule, flag_rule, number_rule, text_rule, root_app};
+ghost use Rattle.kcr_words.specs.Commands.{of_file, of_own_file, of_ceremony, explained, serve_app, export_app};
+ghost use Rattle.kcr_words.specs.Commands.{journal_app, into_file, tool_app};
 
 use clap::builder::ValueParser;
-use clap::{Arg, Command};
+use clap::{Arg, ArgAction, Command};
 use std::alloc::{AllocError, Global};
 
 /// The program's version, and the kit that it is proved with.
@@ -18,8 +19,19 @@ fn file_option<'a>(alloc: Global) -> Arg<'a>
     ensures local { result.global ≡ false }
 {
     Arg::new(alloc, "file").long("file").value_name("FILE").help(
-        "The register's file; without it the register is in memory, and empty at first",
+        "Names the register's file; without it the register is in memory, and empty at first",
     )
+}
+
+/// An option without a value.
+fn flag<'a>(alloc: Global, name: &'a str, help: &'a str) -> Arg<'a>
+    ensures rule { rule_of result ≡ flag_rule name.entry.now }
+    ensures local { result.global ≡ false }
+{
+    Arg::new(alloc, name)
+        .long(name)
+        .action(ArgAction::SetTrue)
+        .help(help)
 }
 
 /// A required option whose value is a number from 1 to `most`.
@@ -35,18 +47,16 @@ fn number_option<'a>(alloc: Global, name: &'a str, most: u64, help: &'a str) -> 
         .help(help)
 }
 
-/// The option of the silence that a connection may keep.
-fn idle_option<'a>(alloc: Global) -> Arg<'a>
-    ensures rule { rule_of result ≡ choice_rule (codes "idle") 1 300 }
+/// An option whose value is a number of seconds from 1 to `most`.
+fn seconds_option<'a>(alloc: Global, name: &'a str, most: u64, help: &'a str) -> Arg<'a>
+    ensures rule { rule_of result ≡ choice_rule name.entry.now 1 most }
     ensures local { result.global ≡ false }
 {
-    Arg::new(alloc, "idle")
-        .long("idle")
+    Arg::new(alloc, name)
+        .long(name)
         .value_name("SECONDS")
-        .value_parser(ValueParser::unsigned(1, 300))
-        .help(
-            "How long a connection may be silent between two messages, 1 to 300 seconds; without it 5",
-        )
+        .value_parser(ValueParser::unsigned(1, most))
+        .help(help)
 }
 
 /// An option whose value is the number of a command, 0 to 4,000,000,000.
@@ -70,7 +80,7 @@ fn ceremony_option<'a>(alloc: Global) -> Arg<'a>
         .long("ceremony")
         .value_name("N")
         .value_parser(ValueParser::unsigned(1, 9_999))
-        .help("Only the commands that name this ceremony, 1 to 9999; without it all")
+        .help("Prints only the commands that name this ceremony, 1 to 9999; without it all")
 }
 
 /// The required option of the file of a new register.
@@ -82,7 +92,7 @@ fn into_option<'a>(alloc: Global) -> Arg<'a>
         .long("into")
         .value_name("FILE")
         .required(true)
-        .help("The file of the new register, which is not there yet, or holds nothing")
+        .help("Names the file of the new register, which must be missing or empty")
 }
 
 /// What the help says of a subcommand.
@@ -125,7 +135,7 @@ const CUSTODY: Help = Help {
 
 const EXPORT: Help = Help {
     name: "export",
-    about: "Prints the accepted commands as the stream of requests that makes the register again",
+    about: "Prints the accepted commands as a stream of requests, which makes the register again",
     example: "Example: kcr export --file register.db > register.http",
 };
 
@@ -137,25 +147,25 @@ const JOURNAL: Help = Help {
 
 const AUDIT: Help = Help {
     name: "audit",
-    about: "Tells what is wrong in the rows of the register, if anything is",
+    about: "Checks all rows against six rules",
     example: "Example: kcr audit --file register.db",
 };
 
 const VERIFY: Help = Help {
     name: "verify",
-    about: "Tells whether the register is the one of its own commands",
+    about: "Replays the accepted commands and compares every reply and row",
     example: "Example: kcr verify --file register.db",
 };
 
 const REBUILD: Help = Help {
     name: "rebuild",
-    about: "Makes a new register of the commands of this one, and tells whether it is the same",
+    about: "Replays the accepted commands into a new file, and compares every row",
     example: "Example: kcr rebuild --file register.db --into new.db",
 };
 
 const PACK: Help = Help {
     name: "pack",
-    about: "Makes one file of a register's file and its log, also while it serves",
+    about: "Packs the register's file and its log into one file, even while the register serves",
     example: "Example: kcr pack --file register.db --into packed.db",
 };
 
@@ -168,6 +178,19 @@ fn over_file<'a>(alloc: Global, help: Help) -> Result<Command<'a>, AllocError>
         .about(help.about)
         .after_help(help.example)
         .arg(file_option(alloc))
+}
+
+/// A subcommand that opens the register's file to write it, and creates the file unless that is excluded.
+fn over_own_file<'a>(alloc: Global, help: Help) -> Result<Command<'a>, AllocError>
+    ensures app { IfOk result (λ c. app_of c ≡ of_own_file help.name.now) }
+    ensures local { IfOk result (λ c. (out-Command c).has_globals ≡ false) }
+{
+    let existing = flag(
+        alloc,
+        "existing",
+        "Opens the file only if it exists, and creates none",
+    );
+    over_file(alloc, help)?.arg(existing)
 }
 
 /// A command with one more option, whose value is a number from 1 to `most`.
@@ -196,7 +219,7 @@ fn over_ceremony<'a>(alloc: Global, help: Help) -> Result<Command<'a>, AllocErro
         command,
         "ceremony",
         9_999,
-        "The ceremony's number, 1 to 9999",
+        "Names the ceremony, 1 to 9999",
     )
 }
 
@@ -204,16 +227,28 @@ fn serve<'a>(alloc: Global) -> Result<Command<'a>, AllocError>
     ensures app { IfOk result (λ c. app_of c ≡ serve_app) }
     ensures local { IfOk result (λ c. (out-Command c).has_globals ≡ false) }
 {
-    let command = over_file(alloc, SERVE)?;
-    let command = with_number(alloc, command, "port", 65_535, "The port, 1 to 65535")?;
+    let command = over_own_file(alloc, SERVE)?;
+    let command = with_number(alloc, command, "port", 65_535, "Names the port, 1 to 65535")?;
     let command = with_number(
         alloc,
         command,
         "connections",
         1_000_000,
-        "How many connections are served before the program ends, 1 to 1000000",
+        "Ends the program after N connections, 1 to 1000000",
     )?;
-    command.arg(idle_option(alloc))
+    let idle = seconds_option(
+        alloc,
+        "idle",
+        300,
+        "Ends a connection that is silent for so long between two messages, 1 to 300 seconds; without it 5",
+    );
+    let longest = seconds_option(
+        alloc,
+        "longest",
+        86_400,
+        "Ends a connection that lasts longer, 1 to 86400 seconds; without it 300",
+    );
+    command.arg(idle)?.arg(longest)
 }
 
 fn export<'a>(alloc: Global) -> Result<Command<'a>, AllocError>
@@ -229,7 +264,7 @@ fn export<'a>(alloc: Global) -> Result<Command<'a>, AllocError>
     let until = command_option(
         alloc,
         "until",
-        "Ends behind command N, 0 to 4000000000; without it behind the last",
+        "Stops after command N, 0 to 4000000000; without it after the last",
     );
     command.arg(after)?.arg(until)
 }
@@ -251,12 +286,21 @@ fn into_file<'a>(alloc: Global, help: Help) -> Result<Command<'a>, AllocError>
     command.arg(into_option(alloc))
 }
 
-/// A command with one more subcommand.
-fn with<'a>(command: Command<'a>, sub: Command<'a>) -> Result<Command<'a>, AllocError>
+/// A command with one more subcommand, which explains what it meets if it is told to.
+fn with<'a>(
+    alloc: Global,
+    command: Command<'a>,
+    sub: Command<'a>,
+) -> Result<Command<'a>, AllocError>
     requires { (out-Command sub).has_globals ≡ false }
-    ensures { IfOk result (λ c. app_of c ≡ with_subcommand (app_of command.entry) (app_of sub.entry).top) }
+    ensures { IfOk result (λ c. app_of c ≡ with_subcommand (app_of command.entry) (explained (app_of sub.entry)).top) }
 {
-    command.subcommand(sub)
+    let explain = flag(
+        alloc,
+        "explain",
+        "Writes a second line that names what failed, and notes before a refusal",
+    );
+    command.subcommand(sub.arg(explain)?)
 }
 
 fn root<'a>(alloc: Global) -> Command<'a>
@@ -273,15 +317,15 @@ fn root<'a>(alloc: Global) -> Command<'a>
 pub fn tool<'a>(alloc: Global) -> Result<Command<'a>, AllocError>
     ensures { IfOk result (λ c. app_of c ≡ tool_app) }
 {
-    let tool = with(root(alloc), over_file(alloc, RUN)?)?;
-    let tool = with(tool, serve(alloc)?)?;
-    let tool = with(tool, over_ceremony(alloc, PRINT)?)?;
-    let tool = with(tool, over_ceremony(alloc, ATTENDANCE)?)?;
-    let tool = with(tool, over_file(alloc, CUSTODY)?)?;
-    let tool = with(tool, export(alloc)?)?;
-    let tool = with(tool, journal(alloc)?)?;
-    let tool = with(tool, over_file(alloc, AUDIT)?)?;
-    let tool = with(tool, over_file(alloc, VERIFY)?)?;
-    let tool = with(tool, into_file(alloc, REBUILD)?)?;
-    with(tool, into_file(alloc, PACK)?)
+    let tool = with(alloc, root(alloc), over_own_file(alloc, RUN)?)?;
+    let tool = with(alloc, tool, serve(alloc)?)?;
+    let tool = with(alloc, tool, over_ceremony(alloc, PRINT)?)?;
+    let tool = with(alloc, tool, over_ceremony(alloc, ATTENDANCE)?)?;
+    let tool = with(alloc, tool, over_file(alloc, CUSTODY)?)?;
+    let tool = with(alloc, tool, export(alloc)?)?;
+    let tool = with(alloc, tool, journal(alloc)?)?;
+    let tool = with(alloc, tool, over_file(alloc, AUDIT)?)?;
+    let tool = with(alloc, tool, over_file(alloc, VERIFY)?)?;
+    let tool = with(alloc, tool, into_file(alloc, REBUILD)?)?;
+    with(alloc, tool, into_file(alloc, PACK)?)
 }

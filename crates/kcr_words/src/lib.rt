@@ -4,4 +4,4 @@
 mod commands;
 mod words;
 
-pub use words::{Order, Report, Task, WordsFault, read_words};
+pub use words::{Order, Report, Serving, Task, WordsFault, read_words};

@@ -3,7 +3,8 @@ ghost use Rattle.std.specs.Prelude.{◌≡◌, ◌≢◌, ◌≤◌, [], true, f
 ghost use Rattle.std.specs.Prelude.{option_map};
 ghost use Rattle.clap.specs.Words.{rows_of, found_of, subcommand_rows_of};
 ghost use Rattle.kcr_words.specs.Tasks.{IsLine, task_of, task_at, file_of, file_at, into_of, into_at, number_at};
-ghost use Rattle.kcr_words.specs.Tasks.{ceremony_at, command_at, export_at, idle_at, report_at, serve_at, met_in};
+ghost use Rattle.kcr_words.specs.Tasks.{ceremony_at, command_at, export_at, report_at, serve_at, met_in, flag_at};
+ghost use Rattle.kcr_words.specs.Tasks.{idle_at, longest_at, is_existing, is_explained};
 ghost use Rattle.kcr_words.specs.Tasks.{IsCompanion, faults_of, file_in, into_in, is_companion, names_companion, said};
 
 use crate::commands::tool;
@@ -14,6 +15,9 @@ use std::alloc::Global;
 
 /// For how many seconds a connection may be silent between two messages, unless the words say.
 const IDLE: u32 = 5;
+
+/// For how many seconds a connection may last in all, unless the words say.
+const LONGEST: u32 = 300;
 
 /// What is told of a register, which it leaves as it is.
 #[derive(Clone, Copy, PartialEq, Eq)]
@@ -32,14 +36,26 @@ pub enum Report {
     Audit,
 }
 
+/// What a server serves.
+#[derive(Clone, Copy, PartialEq, Eq)]
+pub struct Serving {
+    /// The port of 127.0.0.1, 1 to 65,535.
+    pub port: u16,
+    /// How many connections are served, 1 to 1,000,000.
+    pub connections: u32,
+    /// For how many seconds a connection may be silent between two messages, 1 to 300.
+    pub idle: u32,
+    /// For how many seconds a connection may last in all, 1 to 86,400.
+    pub longest: u32,
+}
+
 /// What the program is to do.
 #[derive(Clone, Copy, PartialEq, Eq)]
 pub enum Task {
     /// Answers the stream of requests on standard input on standard output.
     Run,
-    /// Answers requests on a port of 127.0.0.1, 1 to 65,535, on N connections, 1 to 1,000,000, each of which may
-    /// be silent between two messages for N seconds, 1 to 300.
-    Serve(u16, u32, u32),
+    /// Answers requests on a port.
+    Serve(Serving),
     /// Writes a report of a register.
     Write(Report),
     /// Sees whether the register is the one of its own commands.
@@ -50,13 +66,18 @@ pub enum Task {
     Pack,
 }
 
-/// What the words ask for: a task, the file of the register, or None for a register in memory, and the file of the new
-/// register where one is to be made.
+/// What the words ask for.
 #[derive(Clone, Copy)]
 pub struct Order<'a> {
     pub task: Task,
+    /// The file of the register, or `None` for a register in memory.
     pub file: Option<&'a str>,
+    /// The file of the new register, if one is made.
     pub into: Option<&'a str>,
+    /// Whether the file of the register is opened only if it exists.
+    pub is_existing: bool,
+    /// Whether lines on standard error are followed by what failed.
+    pub is_explained: bool,
 }
 
 /// Why the words are no task.
@@ -111,24 +132,34 @@ fn read_ceremony(matches: &ArgMatches<'_>) -> Option<CeremonyNumber>
     CeremonyNumber::new(read_number(matches, "ceremony", 1, 9_999)?)
 }
 
-/// For how many seconds a connection may be silent between two messages, 5 where no number was named.
+/// For how many seconds a connection may be silent between two messages, 5 if no number was named.
 fn read_idle(matches: &ArgMatches<'_>) -> u32
     ensures number { result ≡ idle_at (rows_of (found_of matches.now)) }
     ensures range { (1 ≤ result) × (result ≤ 300) }
 {
-    match read_number(matches, "idle", 1, 300) {
-        Some(seconds) => seconds,
-        None => IDLE,
-    }
+    read_number(matches, "idle", 1, 300).unwrap_or(IDLE)
 }
 
-/// The port, the number of connections and the seconds of silence that were named.
+/// For how many seconds a connection may last in all, 300 if no number was named.
+fn read_longest(matches: &ArgMatches<'_>) -> u32
+    ensures number { result ≡ longest_at (rows_of (found_of matches.now)) }
+    ensures range { (1 ≤ result) × (result ≤ 86400) }
+{
+    read_number(matches, "longest", 1, 86_400).unwrap_or(LONGEST)
+}
+
+/// The port, the number of connections and the seconds that were named.
 fn read_serve(matches: &ArgMatches<'_>) -> Option<Task>
     ensures { result ≡ serve_at (rows_of (found_of matches.now)) }
 {
     let port = read_number(matches, "port", 1, 65_535)?;
     let connections = read_number(matches, "connections", 1, 1_000_000)?;
-    Some(Task::Serve(port as u16, connections, read_idle(matches)))
+    Some(Task::Serve(Serving {
+        port: port as u16,
+        connections,
+        idle: read_idle(matches),
+        longest: read_longest(matches),
+    }))
 }
 
 /// The number of a command that was named.
@@ -190,6 +221,16 @@ fn read_file<'a>(matches: &ArgMatches<'a>) -> Option<&'a str>
     matches.get_str("file")
 }
 
+/// Whether the words have a flag.
+fn has_flag(matches: &ArgMatches<'_>, name: &str) -> bool
+    ensures { result ≡ flag_at name.now (rows_of (found_of matches.now)) }
+{
+    match matches.get_str(name) {
+        Some(value) => value == "true",
+        None => false,
+    }
+}
+
 /// Whether sqlite gives such a name to a file beside another: it ends in `-journal`, `-wal` or `-shm`.
 fn is_companion(name: &str) -> bool
     ensures { result ≡ is_companion name.now }
@@ -216,6 +257,8 @@ pub fn read_words<'a>(alloc: Global, words: &'a [String]) -> Result<Order<'a>, W
     ensures task { IfOk result (λ order. task_of (said words.entry.now) ≡ Some order.task) }
     ensures file { IfOk result (λ order. file_of (said words.entry.now) ≡ file_in order) }
     ensures into { IfOk result (λ order. into_of (said words.entry.now) ≡ into_in order) }
+    ensures existing { IfOk result (λ order. is_existing (said words.entry.now) ≡ order.is_existing) }
+    ensures explained { IfOk result (λ order. is_explained (said words.entry.now) ≡ order.is_explained) }
 
     // The file of the new register is no other's log or journal.
     ensures apart { IfOk result (λ _. names_companion (into_of (said words.entry.now)) ≡ false) }
@@ -237,6 +280,8 @@ pub fn read_words<'a>(alloc: Global, words: &'a [String]) -> Result<Order<'a>, W
             task,
             file: read_file(inner),
             into,
+            is_existing: has_flag(inner, "existing"),
+            is_explained: has_flag(inner, "explain"),
         }),
         None => unreachable!(),
     }

@@ -1,7 +1,7 @@
 use Rattle.std.proofs.Common.{sym, ap, ◌∙◌}
 use Rattle.kcr_words.specs.Tasks.{names_companion}
 use Rattle.clap.specs.Words.{rows_of, found_of}
-use Rattle.kcr_words.proofs.Parses.{met_is, task_is, file_is, into_is}
+use Rattle.kcr_words.proofs.Parses.{met_is, task_is, file_is, into_is, existing_is, explained_is}
 use Rattle.kcr_words.proofs.Taken.{never_none, never_other}
 use Rattle.kcr_words.proofs.words.read_words.Goals as goal
 
@@ -48,3 +48,15 @@ returns-then-names_companion-clause-companion c _ =
     c.in_ok-matches.ensures.found c.in-Some.ensures.name c.in-Some.ensures.rows)
     c.read_into-into.ensures
     ) ∙ sym c.names_companion.ensures ∙ c.if-names_companion.true
+
+pub returns-clause-existing : goal.returns-clause-existing
+returns-clause-existing c =
+    existing_is _ _ _ _ (met_is _ c.in_ok-matches.matches c.in-Some.name.now (rows_of (found_of c.in-Some.inner.now))
+    c.in_ok-matches.ensures.found c.in-Some.ensures.name c.in-Some.ensures.rows)
+    c.has_flag.ensures
+
+pub returns-clause-explained : goal.returns-clause-explained
+returns-clause-explained c =
+    explained_is _ _ _ _ (met_is _ c.in_ok-matches.matches c.in-Some.name.now (rows_of (found_of c.in-Some.inner.now))
+    c.in_ok-matches.ensures.found c.in-Some.ensures.name c.in-Some.ensures.rows)
+    c.has_flag-in-Some-read_task.ensures
