@@ -1,12 +1,11 @@
 -- What the fault of a task was caused by.
-use Rattle.std.proofs.Common.{◌≡◌, ◌⊎◌, inl, inr, ℕ, List, Option, Some, None, Result, Ok, Err, OnErr, refl, sym, subst, ap, length, arith}
+use Rattle.std.proofs.Common.{◌≡◌, ◌⊎◌, inl, inr, ℕ, List, Option, Some, None, Bool, false, ◌∙◌, Result, Ok, Err, OnErr, refl, sym, subst, length, arith}
+use Rattle.std.proofs.lemmas.Bool.{true≢false}
 use Rattle.std.proofs.lemmas.List.{take_all}
 use Rattle.std.specs.Io.KnownBytes.{Appends}
-use Rattle.std.specs.Prelude.{IsSome, option_map}
+use Rattle.std.specs.Prelude.{IfSome, IsTrue, option_map}
 use Rattle.kcr_base.specs.declared.refusal.Refusal.{Refusal}
 use Rattle.kcr_base.specs.declared.refusal.Refusal.TheVariants as refusal
-use Rattle.kcr_history.specs.History.{History}
-use Rattle.kcr_desk.specs.Answers.{RegisterHistory, history_of, whole}
 use Rattle.kcr_desk.specs.Streams.{Streams, Writing, HasFailed, IsUntouched, WritesNothing, WritesPart, WritesText, bytes_before, bytes_after}
 use Rattle.kcr_print.specs.Reports.{Stops}
 use Rattle.kcr_print.specs.declared.fault.PrintFault.{PrintFault}
@@ -19,20 +18,22 @@ use Rattle.kcr_fault.specs.declared.fault.Missing.{Missing}
 use Rattle.kcr_fault.specs.declared.fault.Missing.TheVariants.{Unnamed, Absent, Empty}
 use Rattle.kcr_fault.specs.declared.fault.Fault.{Fault}
 use Rattle.kcr_fault.specs.declared.fault.Fault.TheVariants.{Open, File, Log, Nothing, Into, IntoFile, Stream, Refused, Unwritten, Net, Lost, Words}
+use Rattle.kcr_tool.specs.Runs.{StopsCopied, StopsVerification}
 use Rattle.kcr_words.specs.declared.words.Report.{Report}
+use Rattle.kcr_words.specs.declared.words.Serving.{Serving}
 use Rattle.kcr_words.specs.declared.words.Task.{Task}
 use Rattle.kcr_words.specs.declared.words.Task.TheVariants.{Serve, Write, Verify}
 
 -- A REGISTER THAT WAS BROKEN BEFORE
 
 -- it is not one that nothing broke
-never_both : {A : Type 0} (o : Option A) → o ≡ None → IsSome o → ⊥
-never_both o none some = let no = rw none at some in cc
+never_both : (b : Bool) → b ≡ false → IsTrue b → ⊥
+never_both b unbroken broken = true≢false (sym broken ∙ unbroken)
 
 -- over one that was not, a call meets only what it may give
-pub met_whole : {S : Type 0} (register : RegisterState S) (May : Refusal → Type 0) (met : Refusal) → register.in_doubt ≡ None → MeetsOver register May met → May met
+pub met_whole : {S : Type 0} (register : RegisterState S) (May : Refusal → Type 0) (met : Refusal) → register.is_broken ≡ false → MeetsOver register May met → May met
 met_whole register May met whole (inl may) = may
-met_whole register May met whole (inr broken) = absurd (never_both register.in_doubt whole broken.1)
+met_whole register May met whole (inr broken) = absurd (never_both register.is_broken whole broken.1)
 
 -- WHAT STOPS A CALL
 
@@ -68,28 +69,26 @@ met_cause task Lost s stops = absurd stops
 met_cause task Words s stops = absurd stops
 
 -- what stopped a report over a register that nothing broke before
-pub report_stops : {S W : Type 0} (register : RegisterState S) (report : Report) (why : Fault) (w : Writing W) → register.in_doubt ≡ None
+pub report_stops : {S W : Type 0} (register : RegisterState S) (report : Report) (why : Fault) (w : Writing W) → register.is_broken ≡ false
     → StopsReport (MeetsOver register (MayMeet (Write report))) w why → StopsReport (MayMeet (Write report)) w why
 report_stops register report why w none =
     stops_weaker (MeetsOver register (MayMeet (Write report))) (MayMeet (Write report)) w why
     (λ met. met_whole register (MayMeet (Write report)) met none)
 
 -- what stopped the listening
-pub serving_cause : {S R W : Type 0} (register : RegisterState S) (port connections idle : ℕ) (why : Fault) (s : Streams R W)
-    → StopsServing register s.output why → StopsTask (Serve port connections idle) s why
-serving_cause {S} {R} {W} register port connections idle why s (inl taken) =
-    subst (λ (fault : Fault). StopsTask (Serve port connections idle) s fault) (sym taken) (port, connections, idle, refl)
-serving_cause {S} {R} {W} register port connections idle why s (inr (inl (inl none))) =
-    subst (λ (fault : Fault). StopsTask (Serve port connections idle) s fault) (sym none) (port, connections, idle, refl)
-serving_cause {S} {R} {W} register port connections idle why s (inr (inl (inr (inl lost)))) =
-    subst (λ (fault : Fault). StopsTask (Serve port connections idle) s fault) (sym lost) (port, connections, idle, refl)
-serving_cause {S} {R} {W} register port connections idle why s (inr (inl (inr (inr (inl memory))))) =
-    subst (λ (fault : Fault). StopsTask (Serve port connections idle) s fault) (sym memory) (inl refl)
-serving_cause {S} {R} {W} register port connections idle why s (inr (inl (inr (inr (inr broken))))) =
-    subst (λ (fault : Fault). StopsTask (Serve port connections idle) s fault) (sym broken.0) (inr refl)
-serving_cause {S} {R} {W} register port connections idle why s (inr (inr stops)) =
-    met_cause (Serve port connections idle) why s
-    (stops_weaker (λ met. met ≡ refusal.Memory) (MayMeet (Serve port connections idle)) s.output why (λ met is. inl is) stops)
+pub serving_cause : {S R W : Type 0} (register : RegisterState S) (serving : Serving) (why : Fault) (s : Streams R W)
+    → StopsServing register s.output why → StopsTask (Serve serving) s why
+serving_cause {S} {R} {W} register serving why s (inl taken) =
+    subst (λ (fault : Fault). StopsTask (Serve serving) s fault) (sym taken) (serving, refl)
+serving_cause {S} {R} {W} register serving why s (inr (inl (inl none))) =
+    subst (λ (fault : Fault). StopsTask (Serve serving) s fault) (sym none) (serving, refl)
+serving_cause {S} {R} {W} register serving why s (inr (inl (inr (inl lost)))) =
+    subst (λ (fault : Fault). StopsTask (Serve serving) s fault) (sym lost) (serving, refl)
+serving_cause {S} {R} {W} register serving why s (inr (inl (inr (inr broken)))) =
+    subst (λ (fault : Fault). StopsTask (Serve serving) s fault) (sym broken.0) (inr refl)
+serving_cause {S} {R} {W} register serving why s (inr (inr stops)) =
+    met_cause (Serve serving) why s
+    (stops_weaker (λ met. met ≡ refusal.Memory) (MayMeet (Serve serving)) s.output why (λ met is. inl is) stops)
 
 -- a fault of a task over an open register, whichever file that came from
 pub task_cause : {R W : Type 0} (task : Task) (why : Fault) (file : Option (List ℕ)) (s : Streams R W) → StopsTask task s why
@@ -117,6 +116,10 @@ unfilled path Unnamed is = absurd is
 unfilled path Absent is = refl
 unfilled path Empty is = refl
 
+pub unfilled_of : (path : List ℕ) (missing : Option Missing) → IfSome missing IsUnfilled → IfSome missing (IsMissing (Some path))
+unfilled_of path None is = tt
+unfilled_of path (Some missing) is = unfilled path missing is
+
 -- why a register in a file was not opened, after which nothing was read or written
 pub opening_cause : {R W : Type 0} (task : Option Task) (why : Fault) (path : List ℕ) (s : Streams R W) → IsUntouched s → StopsOpening why
     → HasCause task (Some path) s why
@@ -132,6 +135,50 @@ opening_cause task (Stream fault) path s still stops = absurd stops
 opening_cause task (Net call) path s still stops = absurd stops
 opening_cause task Lost path s still stops = absurd stops
 opening_cause task Words path s still stops = absurd stops
+
+-- why a report of a copy was not written whole
+pub copied_cause : {R W : Type 0} (report : Report) (why : Fault) (path : List ℕ) (s : Streams R W) → s.after ≡ s.before
+    → StopsCopied report s.output why → HasCause (Some (Write report)) (Some path) s why
+copied_cause report why path s still (inl unopened) = opening_cause (Some (Write report)) why path s (still, unopened.1) unopened.0
+copied_cause report why path s still (inr stops) = report_cause report why (Some path) s stops
+
+-- why no rows of a file were read, after which nothing was read or written
+pub reading_cause : {R W : Type 0} (why : Fault) (path : List ℕ) (s : Streams R W) → IsUntouched s → StopsReading why
+    → HasCause (Some Verify) (Some path) s why
+reading_cause (Nothing missing) path s still stops = (inl refl, unfilled path missing stops, still)
+reading_cause (Refused met) path s still stops = (Verify, refl, stops)
+reading_cause (Open fault) path s still stops = ((λ none. cc), still)
+reading_cause (File step) path s still stops = (refl, still)
+reading_cause (Log log) path s still stops = (stops, refl, still)
+reading_cause Unwritten path s still stops = absurd stops
+reading_cause (Into fault) path s still stops = absurd stops
+reading_cause (IntoFile step) path s still stops = absurd stops
+reading_cause (Stream fault) path s still stops = absurd stops
+reading_cause (Net call) path s still stops = absurd stops
+reading_cause Lost path s still stops = absurd stops
+reading_cause Words path s still stops = absurd stops
+
+-- why a verification stopped
+pub replay_cause : {R W : Type 0} (why : Fault) (path : List ℕ) (s : Streams R W) → s.after ≡ s.before → StopsReplay s.output why
+    → HasCause (Some Verify) (Some path) s why
+replay_cause (Nothing missing) path s still stops = (inl refl, unfilled path missing stops.0, (still, stops.1))
+replay_cause (Refused met) path s still stops = (Verify, refl, stops)
+replay_cause Unwritten path s still stops = (Verify, refl, stops)
+replay_cause (Open fault) path s still stops = absurd stops
+replay_cause (File step) path s still stops = absurd stops
+replay_cause (Log log) path s still stops = absurd stops
+replay_cause (Into fault) path s still stops = absurd stops
+replay_cause (IntoFile step) path s still stops = absurd stops
+replay_cause (Stream fault) path s still stops = absurd stops
+replay_cause (Net call) path s still stops = absurd stops
+replay_cause Lost path s still stops = absurd stops
+replay_cause Words path s still stops = absurd stops
+
+-- why a verification of a copy was not told whole
+pub verification_cause : {R W : Type 0} (why : Fault) (path : List ℕ) (s : Streams R W) → s.after ≡ s.before
+    → StopsVerification s.output why → HasCause (Some Verify) (Some path) s why
+verification_cause why path s still (inl unread) = reading_cause why path s (still, unread.1) unread.0
+verification_cause why path s still (inr stops) = replay_cause why path s still stops
 
 -- a register that was not opened was not read
 pub opening_reads : (why : Fault) → StopsOpening why → StopsReading why
@@ -177,13 +224,6 @@ replay_stops (Stream fault) w stops = absurd stops
 replay_stops (Net call) w stops = absurd stops
 replay_stops Lost w stops = absurd stops
 replay_stops Words w stops = absurd stops
-
--- REPLIES BY A REGISTER THAT NOTHING BROKE BEFORE
-
-pub from_whole : {S : Type 0} (P : RegisterHistory → Type 0) (register : RegisterState S) → register.in_doubt ≡ None → P (history_of register)
-    → P (whole register.accepted)
-from_whole P register none =
-    subst P (ap (λ (in_doubt : Option History). let s : RegisterHistory = record { accepted = register.accepted; in_doubt = in_doubt } in s) none)
 
 -- no file is named
 pub none_mapped : {X Y : Type 0} (f : X → Y) (o : Option X) → option_map f o ≡ None → o ≡ None

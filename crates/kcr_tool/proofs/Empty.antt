@@ -1,13 +1,13 @@
 -- A register in memory, whose disk is never in doubt.
-use Rattle.std.proofs.Common.{[], refl, subst}
+use Rattle.std.proofs.Common.{[], refl}
 use Rattle.sqlite.specs.Held.{Held, state}
 use Rattle.sqlite.specs.State.{HasCleanDisk}
 use Rattle.sqlite.specs.Steps.{over_memory}
 use Rattle.sqlite_trees.specs.declared.memory.MemStore.{MemStore}
 use Rattle.sqlite_trees.specs.View.{doubt}
 use Rattle.kcr_history.specs.History.{History}
+use Rattle.kcr_store.specs.Calls.{OfHistory}
 use Rattle.kcr_store.specs.Register.{RegisterState}
-use Rattle.kcr_tool.specs.Runs.{OfHistory}
 use Rattle.kcr_verify.specs.Verification.{IsFresh}
 
 pub never_in_doubt : (conn : Held MemStore) → HasCleanDisk (state over_memory conn)
@@ -15,6 +15,6 @@ unfolding doubt
 never_in_doubt conn = refl
 
 -- what is said of the history of one that was just made
-pub of_fresh : (register : RegisterState MemStore) (Says : History → Type 0) → IsFresh over_memory register → OfHistory over_memory register Says
-    → Says []
-of_fresh register Says fresh says = subst Says fresh.empty (says never_in_doubt fresh.intact.founded fresh.intact.in_doubt)
+pub of_fresh : (before after : RegisterState MemStore) (Says : History → Type 0) → IsFresh over_memory before
+    → OfHistory over_memory before after Says → Says []
+of_fresh before after Says fresh says = says (never_in_doubt after.conn) [] fresh.stands

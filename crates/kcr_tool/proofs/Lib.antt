@@ -5,3 +5,4 @@ pub mod Audits
 pub mod Verifications
 pub mod Empty
 pub mod Copies
+pub mod Served

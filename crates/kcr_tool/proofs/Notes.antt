@@ -1,16 +1,44 @@
--- What stands on standard error before a report.
-use Rattle.std.proofs.Common.{inl, inr, ℕ, List, Option, Some, refl}
-use Rattle.kcr_fault.specs.Notes.{IsMissing, IsNoted, IsNotedOf, IsTold}
+-- What stands on standard error beside a report.
+use Rattle.std.proofs.Common.{◌≡◌, inl, inr, ℕ, List, Bool, Option, Some, Ok, Err, refl, arith}
+use Rattle.std.specs.Prelude.{IsTrue}
+use Rattle.kcr_desk.specs.Streams.{Writing}
+use Rattle.kcr_fault.specs.Notes.{IsMissing, IsNoted, IsNotedOf, IsTold, MayNote}
 use Rattle.kcr_fault.specs.declared.fault.Missing.{Missing}
 use Rattle.kcr_words.specs.declared.words.Report.{Report}
+use Rattle.kcr_words.specs.declared.words.Task.{Task}
 use Rattle.kcr_words.specs.declared.words.Task.TheVariants.{Write}
 
 -- what is missing was told
-pub told_of : (file : Option (List ℕ)) (missing : Missing) (old new : Option (List ℕ)) → IsMissing file missing → IsTold file missing old new
-    → IsNotedOf file old new
-told_of file missing old new is (inl same) = inl same
-told_of file missing old new is (inr told) = inr (missing, is, told)
+pub told_of : {W : Type 0} (May : Type 0) (file : Option (List ℕ)) (missing : Missing) (w : Writing W) → May → IsMissing file missing
+    → IsTold file missing w → IsNotedOf May file w
+told_of May file missing w may is (inl same) = inl same
+told_of May file missing w may is (inr told) = inr (may, (missing, is, told))
+
+-- it may be told for another reason too
+pub noted_weaker : {W : Type 0} (May Other : Type 0) (file : Option (List ℕ)) (w : Writing W) → (May → Other) → IsNotedOf May file w
+    → IsNotedOf Other file w
+noted_weaker May Other file w weaker (inl same) = inl same
+noted_weaker May Other file w weaker (inr told) = inr (weaker told.0, told.1)
 
 -- by a report
-pub noted_of : (report : Report) (file : Option (List ℕ)) (old new : Option (List ℕ)) → IsNotedOf file old new → IsNoted (Some (Write report)) file old new
-noted_of report file old new noted = inr (report, refl, noted)
+pub noted_of : {W : Type 0} (May Other : Type 0) (report : Report) (file : Option (List ℕ)) (w : Writing W) → (May → Other) → IsNotedOf May file w
+    → IsNoted Other (Some (Write report)) file w
+noted_of May Other report file w weaker noted = inr (report, refl, noted_weaker May Other file w weaker noted)
+
+pub noted_by : {W : Type 0} (May : Type 0) (report : Report) (file : Option (List ℕ)) (w : Writing W) → IsNotedOf May file w
+    → IsNoted May (Some (Write report)) file w
+noted_by May report file w noted = inr (report, refl, noted)
+
+pub task_noted : {W : Type 0} (May Other : Type 0) (task : Option Task) (file : Option (List ℕ)) (w : Writing W) → (May → Other) → IsNoted May task file w
+    → IsNoted Other task file w
+task_noted May Other task file w weaker (inl same) = inl same
+task_noted May Other task file w weaker (inr (report, is, noted)) = inr (report, is, noted_weaker May Other file w weaker noted)
+
+-- before a fault, and beside a finding, notes are told only if they are asked for
+pub asked_of_fault : {E : Type 0} (is_explained : Bool) (why : E) → MayNote is_explained (Err why) → IsTrue is_explained
+asked_of_fault is_explained why (inl is) = is
+asked_of_fault is_explained why (inr same) = cc
+
+pub asked_of_finding : {E : Type 0} (is_explained : Bool) (status : ℕ) → status ≡ 1 → MayNote {E = E} is_explained (Ok status) → IsTrue is_explained
+asked_of_finding is_explained status one (inl is) = is
+asked_of_finding is_explained status one (inr same) = let zero : status ≡ 0 = cc in absurd (omega (arith, zero, one))

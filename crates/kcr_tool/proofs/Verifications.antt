@@ -23,6 +23,12 @@ module _ {W : Type 0} (head : List ℕ) (w : Writing W) where
   verification_ends Comes told (Ok status) comes whole part = (told, comes, whole)
   verification_ends Comes told (Err why) comes whole part = verified_front told part
 
+  -- what is so of all that comes is told as well
+  pub ends_weaker : (Comes Other : Verification → Type 0) (result : Result ℕ Fault) → ((told : Verification) → Comes told → Other told)
+      → EndsVerification head Comes w result → EndsVerification head Other w result
+  ends_weaker Comes Other (Ok status) weaker (told, comes, writes) = (told, weaker told comes, writes)
+  ends_weaker Comes Other (Err why) weaker ends = ends
+
   -- a number of commands is told as that of a register that is whole
   pub packed_ends : (count : ℕ) (result : Result ℕ Fault) → IfOk result (WritesVerification head (Verified count) w)
       → OnErr result (WritesNothing w ⊎ WritesPart w (verified_line head (Verified count)))

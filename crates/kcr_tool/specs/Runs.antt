@@ -1,23 +1,22 @@
 -- What a task leaves on the output.
-use Rattle.std.specs.Prelude.{◌≡◌, ◌≤◌, ◌⊎◌, ⊤, ℕ, false, List, [], String, length, Some, None, Result, MatchResult, IfErr}
+use Rattle.std.specs.Prelude.{◌≡◌, ◌≤◌, ◌⊎◌, ⊤, ℕ, false, List, String, length, Some, Result, MatchResult, IfErr}
 use Rattle.std.specs.Prelude.{IsTrue, OnErr, OnOk}
-use Rattle.sqlite.specs.Held.{Held, state}
-use Rattle.sqlite.specs.State.{HasCleanDisk}
 use Rattle.sqlite.specs.Store.{Ghosts}
 use Rattle.kcr_history.specs.Ceremonies.{is_ceremony}
 use Rattle.kcr_history.specs.History.{History}
 use Rattle.kcr_history.specs.Prints.{annotated, attendance, custody}
+use Rattle.kcr_store.specs.Calls.{OfHistory}
 use Rattle.kcr_store.specs.Register.{RegisterState}
 use Rattle.kcr_desk.specs.Run.{Request, IsServed, IsServedInPart}
 use Rattle.kcr_desk.specs.Answers.{RegisterHistory, whole, IsAnswer, IsReply}
-use Rattle.kcr_desk.specs.Connections.{Connects}
+use Rattle.kcr_desk.specs.Connections.{Connects, Leads}
 use Rattle.kcr_desk.specs.Streams.{Streams, Writing, WritesNothing, WritesPart, WritesText, bytes_after, bytes_before}
 use Rattle.kcr_desk.specs.Streams.{input_of}
 use Rattle.kcr_desk.specs.Texts.{ResponseValue}
 use Rattle.kcr_forms.specs.Values.{AreValues}
 use Rattle.kcr_journal.specs.Journal.{journal}
 use Rattle.kcr_print.specs.Requests.{requests_between}
-use Rattle.kcr_fault.specs.Faults.{MayMeet, MeetsOver, StopsReport}
+use Rattle.kcr_fault.specs.Faults.{MayMeet, MeetsOver, StopsOpening, StopsReading, StopsReplay, StopsReport}
 use Rattle.kcr_fault.specs.Lines.{clean_line, listening_line, verified_head, rebuilt_head, packed_head, whole_line}
 use Rattle.kcr_tool.specs.Audits.{WritesFinding, WritesAuditPrefix}
 use Rattle.kcr_tool.specs.Verifications.{WritesVerified, TellsWholeFront, WritesDifference, WritesVerificationPrefix}
@@ -28,22 +27,18 @@ use Rattle.kcr_words.specs.declared.words.Report.TheVariants.{Print, Attendance,
 use Rattle.kcr_words.specs.declared.words.Task.{Task}
 use Rattle.kcr_words.specs.declared.words.Task.TheVariants.{Run, Serve, Write, Verify, Rebuild, Pack}
 
--- a register of whose history nothing is known, and that nothing has broken
-abbrev pub IsUnknown : {S : Type 0} → RegisterState S → Type 0
-IsUnknown register = (register.is_genuine ≡ false) × (register.accepted ≡ []) × (register.in_doubt ≡ None)
-
 -- all of the input was answered by such steps: from a register that was like this before
-abbrev pub ServesAll : {R W : Type 0} → (RegisterHistory → Request → ResponseValue → RegisterHistory → Type 0)
-    → RegisterHistory → Streams R W → Type 0
-ServesAll step before s =
-    (after : RegisterHistory) × (count : ℕ)
+abbrev pub ServesAll : {Stand R W : Type 0} → (Stand → Request → ResponseValue → Stand → Type 0) → Stand → Streams R W
+    → Type 0
+ServesAll {Stand} step before s =
+    (after : Stand) × (count : ℕ)
     × IsServed step (input_of s) (bytes_before s.output) (bytes_after s.output) before after count
 
 -- a prefix of it was: what was written begins those answers
-abbrev pub ServesPart : {R W : Type 0} → (RegisterHistory → Request → ResponseValue → RegisterHistory → Type 0)
-    → RegisterHistory → Streams R W → Type 0
-ServesPart step before s =
-    (after : RegisterHistory)
+abbrev pub ServesPart : {Stand R W : Type 0} → (Stand → Request → ResponseValue → Stand → Type 0) → Stand → Streams R W
+    → Type 0
+ServesPart {Stand} step before s =
+    (after : Stand)
     × IsServedInPart step (input_of s) (bytes_before s.output) (bytes_after s.output) before after
 
 -- a report of a register with this history is written whole: so are the requests of the commands that are exported and
@@ -70,7 +65,7 @@ WritesReportPart Audit A w = WritesAuditPrefix w
 -- rebuild, and a register was packed into one file
 abbrev pub Completes : {R W : Type 0} → Task → History → Streams R W → Type 0
 Completes Run A s = ServesAll IsAnswer (whole A) s
-Completes (Serve port connections idle) A s = WritesText s.output (listening_line port)
+Completes (Serve serving) A s = WritesText s.output (listening_line serving.port)
 Completes (Write report) A s = WritesReport report A s.output
 Completes Verify A s = WritesText s.output (whole_line verified_head (length A))
 Completes Rebuild A s = WritesVerified rebuilt_head s.output
@@ -79,7 +74,7 @@ Completes Pack A s = WritesVerified packed_head s.output
 -- it stopped before its end
 abbrev pub CompletesInPart : {R W : Type 0} → Task → History → Streams R W → Type 0
 CompletesInPart Run A s = ServesPart IsAnswer (whole A) s
-CompletesInPart (Serve port connections idle) A s = WritesPart s.output (listening_line port)
+CompletesInPart (Serve serving) A s = WritesPart s.output (listening_line serving.port)
 CompletesInPart (Write report) A s = WritesReportPart report A s.output
 CompletesInPart Verify A s = WritesPart s.output (whole_line verified_head (length A))
 CompletesInPart Rebuild A s = WritesVerificationPrefix rebuilt_head s.output
@@ -110,8 +105,8 @@ WritesUnknownPart report w = Unit {0}
 -- a task went well over such a register: each message got a reply, in their order, by a register that nothing had
 -- broken before, and the lines of a port, of an audit, of a verification, of a rebuild and of a pack are written
 abbrev pub CompletesUnknown : {R W : Type 0} → Task → Streams R W → Type 0
-CompletesUnknown Run s = (A : History) × ServesAll IsReply (whole A) s
-CompletesUnknown (Serve port connections idle) s = WritesText s.output (listening_line port)
+CompletesUnknown Run s = ServesAll IsReply false s
+CompletesUnknown (Serve serving) s = WritesText s.output (listening_line serving.port)
 CompletesUnknown (Write report) s = WritesUnknown report s.output
 CompletesUnknown Verify s = WritesVerified verified_head s.output
 CompletesUnknown Rebuild s = WritesVerified rebuilt_head s.output
@@ -119,8 +114,8 @@ CompletesUnknown Pack s = WritesVerified packed_head s.output
 
 -- it stopped before its end
 abbrev pub CompletesUnknownInPart : {R W : Type 0} → Task → Streams R W → Type 0
-CompletesUnknownInPart Run s = (A : History) × ServesPart IsReply (whole A) s
-CompletesUnknownInPart (Serve port connections idle) s = WritesPart s.output (listening_line port)
+CompletesUnknownInPart Run s = ServesPart IsReply false s
+CompletesUnknownInPart (Serve serving) s = WritesPart s.output (listening_line serving.port)
 CompletesUnknownInPart (Write report) s = WritesUnknownPart report s.output
 CompletesUnknownInPart Verify s = WritesVerificationPrefix verified_head s.output
 CompletesUnknownInPart Rebuild s = WritesVerificationPrefix rebuilt_head s.output
@@ -154,18 +149,29 @@ OfTask words Says = (task : Task) × (task_of (said words) ≡ Some task) × Say
 
 -- WHOSE HISTORY
 
--- said of the history of a register that is not broken, over a store whose disk is never in doubt, as memory is
-abbrev pub OfHistory : {S : Type 0} → Ghosts S → RegisterState S → (History → Type 0) → Type 0
-OfHistory {S} g register Says =
-    ((conn : Held S) → HasCleanDisk (state g conn)) → IsTrue register.is_genuine → register.in_doubt ≡ None
-    → Says register.accepted
-
 -- a report: of a register with a history it is done, or in part if a fault stopped it
-pub record Reports {S W : Type 0} (g : Ghosts S) (report : Report) (register : RegisterState S) (w : Writing W)
+pub record Reports {S W : Type 0} (g : Ghosts S) (report : Report) (before after : RegisterState S) (w : Writing W)
     (result : Result ⊤ Fault) : Type 0 where
-  pub done : OfHistory g register (λ A. OnOk result (WritesReport report A w))
-  pub part : OfHistory g register (λ A. OnErr result (WritesReportPart report A w))
-  pub cause : IfErr result (StopsReport (MeetsOver register (MayMeet (Write report))) w)
+  pub done : OfHistory g before after (λ A. OnOk result (WritesReport report A w))
+  pub part : OfHistory g before after (λ A. OnErr result (WritesReportPart report A w))
+  pub cause : IfErr result (StopsReport (MeetsOver before (MayMeet (Write report))) w)
+
+-- a stream over a register that stood at the one history leads it to the other: all of the input was answered by a run
+-- of the machine, or a prefix of it before a fault
+abbrev pub RunsTo : {R W : Type 0} → RegisterHistory → RegisterHistory → Streams R W → Result ℕ Fault → Type 0
+RunsTo before after s result =
+    MatchResult result
+    (λ status. (status ≡ 0)
+    × ((count : ℕ) × IsServed IsAnswer (input_of s) (bytes_before s.output) (bytes_after s.output) before after count))
+    (λ _. IsServedInPart IsAnswer (input_of s) (bytes_before s.output) (bytes_after s.output) before after)
+
+-- why a report of a copy was not written whole: it was not opened, and then nothing was written, or the report stopped
+abbrev pub StopsCopied : {W : Type 0} → Report → Writing W → Fault → Type 0
+StopsCopied report w why = (StopsOpening why × WritesNothing w) ⊎ StopsReport (MayMeet (Write report)) w why
+
+-- why a verification of a copy was not told whole: its rows were not read, and then nothing was written, or it stopped
+abbrev pub StopsVerification : {W : Type 0} → Writing W → Fault → Type 0
+StopsVerification w why = (StopsReading why × WritesNothing w) ⊎ StopsReplay w why
 
 -- CONNECTIONS
 
@@ -174,3 +180,10 @@ abbrev pub ConnectsUpTo : {S T : Type 0} → Ghosts S → ℕ → RegisterState 
 ConnectsUpTo g connections before after result =
     MatchResult result (λ _. Connects g before after connections)
     (λ _. (count : ℕ) × (count ≤ connections) × Connects g before after count)
+
+-- the messages of this many connections lead from the one history to the other by a run of the machine, or those of as
+-- many as came before a fault
+abbrev pub ServesTo : {T : Type 0} → RegisterHistory → RegisterHistory → ℕ → Result T Fault → Type 0
+ServesTo before after connections result =
+    MatchResult result (λ _. Leads IsAnswer before after connections)
+    (λ _. (count : ℕ) × (count ≤ connections) × Leads IsAnswer before after count)

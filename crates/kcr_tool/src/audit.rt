@@ -1,16 +1,16 @@
 //! The audit of a register, as lines.
-ghost use Rattle.std.specs.Prelude.{◌≡◌, ◌⊎◌, None, IfOk, IfErr, OnErr, string_bytes};
-ghost use Rattle.sqlite.specs.Held.{Held, state};
+ghost use Rattle.std.specs.Prelude.{◌≡◌, ◌⊎◌, false, IfOk, IfErr, OnErr, string_bytes};
+ghost use Rattle.sqlite.specs.Held.{state};
 ghost use Rattle.sqlite.specs.State.{HasCleanDisk};
 ghost use Rattle.kcr_desk.specs.Streams.{WritesNothing, writing};
 ghost use Rattle.kcr_history.specs.Tables.{Tables};
+ghost use Rattle.kcr_store.specs.Calls.{OfHistory};
 ghost use Rattle.kcr_store.specs.FullView.{FindsIn};
 ghost use Rattle.kcr_tables.specs.MachineTables.{HoldsTables};
 ghost use Rattle.kcr_tool.specs.Audits.{EndsAudit, WritesAudit, WritesAuditPrefix};
 ghost use Rattle.kcr_tables.specs.Refusals.{IsFault};
 ghost use Rattle.kcr_fault.specs.Faults.{MeetsOver, StopsReport};
 ghost use Rattle.kcr_fault.specs.Lines.{clean_line, finding_line, found_line};
-ghost use Rattle.kcr_tool.specs.Runs.{OfHistory};
 
 use itoa::Buffer;
 use kcr_base::{Counted, Refusal};
@@ -84,12 +84,12 @@ pub fn audit<S: Alter, W: Write>(
 ) -> Result<u8, Fault>
     // What is told is what an audit of the tables that the database holds finds, whoever wrote them.
     ensures ends { EndsAudit (λ _. Unit {0}) (writing W.contents output.old output.new) result }
-    ensures found { ((conn : Held S) → HasCleanDisk (state S.Store conn)) → register.old.in_doubt ≡ None
-        → (m : Tables) → HoldsTables m (state S.Store register.old.conn).now
+    ensures found { register.old.is_broken ≡ false → HasCleanDisk (state S.Store register.new.conn) → (m : Tables)
+        → HoldsTables m (state S.Store register.old.conn).now
         → EndsAudit (FindsIn m) (writing W.contents output.old output.new) result }
 
     // In the tables of a history it finds nothing.
-    ensures nothing { OfHistory S.Store register.old (λ A. IfOk result (λ status. status ≡ 0)) }
+    ensures nothing { OfHistory S.Store register.old register.new (λ A. IfOk result (λ status. status ≡ 0)) }
     ensures cause { IfErr result (StopsReport (MeetsOver register.old IsFault)
         (writing W.contents output.old output.new)) }
 {

@@ -19,6 +19,7 @@ mod verify;
 
 use act::act;
 use kcr_base::Counted;
+use sqlite::Unknown;
 use std::process::ExitCode;
 use std::{env, io};
 
@@ -37,7 +38,8 @@ fn act_on(rt: &HostRuntime, words: &[String]) -> u8
 {
     let mut input = Counted::new(rt.stdin());
     let mut output = Counted::new(rt.stdout());
-    act(rt, words, &mut input, &mut output, &mut rt.stderr())
+    let mut faults = Counted::new(rt.stderr());
+    act(rt, Unknown, words, &mut input, &mut output, &mut faults)
 }
 
 // The status if the words could not be read: a word is not UTF-8, or memory ran out.

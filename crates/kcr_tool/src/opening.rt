@@ -1,25 +1,32 @@
 //! The register in a file: opened to be written, or read into memory.
 ghost use Rattle.std.specs.Prelude.{◌≡◌, false, IsTrue, IfOk, IfErr, IfSome};
 ghost use Rattle.sqlite_std_file.specs.File.{file_is_usable};
+ghost use Rattle.kcr_copy.specs.Image.{image};
 ghost use Rattle.kcr_copy.specs.Unread.{IsCause};
 ghost use Rattle.kcr_fault.specs.Faults.{StopsOpening};
 ghost use Rattle.kcr_fault.specs.Notes.{IsUnfilled};
-ghost use Rattle.kcr_tool.specs.Runs.{IsUnknown};
+ghost use Rattle.sqlite.specs.Files.{file_state, over_files, IsOpened as IsNewlyOpened};
+ghost use Rattle.sqlite.specs.Held.{state};
+ghost use Rattle.sqlite.specs.Start.{FindsIn};
+ghost use Rattle.sqlite.specs.State.{HasCleanDisk};
+ghost use Rattle.sqlite.specs.WalFiles.{image_at};
+ghost use Rattle.kcr_history.specs.History.{History};
+ghost use Rattle.kcr_store.specs.Opening.{FilesHoldHistory, IsGenuine};
+ghost use Rattle.kcr_store.specs.Register.{StandsAt, whole};
 
-use kcr_base::Refusal;
-use kcr_copy::{Unread, connect, copy_of};
+use kcr_copy::{Copied, Unread, connect, copy_of};
 use kcr_fault::{Fault, Missing, Step};
 use kcr_store::{FileRegister, OpenFault, Register};
-use kcr_tables::last_key_row;
 use kcr_watch::Watch;
-use sqlite::{Alter, Connection, Error, ErrorCode, FileFrom, FileStore, Files, Start, Unknown};
+use sqlite::{Alter, Connection, Error, ErrorCode, FileFrom, FileStore, Files, Start};
 use sqlite_disk::Memory;
 use sqlite_std_file::OpenError;
 use std::alloc::Global;
+use std::fs;
 use std::io::ErrorKind;
 
 /// A connection to the files at a path.
-pub type FileConnection = Connection<FileStore<FileFrom<Unknown>>>;
+pub type FileConnection<F> = Connection<FileStore<FileFrom<F>>>;
 
 /// A connection to a copy of files.
 pub type CopyConnection = Connection<FileStore<Memory>>;
@@ -60,12 +67,25 @@ fn step_of(error: Error) -> Option<Step> {
     }
 }
 
-/// Connects to the files at a path, which are made if they are missing. An error is the step that failed, or none
-/// if there was no memory.
-pub fn connect_to(rt: &HostRuntime, path: &str) -> Result<FileConnection, Option<Step>>
+/// Connects to the files at a path, which are made if they are missing. `start` stands for what the two held. An error
+/// is the step that failed, or none if there was no memory.
+pub fn connect_to<F: Start>(
+    rt: &HostRuntime,
+    path: &str,
+    start: F,
+) -> Result<FileConnection<F>, Option<Step>>
     ensures autocommit { IfOk result (λ connection. connection.in_transaction ≡ false) }
+
+    // The connection is a new one and shows what the two held.
+    ensures opened { IfOk result (λ connection. HasCleanDisk (file_state connection) → IsNewlyOpened connection) }
+    ensures found { IfOk result (λ connection. HasCleanDisk (file_state connection)
+        → FindsIn (image_at F.Start) (file_state connection)) }
+
+    // Where that was a history's tables, or nothing, so is what it finds.
+    ensures founded { IfOk result (λ connection. (A : History) → FilesHoldHistory A (image_at F.Start)
+        → IsGenuine A (file_state connection)) }
 {
-    match Connection::open_from(rt, path, false, Unknown) {
+    match Connection::open_from(rt, path, false, start) {
         Ok(connection) => Ok(connection),
         Err((error, _)) => Err(step_of(error)),
     }
@@ -93,10 +113,12 @@ pub fn files_at<S: Start>(
     }
 }
 
-/// Takes the register of a database, of whose history no clause knows anything.
+/// Takes the register of a database: of whatever history that was, at that it stands.
 pub fn take<S: Alter + Drop>(alloc: Global, connection: Connection<S>) -> Result<Register<S>, Fault>
     requires autocommit { connection.in_transaction ≡ false }
-    ensures unknown { IfOk result IsUnknown }
+    ensures unbroken { IfOk result (λ r. r.is_broken ≡ false) }
+    ensures stands { IfOk result (λ r. (A : History) → IsGenuine A (state S.Store connection)
+        → StandsAt S.Store (whole A) r) }
     ensures cause { IfErr result StopsOpening }
 {
     match Register::adopt(alloc, connection) {
@@ -106,15 +128,17 @@ pub fn take<S: Alter + Drop>(alloc: Global, connection: Connection<S>) -> Result
 }
 
 /// Opens the register in a file, to be written; a missing file is created. First a copy of it is opened in memory: so
-/// what is refused is refused before a byte is written, and before a log is created. No clause knows what the file
-/// contained, so nothing is promised of its history.
-pub fn open_file(rt: &HostRuntime, path: &str) -> Result<FileRegister, Fault>
-    ensures unknown { IfOk result IsUnknown }
+/// what is refused is refused before a byte is written, and before a log is created. `start` stands for what the file
+/// and its log held, which no code can read: the register stands at each history of which that was the tables.
+pub fn open_file<F: Start>(rt: &HostRuntime, path: &str, start: F) -> Result<FileRegister<F>, Fault>
+    ensures unbroken { IfOk result (λ r. r.is_broken ≡ false) }
+    ensures stands { IfOk result (λ r. (A : History) → FilesHoldHistory A (image_at F.Start)
+        → StandsAt over_files (whole A) r) }
     ensures cause { IfErr result StopsOpening }
 {
     let (copy, _) = connect_to_copy(rt, path)?;
     take(rt.alloc(), copy)?;
-    match connect_to(rt, path) {
+    match connect_to(rt, path, start) {
         Ok(connection) => take(rt.alloc(), connection),
         Err(Some(step)) => Err(Fault::File(step)),
         Err(None) => Err(Fault::Open(OpenFault::Memory)),
@@ -132,35 +156,48 @@ pub fn watch_over<'a>(rt: &'a HostRuntime, path: &str) -> Result<Watch<'a>, Faul
     }
 }
 
+/// A copy of the files at a path, in memory. The files stay as they are. One that is not there is a copy of nothing.
+pub fn copy_at(rt: &HostRuntime, path: &str) -> Result<Copied, Fault>
+    ensures cause { IfErr result StopsOpening }
+{
+    match copy_of(rt, path) {
+        Ok(copy) => Ok(copy),
+        Err(unread) => Err(fault_of_reading(unread)),
+    }
+}
+
+/// As `copy_at`, of a file that must be there.
+pub fn copy_named(rt: &HostRuntime, path: &str) -> Result<Copied, Fault>
+    ensures cause { IfErr result StopsOpening }
+{
+    let copy = copy_at(rt, path)?;
+    if copy.is_there {
+        Ok(copy)
+    } else {
+        Err(Fault::File(Step::Missing))
+    }
+}
+
+/// Refuses a path at which no file is. Whatever else is wrong with it is found when it is opened.
+pub fn require_file(rt: &HostRuntime, path: &str) -> Result<(), Fault>
+    ensures cause { IfErr result StopsOpening }
+{
+    match fs::metadata(rt, path) {
+        Err(error) if error.kind() == ErrorKind::NotFound => Err(Fault::File(Step::Missing)),
+        _ => Ok(()),
+    }
+}
+
 /// Connects to a copy of the files at a path, and says whether the file is there. One that is not is a copy of nothing.
 pub fn connect_to_copy(rt: &HostRuntime, path: &str) -> Result<(CopyConnection, bool), Fault>
     ensures autocommit { IfOk result (λ both. both.0.in_transaction ≡ false) }
     ensures cause { IfErr result StopsOpening }
 {
-    let copy = match copy_of(rt, path) {
-        Ok(copy) => copy,
-        Err(unread) => return Err(fault_of_reading(unread)),
-    };
+    let copy = copy_at(rt, path)?;
     let is_there = copy.is_there;
     match connect(rt.alloc(), copy) {
         Ok(connection) => Ok((connection, is_there)),
         Err(unread) => Err(fault_of_reading(unread)),
-    }
-}
-
-/// How many commands a register of any version has. A database that is none has none.
-pub fn count_of(alloc: Global, connection: &mut CopyConnection) -> Result<u32, Fault>
-    requires autocommit { connection.old.in_transaction ≡ false }
-    ensures autocommit { connection.new.in_transaction ≡ false }
-    ensures cause { IfErr result StopsOpening }
-{
-    let mut tx = connection.transaction();
-    let last = last_key_row(alloc, &mut tx);
-    tx.rollback();
-    match last {
-        Ok(rows) => Ok(rows.first().map_or(0, |row| row.accepted)),
-        Err(Refusal::Memory) => Err(Fault::Open(OpenFault::Memory)),
-        Err(_) => Ok(0),
     }
 }
 
@@ -178,16 +215,21 @@ fn missing_of(is_there: bool, count: u32) -> Option<Missing>
     }
 }
 
-/// Opens the register in a copy of the files at a path, and says if no register or no command was there. The files stay
-/// as they are: a register of an older version is migrated in memory only. No clause knows what a file contains, so
-/// nothing is promised of its history.
-pub fn open_copy(rt: &HostRuntime, path: &str) -> Result<(CopyRegister, Option<Missing>), Fault>
-    ensures unknown { IfOk result (λ o. IsUnknown o.0) }
+/// Opens the register in a copy of files, and says if no register or no command is there. A register of an older
+/// version is migrated in memory only. It stands at each history of which the bytes that were read are the tables.
+pub fn open_copied(alloc: Global, copy: Copied) -> Result<(CopyRegister, Option<Missing>), Fault>
+    ensures unbroken { IfOk result (λ o. o.0.is_broken ≡ false) }
+    ensures stands { IfOk result (λ o. (A : History) → FilesHoldHistory A (image copy.log.items copy.file.items)
+        → StandsAt over_files (whole A) o.0) }
     ensures missing { IfOk result (λ o. IfSome o.1 IsUnfilled) }
     ensures cause { IfErr result StopsOpening }
 {
-    let (mut connection, is_there) = connect_to_copy(rt, path)?;
-    let count = count_of(rt.alloc(), &mut connection)?;
-    let register = take(rt.alloc(), connection)?;
-    Ok((register, missing_of(is_there, count)))
+    let is_there = copy.is_there;
+    let connection = match connect(alloc, copy) {
+        Ok(connection) => connection,
+        Err(unread) => return Err(fault_of_reading(unread)),
+    };
+    let register = take(alloc, connection)?;
+    let missing = missing_of(is_there, register.last_number());
+    Ok((register, missing))
 }

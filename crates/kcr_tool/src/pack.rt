@@ -6,10 +6,10 @@ ghost use Rattle.kcr_tool.specs.Runs.{Finishes};
 ghost use Rattle.kcr_fault.specs.Lines.{packed_head};
 ghost use Rattle.kcr_tool.specs.Verifications.{WritesVerified, TellsWholeFront};
 
-use crate::opening::{count_of, fault_of_reading, files_at, take};
+use crate::opening::{copy_named, fault_of_reading, files_at, take};
 use crate::verify::write_verification;
 use kcr_base::Counted;
-use kcr_copy::{Copied, Unmade, connect, copy_of, fill, play_in};
+use kcr_copy::{Copied, Unmade, connect, fill, play_in};
 use kcr_fault::{Fault, Missing, Step};
 use kcr_store::OpenFault;
 use kcr_verify::{CreateFault, Verification};
@@ -45,13 +45,12 @@ fn commands_in(alloc: Global, bytes: &[u8]) -> Result<u32, Fault>
     let Ok(copy) = alone(alloc, bytes) else {
         return Err(Fault::Open(OpenFault::Memory));
     };
-    let mut connection = match connect(alloc, copy) {
+    let connection = match connect(alloc, copy) {
         Ok(connection) => connection,
         Err(unread) => return Err(fault_of_reading(unread)),
     };
-    let count = count_of(alloc, &mut connection)?;
-    drop(take(alloc, connection)?);
-    Ok(count)
+    let register = take(alloc, connection)?;
+    Ok(register.last_number())
 }
 
 /// Reads the file at a path and its log, as they were at one moment, and plays the log into the file: in memory, so
@@ -60,13 +59,7 @@ fn commands_in(alloc: Global, bytes: &[u8]) -> Result<u32, Fault>
 pub fn read_packed(rt: &HostRuntime, path: &str) -> Result<Packed, Fault>
     ensures cause { IfErr result StopsReading }
 {
-    let copy = match copy_of(rt, path) {
-        Ok(copy) => copy,
-        Err(unread) => return Err(fault_of_reading(unread)),
-    };
-    if !copy.is_there {
-        return Err(Fault::Nothing(Missing::Absent));
-    }
+    let copy = copy_named(rt, path)?;
     let files = match play_in(rt.alloc(), copy) {
         Ok(files) => files,
         Err(unread) => return Err(fault_of_reading(unread)),

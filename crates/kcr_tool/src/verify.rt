@@ -12,9 +12,12 @@ ghost use Rattle.kcr_store.specs.FullView.{IsListed};
 ghost use Rattle.kcr_store.specs.Opening.{FilesHoldHistory};
 ghost use Rattle.kcr_fault.specs.Faults.{StopsMaking, StopsReading, StopsReplay, StopsRebuild};
 ghost use Rattle.kcr_fault.specs.Lines.{difference_line, rebuilt_head, verified_head, whole_line};
+ghost use Rattle.kcr_tool.specs.Runs.{StopsVerification};
 ghost use Rattle.kcr_tool.specs.Verifications.{EndsVerification, WritesVerification, verified_line};
 ghost use Rattle.kcr_forms.specs.Values.{AreValues};
-ghost use Rattle.kcr_verify.specs.Verification.{IsFresh, IsVerification};
+ghost use Rattle.sqlite.specs.WalFiles.{image_at};
+ghost use Rattle.kcr_verify.specs.Fresh.{IsMadeOn};
+ghost use Rattle.kcr_verify.specs.Verification.{EndsAt, IsFresh, IsVerification};
 
 use crate::opening::{connect_to, fault_of_reading, fault_of_taking};
 use itoa::Buffer;
@@ -25,7 +28,7 @@ use kcr_history::FullView;
 use kcr_print::write_whole;
 use kcr_store::{FileRegister, OpenFault, Register, read_tables};
 use kcr_verify::{CreateFault, Difference, Verification, init};
-use sqlite::Alter;
+use sqlite::{Alter, Start, Unknown};
 use std::alloc::{AllocError, Global};
 use std::io::Write;
 
@@ -134,22 +137,6 @@ pub fn rows_of(alloc: Global, copy: Copied) -> Result<FullView, Fault>
     }
 }
 
-/// All rows of the register in a file, by a copy in memory. The file stays as it is.
-#[tactic(auto, using(crate::proofs::Causes::opening_reads))]
-pub fn rows_named(rt: &HostRuntime, path: &str) -> Result<FullView, Fault>
-    ensures cause { IfErr result StopsReading }
-{
-    match copy_of(rt, path) {
-        Ok(copy) => {
-            if !copy.is_there {
-                return Err(Fault::Nothing(Missing::Absent));
-            }
-            rows_of(rt.alloc(), copy)
-        }
-        Err(unread) => Err(fault_of_reading(unread)),
-    }
-}
-
 /// Verifies the rows of a register: a line that says of how many commands it is the register, or the first thing that
 /// differs from what its commands lead to, and the exit status, 1 if something differs. Out of memory is refused
 /// (33), which the store in memory may tell as an I/O error (34), and nothing is written then, nor if the
@@ -175,6 +162,31 @@ pub fn verify<W: Write>(alloc: Global, rows: FullView, output: &mut Counted<W>) 
     }
 }
 
+/// Verifies the register in a copy of its file and its log: see `verify`. Its rows may be none that can be read, and then
+/// nothing is written.
+pub fn verify_copied<W: Write>(
+    alloc: Global,
+    copy: Copied,
+    output: &mut Counted<W>,
+) -> Result<u8, Fault>
+    // What is told is so of some rows, whoever wrote them.
+    ensures ends { EndsVerification verified_head (λ told. (rows : FullView) × (A : History) × IsVerification rows A told)
+        (writing W.contents output.old output.new) result }
+
+    // If the bytes that were read hold the tables of a history that the machine leads to, with commands of values,
+    // nothing differs, and the line has the number of its commands.
+    ensures own { (A : History) → FilesHoldHistory A (image copy.log.items copy.file.items) → IsOfMachine A
+        → AreValues A → IfOk result (WritesVerification verified_head (Verification.Verified (length A))
+        (writing W.contents output.old output.new)) }
+    ensures own_in_part { (A : History) → FilesHoldHistory A (image copy.log.items copy.file.items) → IsOfMachine A
+        → AreValues A → OnErr result (WritesNothing (writing W.contents output.old output.new)
+        ⊎ WritesPart (writing W.contents output.old output.new) (whole_line verified_head (length A))) }
+    ensures cause { IfErr result (StopsVerification (writing W.contents output.old output.new)) }
+{
+    let rows = rows_of(alloc, copy)?;
+    verify(alloc, rows, output)
+}
+
 /// Gives the commands among these rows of a register to a new one, and writes the line of what it came to. The errors
 /// are those of `rebuild`.
 fn rebuild_in<S: Alter, W: Write>(
@@ -186,9 +198,9 @@ fn rebuild_in<S: Alter, W: Write>(
     requires { IsFresh S.Store fresh.old }
     ensures ends { EndsVerification rebuilt_head (λ _. Unit {0}) (writing W.contents output.old output.new) result }
 
-    // What is told of the rows is so, whoever wrote them.
-    ensures found { HasCleanDisk (state S.Store fresh.new.conn) → EndsVerification rebuilt_head
-        (IsVerification rows fresh.new.accepted) (writing W.contents output.old output.new) result }
+    // What is told of the rows is so, whoever wrote them, and the new register stands at the history that it says.
+    ensures found { EndsAt S.Store fresh.new (λ B. EndsVerification rebuilt_head (IsVerification rows B)
+        (writing W.contents output.old output.new) result) }
 
     // In the tables of a history that the machine leads to nothing differs, and the line has the number of its
     // commands.
@@ -217,13 +229,17 @@ fn refuse_filled(rt: &HostRuntime, path: &str) -> Result<(), Fault>
     }
 }
 
-/// Makes a new register in the file at the path, which is missing or empty.
-fn fresh_in(rt: &HostRuntime, path: &str) -> Result<FileRegister, Fault>
+/// Makes a new register in the file at the path, which is missing or empty. `start` stands for what the file and its log
+/// held.
+fn fresh_in<B: Start>(rt: &HostRuntime, path: &str, start: B) -> Result<FileRegister<B>, Fault>
     ensures new { IfOk result (IsFresh over_files) }
+
+    // The two held an empty database, and a crash leaves that or the tables of an empty register.
+    ensures made { IfOk result (λ r. IsMadeOn over_files (image_at B.Start) r.conn) }
     ensures cause { IfErr result StopsMaking }
 {
     refuse_filled(rt, path)?;
-    let connection = match connect_to(rt, path) {
+    let connection = match connect_to(rt, path, start) {
         Ok(connection) => connection,
         Err(Some(step)) => return Err(Fault::IntoFile(step)),
         Err(None) => return Err(Fault::Into(CreateFault::Memory)),
@@ -254,6 +270,6 @@ pub fn rebuild<W: Write>(
     if rows.keys.is_empty() {
         return Err(Fault::Nothing(Missing::Empty));
     }
-    let mut fresh = fresh_in(rt, path)?;
+    let mut fresh = fresh_in(rt, path, Unknown)?;
     rebuild_in(rt.alloc(), rows, &mut fresh, output)
 }

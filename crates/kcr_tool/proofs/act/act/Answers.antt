@@ -1,19 +1,23 @@
 use Rattle.std.proofs.Common.{inl, inr, refl, sym, ◌∙◌, arith}
-use Rattle.kcr_desk.specs.Streams.{streams}
+use Rattle.std.specs.Prelude.{IsTrue}
+use Rattle.kcr_desk.specs.Streams.{streams, writing}
 use Rattle.kcr_fault.specs.declared.fault.Fault.TheVariants.{Words}
 use Rattle.kcr_tool.proofs.Causes.{none_mapped}
+use Rattle.kcr_tool.proofs.Notes.{asked_of_finding, task_noted}
 use Rattle.kcr_tool.proofs.Told.{fault_told, is_named}
 use Rattle.kcr_tool.proofs.act.act.Goals as goal
 
 pub returns-in-Err-Memory-clause-cause : goal.returns-in-Err-Memory-clause-cause
 returns-in-Err-Memory-clause-cause g c one =
-    inr (Words, (g.F.Write.contents c.args.faults.now, inl refl, (_, inl refl, c.write_line-in-Err-Memory.ensures)), (refl, refl))
+    inr (Words, (c.args.faults.now, inl refl, (_, inr refl, c.write_line-in-Err-Memory.ensures)), (refl, refl))
 
 pub returns-in-Err-clause-cause : goal.returns-in-Err-clause-cause
 returns-in-Err-clause-cause g c one =
     let s = streams g.R.Read.remaining g.W.Write.contents c.args.input.now c.run_invocation.new.input c.args.output.now c.run_invocation.new.output in
+    let w = writing g.F.Write.contents c.args.faults.now c.write_fault.new.faults in
     let told =
-    fault_told _ _ _ c.in-Ok.order.task _ _ c.in-Ok.ensures.task c.in-Ok.ensures.file c.in-Ok.ensures.into c.in-Err.fault s _ _ _
+    fault_told _ _ _ _ c.in-Ok.order.task _ _ c.in-Ok.order.is_explained c.in-Ok.ensures.task c.in-Ok.ensures.file c.in-Ok.ensures.into
+    c.in-Ok.ensures.explained c.in-Err.fault s w c.run_invocation.new.faults
     c.in-Err.ensures.noted c.write_fault.ensures c.in-Err.ensures.cause in
     inr (c.in-Err.fault, told.0, told.1)
 
@@ -36,6 +40,7 @@ pub returns-in-Ok-run_invocation : goal.returns-in-Ok-run_invocation
 returns-in-Ok-run_invocation g c =
     let task = c.in-Ok.order.task in
     let asks = c.in-Ok.ensures.task in
+    let w = writing g.F.Write.contents c.args.faults.now c.run_invocation.new.faults in
     elim c.in-Ok-run_invocation.ensures.ends [
       | inl done ↦ (
           let zero = done.0 in
@@ -45,7 +50,8 @@ returns-in-Ok-run_invocation g c =
                 let unnamed = none_mapped _ c.in-Ok.order.file (sym c.in-Ok.ensures.file ∙ none) in
                 (task, asks, (c.in-Ok-run_invocation.ensures.own unnamed).1);
             answered = λ _. (task, asks, done.1);
-            noted = λ _. rw (asks, c.in-Ok.ensures.file) c.in-Ok-run_invocation.ensures.noted;
+            noted = λ _. rw (asks, c.in-Ok.ensures.file)
+                (task_noted _ (Unit {0}) _ _ w (λ _. tt) c.in-Ok-run_invocation.ensures.noted);
             cause = λ one. absurd (omega (arith, zero, one));
             part = λ one none. absurd (omega (arith, zero, one));
             answered_in_part = λ one. absurd (omega (arith, zero, one));
@@ -60,7 +66,13 @@ returns-in-Ok-run_invocation g c =
             done = λ zero none. absurd (omega (arith, zero, one));
             answered = λ zero. absurd (omega (arith, zero, one));
             noted = λ zero. absurd (omega (arith, zero, one));
-            cause = λ _. inl (named, (task, asks, problem.1), rw (asks, c.in-Ok.ensures.file) c.in-Ok-run_invocation.ensures.noted);
+            cause = λ _. inl (
+              named,
+              (task, asks, problem.1),
+              rw (asks, c.in-Ok.ensures.file, c.in-Ok.ensures.explained)
+                  (task_noted _ (IsTrue c.in-Ok.order.is_explained) _ _ w (asked_of_finding c.in-Ok.order.is_explained _ one)
+                  c.in-Ok-run_invocation.ensures.noted),
+            );
             part = λ _ none.
                 let own = c.in-Ok-run_invocation.ensures.own (none_mapped _ c.in-Ok.order.file (sym c.in-Ok.ensures.file ∙ none)) in
                 let zero = own.0 in absurd (omega (arith, zero, one));

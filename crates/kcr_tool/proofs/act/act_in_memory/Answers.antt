@@ -1,26 +1,26 @@
-use Rattle.std.proofs.Common.{None, refl}
+use Rattle.std.proofs.Common.{None}
 use Rattle.kcr_desk.specs.Streams.{streams, writing}
-use Rattle.kcr_fault.specs.declared.fault.Missing.TheVariants.{Unnamed}
 use Rattle.kcr_history.specs.History.{History}
 use Rattle.kcr_words.specs.declared.words.Task.TheVariants.{Run}
 use Rattle.kcr_tool.specs.Runs.{EndsReportBy, EndsTaskBy}
 use Rattle.kcr_tool.proofs.Empty.{of_fresh}
-use Rattle.kcr_tool.proofs.Notes.{noted_of, told_of}
+use Rattle.kcr_tool.proofs.Notes.{noted_of}
 use Rattle.kcr_tool.proofs.act.act_in_memory.Goals as goal
 
 pub returns-in_ok-register-in-Run-clause-own : goal.returns-in_ok-register-in-Run-clause-own
 returns-in_ok-register-in-Run-clause-own g c =
     let s = streams g.R.Read.remaining g.W.Write.contents c.args.input.now c.run.new.input c.args.output.now c.run.new.output in
     rw c.in-Run.is
-    (of_fresh c.in_ok-register-in-Run.register (λ (A : History). EndsTaskBy Run A s c.run.result) c.in_ok-register-in-Run.ensures.new c.run.ensures.own)
+    (of_fresh c.in_ok-register-in-Run.register c.run.new.register (λ (A : History). EndsTaskBy Run A s c.run.result) c.in_ok-register-in-Run.ensures.new c.run.ensures.own)
 
 pub returns-in_ok-register-in-Write-clause-own : goal.returns-in_ok-register-in-Write-clause-own
 returns-in_ok-register-in-Write-clause-own g c =
-    let w = writing g.W.Write.contents c.args.output.now c.write_report.new.output in
+    let w = writing g.W.Write.contents c.args.output.now c.write_report-ended.new.output in
     rw c.in-Write.is
-    (of_fresh c.in_ok-register-in-Write.register (λ (A : History). EndsReportBy c.in-Write.report A w c.write_report.result) c.in_ok-register-in-Write.ensures.new
-    c.write_report.ensures.own)
+    (of_fresh c.in_ok-register-in-Write.register c.write_report-ended.new.register (λ (A : History). EndsReportBy c.in-Write.report A w c.write_report-ended.result) c.in_ok-register-in-Write.ensures.new
+    c.write_report-ended.ensures.own)
 
 pub returns-in_ok-register-in-Write-clause-noted : goal.returns-in_ok-register-in-Write-clause-noted
 returns-in_ok-register-in-Write-clause-noted g c =
-    rw c.in-Write.is (noted_of c.in-Write.report None _ _ (told_of None Unnamed _ _ refl c.write_missing.ensures))
+    let w = writing g.F.Write.contents c.args.faults.now c.note.new.faults in
+    rw c.in-Write.is (noted_of _ _ c.in-Write.report None w c.may_note-is_told.ensures c.note.ensures)

@@ -1,13 +1,24 @@
-use Rattle.std.proofs.lemmas.Result.{err_from_is_err_and}
+use Rattle.std.proofs.Common.{ℕ, Some, Result, IfErr, subst}
+use Rattle.std.proofs.lemmas.Result.{IfErr-weaker, err_from_is_err_and}
 use Rattle.kcr_desk.specs.Streams.{streams}
-use Rattle.kcr_words.specs.declared.words.Task.TheVariants.{Serve}
+use Rattle.kcr_fault.specs.Faults.{StopsServing}
+use Rattle.kcr_fault.specs.declared.fault.Fault.{Fault}
+use Rattle.kcr_words.specs.declared.words.Task.TheVariants.{Run}
 use Rattle.kcr_tool.proofs.Causes.{serving_cause, task_cause}
 use Rattle.kcr_tool.proofs.act.act_on_file.Goals as goal
 
-pub returns-in_err-listen-in-Serve-clause-cause : goal.returns-in_err-listen-in-Serve-clause-cause
-returns-in_err-listen-in-Serve-clause-cause g c =
-    let made = c.from_residual-in_err-listen-in-Serve in
+pub returns-in_ok-ended-in-Run-clause-cause : goal.returns-in_ok-ended-in-Run-clause-cause
+returns-in_ok-ended-in-Run-clause-cause g c =
+    let s = streams g.R.Read.remaining g.W.Write.contents c.args.input.now c.run_file.new.input c.args.output.now c.run_file.new.output in
+    rw c.in-Run.is
+    (IfErr-weaker c.in_ok-ended-in-Run.ended _ _ (λ why stops. task_cause Run why (Some c.args.path.now) s stops) c.in_ok-ended-in-Run.ensures.cause)
+
+pub returns-in_err-served-in-Serve-2-clause-cause : goal.returns-in_err-served-in-Serve-2-clause-cause
+returns-in_err-served-in-Serve-2-clause-cause g c =
+    let made = c.from_residual-in_err-served-in-Serve-2 in
     let p = err_from_is_err_and made.result made.ensures.1 in
-    let s = streams g.R.Read.remaining g.W.Write.contents c.args.input.now c.args.input.now c.args.output.now c.listen.new.output in
-    rw (c.in-Serve.is, p.1, p.2)
-    (task_cause _ _ _ s (serving_cause c.listen.new.register c.in-Serve.port c.in-Serve.connections c.in-Serve.idle _ s c.in_err-listen-in-Serve.ensures.cause))
+    let s = streams g.R.Read.remaining g.W.Write.contents c.args.input.now c.args.input.now c.args.output.now c.serve_file.new.output in
+    let register = c.in_ok-served-in-Serve.field-0-0 in
+    let cause =
+    subst (λ (r : Result ℕ Fault). IfErr r (StopsServing register s.output)) c.in_err-served-in-Serve-2.was c.in_ok-served-in-Serve.ensures.cause in
+    rw (c.in-Serve.is, p.1, p.2) (task_cause _ _ _ s (serving_cause register c.in-Serve.serving _ s cause))

@@ -8,11 +8,11 @@ use Rattle.kcr_tool.proofs.listen.listen.Goals as goal
 pub returns-in-Ok-write_whole : goal.returns-in-Ok-write_whole
 returns-in-Ok-write_whole g c =
     let w = writing g.W.Write.contents c.args.output.now c.write_whole.new.writer in
-    let line : c.as_bytes.result.now ≡ listening_line c.args.port = search rules in
+    let line : c.as_bytes.result.now ≡ listening_line c.args.serving.port = search rules in
     let all = subst (λ (text : List ℕ). WritesText w text) line c.in-Ok-write_whole.ensures.written in
     record {
       served = IfOk-weaker c.serve_each.result _ _ (λ served count. (count, all)) c.serve_each.ensures.served;
-      part = on_err c.serve_each.result (inr (whole_front w (listening_line c.args.port) all));
+      part = on_err c.serve_each.result (inr (whole_front w (listening_line c.args.serving.port) all));
       connects = c.serve_each.ensures.connects;
       cause = IfErr-weaker c.serve_each.result _ _ (λ why stops. inr (inl stops)) c.serve_each.ensures.cause;
       whole = c.serve_each.ensures.whole;
@@ -21,5 +21,5 @@ returns-in-Ok-write_whole g c =
 pub returns-clause-part : goal.returns-clause-part
 returns-clause-part g c =
     let w = writing g.W.Write.contents c.args.output.now c.write_whole.new.writer in
-    let line : c.as_bytes.result.now ≡ listening_line c.args.port = search rules in
+    let line : c.as_bytes.result.now ≡ listening_line c.args.serving.port = search rules in
     inr (subst (λ (text : List ℕ). WritesPart w text) line c.in-Err.ensures.written)

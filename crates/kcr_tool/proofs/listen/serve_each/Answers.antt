@@ -26,7 +26,7 @@ returns-in_default-clause-connects g c = (c.loop-served.served, c.loop-served.in
 pub returns-in_err-serve_stream-clause-connects : goal.returns-in_err-serve_stream-clause-connects
 returns-in_err-serve_stream-clause-connects g c =
     let p = err_from_is_err_and c.from_residual.result c.from_residual.ensures.1 in
-    let within : c.loop-served.served + 1 ≤ c.args.connections = omega arith in
+    let within : c.loop-served.served + 1 ≤ c.args.serving.connections = omega arith in
     rw p.1 (
       c.loop-served.served + 1,
       within,
@@ -36,7 +36,7 @@ returns-in_err-serve_stream-clause-connects g c =
 
 pub returns-clause-connects : goal.returns-clause-connects
 returns-clause-connects g c =
-    let all : c.loop-served.served ≡ c.args.connections = omega arith in
+    let all : c.loop-served.served ≡ c.args.serving.connections = omega arith in
     subst (λ (count : ℕ). Connects g.S.Store c.args.register.now c.loop-served.register count) all c.loop-served.invariant.connects
 
 pub returns-clause-whole : goal.returns-clause-whole

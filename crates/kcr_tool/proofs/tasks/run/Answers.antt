@@ -1,46 +1,41 @@
-use Rattle.std.proofs.Common.{inl, inr, refl}
-use Rattle.kcr_desk.specs.Answers.{RegisterHistory, IsAnswer, IsReply, history_of}
+use Rattle.std.proofs.Common.{Bool, inl, inr, refl, subst}
+use Rattle.kcr_desk.specs.Answers.{IsReply}
 use Rattle.kcr_desk.specs.Streams.{streams}
-use Rattle.kcr_tool.proofs.Causes.{from_whole}
+use Rattle.kcr_store.specs.Register.{whole}
 use Rattle.kcr_tool.specs.Runs.{ServesAll, ServesPart}
 use Rattle.kcr_tool.proofs.tasks.run.Goals as goal
 
 pub returns-in-Ok-clause-ends : goal.returns-in-Ok-clause-ends
 returns-in-Ok-clause-ends g c =
     let s = streams g.R.Read.remaining g.W.Write.contents c.args.input.now c.serve.new.reader c.args.output.now c.serve.new.writer in
-    let register = c.args.register.now in
     inl (
       refl,
-      (
-        register.accepted,
-        from_whole (λ (before : RegisterHistory). ServesAll IsReply before s) register c.requires
-            (history_of c.serve.new.register, c.in-Ok.field-0.requests, c.in-Ok.ensures.replied),
-      ),
+      subst (λ (before : Bool). ServesAll IsReply before s) c.requires
+          (c.serve.new.register.is_broken, c.in-Ok.field-0.requests, c.in-Ok.ensures.replied),
     )
 
 pub returns-in-Err-clause-ends : goal.returns-in-Err-clause-ends
 returns-in-Err-clause-ends g c =
     let s = streams g.R.Read.remaining g.W.Write.contents c.args.input.now c.serve.new.reader c.args.output.now c.serve.new.writer in
-    let register = c.args.register.now in
-    inr (
-      register.accepted,
-      from_whole (λ (before : RegisterHistory). ServesPart IsReply before s) register c.requires
-          (history_of c.serve.new.register, c.in-Err.ensures.replied),
-    )
+    inr (subst (λ (before : Bool). ServesPart IsReply before s) c.requires (c.serve.new.register.is_broken, c.in-Err.ensures.replied))
 
 pub returns-in-Ok-clause-own : goal.returns-in-Ok-clause-own
-returns-in-Ok-clause-own g c certain founded whole =
-    let s = streams g.R.Read.remaining g.W.Write.contents c.args.input.now c.serve.new.reader c.args.output.now c.serve.new.writer in (
-      refl,
-      from_whole (λ (before : RegisterHistory). ServesAll IsAnswer before s) c.args.register.now whole
-          (history_of c.serve.new.register, c.in-Ok.field-0.requests, c.in-Ok.ensures.answered founded (certain c.serve.new.register.conn)),
-    )
+returns-in-Ok-clause-own g c clean A at =
+    let end = c.in-Ok.ensures.answered clean (whole A) at in
+    (refl, (end.0, c.in-Ok.field-0.requests, end.2))
 
 pub returns-in-Err-clause-own : goal.returns-in-Err-clause-own
-returns-in-Err-clause-own g c certain founded whole =
-    let s = streams g.R.Read.remaining g.W.Write.contents c.args.input.now c.serve.new.reader c.args.output.now c.serve.new.writer in
-    inr (from_whole (λ (before : RegisterHistory). ServesPart IsAnswer before s) c.args.register.now whole
-    (history_of c.serve.new.register, c.in-Err.ensures.answered founded (certain c.serve.new.register.conn)))
+returns-in-Err-clause-own g c clean A at =
+    let end = c.in-Err.ensures.answered clean (whole A) at in
+    inr (end.0, end.2)
+
+pub returns-in-Ok-clause-led : goal.returns-in-Ok-clause-led
+returns-in-Ok-clause-led g c clean s at =
+    let end = c.in-Ok.ensures.answered clean s at in
+    (end.0, end.1, (refl, (c.in-Ok.field-0.requests, end.2)))
+
+pub returns-in-Err-clause-led : goal.returns-in-Err-clause-led
+returns-in-Err-clause-led g c clean s at = c.in-Err.ensures.answered clean s at
 
 pub returns-in-Err-clause-cause : goal.returns-in-Err-clause-cause
 returns-in-Err-clause-cause g c = (refl, c.in-Err.ensures.cause)

@@ -1,3 +1,4 @@
+use Rattle.std.proofs.Common.{inl, refl}
 use Rattle.kcr_desk.specs.Streams.{writing}
 use Rattle.kcr_tool.proofs.Verifications.{verification_ends}
 use Rattle.kcr_fault.specs.Lines.{rebuilt_head}
@@ -13,11 +14,20 @@ returns-in-Ok-clause-ends g c =
 pub returns-in-Ok-clause-found : goal.returns-in-Ok-clause-found
 returns-in-Ok-clause-found g c clean =
     let w = writing g.W.Write.contents c.args.output.now c.write_verification.new.output in
-    verification_ends rebuilt_head w (IsVerification c.args.rows c.rebuild.new.fresh.accepted) c.in-Ok.verified c.write_verification.result
-    (c.in-Ok.ensures.told clean) c.write_verification.ensures.told c.write_verification.ensures.part
+    let end = c.in-Ok.ensures.led clean in (
+      end.0,
+      end.1,
+      verification_ends rebuilt_head w (IsVerification c.args.rows end.0.accepted) c.in-Ok.verified c.write_verification.result
+          end.2.told c.write_verification.ensures.told c.write_verification.ensures.part,
+    )
+
+pub returns-in-Err-clause-found : goal.returns-in-Err-clause-found
+returns-in-Err-clause-found g c clean =
+    let end = c.in-Err.ensures.led clean in
+    (end.0, end.1, inl refl)
 
 pub returns-in-Ok-clause-own : goal.returns-in-Ok-clause-own
 returns-in-Ok-clause-own g c clean A is values listed =
-    let own = c.in-Ok.ensures.own clean A is values listed in
+    let own = (c.in-Ok.ensures.led clean).2.own A is values listed in
     let whole = own.0 in
     rw whole at c.write_verification.ensures.told
