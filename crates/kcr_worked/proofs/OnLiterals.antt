@@ -22,11 +22,11 @@ use Rattle.kcr_wire.specs.Questions.{question_of}
 use Rattle.kcr_wire.specs.Routes.{add, add_all, table}
 use Rattle.kcr_wire.specs.ShownJson.{shown_text}
 use Rattle.kcr_words.specs.Commands.{tool_app}
-use Rattle.kcr_words.specs.Tasks.{faults_of, file_of, into_of, met_in, task_of}
+use Rattle.kcr_words.specs.Tasks.{faults_of, file_of, into_of, is_existing, is_explained, met_in, task_of}
 use Rattle.kcr_laws.proofs.WorkedRows.{rows_on_literals}
 
 unfoldable pub program_on_literals : ⊤
-unfolding clap_on_literals tool_app faults_of file_of into_of met_in task_of
+unfolding clap_on_literals tool_app faults_of file_of into_of is_existing is_explained met_in task_of
 program_on_literals = tt
 
 unfoldable pub forms_on_literals : ⊤

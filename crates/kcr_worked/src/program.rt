@@ -1,6 +1,7 @@
 //! What words are which task of the program.
 ghost use Rattle.std.specs.Prelude.{◌≡◌, ℕ, true, false, [], ◌∷◌, codes, Some, None, String, string_bytes};
-ghost use Rattle.kcr_words.specs.Tasks.{faults_of, file_of, into_of, names_companion, said, task_of};
+ghost use Rattle.kcr_words.specs.Tasks.{faults_of, file_of, into_of, is_existing, is_explained};
+ghost use Rattle.kcr_words.specs.Tasks.{names_companion, said, task_of};
 ghost use Rattle.kcr_words.specs.declared.words.Report.TheVariants.{Print, Attendance, Custody, Export, Journal, Audit};
 ghost use Rattle.kcr_words.specs.declared.words.Task.TheVariants.{Run, Serve, Write, Verify, Rebuild, Pack};
 ghost use Rattle.kcr_worked.specs.Words.{words_of};
@@ -8,8 +9,11 @@ ghost use Rattle.kcr_worked.specs.Words.{words_of};
 /// Each task by its words; an option that is left out has its value.
 pub fn words_of_tasks()
     ensures run { task_of (words_of (codes "kcr run")) ≡ Some Run }
-    ensures serve { task_of (words_of (codes "kcr serve --port 8053 --connections 9")) ≡ Some (Serve 8053 9 5) }
-    ensures idle { task_of (words_of (codes "kcr serve --port 8053 --connections 9 --idle 60")) ≡ Some (Serve 8053 9 60) }
+    ensures serve { task_of (words_of (codes "kcr serve --port 8053 --connections 9")) ≡ Some (Serve (record { port = 8053; connections = 9; idle = 5; longest = 300 })) }
+    ensures idle { task_of (words_of (codes "kcr serve --port 8053 --connections 9 --idle 60")) ≡
+        Some (Serve (record { port = 8053; connections = 9; idle = 60; longest = 300 })) }
+    ensures longest { task_of (words_of (codes "kcr serve --port 8053 --connections 9 --longest 60")) ≡
+        Some (Serve (record { port = 8053; connections = 9; idle = 5; longest = 60 })) }
     ensures print { task_of (words_of (codes "kcr print --ceremony 61")) ≡ Some (Write (Print 61)) }
     ensures attendance { task_of (words_of (codes "kcr attendance --ceremony 61")) ≡ Some (Write (Attendance 61)) }
     ensures custody { task_of (words_of (codes "kcr custody")) ≡ Some (Write Custody) }
@@ -23,6 +27,14 @@ pub fn words_of_tasks()
     ensures pack { task_of (words_of (codes "kcr pack --into new.db")) ≡ Some Pack }
     ensures nothing { task_of (words_of (codes "kcr")) ≡ None }
     ensures no_number { task_of (words_of (codes "kcr print --ceremony 0")) ≡ None }
+{}
+
+/// The flags that words have.
+pub fn flags_of_tasks()
+    ensures existing { is_existing (words_of (codes "kcr run --existing --file register.db")) ≡ true }
+    ensures created { is_existing (words_of (codes "kcr serve --port 8053 --connections 9")) ≡ false }
+    ensures explained { is_explained (words_of (codes "kcr pack --into new.db --explain")) ≡ true }
+    ensures plain { is_explained (words_of (codes "kcr run --existing")) ≡ false }
 {}
 
 /// The files that words name, and whether the words are taken.

@@ -1,18 +1,18 @@
 //! Answers as bytes.
-ghost use Rattle.std.specs.Prelude.{◌≡◌, ℕ, [], ◌∷◌, codes, true, false, Some, Ok, Err};
+ghost use Rattle.std.specs.Prelude.{◌≡◌, [], ◌∷◌, codes, true, false, Some, Ok, Err};
 ghost use Rattle.std.specs.Global.{Vec};
-ghost use Rattle.sqlite.specs.Held.{Held};
 ghost use Rattle.kcr_base.specs.declared.refusal.Refusal.TheVariants as Refusals;
 ghost use Rattle.kcr_base.specs.declared.refusal.Thing.TheVariants as Things;
 ghost use Rattle.kcr_history.specs.declared.questions.PersonShown.{PersonShown};
 ghost use Rattle.kcr_history.specs.declared.questions.Shown.TheVariants as Shown;
 ghost use Rattle.kcr_wire.specs.declared.allow.Allow.TheVariants as Allows;
-ghost use Rattle.kcr_desk.specs.Answers.{feed, history_of, ok_response, refusal_response};
-ghost use Rattle.kcr_desk.specs.Answers.{reply_response, report_response, shown_response, whole};
+ghost use Rattle.kcr_desk.specs.Answers.{feed, ok_response, refusal_response, reply_response, report_response};
+ghost use Rattle.kcr_desk.specs.Answers.{shown_response, whole};
 ghost use Rattle.kcr_desk.specs.Framing.{is_head};
 ghost use Rattle.kcr_desk.specs.Texts.{answer, continue_text, fault_response};
 ghost use Rattle.kcr_desk.specs.declared.response.MediaType.TheVariants.{Csv, Text};
 ghost use Rattle.kcr_laws.specs.Examples.{entered};
+ghost use Rattle.kcr_store.specs.Calls.{left_at};
 ghost use Rattle.kcr_worked.specs.Heads.{message_text};
 
 /// What goes well is answered by 200. An answer to HEAD has no body, and the last one of a connection says so.
@@ -68,15 +68,10 @@ pub fn waiting_messages()
     ensures sends { continue_text (record { length = 41; closes = false; expects_continue = false }) ≡ [] }
 {}
 
-/// A register as the desk sees it, and the requests of its accepted commands.
+/// Where a call that reads leaves a register, as the desk sees it, and the requests of its accepted commands.
 pub fn histories()
-    ensures whole { (conn : Held ℕ) → history_of (record {
-      conn = conn;
-      is_genuine = true;
-      accepted = entered;
-      in_doubt = None;
-    }) ≡
-        whole entered }
+    ensures whole { left_at false (whole entered) ≡ whole entered }
+    ensures broken { left_at true (whole entered) ≡ record { accepted = entered; in_doubt = Some entered } }
     ensures feed { feed 0 entered ≡ message_text
         (codes "POST /people HTTP/1.1" ∷ codes "Host: l" ∷ codes "Content-Length: 41" ∷ [])
         (codes "{\"key\":\"k1\",\"who\":\"AA\",\"name\":\"Ann Abel\"}") }

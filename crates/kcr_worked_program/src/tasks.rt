@@ -1,5 +1,5 @@
 //! The lines of tasks and of faults.
-ghost use Rattle.std.specs.Prelude.{◌≡◌, [], codes, Some, None};
+ghost use Rattle.std.specs.Prelude.{◌≡◌, [], codes, true, false, Some, None};
 ghost use Rattle.kcr_base.specs.declared.refusal.Refusal.TheVariants as Refusals;
 ghost use Rattle.kcr_base.specs.declared.refusal.Thing.TheVariants as Things;
 ghost use Rattle.kcr_desk.specs.declared.fault.DeskFault.TheVariants as Streams;
@@ -13,7 +13,7 @@ ghost use Rattle.kcr_fault.specs.declared.fault.Call.TheVariants as Calls;
 ghost use Rattle.kcr_fault.specs.declared.fault.Fault.TheVariants as Faults;
 ghost use Rattle.kcr_fault.specs.declared.fault.Missing.TheVariants as Missing;
 ghost use Rattle.kcr_fault.specs.declared.fault.Step.TheVariants as Steps;
-ghost use Rattle.kcr_fault.specs.Faults.{line_of, reason_of};
+ghost use Rattle.kcr_fault.specs.Faults.{lines_of, reason_of};
 ghost use Rattle.kcr_fault.specs.Lines.{clean_line, damage_lines, finding_line, listening_line, log_line, missing_line};
 ghost use Rattle.kcr_fault.specs.Lines.{packed_head, rebuilt_head, verified_head, whole_line};
 ghost use Rattle.kcr_laws.specs.Examples.{HSM4, bag_7, clock};
@@ -54,24 +54,30 @@ pub fn lines_of_missing_registers()
         codes "note: register.db has no command\n" }
 {}
 
-/// The lines of faults, with the file, the new file and the port that the words name.
+/// The lines of faults, explained or not, with the file, the new file and the port that the words name.
 pub fn lines_of_faults()
-    ensures unknown { line_of (Some (Tasks.Write (Reports.Print 61))) None None
+    ensures unknown { lines_of false (Some (Tasks.Write (Reports.Print 61))) None None
         (Faults.Refused (Refusals.Unknown (Things.Ceremony 61))) ≡ codes "refused: 12 unknown ceremony 61\n" }
-    ensures broken { line_of (Some (Tasks.Write Reports.Custody)) None None (Faults.Refused Refusals.Broken) ≡
+    ensures broken { lines_of false (Some (Tasks.Write Reports.Custody)) None None (Faults.Refused Refusals.Broken) ≡
         codes "refused: 35 broken\n" }
-    ensures file { line_of (Some Tasks.Run) (Some (codes "register.db")) None (Faults.File Steps.Locking) ≡
+    ensures unexplained { lines_of false (Some Tasks.Run) (Some (codes "register.db")) None (Faults.File Steps.Locking) ≡
+        codes "open: disk\n" }
+    ensures file { lines_of true (Some Tasks.Run) (Some (codes "register.db")) None (Faults.File Steps.Locking) ≡
         codes "open: disk\nlocking: register.db\n" }
-    ensures damaged { line_of (Some Tasks.Run) (Some (codes "register.db")) None (Faults.Log (Logs.WrongHead 2)) ≡
+    ensures absent { lines_of true (Some Tasks.Pack) (Some (codes "register.db")) (Some (codes "new.db"))
+        (Faults.File Steps.Missing) ≡ codes "open: disk\nmissing: register.db\n" }
+    ensures damaged { lines_of true (Some Tasks.Run) (Some (codes "register.db")) None (Faults.Log (Logs.WrongHead 2)) ≡
         codes "open: disk\nlog: wrong head, commits 2\n" }
-    ensures missing { line_of (Some Tasks.Verify) None None (Faults.Nothing Missing.Unnamed) ≡
+    ensures missing { lines_of false (Some Tasks.Verify) None None (Faults.Nothing Missing.Unnamed) ≡
         codes "note: no file is named\n" }
-    ensures new_file { line_of (Some Tasks.Pack) (Some (codes "register.db")) (Some (codes "new.db"))
+    ensures new_file { lines_of true (Some Tasks.Pack) (Some (codes "register.db")) (Some (codes "new.db"))
         (Faults.IntoFile Steps.Opening) ≡ codes "into: disk\nopening: new.db\n" }
-    ensures port { line_of (Some (Tasks.Serve 8053 9 5)) None None (Faults.Net Calls.Binding) ≡
-        codes "fault: net\nbinding: 8053\n" }
-    ensures lost { line_of (Some (Tasks.Serve 8053 9 5)) (Some (codes "register.db")) None Faults.Lost ≡
-        codes "fault: file\nlost: register.db\n" }
+    ensures port { lines_of true (Some (Tasks.Serve (record { port = 8053; connections = 9; idle = 5; longest = 300 })))
+        None None (Faults.Net Calls.Binding) ≡ codes "fault: net\nbinding: 8053\n" }
+    ensures net { lines_of false (Some (Tasks.Serve (record { port = 8053; connections = 9; idle = 5; longest = 300 })))
+        None None (Faults.Net Calls.Binding) ≡ codes "fault: net\n" }
+    ensures lost { lines_of true (Some (Tasks.Serve (record { port = 8053; connections = 9; idle = 5; longest = 300 })))
+        (Some (codes "register.db")) None Faults.Lost ≡ codes "fault: file\nlost: register.db\n" }
 {}
 
 /// The lines of faults for which no memory is needed.

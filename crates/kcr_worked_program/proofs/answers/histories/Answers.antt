@@ -5,7 +5,8 @@ use Rattle.kcr_worked_program.proofs.answers.histories.Goals as goal
 pub returns : goal.returns
 unfolding messages_on_literals
 returns c = record {
-  whole = λ conn. refl;
+  whole = refl;
+  broken = refl;
   feed = refl;
   rest = refl;
 }

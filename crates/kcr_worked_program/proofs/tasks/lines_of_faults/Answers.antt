@@ -7,10 +7,13 @@ unfolding rows_on_literals
 returns c = record {
   unknown = refl;
   broken = refl;
+  unexplained = refl;
   file = refl;
+  absent = refl;
   damaged = refl;
   missing = refl;
   new_file = refl;
   port = refl;
+  net = refl;
   lost = refl;
 }
