@@ -1,6 +1,10 @@
-// Makes elements of the page. Texts become text nodes only; nothing is ever parsed as HTML.
+// Makes elements of the page. Texts become text nodes only; nothing is ever parsed as HTML. Characters that deceive
+// become escapes, which are marked.
+
+import { deceives, pieces, visible } from "./visible.js";
 
 const SVG = "http://www.w3.org/2000/svg";
+const SHOWN = ["aria-label", "title", "placeholder"]; // attributes that are seen or read aloud
 
 /** Sets the attributes of an element: a function is a listener, `true` an empty attribute, `false` or null none. */
 function dress(element, attributes) {
@@ -8,16 +12,38 @@ function dress(element, attributes) {
     if (typeof value === "function") {
       element.addEventListener(name, value);
     } else if (value !== false && value !== null && value !== undefined) {
-      element.setAttribute(name, value === true ? "" : String(value));
+      const text = value === true ? "" : String(value);
+      element.setAttribute(name, SHOWN.includes(name) ? visible(text) : text);
     }
   }
+}
+
+/** The nodes of a text: escapes are marked, but in a picture. */
+function nodesOf(text, element) {
+  const keepLines = element.tagName === "PRE" || element.tagName === "STYLE";
+  if (!deceives(text)) {
+    return [document.createTextNode(text)];
+  }
+  if (element.namespaceURI === SVG || element.tagName === "OPTION") {
+    return [document.createTextNode(visible(text))];
+  }
+  return pieces(text, keepLines).map((piece) => {
+    const node = document.createTextNode(piece.text);
+    if (!piece.isEscape) {
+      return node;
+    }
+    const mark = document.createElement("span");
+    mark.className = "escape";
+    mark.append(node);
+    return mark;
+  });
 }
 
 /** Appends children: nodes as they are, lists in their order, all else as text. */
 function append(element, children) {
   for (const child of children.flat(Infinity)) {
     if (child !== null && child !== undefined && child !== false) {
-      element.append(child instanceof Node ? child : document.createTextNode(String(child)));
+      element.append(...(child instanceof Node ? [child] : nodesOf(String(child), element)));
     }
   }
   return element;
@@ -44,6 +70,15 @@ export function fill(node, ...children) {
   append(node, children);
   if (id) {
     document.getElementById(id)?.focus({ preventScroll: true });
+  }
+}
+
+/** Keeps a value in a storage of the browser; a browser that keeps nothing goes on without. */
+export function keepSafely(storage, name, value) {
+  try {
+    storage.setItem(name, typeof value === "string" ? value : JSON.stringify(value));
+  } catch {
+    // a full storage, or one that is turned off
   }
 }
 

@@ -1,6 +1,12 @@
-// Forms for commands: labelled fields, one button, and the mark at the field that the register refused (10 form).
+// Forms for commands: labelled fields, one button, drafts, and the mark at the field that the register refused.
+//
+// What was typed stands again after another view, a refusal and a reload, until the command was accepted.
 
-import { button, fill, make, show } from "./dom.js";
+import { button, fill, keepSafely, make, show } from "./dom.js";
+import { rests } from "./press.js";
+
+const DRAFT = "kcr.draft.";
+const REMEMBERED = "kcr.remembered.";
 
 /** The control of a field: a text, a number, a choice, a longer text, or a tick. */
 function control(id, field) {
@@ -17,6 +23,7 @@ function control(id, field) {
   const list = field.list ? `${id}-list` : null;
   return make("input", {
     ...common, type: "text", inputmode: field.kind === "number" ? "numeric" : null, placeholder: field.example, list,
+    class: field.capitals ? "capitals" : null,
     autocapitalize: field.kind === "number" ? null : field.capitals ? "characters" : "none",
   });
 }
@@ -24,45 +31,86 @@ function control(id, field) {
 /** A field: label, control, hint and the place for what is wrong. */
 function fieldNode(id, field) {
   const input = control(id, field);
-  const wrong = make("p", { class: "wrong", id: `${id}-wrong`, hidden: true }, "The register does not take this.");
+  const wrong = make("p", { class: "wrong", id: `${id}-wrong`, hidden: true });
   const hint = make("p", { class: "hint", id: `${id}-hint` }, field.hint ?? "");
   show(hint, Boolean(field.hint));
   const label = make("label", { for: id }, field.label);
   const list = field.list ? make("datalist", { id: `${id}-list` }) : null;
   const parts = field.kind === "tick" ? [make("div", { class: "tick" }, input, label)] : [label, input];
   const node = make("div", { class: `field ${field.wide ? "wide" : ""}` }, parts, hint, wrong, list);
-  return { input, wrong, list, node };
+  return { field, input, wrong, list, node };
 }
 
-/** The value of a field, as the register wants it. */
+/** The value of a field, as the register wants it. Codes have capitals. */
 function valueOf(field, input) {
   if (field.kind === "tick") {
     return input.checked;
   }
-  const text = field.kind === "long" || field.kind === "choice" ? input.value : input.value.trim();
+  const typed = field.kind === "long" || field.kind === "choice" ? input.value : input.value.trim();
+  const text = field.capitals ? typed.toUpperCase() : typed;
   if (field.read) {
     return field.read(text);
   }
   return field.kind === "number" && /^[0-9]+$/.test(text) ? Number(text) : text;
 }
 
-/** Makes a form. `fields` have `name` (the member), `label`, `kind` and more; `send` gets the values and returns the
- *  answer, or null. After an accepted command the fields that do not have `keep` are empty again. */
-export function form({ id, fields, text, send, kind = "primary" }) {
-  const made = fields.map((field) => ({ field, ...fieldNode(`${id}-${field.name}`, field) }));
-  const clear = () => made.forEach(({ input, wrong }) => {
-    input.removeAttribute("aria-invalid");
-    show(wrong, false);
+/** What a control has, as a draft keeps it. */
+function contents(input) {
+  return input.type === "checkbox" ? input.checked : input.value;
+}
+
+/** Puts what a draft kept into a control. */
+function putBack(input, kept) {
+  if (input.type === "checkbox") {
+    input.checked = kept === true;
+  } else if (input.tagName !== "SELECT" || [...input.options].some((option) => option.value === kept)) {
+    input.value = kept;
+  }
+}
+
+/** The draft of a form: what its fields had; null if there is none. */
+function draftOf(name) {
+  try {
+    return JSON.parse(sessionStorage.getItem(DRAFT + name));
+  } catch {
+    return null;
+  }
+}
+
+/** Keeps a form's fields as a draft, and the choices that are remembered. */
+function keepDraft(name, made) {
+  const kept = Object.fromEntries(made.map(({ field, input }) => [field.name, contents(input)]));
+  keepSafely(sessionStorage, DRAFT + name, kept);
+  made.filter(({ field }) => field.remember).forEach(({ field, input }) => {
+    keepSafely(localStorage, REMEMBERED + field.remember, input.value);
   });
-  const mark = (member) => {
-    const found = made.find(({ field }) => field.name === member);
-    if (found) {
-      found.input.setAttribute("aria-invalid", "true");
-      show(found.wrong, true);
-      found.input.focus();
+}
+
+/** Fills a form as it was left. */
+function restore(name, made) {
+  const kept = draftOf(name);
+  for (const { field, input } of made) {
+    const old = kept?.[field.name] ?? (field.remember ? localStorage.getItem(REMEMBERED + field.remember) : null);
+    if (old !== null && old !== undefined) {
+      putBack(input, old);
     }
-  };
-  const empty = () => made.filter(({ field }) => !field.keep).forEach(({ input }) => {
+  }
+}
+
+/** Marks the field that a refusal is about, and says what is wrong. */
+function mark(made, { body, words }) {
+  const found = made.find(({ field }) => field.name === (body.member ?? words?.member));
+  if (found) {
+    found.input.setAttribute("aria-invalid", "true");
+    fill(found.wrong, words?.sentence ?? "The register does not take this.");
+    show(found.wrong, true);
+    found.input.focus();
+  }
+}
+
+/** Empties the fields of a form that do not stay. */
+function empty(made) {
+  made.filter(({ field }) => !field.keep).forEach(({ input }) => {
     if (input.type === "checkbox") {
       input.checked = false;
     } else if (input.tagName !== "SELECT") {
@@ -70,19 +118,42 @@ export function form({ id, fields, text, send, kind = "primary" }) {
       input.dispatchEvent(new Event("input"));
     }
   });
+}
+
+/** Makes a form. `fields` have `name` (the member), `label`, `kind` and more; `send` gets the values and returns the
+ *  answer, or null; `of` tells apart the drafts of ceremonies; `isLocal` tells that it sends no command. After an
+ *  accepted command the fields that do not have `keep` are empty again. */
+export function form({ id, fields, text, send, kind = "primary", of = "", isLocal = false }) {
+  const made = fields.map((field) => fieldNode(`${id}-${field.name}`, field));
+  const name = `${id}${of}`;
+  let isTouched = true;
   const submit = async (event) => {
     event.preventDefault();
-    clear();
+    if (rests() && !isTouched) {
+      return; // the rest of the press that sent it
+    }
+    made.forEach(({ input, wrong }) => {
+      input.removeAttribute("aria-invalid");
+      show(wrong, false);
+    });
     const answer = await send(Object.fromEntries(made.map(({ field, input }) => [field.name, valueOf(field, input)])));
     if (answer && !answer.refused) {
-      empty();
-    } else if (answer?.body?.number === 10) {
-      mark(answer.body.member);
+      empty(made);
+      keepDraft(name, made);
+      isTouched = false;
+    } else if (answer?.body) {
+      mark(made, answer);
     }
   };
-  const go = make("button", { type: "submit", id: `${id}-send`, class: kind }, text);
-  const node = make("form", { id, class: "fields", novalidate: true, submit }, made.map((one) => one.node),
-    make("div", { class: "row wide" }, go));
+  const touch = () => {
+    isTouched = true;
+    keepDraft(name, made);
+  };
+  const go = make("button", { type: "submit", id: `${id}-send`, class: kind, "data-command": !isLocal }, text);
+  const node = make("form", { id, class: "fields", novalidate: true, submit, input: touch, change: touch },
+    made.map((one) => one.node), make("div", { class: "row wide" }, go));
+  restore(name, made);
+  made.forEach(({ input }) => input.addEventListener("input", touch));
   return { node, go, inputs: Object.fromEntries(made.map((one) => [one.field.name, one.input])),
     lists: Object.fromEntries(made.map((one) => [one.field.name, one.list])) };
 }
@@ -101,6 +172,19 @@ export function offer(select, options) {
   if (options.some(([value]) => value === old)) {
     select.value = old;
   }
+}
+
+/** Reads a file that somebody chooses; the same file can be chosen again. */
+export function fileField(id, label, read) {
+  const file = make("input", { type: "file", id, accept: ".csv,text/csv,text/plain", change: async () => {
+    const chosen = file.files[0];
+    if (chosen) {
+      const text = await chosen.text();
+      file.value = "";
+      read(text, chosen.name);
+    }
+  } });
+  return make("div", { class: "field wide" }, make("label", { for: id }, label), file);
 }
 
 /** The words of a field of initials or codes. */

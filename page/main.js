@@ -1,16 +1,19 @@
 // Starts the page: the frame, the views by the address behind `#`, and the clock.
 
-import { resume, update, whileBusy, isBusy } from "./act.js";
-import { dayOfMoment, isByHand, moment, now, setMoment } from "./clock.js";
+import { resume, whileBusy } from "./act.js";
+import { differences, isByHand, moment, now, setMoment } from "./clock.js";
 import { button, fill, make, show } from "./dom.js";
-import { ALL, changed, follow, keepKnown, onChange, refresh, state } from "./state.js";
-import { NoAnswer } from "./register.js";
+import { switchButtons } from "./press.js";
+import { acceptLoss, changed, choose, isAway, onChange, state, update } from "./state.js";
 import { tellTrouble } from "./tell.js";
+import { beginningView } from "./view_beginning.js";
 import { ceremoniesView } from "./view_ceremonies.js";
 import { custodyView } from "./view_custody.js";
+import { journalView } from "./view_journal.js";
 import { peopleView } from "./view_people.js";
 import { placesView } from "./view_places.js";
 import { planningView } from "./view_planning.js";
+import { recordView } from "./view_record.js";
 import { reportsView } from "./view_reports.js";
 import { roomView } from "./view_room.js";
 import { scriptView } from "./view_script.js";
@@ -20,15 +23,20 @@ const VIEWS = [
   ["script", "Script", scriptView, true],
   ["room", "Room", roomView, true],
   ["custody", "Custody", custodyView, true],
+  ["record", "Record", recordView, true],
+  ["reports", "Reports", reportsView, true],
   ["people", "People", peopleView, false],
   ["places", "Places", placesView, false],
   ["planning", "Planning", planningView, false],
-  ["reports", "Reports", reportsView, true],
+  ["beginning", "Beginning", beginningView, false],
+  ["journal", "Journal", journalView, false],
 ];
 const LOOK_SECONDS = 5;
+const AWAY_SECONDS = 2;
 
 const content = document.getElementById("content");
 let view = null;
+let drawn = null; // the navigation that is drawn: the view and the ceremony
 
 /** The view and the ceremony that the address names: `#/script/61`. */
 function address() {
@@ -37,8 +45,13 @@ function address() {
   return { found, number: /^[1-9][0-9]{0,3}$/.test(number ?? "") ? Number(number) : null };
 }
 
-/** Draws the navigation; views of a ceremony are links only if one is chosen. */
+/** Draws the navigation, if it changed; views of a ceremony are links only if one is chosen. */
 function drawNavigation(current) {
+  const wanted = `${current} ${state.number}`;
+  if (drawn === wanted) {
+    return;
+  }
+  drawn = wanted;
   fill(document.getElementById("nav"), VIEWS.map(([id, text, , ofCeremony]) => {
     const href = ofCeremony ? `#/${id}/${state.number}` : `#/${id}`;
     const open = !ofCeremony || state.number !== null;
@@ -49,32 +62,64 @@ function drawNavigation(current) {
   }));
 }
 
-/** Draws which ceremony is chosen, and trouble with the register. */
-function drawChosen() {
-  const { script, number, trouble } = state;
-  const text = script ? `Ceremony ${number} · ${script.facility} · ${script.day} · ${script.state}`
-    : number === null ? "No ceremony chosen" : `Ceremony ${number} is not in the register`;
-  document.getElementById("chosen").textContent = trouble ? `No connection: ${trouble}` : text;
+/** The chosen ceremony in a line. */
+function chosenText() {
+  const { script, number } = state;
+  if (number === null) {
+    return "No ceremony chosen";
+  }
+  if (script === undefined) {
+    return `Ceremony ${number}: not known yet`;
+  }
+  return script === null ? `Ceremony ${number} is not in the register`
+    : `Ceremony ${number} · ${script.facility} · ${script.day} · ${script.state}`;
+}
+
+/** Draws trouble with the register: it does not answer, or has lost commands. */
+function drawTrouble() {
+  const { trouble, lost, known, isWhole } = state;
+  const node = document.getElementById("trouble");
+  show(node, trouble !== null || lost !== null);
+  if (lost) {
+    fill(node, make("div", { class: "told", role: "alert" }, make("strong", {}, "The register lost commands"),
+      make("p", {}, `It has ${lost.has} commands. This browser saw command ${lost.had}, and it is not there any more. `
+        + "Either an older file was put in its place, or this is another register. Enter nothing before you know.")),
+    button("accept-loss", "Go on with the register as it is", acceptLoss));
+  } else if (trouble) {
+    fill(node, make("div", { class: "told", role: "status" }, make("strong", {}, "The register does not answer"),
+      make("p", {}, `${trouble[0].toUpperCase()}${trouble.slice(1)}. The page goes on asking. ${isWhole
+        ? `What it shows is as of command ${known.commands.length}.` : "Nothing is known yet."}`)));
+  } else {
+    fill(node);
+  }
+}
+
+/** Draws what the state changes in the frame. */
+function drawFrame() {
+  document.getElementById("chosen").textContent = chosenText();
+  drawTrouble();
+  drawNavigation(document.body.dataset.view);
+  document.body.classList.toggle("away", isAway());
+  switchButtons(isAway());
 }
 
 /** Shows the view that the address names. */
-async function go(first = false) {
+async function go() {
   const { found: [id, title, makeView, ofCeremony], number } = address();
-  const other = number !== null && number !== state.number;
-  if (other) {
-    Object.assign(state, { number, script: null, stays: [] });
+  const isOther = number !== null && number !== state.number;
+  if (isOther) {
+    choose(number);
   }
-  drawNavigation(id);
   document.title = `${title}${ofCeremony && state.number ? ` ${state.number}` : ""} · kcr desk`;
   view = ofCeremony && state.number === null ? ceremoniesView() : makeView();
   fill(content, view.node);
   document.body.dataset.view = id;
   view.update();
   scrollTo(0, 0);
-  if (other && !first) {
-    await whileBusy(() => refresh(["script", "stays"]));
+  drawFrame();
+  if (isOther) {
+    await whileBusy(update);
   }
-  drawChosen();
 }
 
 /** The field with the moment of what is entered, which runs with the clock until it is set by hand. */
@@ -83,21 +128,21 @@ function drawMoment() {
     id: "at", type: "text", autocomplete: "off", spellcheck: "false", "aria-describedby": "at-state", maxlength: 24,
     input: () => { setMoment(input.value.trim()); tick(); },
     blur: () => tick(),
-    change: () => { if (dayOfMoment() !== state.placesDay) { whileBusy(() => refresh(["places"])); } },
+    change: () => { input.value = moment(); changed(); },
   });
   const told = make("span", { id: "at-state" });
   const clock = make("span", { id: "clock", class: "clock" });
   const back = button("use-clock", "Use the clock", () => {
     setMoment(null);
-    tick();
-    whileBusy(() => refresh(["places"]));
+    changed();
   }, "quiet");
   const tick = () => {
     if (!isByHand() && document.activeElement !== input) {
       input.value = moment();
     }
-    told.textContent = isByHand() ? "set by hand" : "runs with the clock";
-    clock.textContent = isByHand() ? `Clock ${now()}` : "";
+    told.textContent = !isByHand() ? "runs with the clock"
+      : moment() === input.value.trim() ? "set by hand" : `set by hand: ${moment()}`;
+    clock.textContent = [...(isByHand() ? [`Clock ${now()}.`] : []), ...differences(state.known.last)].join(" ");
     show(back, isByHand());
     document.body.classList.toggle("by-hand", isByHand());
     document.querySelectorAll("[data-moment]").forEach((node) => { node.textContent = moment(); });
@@ -109,43 +154,29 @@ function drawMoment() {
   tick();
 }
 
-/** Looks for commands of other desks, if the register has a feed. */
+/** Goes on asking: for commands of other desks, and for a register that was away. */
 async function lookAround() {
-  if (document.hidden || isBusy() || !state.hasFeed) {
-    return;
+  if (!document.hidden || isAway()) {
+    await update();
   }
-  try {
-    const parts = await follow();
-    if ((parts.length > 0 || state.trouble) && !isBusy()) {
-      await refresh(parts.length > 0 ? parts : ALL);
-    }
-  } catch (fault) {
-    if (!(fault instanceof NoAnswer)) {
-      throw fault;
-    }
-    state.trouble = fault.message;
-    changed();
-  }
+  setTimeout(lookAround, 1000 * (isAway() ? AWAY_SECONDS : LOOK_SECONDS));
 }
 
 /** Starts. */
 async function start() {
   drawMoment();
   onChange(() => {
-    drawChosen();
-    drawNavigation(address().found[0]);
     view?.update();
+    drawFrame();
   });
   addEventListener("hashchange", () => go());
-  addEventListener("online", () => refresh());
-  document.getElementById("look-again").addEventListener("click", () => whileBusy(() => update(ALL)));
-  setInterval(lookAround, 1000 * LOOK_SECONDS);
+  addEventListener("online", () => update());
+  document.getElementById("look-again").addEventListener("click", () => whileBusy(update));
   await whileBusy(async () => {
-    go(true);
-    await update(ALL);
-    keepKnown();
+    await Promise.all([go(), update()]);
     await resume();
   });
+  setTimeout(lookAround, 1000 * (isAway() ? AWAY_SECONDS : LOOK_SECONDS));
 }
 
 addEventListener("unhandledrejection", (event) => {

@@ -1,14 +1,17 @@
-// Exactly once: each command gets a key and is kept in localStorage before it is sent, until its answer came.
+// Exactly once: each command gets a key and is kept in this browser before it is sent, until its answer came.
 //
-// Each kept command is an entry of its own, so that two windows never overwrite each other's. A command that both send
-// is executed once, since its key is the same.
+// It is kept in IndexedDB, which says when an entry is on the disk: what a killed browser had sent is there again. Each
+// command is an entry of its own, so that two windows never overwrite each other's. A command that both send is
+// executed once, since its key is the same.
 
 import { NoAnswer, post } from "./register.js";
 
-const PREFIX = "kcr.outbox.";
+const DATABASE = "kcr";
+const STORE = "outbox";
 const FIRST_PAUSE = 1000;
 const MOST_PAUSE = 15000;
 const IN_DOUBT = [33, 34, 35];
+let opened = null;
 
 /** A random key: 32 hexadecimal digits. */
 function newKey() {
@@ -16,30 +19,50 @@ function newKey() {
   return Array.from(bytes, (byte) => byte.toString(16).padStart(2, "0")).join("");
 }
 
-/** Makes the entry of a command. Errors: an exception if the browser keeps nothing. */
-export function keep(command) {
+/** The browser's database. */
+function database() {
+  opened ??= new Promise((resolve, reject) => {
+    const asked = indexedDB.open(DATABASE, 1);
+    asked.onupgradeneeded = () => asked.result.createObjectStore(STORE, { keyPath: "key" });
+    asked.onsuccess = () => resolve(asked.result);
+    asked.onerror = () => reject(asked.error);
+  });
+  return opened;
+}
+
+/** Runs a request on the kept commands. Returns its result when it is on the disk. */
+async function stored(mode, work) {
+  const tied = (await database()).transaction(STORE, mode, { durability: "strict" });
+  const asked = work(tied.objectStore(STORE));
+  return new Promise((resolve, reject) => {
+    tied.oncomplete = () => resolve(asked.result);
+    tied.onabort = () => reject(tied.error);
+    tied.onerror = () => reject(tied.error);
+  });
+}
+
+/** Makes the entry of a command, and keeps it. Errors: an exception if the browser keeps nothing. */
+export async function keep(command) {
   const key = newKey();
   const body = JSON.stringify({ key, ...command.members });
   const entry = { key, path: command.path, body, says: command.says, since: Date.now() };
-  localStorage.setItem(PREFIX + key, JSON.stringify(entry));
+  await stored("readwrite", (all) => all.put(entry));
   return entry;
 }
 
-/** The kept commands, the oldest first. */
-export function kept() {
-  const found = [];
-  for (let place = 0; place < localStorage.length; place += 1) {
-    const name = localStorage.key(place);
-    if (name.startsWith(PREFIX)) {
-      found.push(JSON.parse(localStorage.getItem(name)));
-    }
+/** The kept commands, the oldest first; none if the browser keeps nothing. */
+export async function kept() {
+  try {
+    const found = await stored("readonly", (all) => all.getAll());
+    return found.sort((one, other) => one.since - other.since);
+  } catch {
+    return [];
   }
-  return found.sort((one, other) => one.since - other.since);
 }
 
 /** Removes a command whose answer came, or that the user gave up. */
-export function drop(entry) {
-  localStorage.removeItem(PREFIX + entry.key);
+function drop(entry) {
+  return stored("readwrite", (all) => all.delete(entry.key));
 }
 
 /** Whether a proxy refused the request itself, so that the register never saw it. */
@@ -61,17 +84,17 @@ async function once(entry) {
   }
 }
 
-/** Sends a kept command under its key until its answer comes. `wait` tells why there is none, waits for so many
+/** Sends a kept command under its key until its answer comes. `wait` tells why there is none, waits for a pause in
  *  milliseconds or for the user, and returns false if the user gives the command up. Returns null then. */
 export async function deliver(entry, wait) {
   for (let pause = FIRST_PAUSE; ; pause = Math.min(2 * pause, MOST_PAUSE)) {
     const { answer, reason, refusal } = await once(entry);
     if (answer) {
-      drop(entry);
+      await drop(entry);
       return answer;
     }
     if (!(await wait(entry, { reason, refusal }, pause))) {
-      drop(entry);
+      await drop(entry);
       return null;
     }
   }

@@ -13,7 +13,7 @@ const FOOT = 44;
 const MOST_MARKS = 13;
 const STEPS = [60, 120, 300, 600, 900, 1800, 3600, 7200, 10800, 21600, 43200, 86400, 604800, 2592000];
 
-/** A moment of so many seconds, as a piece of its text. */
+/** A moment in seconds, as a piece of its text. */
 function clock(moment, from, to) {
   return new Date(1000 * moment).toISOString().slice(from, to);
 }

@@ -1,5 +1,7 @@
 // Speaks HTTP with the register, and tells its answers from those of a proxy and from none.
 
+import { noteDate } from "./clock.js";
+
 const MOST_SECONDS = 20;
 
 /** There was no answer of the register. `status` is that of a proxy, or null. */
@@ -14,8 +16,10 @@ export class NoAnswer extends Error {
 async function ask(path, options) {
   const guard = new AbortController();
   const timer = setTimeout(() => guard.abort(), 1000 * MOST_SECONDS);
+  const before = Date.now();
   try {
     const got = await fetch(path, { ...options, cache: "no-store", redirect: "error", signal: guard.signal });
+    noteDate(got.headers.get("date"), before, Date.now());
     const bytes = await got.arrayBuffer();
     return { status: got.status, type: got.headers.get("content-type") ?? "", bytes };
   } catch (fault) {
@@ -81,7 +85,7 @@ export async function report(path) {
   return bytes === null ? null : new TextDecoder().decode(bytes);
 }
 
-/** Asks for accepted commands after a number. Returns bytes, or null if the register has no such path. */
+/** Asks for accepted commands after a number. Returns bytes, or null if the register has fewer commands. */
 export function feedAfter(number) {
   return bytesOf(`/commands/${number}`);
 }

@@ -1,11 +1,10 @@
-// Reads the register's reports: the annotated script, the attendance and the custody.
+// Reads the register's reports: the annotated script and the attendance.
 
 import { rowsOf } from "./csv.js";
 
 const HEAD = /^Ceremony (\d+) (EAST|WEST) (\S+) (planned|open|closed)$/;
 const STEP = /^(\d+) (?:(signed|passed) (\S+)|open) (.*)$/;
 const EXCEPTION = /^Exception (\d+) (\S+) (?:step (\d+) )?(.*)$/;
-const BAG = /^([A-Z0-9]{4,16}) (spent|table|safe|box)(.*)$/;
 
 /** The seats of a seat text, one by one: `CO*2` is two seats. */
 export function seatsOf(text) {
@@ -73,23 +72,4 @@ export function readScript(text) {
 /** The stays of an attendance: who, name, since and until, which is null for somebody who is in. */
 export function readStays(text) {
   return rowsOf(text).slice(1).map(([who, name, since, until]) => ({ who, name, since, until: until || null }));
-}
-
-/** The custody as data: safes by `1 EAST`, bags in order, and loose items by facility. */
-export function readCustody(text) {
-  const custody = { safes: {}, bags: [], loose: { EAST: [], WEST: [] }, text };
-  for (const line of text.split("\n")) {
-    const [first, second, third, fourth] = line.split(" ");
-    const bag = BAG.exec(line);
-    if (line.startsWith("  ")) {
-      custody.bags.at(-1).items.push(line.trim());
-    } else if (first === "safe") {
-      custody.safes[`${second} ${third}`] = fourth;
-    } else if (first === "loose") {
-      custody.loose[second].push(third);
-    } else if (bag) {
-      custody.bags.push({ serial: bag[1], spot: bag[2] + bag[3], items: [] });
-    }
-  }
-  return custody;
 }

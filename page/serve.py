@@ -8,24 +8,31 @@ For all else use nginx (docs/OPERATING.md): this program knows neither TLS nor u
 
 Each request to the register gets a connection of its own, since `kcr serve` handles one at a time. Refused are: a Host
 other than 127.0.0.1 and localhost with this port (421), an Origin other than these (403), a POST that is not
-application/json (415), and a body of more than 131,072 bytes (413). Only the files of the page are served. If the
-register does not answer, the status is 502: then it is not known whether a command was executed.
+application/json (415), a body of more than 131,072 bytes (413), a target with other than printable ASCII and two fields
+Content-Length or Content-Type (400). Only the files of the page are served. If the register does not answer, the status
+is 502: then it is not known whether a command was executed. A connection ends 60 seconds after its last answer, however
+slowly a request comes. At most 64 are served at once; the next ones are closed.
 """
 import argparse
 import contextlib
 import http.client
 import http.server
+import io
 import pathlib
 import re
 import sys
+import threading
+import time
 
 HERE = pathlib.Path(__file__).resolve().parent
 TYPES = {".html": "text/html; charset=utf-8", ".css": "text/css; charset=utf-8",
          ".js": "text/javascript; charset=utf-8", ".svg": "image/svg+xml"}
 FILE = re.compile(r"/page/([a-z_]+\.[a-z]+)?")
 JSON = re.compile(r"application/json *(;|$)")
+TARGET = re.compile(r"[!-~]+")  # printable ASCII
 MOST_BYTES = 131_072
-SECONDS = 60
+MOST_CONNECTIONS = 64
+SECONDS = 60  # from an answer, or the beginning of a connection, to the end of the next answer
 SAFE = {
     "Content-Security-Policy": "default-src 'self'; base-uri 'none'; form-action 'none'; frame-ancestors 'none'; "
                                "object-src 'none'",
@@ -37,13 +44,48 @@ SAFE = {
 KEPT = ("content-type", "allow")  # fields of the register's answers
 
 
+class Timed(io.RawIOBase):
+    """Reads from a connection until the time of a request is over."""
+
+    def __init__(self, line):
+        super().__init__()
+        self.line, self.end = line, 0
+
+    def begin(self):
+        """Begins the time of a request."""
+        self.end = time.monotonic() + SECONDS
+
+    def left(self):
+        """The seconds that are left, which are the connection's timeout from now on."""
+        left = self.end - time.monotonic()
+        if left <= 0:
+            raise TimeoutError
+        self.line.settimeout(left)
+        return left
+
+    def readable(self):
+        return True
+
+    def readinto(self, place):
+        self.left()
+        return self.line.recv_into(place)
+
+
 class Desk(http.server.BaseHTTPRequestHandler):
     """Answers one connection of the browser."""
 
     protocol_version = "HTTP/1.1"
     server_version = "kcr-desk"
     sys_version = ""
-    timeout = SECONDS
+
+    def setup(self):
+        super().setup()
+        self.timed = Timed(self.connection)
+        self.rfile = io.BufferedReader(self.timed)
+
+    def handle_one_request(self):
+        self.timed.begin()
+        super().handle_one_request()
 
     def answer(self, status, body, fields):
         """Sends an answer with the fields that keep a browser safe."""
@@ -60,12 +102,16 @@ class Desk(http.server.BaseHTTPRequestHandler):
         self.answer(status, f"{text}\n".encode(), {"Content-Type": "text/plain; charset=utf-8", "Connection": "close"})
 
     def foreign(self):
-        """Refuses what a foreign web page can send. Returns whether it did."""
+        """Refuses what no page sends, and what a foreign one can send. Returns whether it did."""
         port = self.server.server_port
         hosts = [name if port == 80 else f"{name}:{port}" for name in ("127.0.0.1", "localhost")]
         origins = [f"http://{host}" for host in hosts]
         named = self.headers.get_all("Host", [])
-        if len(named) != 1 or named[0] not in hosts:
+        if not TARGET.fullmatch(self.path):
+            self.refuse(400, "a target is printable ASCII")
+        elif any(len(self.headers.get_all(name, [])) > 1 for name in ("Content-Length", "Content-Type")):
+            self.refuse(400, "a Content-Length or a Content-Type is given twice")
+        elif len(named) != 1 or named[0] not in hosts:
             self.refuse(421, "another Host")
         elif any(origin not in origins for origin in self.headers.get_all("Origin", [])):
             self.refuse(403, "a foreign Origin")
@@ -101,15 +147,18 @@ class Desk(http.server.BaseHTTPRequestHandler):
 
     def hand_on(self, body):
         """Asks the register over a connection of its own, and passes its answer on."""
-        asked = http.client.HTTPConnection("127.0.0.1", self.server.register, timeout=SECONDS)
+        asked = http.client.HTTPConnection("127.0.0.1", self.server.register, timeout=self.timed.left())
         try:
             with contextlib.closing(asked):
                 asked.putrequest(self.command, self.path, skip_host=True, skip_accept_encoding=True)
                 for name, value in (("Host", "kcr"), ("Connection", "close"), ("Content-Length", str(len(body)))):
                     asked.putheader(name, value)
                 asked.endheaders(body)
-                got = asked.getresponse()
-                told = got.read()
+                asked_line = asked.sock
+                got, told = asked.getresponse(), b""
+                while not got.isclosed():
+                    asked_line.settimeout(self.timed.left())
+                    told += got.read(65_536)
         except (OSError, http.client.HTTPException):
             self.answer(502, b"the register did not answer\n", {"Content-Type": "text/plain; charset=utf-8"})
             return
@@ -140,6 +189,24 @@ class Server(http.server.ThreadingHTTPServer):
 
     daemon_threads = True
     register = 0
+
+    def __init__(self, *given):
+        super().__init__(*given)
+        self.room = threading.BoundedSemaphore(MOST_CONNECTIONS)
+
+    def process_request(self, request, client_address):
+        """Answers a connection in a thread of its own, or closes it if there are too many."""
+        if self.room.acquire(blocking=False):
+            super().process_request(request, client_address)
+        else:
+            self.shutdown_request(request)
+
+    def process_request_thread(self, request, client_address):
+        """Answers a connection, and makes room for another."""
+        try:
+            super().process_request_thread(request, client_address)
+        finally:
+            self.room.release()
 
     def handle_error(self, request, client_address):
         """Says nothing of a browser that went away."""

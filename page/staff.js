@@ -18,13 +18,13 @@ export function isTrained(person, role, day) {
 }
 
 /** The roles that a person is trained for on a day. */
-export function rolesOn(person, day) {
+function rolesOn(person, day) {
   return ROLES.filter((role) => isTrained(person, role, day));
 }
 
 /** The place that a person holds, from the places of a day; null if none. */
 export function placeOf(who, places) {
-  return PLACES.find((place) => places[place] === who) ?? null;
+  return PLACES.find((place) => who && places[place] === who) ?? null;
 }
 
 /** Whether a person fits a seat in a facility. */

@@ -1,18 +1,27 @@
-// What the page knows of the register, and how it asks for it anew.
+// What the page knows of the register, and how it asks for it anew: the feed of accepted commands, and the annotated
+// script of the chosen ceremony, which has the recorded seatings.
 
-import { dayOfMoment } from "./clock.js";
+import { dayOfMoment, moment } from "./clock.js";
+import { keepSafely } from "./dom.js";
 import { commandsOf } from "./feed.js";
 import * as known from "./known.js";
-import { NoAnswer, feedAfter, question, report } from "./register.js";
-import { readCustody, readScript, readStays } from "./reports.js";
+import { NoAnswer, feedAfter, report } from "./register.js";
+import { readScript } from "./reports.js";
 
-/** The state. `hasFeed` and `hasCustody` tell whether the register has these paths; null if it was not asked. */
+const SEEN = "kcr.seen";
+
+/** The state. `isWhole` tells whether the feed was read to its end; until then nothing is known. `trouble` tells why
+ *  the register did not answer; `lost` that it has not the commands that it had. `script` is undefined while it is not
+ *  known, and null if the register has no such ceremony. */
 export const state = {
-  number: null, script: null, stays: [], people: [], byInitials: new Map(), places: {}, placesDay: null, custody: null,
-  known: known.restored(), hasFeed: null, hasCustody: null, trouble: null,
+  number: null, script: undefined, known: known.nothing(), isWhole: false, trouble: null, lost: null, people: [],
+  stays: [], places: {}, placesDay: null, custody: known.custodyOf(known.nothing()),
 };
 
 const listeners = new Set();
+let scriptRead = null; // "61 187": the ceremony and the number of commands for which the script was read
+let last = Promise.resolve();
+let drawn = null; // what was drawn, by what it follows from
 
 /** Calls a listener after each change; returns how to end that. */
 export function onChange(listener) {
@@ -20,14 +29,24 @@ export function onChange(listener) {
   return () => listeners.delete(listener);
 }
 
-/** Tells all listeners. */
+/** Derives what is drawn, and tells all listeners. */
 export function changed() {
+  state.placesDay = dayOfMoment();
+  state.people = known.peopleOf(state.known);
+  state.places = known.holdersOn(state.known, state.placesDay);
+  state.stays = known.staysOf(state.known, state.number);
+  state.custody = known.custodyOf(state.known);
   listeners.forEach((listener) => listener());
+}
+
+/** Whether what is shown may be old, so that no command is sent. */
+export function isAway() {
+  return !state.isWhole || state.trouble !== null || state.lost !== null;
 }
 
 /** The person with these initials, or one without name and training. */
 export function person(who) {
-  return state.byInitials.get(who) ?? { who, name: "", roles: [] };
+  return state.known.people.get(who) ?? { who, name: "", roles: [] };
 }
 
 /** The people who are in the room now, by initials, each with the beginning of the stay. */
@@ -35,58 +54,101 @@ export function inRoom() {
   return state.stays.filter((stay) => stay.until === null).sort((one, other) => (one.who < other.who ? -1 : 1));
 }
 
-/** Each part of the state, and how it is asked for. */
-const PARTS = {
-  async people() {
-    const { body } = await question("/people");
-    state.people = body.people;
-    state.byInitials = new Map(body.people.map((one) => [one.who, one]));
-  },
-  async places() {
-    const day = dayOfMoment();
-    const { body, refused } = await question(`/custodians/${day}`);
-    state.places = refused ? {} : Object.fromEntries(body.places.map(({ place, who }) => [place, who]));
-    state.placesDay = day;
-  },
-  async script() {
-    const text = state.number === null ? null : await report(`/ceremonies/${state.number}/script`);
-    state.script = text === null ? null : readScript(text);
-    if (state.script) {
-      known.note(state.known, state.script);
-    }
-  },
-  async stays() {
-    const text = state.number === null ? null : await report(`/ceremonies/${state.number}/attendance.csv`);
-    state.stays = text === null ? [] : readStays(text);
-  },
-  async custody() {
-    const text = await report("/custody");
-    state.hasCustody = text !== null;
-    state.custody = text === null ? known.custodyOf(state.known) : readCustody(text);
-  },
-};
-
-/** All parts. */
-export const ALL = Object.keys(PARTS);
-
-/** The parts that a command on this path changes. */
-export function partsOf(path) {
-  if (path.startsWith("/people")) {
-    return ["people"];
-  }
-  if (path.startsWith("/custodians")) {
-    return ["places"];
-  }
-  if (path === "/boxes" || path === "/items" || /\/(safes|bags)\//.test(path)) {
-    return ["custody"];
-  }
-  return [path.endsWith("/sheet") ? "stays" : "script"];
+/** The initials of who is in the room at the moment of what is entered. */
+export function inRoomAtMoment() {
+  return state.known.ceremonies[state.number] ? known.presentAt(state.known, state.number, moment()) : [];
 }
 
-/** Asks for parts anew, and tells the listeners. A failure is kept as `trouble`. */
-export async function refresh(parts = ALL) {
+/** The chosen ceremony as the commands have it; null if none is known. */
+export function ceremony() {
+  return state.known.ceremonies[state.number] ?? null;
+}
+
+/** The command that this browser saw last in the register: its number and its key. */
+function seen() {
   try {
-    await Promise.all([...new Set(parts)].map((part) => PARTS[part]()));
+    return JSON.parse(localStorage.getItem(SEEN)) ?? { count: 0 };
+  } catch {
+    return { count: 0 };
+  }
+}
+
+/** Notes the last command. If the register has not the one that was seen before, its commands are lost. */
+function compare() {
+  const { commands } = state.known;
+  const { count, key } = seen();
+  if (count > 0 && commands[count - 1]?.members.key !== key) {
+    state.lost = { had: count, has: commands.length };
+  } else if (commands.length > count) {
+    keepSafely(localStorage, SEEN, { count: commands.length, key: commands.at(-1).members.key });
+  }
+}
+
+/** Goes on with the register as it is, after its commands were lost. */
+export function acceptLoss() {
+  localStorage.removeItem(SEEN);
+  state.lost = null;
+  compare();
+  changed();
+}
+
+/** Reads the feed again from its beginning. */
+function forget() {
+  Object.assign(state, { known: known.nothing(), isWhole: false });
+  scriptRead = null;
+}
+
+/** Reads the feed from where it was read last to its end. If the register has fewer commands than that, it is read
+ *  again from its beginning. */
+async function readFeed() {
+  for (let hasForgotten = false; ;) {
+    const bytes = await feedAfter(state.known.commands.length);
+    if (bytes === null && (hasForgotten || state.known.commands.length === 0)) {
+      throw new NoAnswer("the register refuses its feed of commands");
+    }
+    if (bytes === null) {
+      hasForgotten = true;
+      forget();
+    } else if (bytes.length === 0) {
+      state.isWhole = true;
+      return;
+    } else {
+      commandsOf(bytes).forEach((command) => known.learn(state.known, command));
+    }
+  }
+}
+
+/** Reads the script of the chosen ceremony, if it is not that of these commands. */
+async function readChosen() {
+  const { number } = state;
+  const wanted = `${number} ${state.known.commands.length}`;
+  if (number === null || !state.known.ceremonies[number]) {
+    state.script = null;
+  } else if (scriptRead !== wanted) {
+    const text = await report(`/ceremonies/${number}/script`);
+    if (state.number === number) {
+      state.script = text === null ? null : readScript(text);
+      scriptRead = wanted;
+    }
+  }
+}
+
+/** Draws what is there, unless it is drawn already: a choice that is open stays open. */
+function draw() {
+  const { number, known: { commands }, trouble, lost, isWhole } = state;
+  const wanted = JSON.stringify([number, commands.length, trouble, lost, isWhole, scriptRead, dayOfMoment()]);
+  if (drawn !== wanted) {
+    drawn = wanted;
+    changed();
+  }
+}
+
+/** Asks once for what is new. */
+async function ask() {
+  try {
+    await readFeed();
+    compare();
+    await readChosen();
     state.trouble = null;
   } catch (fault) {
     if (!(fault instanceof NoAnswer)) {
@@ -94,57 +156,28 @@ export async function refresh(parts = ALL) {
     }
     state.trouble = fault.message;
   }
+  draw();
+}
+
+/** Asks for what is new, after those who asked before. */
+export function update() {
+  last = last.catch(() => null).then(ask);
+  return last;
+}
+
+/** Sees that an accepted command is in the feed under its number; if another one is, commands are lost. */
+export function checkAccepted(number, key) {
+  const there = state.known.commands[number - 1];
+  if (there && there.members.key !== key) {
+    forget();
+    return update();
+  }
+  return null;
+}
+
+/** Chooses a ceremony. */
+export function choose(number) {
+  Object.assign(state, { number, script: undefined });
+  scriptRead = null;
   changed();
-}
-
-/** Reads the feed from where it was read last. Returns the parts that its commands change. */
-async function readFeed() {
-  const parts = new Set();
-  for (;;) {
-    const bytes = await feedAfter(state.known.after);
-    state.hasFeed = bytes !== null;
-    const commands = bytes === null ? [] : commandsOf(bytes);
-    for (const command of commands) {
-      known.learn(state.known, command);
-      state.known.after += 1;
-      partsOf(command.path).forEach((part) => parts.add(part));
-    }
-    if (commands.length === 0) {
-      return [...parts];
-    }
-  }
-}
-
-/** Reads the feed, if the register has one. Returns the parts that the new commands change. */
-export async function follow() {
-  if (state.hasFeed === false) {
-    return [];
-  }
-  if (state.hasFeed) {
-    return readFeed();
-  }
-  const own = state.known;
-  state.known = known.nothing();
-  try {
-    return await readFeed();
-  } finally {
-    if (!state.hasFeed) {
-      state.known = own;
-    }
-  }
-}
-
-/** Learns a command that this browser sent, if there is no feed to learn it from. */
-export function remember(command) {
-  if (!state.hasFeed) {
-    known.learn(state.known, command);
-    known.store(state.known);
-  }
-}
-
-/** Notes the ceremonies that this browser saw, if there is no feed. */
-export function keepKnown() {
-  if (state.hasFeed === false) {
-    known.store(state.known);
-  }
 }

@@ -29,11 +29,9 @@ export function tellAccepted(body, says) {
   showAnswer("accepted", words.title, [words.sentence, words.more]);
 }
 
-/** Tells a refused command, with more lines that the page knows. */
-export function tellRefused(body, command, lines = []) {
-  const words = inWords(body, command.path);
-  showAnswer("refused", words.title,
-    [`${command.says}: not done.`, words.sentence, words.more, ...lines, words.advice]);
+/** Tells a refused command, in these words. */
+export function tellRefused(words, says) {
+  showAnswer("refused", words.title, [`${says}: not done.`, words.sentence, words.more, words.advice]);
 }
 
 /** Tells something that is no answer of the register. */
@@ -41,8 +39,8 @@ export function tellTrouble(title, ...lines) {
   showAnswer("trouble", title, lines);
 }
 
-/** Shows a command that has no answer yet. Returns after so many milliseconds, or when the user asks again: true; or
- *  when the user gives it up: false. */
+/** Shows a command that has no answer yet. Returns true after `pause` milliseconds or when the user asks again, and
+ *  false when the user gives it up. */
 export function wait(entry, { reason, refusal }, pause) {
   return new Promise((resolve) => {
     let timer;
@@ -59,12 +57,12 @@ export function wait(entry, { reason, refusal }, pause) {
       "Give it up", "Keep it");
       end(!sure.yes);
     };
-    const why = refusal ? inWords(refusal, entry.path) : null;
+    const why = refusal ? inWords(refusal) : null;
     fill(waiting,
       make("div", { role: "alert", class: "told" },
         make("strong", {}, "No answer yet"),
-        make("p", {}, `${entry.says}: ${why ? `${why.title}. ${why.sentence}` : reason}. It is asked for again under `
-          + "the same key, also after this page is loaded again. The register executes it once.")),
+        make("p", {}, `${entry.says}: ${why ? `${why.title}. ${why.sentence}` : reason}. The page keeps asking with `
+          + "the same key, even after a reload. The register executes it once.")),
       button("again", "Ask again now", () => end(true)),
       button("give-up", "Give it up", giveUp, "quiet"));
     show(waiting, true);

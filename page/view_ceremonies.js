@@ -2,27 +2,20 @@
 
 import { card, fill, make, show } from "./dom.js";
 import { form } from "./forms.js";
-import { state } from "./state.js";
+import { isAway, state } from "./state.js";
 
 /** One ceremony of the list. */
-function row({ number, facility, day, state: told }) {
+function row({ number, facility, day, state: told, closed }) {
   return make("li", { class: `line ${told}` },
     make("a", { id: `ceremony-${number}`, href: `#/script/${number}` }, `Ceremony ${number}`),
-    make("span", {}, facility), make("span", {}, day), make("span", { class: "state" }, told));
-}
-
-/** What the list is made of. */
-function source() {
-  if (state.hasFeed === null) {
-    return "";
-  }
-  return state.hasFeed ? "All ceremonies of the register." : "This register has no feed of commands. "
-    + "So the list has the ceremonies that this browser planned or opened. Any other is found by its number.";
+    make("span", {}, facility), make("span", {}, day),
+    make("span", { class: "state" }, closed ? `closed since ${closed}` : told));
 }
 
 /** What a register without ceremonies still needs. */
 function guide() {
-  const steps = [["#/people", "Enter people, and train them for their roles."],
+  const steps = [["#/beginning", "Enter people and their trainings from a list, and the stock that is there."],
+    ["#/people", "Enter single people, and train them for their roles."],
     ["#/places", "Appoint crypto officers and share holders, if the script needs them."],
     ["#/planning", "Plan a ceremony with its script."],
     [null, "Open it, let people come in, and sign its steps."]];
@@ -33,9 +26,8 @@ function guide() {
 /** Makes the view. */
 export function ceremoniesView() {
   const list = make("ul", { class: "lines", id: "ceremonies" });
-  const from = make("p", { class: "hint" });
   const choose = form({
-    id: "choose", text: "Go to it", kind: "",
+    id: "choose", text: "Go to it", kind: "", isLocal: true,
     fields: [{ name: "number", label: "Number of the ceremony", kind: "number", example: "61", keep: true }],
     send: async ({ number }) => { location.hash = `#/script/${number}`; return null; },
   });
@@ -43,12 +35,12 @@ export function ceremoniesView() {
     const found = Object.values(state.known.ceremonies).sort((one, other) => other.number - one.number);
     const order = ["open", "planned", "closed"];
     found.sort((one, other) => order.indexOf(one.state) - order.indexOf(other.state));
-    fill(list, found.length > 0 ? found.map(row) : make("li", { class: "line" }, "No ceremony yet."));
-    show(begin, found.length === 0);
-    from.textContent = source();
+    fill(list, found.length > 0 ? found.map(row) : make("li", { class: "line" },
+      isAway() ? "Not known: the register does not answer." : "No ceremony yet."));
+    show(begin, found.length === 0 && !isAway());
   };
   const begin = guide();
-  const node = make("div", {}, make("h1", {}, "Ceremonies"), from, begin,
+  const node = make("div", {}, make("h1", {}, "Ceremonies"), begin,
     card("list", "Choose a ceremony", list, choose.node,
       make("p", {}, make("a", { href: "#/planning", id: "plan-one" }, "Plan a ceremony"))));
   return { node, update };

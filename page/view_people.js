@@ -9,7 +9,7 @@ import { state } from "./state.js";
 const MOST_SHOWN = 2000;
 const ROLE_OPTIONS = ROLES.map((role) => [role, `${role}, ${ROLE_NAMES[role]}`]);
 const WHO = {
-  name: "who", label: "Initials", capitals: true, example: "AA", list: true, read: (text) => text.toUpperCase(),
+  name: "who", label: "Initials", capitals: true, example: "AA", list: true,
 };
 const ROLE = { name: "role", label: "Role", kind: "choice", options: ROLE_OPTIONS, keep: true };
 
@@ -73,7 +73,8 @@ export function peopleView() {
     const word = search.value.trim().toLowerCase();
     const found = state.people.filter(({ who, name, roles }) => word === "" || who.toLowerCase().startsWith(word)
       || name.toLowerCase().includes(word) || roles.some(({ role }) => role.toLowerCase() === word));
-    number.textContent = `${count(found.length, "person", "people")}${word ? " found" : " in the register"}.`;
+    fill(number, !state.isWhole ? "Not known: the register did not answer yet."
+      : `${count(found.length, "person", "people")}${word ? " found" : " in the register"}.`);
     fill(list, found.slice(0, MOST_SHOWN).map(row));
   };
   search.addEventListener("input", draw);

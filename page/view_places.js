@@ -11,7 +11,7 @@ const PLACE = {
   name: "place", label: "Place", kind: "choice", options: PLACES.map((place) => [place, place]), keep: true,
 };
 const WHO = {
-  name: "who", label: "Initials", capitals: true, example: "EA", list: true, read: (text) => text.toUpperCase(),
+  name: "who", label: "Initials", capitals: true, example: "EA", list: true,
 };
 
 /** The box of a place, if it is known. */
@@ -27,7 +27,7 @@ function rows() {
     const box = boxOf(place);
     return make("li", { class: "line", id: `place-${place}` }, make("strong", {}, place),
       make("span", { class: "grow" }, who ? `${who} ${person(who).name}`
-        : make("span", { class: "hint" }, "no holder")),
+        : make("span", { class: "hint" }, state.isWhole ? "no holder" : "not known")),
       box ? make("span", {}, `box ${box}`) : null);
   });
 }
@@ -38,7 +38,7 @@ function boxForm() {
   return form({
     id: "box-new", text: "Add the box", kind: "",
     fields: [
-      { name: "facility", label: "Facility", kind: "choice", options: FACILITIES, keep: true },
+      { name: "facility", label: "Facility", kind: "choice", options: FACILITIES, keep: true, remember: "facility" },
       { name: "box", label: "Number", kind: "number", example: "101" },
       { name: "place", label: "Place", kind: "choice", options: officers.map((place) => [place, place]), keep: true },
     ],
@@ -88,7 +88,7 @@ export function placesView() {
     card("holders", "Holders", day, list));
   [appoint, replace].forEach((one) => propose(one, "who", () => state.people.map(({ who, name }) => [who, name])));
   const update = () => {
-    day.textContent = `On ${state.placesDay}, the day of the moment above. Set that moment by hand to see another day.`;
+    fill(day, `On ${state.placesDay}, the day of the moment above. Set that moment by hand to see another day.`);
     fill(list, rows());
   };
   return { node, update };

@@ -3,8 +3,8 @@
 import { act } from "./act.js";
 import { rowsOf } from "./csv.js";
 import { card, count, fill, make, show } from "./dom.js";
-import { form } from "./forms.js";
-import { inWords } from "./words.js";
+import { fileField, form } from "./forms.js";
+import { faultOfScript } from "./script_rules.js";
 
 const FACILITIES = [["EAST", "EAST"], ["WEST", "WEST"]];
 const HEADER = "step,activity,seats";
@@ -16,7 +16,7 @@ function rowNode(row, number, wrong) {
     make("tr", { class: bad ? "wrong-row" : "", id: `row-${number}` }, make("th", { scope: "row" }, number),
       [0, 1, 2].map((place) => make("td", {}, row[place] ?? "")), make("td", {}, row.slice(3).join(","))),
     bad ? make("tr", { class: "wrong-row" }, make("td", { colspan: 5 },
-      make("p", { class: "wrong", role: "alert", id: "wrong-row" }, inWords(wrong).sentence))) : null,
+      make("p", { class: "wrong", role: "alert", id: "wrong-row" }, wrong.sentence))) : null,
   ];
 }
 
@@ -35,7 +35,8 @@ function planForm(onAnswer) {
     id: "plan", text: "Plan the ceremony",
     fields: [
       { name: "number", label: "Number", kind: "number", example: "61" },
-      { name: "facility", label: "Facility", kind: "choice", options: FACILITIES, keep: true },
+      { name: "facility", label: "Facility", kind: "choice", options: FACILITIES, keep: true,
+        remember: "facility" },
       { name: "day", label: "Day (the first on which it may be opened)", example: "YYYY-MM-DD", keep: true },
       { name: "script", label: "Script as comma-separated text", kind: "long", rows: 8, wide: true,
         hint: `The first row is ${HEADER}. Seats have ; between them, as CA;IW;CO*3.` },
@@ -58,14 +59,18 @@ export function planningView() {
   let wrong = null;
   const draw = () => {
     const found = rowsOf(made.inputs.script.value);
-    told.textContent = found.length === 0 ? "Nothing is pasted yet."
-      : `${count(found.length, "row")}, the first with the names. The register judges them when you plan.`;
+    const fault = found.length === 0 ? null : faultOfScript(made.inputs.script.value);
+    const shown = wrong ?? (fault && { row: fault.row, sentence: `Row ${fault.row}: ${fault.why}.` });
+    fill(told, found.length === 0 ? "Nothing is pasted yet." : `${count(found.length, "row")}, the first with the `
+      + `names. ${fault ? "One breaks a rule." : "All are as they must be."} The register judges them when you plan.`);
     show(rows, found.length > 0);
-    fill(rows, tableOf(found, wrong));
-    document.getElementById("wrong-row")?.scrollIntoView({ block: "center" });
+    fill(rows, tableOf(found, shown));
+    if (wrong) {
+      document.getElementById("wrong-row")?.scrollIntoView({ block: "center" });
+    }
   };
   const made = planForm((answer, members) => {
-    wrong = answer?.body?.number === 19 ? answer.body : null;
+    wrong = answer?.body?.number === 19 ? { row: answer.body.row, sentence: answer.words.sentence } : null;
     if (answer && !answer.refused) {
       const href = `#/script/${members.number}`;
       fill(next, make("a", { id: "go-planned", href }, `Go to ceremony ${members.number}`));
@@ -74,13 +79,10 @@ export function planningView() {
     }
   });
   made.inputs.script.addEventListener("input", () => { wrong = null; draw(); });
-  const file = make("input", { type: "file", id: "plan-file", accept: ".csv,text/csv,text/plain", change: async () => {
-    if (file.files[0]) {
-      made.inputs.script.value = await file.files[0].text();
-      made.inputs.script.dispatchEvent(new Event("input"));
-    }
-  } });
-  const choose = make("div", { class: "field wide" }, make("label", { for: "plan-file" }, "Or choose a file"), file);
+  const choose = fileField("plan-file", "Or choose a file", (text) => {
+    made.inputs.script.value = text;
+    made.inputs.script.dispatchEvent(new Event("input"));
+  });
   made.node.insertBefore(choose, made.node.lastChild);
   const node = make("div", {}, make("h1", {}, "Planning"), card("plan-card", "Plan a ceremony", made.node, next),
     card("rows-card", "Rows", told, rows));

@@ -1,11 +1,11 @@
 // The room: who is in, who comes in and goes out, and who fits which role.
 
-import { actNow } from "./act.js";
+import { actNow, openThings } from "./act.js";
 import { clockOf } from "./clock.js";
 import { button, card, count, fill, make, show } from "./dom.js";
 import { form, toggles } from "./forms.js";
 import { PLACES, ROLES, ROLE_NAMES, initialsOf, isTrained, standing } from "./staff.js";
-import { inRoom, person, state } from "./state.js";
+import { inRoom, isAway, person, state } from "./state.js";
 
 const MOST_SHOWN = 60;
 
@@ -29,13 +29,23 @@ function labelOf(who) {
   return `${who} ${one.name} (${standing(one, state.placesDay, state.places)})`;
 }
 
+/** Lets people in or out. To let them out while custody is open is asked about. */
+function send(way, who) {
+  const open = way === "out" ? openThings() : [];
+  const asks = open.length === 0 ? null : {
+    title: "Let them out now?", lines: [`${who.join(", ")} would go out.`, ...open], yes: "Let them out",
+    no: "Not yet",
+  };
+  return actNow("sheet", { way, who }, `${who.join(", ")}: ${way === "in" ? "come in" : "go out"}`, asks);
+}
+
 /** A form for one way, in or out: a field of initials, and a toggle for each person who may be meant. */
 function wayForm(way, text, candidates) {
   const made = form({
-    id: `way-${way}`, text,
+    id: `way-${way}`, text, of: `-${state.number}`,
     fields: [{ name: "who", label: "Initials, with blanks between them", capitals: true, example: "AL CD", wide: true,
       read: initialsOf }],
-    send: ({ who }) => actNow("sheet", { way, who }, `${who.join(", ")}: ${way === "in" ? "come in" : "go out"}`),
+    send: ({ who }) => send(way, who),
   });
   const filter = make("input", { type: "search", id: `find-${way}`, autocomplete: "off" });
   const list = make("div", { class: "toggles", role: "group", "aria-label": `People who may ${way === "in" ? "come in"
@@ -45,7 +55,7 @@ function wayForm(way, text, candidates) {
     const all = candidates();
     const found = matching(all, filter.value);
     fill(list, toggles(`toggle-${way}`, made.inputs.who, found.slice(0, MOST_SHOWN).map((one) => one.who), labelOf));
-    more.textContent = found.length > MOST_SHOWN ? `${found.length - MOST_SHOWN} more: type to find them.` : "";
+    fill(more, found.length > MOST_SHOWN ? `${found.length - MOST_SHOWN} more: type to find them.` : "");
     show(filterBox, all.length > 12);
   };
   const filterBox = make("div", { class: "field" }, make("label", { for: `find-${way}` }, "Find by name or initials"),
@@ -54,7 +64,7 @@ function wayForm(way, text, candidates) {
   made.inputs.who.addEventListener("input", draw);
   const all = button(`all-${way}`, "Everybody who is in", () => {
     made.inputs.who.value = candidates().map((one) => one.who).join(" ");
-    draw();
+    made.inputs.who.dispatchEvent(new Event("input"));
   }, "quiet");
   show(all, way === "out");
   made.node.insertBefore(make("div", { class: "wide" }, filterBox, list, more, all), made.node.lastChild);
@@ -84,6 +94,17 @@ function fitting() {
     make("dt", {}, make("strong", {}, short), ` ${name}`), make("dd", {}, told(people, inside))]));
 }
 
+/** How many people are in the room, if it is known. */
+function numberText(here) {
+  if (!state.isWhole) {
+    return "Not known: the register did not answer yet.";
+  }
+  const told = here === 0 ? "Nobody is in the room." : `${count(here, "person", "people")} in the room. Nobody may be `
+    + "alone in it.";
+  const small = `${told[0].toLowerCase()}${told.slice(1)}`;
+  return isAway() ? `Not known: the register does not answer. When it last did: ${small}` : told;
+}
+
 /** Makes the view. */
 export function roomView() {
   const inside = make("ul", { class: "lines", id: "inside" });
@@ -97,19 +118,21 @@ export function roomView() {
   const goOut = wayForm("out", "They go out", () => inRoom().map((stay) => person(stay.who)));
   const forms = make("div", { class: "two" },
     card("come", "Come in", comeIn.node), card("leave", "Go out", goOut.node));
-  const closed = make("p", { class: "facts" }, "The ceremony is not open, so nobody comes in or goes out.");
+  const closed = make("p", { class: "facts" });
   const node = make("div", {}, make("h1", {}, "Room"), number, card("now", "In the room now", inside), forms, closed,
     card("fit", "Who fits which role", rolesTitle, roles));
   const update = () => {
     const here = inRoom();
     show(forms, state.script?.state === "open");
-    show(closed, state.script !== null && state.script.state !== "open");
-    number.textContent = here.length === 0 ? "Nobody is in the room."
-      : `${count(here.length, "person", "people")} in the room. Nobody may be alone in it.`;
+    show(closed, Boolean(state.script) && state.script.state !== "open");
+    fill(closed, state.script?.closed
+      ? `The ceremony is closed since ${state.script.closed}: nobody comes in or goes out.`
+      : "The ceremony is not open yet, so nobody comes in or goes out.");
+    fill(number, numberText(here.length));
     fill(inside, here.map(insideRow));
     comeIn.draw();
     goOut.draw();
-    rolesTitle.textContent = `On ${state.placesDay ?? "the day of the moment"}.`;
+    fill(rolesTitle, `On ${state.placesDay}.`);
     fill(roles, fitting());
   };
   return { node, update };

@@ -1,6 +1,10 @@
-// Answers in words. The sentences of refusals are those of refusals.js, which docs/REFUSALS.md has too.
+// Answers in words: the sentence of sentences.js for the command, or else that of refusals.js, which docs/REFUSALS.md
+// has too.
 
+import { now } from "./clock.js";
+import { readPath } from "./paths.js";
 import { CARRIED, REFUSALS } from "./refusals.js";
+import { ROWS, rowOf } from "./sentences.js";
 
 /** A sentence with the values of the refusal in place of its members' names. */
 function filled(sentence, body) {
@@ -24,15 +28,33 @@ function carried(body, path) {
   return CARRIED[30][body.who === "CA" ? "CA" : "place"];
 }
 
-/** A refusal in words: its title, what is so, more of it, and what to do. */
-export function inWords(body, path = "") {
+/** What the sentences need to know of a command that was refused. */
+function situation(body, { path, members }, known) {
+  const { kind, ...parts } = readPath(path);
+  const day = (members.at ?? now()).slice(0, 10);
+  const ceremony = known.ceremonies[parts.ceremony ?? members.ceremony] ?? null;
+  return { body, kind, parts, members, known, ceremony, day, on: day === now().slice(0, 10) ? "today" : `on ${day}` };
+}
+
+/** The sentence of a refusal of a command, the field that it is about, and its row; null if the table has none. */
+export function ofCommand(body, command, known) {
+  const it = situation(body, command, known);
+  const row = rowOf(it);
+  return row ? { sentence: row[3](it), member: row[4], row: ROWS.indexOf(row) } : null;
+}
+
+/** A refusal in words: its title, what is so, what to do, and the field that it is about. `command` has the path and
+ *  the members; without what is known the words are those of every command. */
+export function inWords(body, command = { path: "", members: {} }, known = null) {
   const [, word, , sentence, advice] = REFUSALS.find(([number]) => number === body.number)
     ?? [body.number, body.refusal, 0, "The register refused.", ""];
+  const own = known ? ofCommand(body, command, known) : null;
   return {
     title: `Refused: ${word} (${body.number})`,
-    sentence: filled(sentence, body),
-    more: carried(body, path),
-    advice: filled(advice, body),
+    sentence: own?.sentence ?? filled(sentence, body),
+    more: own ? null : carried(body, command.path),
+    advice: own ? null : filled(advice, body),
+    member: own?.member ?? null,
   };
 }
 
