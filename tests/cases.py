@@ -1,18 +1,22 @@
 #!/usr/bin/env python3
-"""Runs each case of a folder against a program, and compares every byte.
+"""Runs each case of a folder, or the named ones, against a program, and compares every byte.
 
     tests/cases.py PROGRAM [FOLDER]
+    tests/cases.py PROGRAM NAME ..
 
-A case is NAME (the program's standard input), NAME.args (its words, one a line), NAME.stdout (what it writes) and,
-where it is not 0, NAME.status (its exit status); each line of NAME.stderr, where that file is there, stands in what
-it writes to standard error. FOLDER is tests/cases. Each request has a field `X-Why:` that says what it shows.
+A case is NAME (the program's standard input), NAME.args (its words, one a line), NAME.stdout and NAME.stderr (what it
+writes to standard output and to standard error; nothing if there is no NAME.stderr) and, if it is not 0, NAME.status
+(its exit status). FOLDER is tests/cases, which has the named cases too. Each request has a field `X-Why:` that says
+what it shows. The program is called by the name `kcr`, which its lines of usage repeat.
 
 The last line is `N passed, M failed`, and the status is 0 where none failed.
 """
+import itertools
 import pathlib
 import re
 import subprocess
 import sys
+import tempfile
 
 SECONDS = 60
 SHOWN_BYTES = 600
@@ -47,6 +51,15 @@ def text_of(case, ending, otherwise):
     return path.read_text() if path.is_file() else otherwise
 
 
+def unlike(wanted, got):
+    """Where what was written to standard error first differs, in words, or None."""
+    if wanted == got:
+        return None
+    lines = itertools.zip_longest(wanted.splitlines(True), got.splitlines(True), fillvalue="nothing more")
+    number, (one, other) = next((number, pair) for number, pair in enumerate(lines, 1) if pair[0] != pair[1])
+    return f"    line {number} of standard error differs\n    wanted {one!r}\n    got    {other!r}"
+
+
 def fault_of(program, case):
     """What is wrong with what the program does, in words, or None."""
     requests = case.read_bytes()
@@ -61,10 +74,7 @@ def fault_of(program, case):
         return difference(requests, wanted, run.stdout)
     if run.returncode != status:
         return f"    status {run.returncode}, and not {status}"
-    for line in text_of(case, ".stderr", "").splitlines():
-        if line.encode() not in run.stderr:
-            return f"    standard error has no {line!r}: {run.stderr[:SHOWN_BYTES]!r}"
-    return None
+    return unlike(text_of(case, ".stderr", ""), run.stderr.decode(errors="replace"))
 
 
 def cases_in(folder):
@@ -72,20 +82,32 @@ def cases_in(folder):
     return [path.with_suffix("") for path in sorted(folder.glob("*.stdout"))]
 
 
+def chosen(words):
+    """The cases that the words ask for: those of a folder, or these in tests/cases; without words all of these."""
+    here = pathlib.Path(__file__).resolve().parent / "cases"
+    if len(words) == 1 and pathlib.Path(words[0]).is_dir():
+        return cases_in(pathlib.Path(words[0]))
+    found = [case for case in cases_in(here) if not words or case.name in words]
+    for name in words:
+        if not any(case.name == name for case in found):
+            sys.exit(f"tests/cases has no case {name}")
+    return found
+
+
 def main():
-    if len(sys.argv) not in (2, 3):
+    if len(sys.argv) < 2:
         sys.exit(__doc__)
-    program = str(pathlib.Path(sys.argv[1]).resolve())
-    here = pathlib.Path(__file__).resolve().parent
-    folder = pathlib.Path(sys.argv[2]) if len(sys.argv) == 3 else here / "cases"
-    passed = failed = 0
-    for case in cases_in(folder):
-        fault = fault_of(program, case)
-        if fault is None:
-            passed += 1
-        else:
-            failed += 1
-            print(f"{case.name}:\n{fault}")
+    cases = chosen(sys.argv[2:])
+    failed = 0
+    with tempfile.TemporaryDirectory(prefix="kcr-") as room:
+        program = pathlib.Path(room, "kcr")
+        program.symlink_to(pathlib.Path(sys.argv[1]).resolve())
+        for case in cases:
+            fault = fault_of(program, case)
+            if fault is not None:
+                failed += 1
+                print(f"{case.name}:\n{fault}")
+    passed = len(cases) - failed
     print(f"{passed} passed, {failed} failed")
     sys.exit(1 if failed or not passed else 0)
 

@@ -15,6 +15,12 @@ or gone is an earlier register: that of the transactions whose frames are left. 
 day is a register that there was, or a mixture, which `verify` finds. Only each tenth of these files is made, and of a
 long log not each frame is changed; with `--whole` all are. With names only the tests with these names run.
 
+Blocks of 512 and of 4,096 bytes are wrong too, as a disk damages them: zeros, 0xff, or the block before, at 200 places
+of logs of 1, 30, 200 and 2,010 commands, the longer ones of which were emptied meanwhile. Fewer than 1 in 20 of them
+open as a register that lost more than its last command, and none whose start is zeroed. Each tenth place is tried; with
+`--whole` each is. At last runs stop at each call of the file or its log, one that makes a register and one that empties
+a log, and of what was not yet safe each sector is there or not: none of what they leave is refused.
+
 The last line is `N passed, M failed`, and the status is 0 if none failed.
 """
 import sys
@@ -35,15 +41,22 @@ from kcr import Wrong, call, expect, log_of, opened, rows_in
 HEAD = 32  # the bytes of a log's head
 FRAME = 24  # the bytes of a frame before its page
 SIZES = (1, 20, 200)  # the commands of the registers
-FEW = 150  # so many frames are changed one by one, of more each so-and-so-many-th
+FEW = 150  # frames of a log, at most, that are changed one by one
 BITS = 200  # bits that a seed picks in each register
 DAMAGED = 2_000  # files that a seed damages
 STRIDE = 10  # of these only each tenth is made, but with `--whole`
+GROWN = (1, 30, 200, 2_010)  # the commands of the registers whose blocks are damaged
+BLOCKS = (512, 4_096)  # the bytes that a disk damages at once
+PLACES = 200  # blocks of each register that are damaged, in each way
+BOUND = 20  # fewer than 1 in 20 damaged blocks loses more than the last command in silence
+STARTS = (1, 2, 4, 8, 16, 24, 32, 41, 512, 4_096)  # bytes at the start of a log that are zeroed
+SECTOR = 512  # the bytes that a disk writes whole
+CUTS = 3  # choices of the sectors that are there, for each stop
 LINES = re.compile(rb"open: disk\nlog: (wrong head|wrong from frame [1-9][0-9]*|no file), commits [1-9][0-9]*\n")
 
 
 class Register:
-    """A register of so many commands: the bytes of its file and log, the frames in use, and its rows with all commands
+    """A register of `count` commands: the bytes of its file and log, the frames in use, and its rows with all commands
     and with all but the last."""
 
     def __init__(self, program, room, count, name=b"Ann Abel"):
@@ -110,7 +123,8 @@ class Register:
         return {**whole, "people": whole["people"][:count], "keys": [row for row in whole["keys"] if row[1] <= count]}
 
     def left(self, length):
-        """How many commands it has by so many bytes of the log: all but those whose last frame is not among them."""
+        """How many commands it has by the first `length` bytes of the log: all but those whose last frame is not among
+        them."""
         ends = [frame for frame in range(self.frames) if self.log[self.at(frame) + 4:][:4] != bytes(4)]
         return max(0, self.count - sum(self.at(frame + 1) > length for frame in ends))
 
@@ -311,8 +325,147 @@ def foreign_log(program, room):
         expect("the bytes of both files", before, kcr.contents(room / "copied"))
 
 
-TESTS = [frames_are_changed, heads_are_changed, bits_are_changed, files_are_missing, files_by_a_seed, foreign_log]
-WITH_WHOLE = (frames_are_changed, files_by_a_seed)
+# Blocks, and stops
+
+FILLS = {
+    "zeros": lambda log, at, size: bytes(size),
+    "0xff": lambda log, at, size: b"\xff" * size,
+    "the block before": lambda log, at, size: log[at - size:at] if at else log[:size],
+}
+
+
+def commands_left(program, file):
+    """How many commands a register opens with, or None if it is refused for its log."""
+    output, faults, status = call(program, "journal", "--file", file)
+    if status == 1 and LINES.fullmatch(faults):
+        return None
+    if (status, faults) != (0, b"") and not faults.startswith(b"note: "):
+        raise Wrong(f"a journal ends so: {faults!r}, {status}")
+    return output.count(b"\n")
+
+
+def grown(program, file, count, at_once=True):
+    """A register of `count` commands, taken at once or each by a run of its own: its file, its log, and how much of
+    that is in use."""
+    commands = [kcr.person(b"k%d" % number, kcr.initials(number), b"Ann Abel") for number in range(count)]
+    for stream in [b"".join(commands)] if at_once else commands:
+        expect("the end of a run", (b"", 0), call(program, "run", "--file", file, stream=stream)[1:])
+    held, log = kcr.contents(file)
+    length, end = FRAME + int.from_bytes(log[8:12], "big"), HEAD
+    while log[end + 8:end + 16] == log[16:24]:
+        end += length
+    return held, log, end
+
+
+def block_damaged(program, file, held, log, at, text):
+    """How many commands a register opens with whose log has other bytes at a place, or None if it is refused."""
+    file.write_bytes(held)
+    log_of(file).write_bytes(log[:at] + text + log[at + len(text):])
+    before = kcr.contents(file)
+    left = commands_left(program, file)
+    expect("the bytes of both files", before, kcr.contents(file))
+    return left
+
+
+def told_of(left, count):
+    """What came of a damage, by how many commands are left of `count`."""
+    return "refused" if left is None else "whole" if left == count else "the last lost" if left == count - 1 else "LOST"
+
+
+def blocks_are_damaged(program, room, whole=False):
+    """A block of the log is wrong: fewer than 1 in 20 lose more than the last command in silence, and none at the
+    start."""
+    found = {}
+    for count, at_once in [(count, True) for count in GROWN] + [(30, False)]:
+        held, log, end = grown(program, room / f"grown-{count}-{at_once}", count, at_once)
+        expect(f"{count} commands as they are", count, block_damaged(program, room / "tried", held, log, 0, b""))
+        for size in BLOCKS:
+            picked = random.Random(f"blocks of {size} bytes, {count}")
+            places = sorted(picked.sample(range(end // size), min(PLACES, end // size)))
+            for fill, made in FILLS.items():
+                for place in places if whole else places[::STRIDE]:
+                    text = made(log, place * size, size)
+                    if text == log[place * size:][:size]:
+                        continue
+                    told = told_of(block_damaged(program, room / "tried", held, log, place * size, text), count)
+                    expect(f"{count} commands, block {place} of {size} bytes: {fill}, {told}", True,
+                           place > 0 or told != "LOST")
+                    found.setdefault(f"{size} bytes, {fill}", []).append(told)
+    for name, seen in found.items():
+        print(f"    {name}: " + ", ".join(f"{seen.count(told)} {told}" for told in sorted(set(seen))))
+    seen = sum(found.values(), [])
+    expect(f"fewer than 1 in {BOUND} of {len(seen)} lose more than the last command, {seen.count('LOST')}", True,
+           BOUND * seen.count("LOST") < len(seen))
+
+
+def starts_are_zeroed(program, room):
+    """The first bytes of a log are zeroed: it is refused."""
+    for count in GROWN:
+        held, log, _ = grown(program, room / f"grown-{count}", count)
+        for length in STARTS:
+            expect(f"{count} commands, {length} bytes", None,
+                   block_damaged(program, room / "tried", held, log, 0, bytes(length)))
+
+
+def cut_by_sectors(safe, tried, picked):
+    """What a machine that stops leaves of a file: of each sector what was safe or what was written, and no more than
+    some length between the two."""
+    longest = max(len(safe), len(tried))
+    safe, tried, end = safe.ljust(longest, b"\0"), tried.ljust(longest, b"\0"), picked.choice((len(safe), len(tried)))
+    text = b"".join(picked.choice((safe, tried))[at:at + SECTOR] for at in range(0, longest, SECTOR))
+    return text[:picked.choice((end, longest))]
+
+
+def stopped_at(program, library, room, base, commands, which, calls):
+    """Stops a run after `calls` calls of the file or its log. For each choice of the sectors: how many commands were
+    answered, and how many are left, or None if the log is refused. At last None if it came to no stop."""
+    tried, left = room / "tried", room / "left"
+    for file in (tried, room / "tried-safe"):
+        for path, text in zip((file, log_of(file)), base):
+            path.write_bytes(text)
+    what = {"REGISTER": str(tried), "CALLS": str(calls)} | ({"LOG": "1"} if which == "log" else {})
+    (output, *_), is_stopped = kcr.faulty(program, library, what, "run", "--file", tried, stream=b"".join(commands))
+    answered = output.count(b'{"accepted":')
+    safe, written = kcr.contents(room / "tried-safe"), kcr.contents(tried)
+    for seed in range(CUTS):
+        picked = random.Random(f"{which} {calls} {seed}")
+        for path, one, other in zip((left, log_of(left)), safe, written):
+            path.write_bytes(cut_by_sectors(one or b"", other or b"", picked))
+        yield answered, commands_left(program, left)
+    if not is_stopped:
+        yield None
+
+
+def stops_lose_sectors(program, room, whole=False):
+    """A run that makes a register, or that empties a log, stops, and of what was not safe each sector is there or not:
+    none of what is left is refused, and all commands that were answered are there."""
+    with kcr.faults() as library:
+        if library is None:
+            return kcr.leave_out("C compiler", "stops_lose_sectors")
+        for count, more, stride in ((0, 3, 1), (190, 6, 1 if whole else 60)):
+            base = grown(program, room / f"grown-{count}", count)[:2] if count else (b"", b"")
+            commands = [kcr.person(b"m%d" % number, kcr.initials(number), b"Bob Berg")
+                        for number in range(1_000, 1_000 + more)]
+            for which in ("database", "log"):
+                images, calls = 0, 0
+                while True:
+                    seen = list(stopped_at(program, library, room, base, commands, which, calls))
+                    for answered, left in seen[:CUTS]:
+                        expect(f"{count} commands, the {which} stopped after {calls} calls: {answered} answered, "
+                               f"left {left}", True, left is not None and answered <= left - count <= answered + 1)
+                    images += CUTS
+                    if seen[-1] is None:
+                        break
+                    calls += stride
+                print(f"    {count} commands and {more} more: the {which} stopped at {calls} calls, {images} images")
+                if count:
+                    emptied = log_of(room / "tried").read_bytes()[16:24] != base[1][16:24]
+                    expect("the log was emptied meanwhile", True, emptied)
+
+
+TESTS = [frames_are_changed, heads_are_changed, bits_are_changed, files_are_missing, files_by_a_seed, foreign_log,
+         blocks_are_damaged, starts_are_zeroed, stops_lose_sectors]
+WITH_WHOLE = (frames_are_changed, files_by_a_seed, blocks_are_damaged, stops_lose_sectors)
 
 
 def main():

@@ -1,17 +1,21 @@
 """What `page.py` shares: a register with the desk's page before it, a proxy between them that loses answers, and a real
 browser in which a person's clicks and typing are played.
 
-The browser is Debian's `chromium` with `chromium-driver` and `python3-selenium`. Its clock is set by the tests, since
-the ceremonies of the examples were in 2025.
+The browser is Debian's `chromium` with `chromium-driver` and `python3-selenium`. Its clock and that of `serve.py` are
+set by the tests, since the ceremonies of the examples were in 2025. The second in which buttons rest after an act lasts
+a millisecond, but where a test is about it.
 """
 import contextlib
 import datetime
-import json
+import os
+import pathlib
 import re
 import shutil
+import signal
 import socket
 import subprocess
 import sys
+import tempfile
 import threading
 import time
 
@@ -19,36 +23,55 @@ import kcr
 from kcr import HERE, SECONDS, Wrong
 
 PAGE = HERE.parent / "page"
-WAIT = 30  # seconds that the page may take for anything
+WAIT = 180  # seconds that the page may take for anything: the machine of the gate may be slow and busy
+LIFE = 6 * SECONDS  # no register lives longer
 CLOCK = """
-const real = Date.now.bind(Date);
+const real = Date.now.bind(Date), later = window.setTimeout.bind(window);
 Date.now = () => { const at = sessionStorage.getItem("test-clock"); return at === null ? real() : Number(at); };
+window.setTimeout = (act, pause, ...more) =>
+    later(act, pause === 1000 && sessionStorage.getItem("test-rest") === null ? 1 : pause, ...more);
+"""
+SERVE = """
+import email.utils, pathlib, sys
+sys.dont_write_bytecode = True
+sys.path.insert(0, sys.argv.pop(1))
+clock = pathlib.Path(sys.argv.pop(1))
+import serve
+real = serve.Desk.date_time_string
+def date(self, at=None):
+    told = clock.read_text() if clock.is_file() else ""
+    return email.utils.formatdate(float(told), usegmt=True) if told else real(self, at)
+serve.Desk.date_time_string = date
+serve.main()
 """
 BUSY = "return document.getElementById('content').getAttribute('aria-busy') !== 'false'"
-DEBIAN = "/usr/lib/python3/dist-packages"  # where Debian's packages are, if another python3 comes first
 
 
-def missing():
-    """What lacks for a browser, or None."""
-    for command in ("chromium", "chromedriver"):
-        if not shutil.which(command):
-            return command
-    if DEBIAN not in sys.path:
-        sys.path.append(DEBIAN)
-    try:
-        import selenium.webdriver  # noqa: F401
-    except ImportError:
-        return "python3-selenium"
-    return None
+def contains(what, part, text):
+    """Sees that a text has a part."""
+    if part not in text:
+        raise Wrong(f"{what}: no {part!r} in {text!r:.700}")
+
+
+def has_browser(what):
+    """Whether a browser is installed; where none is, this is left out."""
+    if not kcr.is_here("chromium chromedriver", what):
+        return False
+    if not kcr.debian_module("selenium.webdriver"):
+        kcr.leave_out("python3-selenium", what)
+        return False
+    return True
 
 
 class Between:
-    """A proxy between the page and the register. So many answers as `lose` says are cut off behind their commands;
-    `give` is an answer that is given in place of the register's; while `hold` holds, answers wait; while `deaf` holds,
-    the page hears nothing of other desks. `seen` has the commands that came."""
+    """A proxy between the page and the register. It cuts off the answers to the next `lose` commands; `give` is an
+    answer in place of the register's; while `hold` is true, answers wait; while `deaf` is true, the page hears nothing
+    of other desks; it answers the next `fewer` feeds as if the register had fewer commands than were asked after.
+    `seen` has the commands that came."""
 
     def __init__(self, register):
-        self.register, self.lose, self.give, self.hold, self.deaf, self.seen = register, 0, None, False, False, []
+        self.register, self.lose, self.give, self.hold, self.deaf = register, 0, None, False, False
+        self.fewer, self.seen = 0, []
         self.listener = socket.create_server(("127.0.0.1", 0))
         self.port = self.listener.getsockname()[1]
         threading.Thread(target=self.serve, daemon=True).start()
@@ -66,6 +89,13 @@ class Between:
             request = whole_request(peer)
             posts = request.startswith(b"POST")
             if self.deaf and request.startswith(b"GET /commands/"):
+                peer.sendall(kcr.answer(b"200 OK", b"").replace(b"application/json", b"text/plain; charset=utf-8"))
+                return
+            asked_after = re.match(rb"GET /commands/([0-9]+)", request)
+            if self.fewer > 0 and asked_after and asked_after[1] != b"0":
+                self.fewer -= 1
+                peer.sendall(kcr.answer(b"404 Not Found", b'{"number":12,"refusal":"unknown","thing":"command %s"}'
+                                        % asked_after[1]))
                 return
             if posts:
                 self.seen.append(request)
@@ -76,6 +106,8 @@ class Between:
                     asked.sendall(request)
                     asked.shutdown(socket.SHUT_WR)
                     answer = kcr.rest_of(asked)
+                if not answer:
+                    return  # the register was killed
             while posts and self.hold:
                 time.sleep(0.01)
             if posts and self.lose > 0:
@@ -111,10 +143,12 @@ def wanted(got):
 
 
 class Served:
-    """`page/serve.py` before a port, on a free port."""
+    """`page/serve.py` before a port, on a free port. `clock` is a file with the seconds that its clock shows."""
 
-    def __init__(self, register):
-        words = [sys.executable, str(PAGE / "serve.py"), "--port", "0", "--register", str(register)]
+    def __init__(self, register, clock=None, script=SERVE):
+        words = [sys.executable, str(PAGE / "serve.py")] if clock is None else [
+            sys.executable, "-c", script, str(PAGE), str(clock)]
+        words += ["--port", "0", "--register", str(register)]
         self.run = subprocess.Popen(words, stdout=subprocess.PIPE, text=True)
         self.url = self.run.stdout.readline().split()[-1]
         self.port = int(self.url.split(":")[2].strip("/"))
@@ -129,21 +163,32 @@ class Desk:
     """A register, the page before it, and a window of the browser."""
 
     def __init__(self, program, browser, file=None, connections=100_000):
-        self.browser = browser
-        self.register = kcr.Server(program, connections, file, seconds=3 * SECONDS)
+        self.browser, self.file = browser, file
+        self.register = kcr.Server(program, connections, file, seconds=LIFE)
         self.between = Between(self.register.port)
-        self.served = Served(self.between.port)
+        self.served = Served(self.between.port, browser.date)
         self.url = f"{self.served.url}page/"
 
     def __enter__(self):
         return self
 
-    def __exit__(self, *_):
-        self.browser.leave()
-        self.served.close()
-        self.between.close()
+    def kill(self):
+        """Kills the register, as a power cut would."""
         self.register.run.kill()
         self.register.end()
+
+    def start(self, program, connections=100_000):
+        """Starts the register again, over its file."""
+        self.register = kcr.Server(program, connections, self.file, seconds=LIFE)
+        self.between.register = self.register.port
+
+    def __exit__(self, *_):
+        with contextlib.ExitStack() as stack:
+            stack.callback(self.register.end)
+            stack.callback(self.register.run.kill)
+            stack.callback(self.between.close)
+            stack.callback(self.served.close)
+            self.browser.leave()
 
     def send(self, requests):
         """Sends requests past the page, as another desk would."""
@@ -165,10 +210,28 @@ class Desk:
         return self.browser
 
 
+def children(parent):
+    """The processes below one, the outermost first."""
+    found = []
+    for path in pathlib.Path("/proc").glob("[0-9]*/stat"):
+        with contextlib.suppress(OSError, IndexError):
+            if int(path.read_text().rpartition(")")[2].split()[1]) == parent:
+                child = int(path.parent.name)
+                found += [child, *children(child)]
+    return found
+
+
 class Browser:
-    """A headless Chromium. Things of the page are named by their ids."""
+    """A headless Chromium. Things of the page are named by their ids. `clicks` and `keys` count what a person does."""
 
     def __init__(self):
+        self.folder = tempfile.TemporaryDirectory()
+        self.date = pathlib.Path(self.folder.name) / "date"  # what the clock of serve.py shows
+        self.clicks = self.keys = 0
+        self.start()
+
+    def start(self):
+        """Starts it."""
         from selenium import webdriver
         from selenium.webdriver.chrome.service import Service
         options = webdriver.ChromeOptions()
@@ -178,6 +241,7 @@ class Browser:
                      "--force-prefers-reduced-motion"):  # what fades in has no text for Selenium until it is seen
             options.add_argument(word)
         options.set_capability("goog:loggingPrefs", {"browser": "ALL"})
+        options.add_argument(f"--user-data-dir={pathlib.Path(self.folder.name) / 'profile'}")
         self.driver = webdriver.Chrome(options=options, service=Service(shutil.which("chromedriver")))
         self.driver.execute_cdp_cmd("Page.addScriptToEvaluateOnNewDocument", {"source": CLOCK})
         self.size(1280, 900)
@@ -185,6 +249,20 @@ class Browser:
     def close(self):
         """Ends it, with its processes."""
         self.driver.quit()
+        with contextlib.suppress(OSError):
+            self.folder.cleanup()
+
+    def kill(self):
+        """Kills it with all its processes, and starts it again with the same profile."""
+        parent = self.driver.service.process.pid
+        for child in children(parent):
+            with contextlib.suppress(ProcessLookupError):
+                os.kill(child, signal.SIGKILL)
+        with contextlib.suppress(Exception):
+            self.driver.quit()
+        for name in pathlib.Path(self.folder.name, "profile").glob("Singleton*"):
+            name.unlink()
+        self.start()
 
     def leave(self):
         """Leaves the page, so that it asks for nothing more."""
@@ -245,6 +323,8 @@ class Browser:
         """Brings a thing into sight and clicks on it."""
         found = self.find(name)
         self.run("arguments[0].scrollIntoView({block: 'center'})", found)
+        self.until(f"{name} ready", lambda: found.get_attribute("data-resting") is None)
+        self.clicks += 1
         found.click()
 
     def click_if(self, name):
@@ -260,10 +340,11 @@ class Browser:
 
     def go(self, view):
         """Goes to a view by the navigation."""
-        if self.find(f"nav-{view}").get_attribute("aria-current") is None:
+        if self.again(lambda: self.find(f"nav-{view}").get_attribute("aria-current")) is None:
             self.dismiss()
             self.run("scrollTo(0, 0)")
-            self.find(f"nav-{view}").click()
+            self.again(lambda: self.find(f"nav-{view}").click())
+            self.clicks += 1
             self.ready()
 
     def dismiss(self):
@@ -275,17 +356,18 @@ class Browser:
         """Types a text into a field, in place of what it has."""
         found = self.find(name)
         found.clear()
+        self.keys += len(text)
         found.send_keys(text)
 
     def choose(self, name, value):
         """Chooses a value of a choice."""
         found = self.find(name)
         option = found.find_element("css selector", f'option[value="{value}"]')
+        self.clicks += 1
         option.click()
 
-    def fill(self, form, **values):
-        """Fills fields of a form and sends it."""
-        self.dismiss()
+    def enter(self, form, **values):
+        """Fills fields of a form."""
         for name, value in values.items():
             field = self.find(f"{form}-{name}")
             if field.tag_name == "select":
@@ -295,12 +377,32 @@ class Browser:
                     field.click()
             else:
                 self.type(f"{form}-{name}", value)
+
+    def fill(self, form, **values):
+        """Fills fields of a form and sends it."""
+        self.dismiss()
+        self.enter(form, **values)
         self.click(f"{form}-send")
 
-    def clock(self, moment):
-        """Sets the browser's clock to a moment, and has it stand there."""
-        told = datetime.datetime.strptime(moment, "%Y-%m-%dT%H:%M:%SZ").replace(tzinfo=datetime.timezone.utc)
-        self.run("sessionStorage.setItem('test-clock', arguments[0])", str(int(told.timestamp() * 1000)))
+    def paste(self, name, text):
+        """Pastes a text into a field."""
+        self.run("const [field, text] = arguments; field.value = text; field.dispatchEvent(new Event('input'));",
+                 self.find(name), text)
+        self.clicks += 1
+
+    def safe(self, safe, who):
+        """Opens or shuts a safe by somebody."""
+        self.dismiss()
+        self.choose(f"safe-{safe}-by", who)
+        self.click(f"safe-{safe}-send")
+
+    def clock(self, moment, proxy=None):
+        """Sets the clocks of the browser and of the proxy to a moment, or the proxy's to another; they stand there."""
+        def seconds(text):
+            told = datetime.datetime.strptime(text, "%Y-%m-%dT%H:%M:%SZ")
+            return int(told.replace(tzinfo=datetime.timezone.utc).timestamp())
+        self.run("sessionStorage.setItem('test-clock', arguments[0])", str(seconds(moment) * 1000))
+        self.date.write_text(str(seconds(proxy or moment)))
 
     def moment(self, text):
         """Types the moment of what is entered over the one that is there."""
@@ -314,160 +416,39 @@ class Browser:
         if self.shown("use-clock"):
             self.find("use-clock").click()
 
+    def agree(self):
+        """Says yes to what the page asks before it sends a command, and waits for what comes of it."""
+        while self.shown("question"):
+            self.again(lambda: self.find("question-yes").click())
+            self.clicks += 1
+            self.settled()
+
     def log(self):
         """What the browser's console has, but for answers of the register that are refusals."""
         lines = [line["message"] for line in self.driver.get_log("browser")]
         return [line for line in lines if "the server responded" not in line]
 
+    def press_at(self, x, y):
+        """Presses the pointer at a place, whatever is there."""
+        for kind in ("mousePressed", "mouseReleased"):
+            self.driver.execute_cdp_cmd("Input.dispatchMouseEvent", {"type": kind, "x": x, "y": y, "button": "left",
+                                                                     "clickCount": 1})
+
+    def press_key(self, key):
+        """Presses a key once."""
+        self.hold(key, 0)
+
+    def hold(self, key, repeats):
+        """Holds a key down while it repeats, as a keyboard does, and lets it go."""
+        code = "Space" if key == " " else key
+        told = {"key": key, "code": code, "windowsVirtualKeyCode": 32 if key == " " else 13,
+                "text": " " if key == " " else "\r"}
+        for number in range(repeats + 1):
+            self.driver.execute_cdp_cmd("Input.dispatchKeyEvent", {"type": "keyDown", "autoRepeat": number > 0, **told})
+            time.sleep(0.03)
+        self.driver.execute_cdp_cmd("Input.dispatchKeyEvent", {"type": "keyUp", **{**told, "text": ""}})
+
     def press(self, *keys):
         """Presses keys, wherever the focus is."""
         from selenium.webdriver import ActionChains
         ActionChains(self.driver).send_keys(*keys).perform()
-
-
-# A person
-
-def commands_of(stream, told):
-    """The commands of a stream with these answers: path and members. Those with a key that was accepted before are left
-    out, since only the page chooses keys."""
-    found, accepted, messages = [], set(), kcr.messages(stream)
-    for message, answer in zip(messages, kcr.answers(told, messages)):
-        head, _, body = message.lstrip().partition(b"\r\n\r\n")
-        method, path = head.decode().split(" ")[:2]
-        if method == "POST":
-            members = json.loads(body)
-            if members["key"] not in accepted:
-                found.append((path, {name: told for name, told in members.items() if name != "key"}))
-            if b'{"accepted":' in answer:
-                accepted.add(members["key"])
-    return found
-
-
-class Person:
-    """Plays commands by clicks and typing."""
-
-    def __init__(self, browser, example):
-        self.browser, self.example = browser, example
-        self.number = None
-
-    def of_ceremony(self, number, view):
-        """Goes to a view of a ceremony."""
-        if self.number != number:
-            self.browser.go("ceremonies")
-            self.browser.fill("choose", number=number)
-            self.browser.ready()
-            self.number = number
-        self.browser.go(view)
-
-    def when(self, moment, typed):
-        """Has the page take a moment: from its clock, or typed."""
-        self.browser.clock(moment)
-        if typed:
-            self.browser.moment(moment)
-        else:
-            self.browser.by_clock()
-
-    def play(self, path, members):
-        """Plays a command, if the page has a way to send it."""
-        parts = path.strip("/").split("/")
-        kind = parts[0] if len(parts) == 1 else f"{parts[0]}-{parts[2]}"
-        getattr(self, kind.replace("-", "_"))(parts, members)
-
-    def people(self, _, members):
-        self.browser.go("people")
-        self.browser.fill("person", **members)
-
-    def people_roles(self, parts, members):
-        self.browser.go("people")
-        self.browser.fill("training", who=parts[1], role=members["role"], **{k: members[k] for k in ("from", "until")})
-
-    def people_withdrawals(self, parts, members):
-        self.browser.go("people")
-        self.browser.fill("withdrawal", who=parts[1], **members)
-
-    def custodians(self, _, members):
-        self.browser.go("places")
-        self.browser.fill("appoint", **members)
-
-    def custodians_replacement(self, parts, members):
-        self.browser.go("places")
-        self.browser.fill("replace", place=parts[1], **members)
-
-    def custodians_release(self, parts, members):
-        self.browser.go("places")
-        self.browser.fill("release", place=parts[1], **members)
-
-    def boxes(self, _, members):
-        self.browser.go("places")
-        self.browser.fill("box-new", **{name: str(value) for name, value in members.items()})
-
-    def ceremonies(self, _, members):
-        self.browser.go("planning")
-        chosen = {"number": str(members["number"]), "facility": members["facility"], "day": members["day"]}
-        if members["script"] == (self.example / "ceremony.csv").read_text(encoding="utf-8"):
-            self.browser.find("plan-file").send_keys(str(self.example / "ceremony.csv"))
-            rows = members["script"].count("\n")
-            self.browser.until("the file's rows", lambda: self.browser.text("rows-told").startswith(f"{rows} rows"))
-        else:
-            chosen["script"] = members["script"]
-        self.browser.fill("plan", **chosen)
-
-    def ceremonies_opening(self, parts, members):
-        self.of_ceremony(parts[1], "script")
-        self.when(members["at"], False)
-        self.browser.click("open")
-
-    def ceremonies_closing(self, parts, members):
-        self.of_ceremony(parts[1], "script")
-        self.when(members["at"], True)
-        self.browser.click("close")
-
-    def ceremonies_sheet(self, parts, members):
-        self.of_ceremony(parts[1], "room")
-        way, who = members["way"], members["who"]
-        if not self.browser.shown(f"way-{way}-who"):
-            return  # nobody comes into a closed ceremony
-        self.when(members["at"], True)
-        if 1 < len(who) < 4:
-            self.browser.type(f"way-{way}-who", "")
-            for one in who:
-                self.browser.click(f"toggle-{way}-{one}")
-            self.browser.click(f"way-{way}-send")
-        else:
-            self.browser.fill(f"way-{way}", who=" ".join(who).lower())
-
-    def ceremonies_steps(self, parts, members):
-        self.of_ceremony(parts[1], "script")
-        if self.browser.text("sign") != f"Sign step {parts[3]}":
-            return  # the page signs the next step only
-        self.when(members["at"], False)
-        self.browser.click("sign")
-
-    def ceremonies_exceptions(self, parts, members):
-        self.of_ceremony(parts[1], "script")
-        self.when(members["at"], True)
-        self.browser.fill("exception", text=members["text"], **{"pass": members["pass"]})
-
-    def ceremonies_safes(self, parts, members):
-        self.of_ceremony(parts[1], "custody")
-        self.when(members["at"], True)
-        kcr.expect("the button of the safe", f"{'Open' if members['open'] else 'Shut'} safe {parts[3]}",
-               self.browser.text(f"safe-{parts[3]}-send"))
-        self.browser.fill(f"safe-{parts[3]}", by=members["by"])
-
-    def items(self, _, members):
-        self.of_ceremony(str(members["ceremony"]), "custody")
-        self.when(members["at"], True)
-        self.browser.fill("item-new", item=members["item"])
-
-    def ceremonies_bags(self, parts, members):
-        self.of_ceremony(parts[1], "custody")
-        self.when(members["at"], True)
-        serial, what = parts[3], parts[4]
-        if what == "seal":
-            self.browser.fill("seal", items=" ".join(members["items"]), serial=serial)
-            return
-        if what == "put":
-            self.browser.choose(f"to-{serial}", members["to"])
-        self.browser.dismiss()
-        self.browser.click(f"{what}-{serial}")

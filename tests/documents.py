@@ -9,10 +9,9 @@ program takes exactly the parts of paths and the members of bodies that docs/ope
 each form and bound; that the examples fit the schemas; that the refusals in docs/REFUSALS.md, docs/API.md and
 docs/openapi.yaml have the numbers, words, statuses and members of the code, and docs/kcr.1 their sentences; that the
 man page, and docs/OPERATING.md and docs/AUDIT.md together, have each line that the program prints for a fault or a
-finding, and no other; that the scripts of docs/OPERATING.md for backup and restore keep every command, and that its
-proxy refuses what it says; and that the SQL texts are as many as docs/COST.md says. With names only the tests with
-these names run. Examples with sqlite3 are left out if it is missing, the proxy without nginx and openssl, and
-docs/openapi.yaml without PyYAML.
+finding, and no other; that the SQL texts are as many as docs/COST.md says; and that the pages stay short. With names
+only the tests with these names run. Examples with sqlite3 are left out if it is missing, and docs/openapi.yaml without
+PyYAML. What docs/OPERATING.md says of a machine is tried by `operating.py`.
 
 An example is a fenced block of a page. `http request` has requests, and the block `http answer` behind it their
 answers. Each line of a head is sent with CR LF, a body is as long as its head says, and the empty lines between two
@@ -35,26 +34,22 @@ import json
 import os
 import pathlib
 import re
-import shutil
 import subprocess
 import tempfile
 
-try:
-    import yaml
-except ImportError:
-    yaml = None
-
 import kcr
-import machine
 from kcr import HERE, SECONDS, Wrong, call, expect
 
+yaml = kcr.debian_module("yaml")
 ROOT = HERE.parent
 sys.path.append(str(ROOT / "tools"))
 import manual  # noqa: E402
 REGISTER = "register.db"
 PLANS_KEPT = 64  # by the kit's connection, as its README says
-NEVER_WHOLE = ("appointments", "steps", "seatings", "sheet", "exceptions", "stays", "items", "keys", "versions")  # by a request
+NEVER_WHOLE = (  # by a request
+    "appointments", "steps", "seatings", "sheet", "exceptions", "stays", "items", "keys", "versions")
 BEGIN_AND_COMMIT = 2
+MOST_WORDS = 23_000
 METHODS = "GET HEAD POST PUT PATCH DELETE OPTIONS get".split()
 MARKED = re.compile(r"(?ms)^```(http|sh|text) (request|answer|example|output|error)( new| [0-9]+)?\n(.*?)^```$")
 MARK = re.compile(r"(?m)^```(?:http|sh [^`\n]|text [^`\n])")
@@ -113,6 +108,9 @@ def parted(text, methods=None):
     while text := text.lstrip(b"\n"):
         head, _, rest = text.partition(b"\n\n")
         head = head.rstrip(b"\n")
+        if rest.startswith(b"POST "):  # a feed, which is the last answer of its block
+            feed = b"".join(itertools.chain.from_iterable(parted(rest.decode())))
+            return [*found, (head.replace(b"\n", b"\r\n") + b"\r\n\r\n", feed)]
         length = re.search(rb"(?im)^content-length: ([0-9]+)$", head)
         bare = not head.startswith(b"HTTP/1.1 100 ") and next(methods, b"") == b"HEAD"
         end = int(length[1]) if length and not bare else 0
@@ -199,8 +197,7 @@ def examples(program, page):
     yield page, "its blocks", lambda _: examples_of(page)
     with contextlib.suppress(Wrong):
         for example in examples_of(page):
-            if "sqlite3 " in example.text and not shutil.which("sqlite3"):
-                print(f"no sqlite3 here, so {example.name} is left out")
+            if "sqlite3 " in example.text and not kcr.is_here("sqlite3", example.name):
                 continue
             test = requested if example.word is None else commanded
             yield example.name, example.text.splitlines()[0], functools.partial(test, program, example)
@@ -221,10 +218,40 @@ def refusals():
 
 def tabled(_):
     """docs/REFUSALS.md has a row for each refusal of the code, in order."""
-    row = r"(?m)^\| ([0-9]+) \| `(\w+)` \| ([0-9]+) \| [^|]+ \| (?:`(\w+)`[^|]*)?\| [^|]+ \|$"
+    row = r"(?m)^\| ([0-9]+) \| `(\w+)` \| ([0-9]+) \| [^|]+ \| (?:`(\w+)`[^|]*)?\| [^|]+ \| [^|]+ \|$"
     found = [(int(number), (word, int(status), carried))
              for number, word, status, carried in re.findall(row, text_of("docs/REFUSALS.md"))]
     agree("the rows", sorted(refusals().items()), found)
+
+
+@functools.cache
+def functions(crate):
+    """The bodies of the functions of a crate's code, by name; those with one name together."""
+    found = {}
+    for file in sorted((ROOT / "crates" / crate / "src").glob("*.rt")):
+        parts = re.split(r"(?m)^ *(?:pub(?:\(crate\))? )?fn (\w+)", file.read_text(encoding="utf-8"))
+        for name, body in zip(parts[1::2], parts[2::2]):
+            found[name] = found.get(name, "") + body
+    return found
+
+
+def decided(_):
+    """Each function that docs/REFUSALS.md names beside a refusal has it in its body, and the table of what 10 names has
+    the members of the code."""
+    text, crate = text_of("docs/REFUSALS.md"), None
+    code = text_of("crates/kcr_base/src/refusal.rt")
+    numbers = re.findall(r"Refusal::(\w+)(?: \{ \.\. \})? => ([0-9]+),", functions("kcr_base")["number"])
+    variants = {int(number): name for name, number in numbers}
+    rows = re.findall(r"(?m)^\| ([0-9]+) \| `\w+` \|.*\| ([^|]+) \|$", text)
+    expect("rows with a function", len(variants), len(rows))
+    for number, cell in rows:
+        for name in re.findall("`([^`]+)`", cell):
+            crate, _, name = name.rpartition("::") if "::" in name else (crate, "", name)
+            body = functions(crate).get(name, "")
+            expect(f"{crate}::{name} gives {number}", True, f"Refusal::{variants[int(number)]}" in body)
+    members = re.search(r"(?s)\| Members \| Form \|\n(.*?)\n\n", text)[1]
+    agree("the members", sorted(re.findall(r'Member::\w+ => "(\w+)"', code)),
+          sorted(re.findall(r"`(\w+)`", " ".join(re.findall(r"(?m)^\| (`[^|]*) \|", members)))))
 
 
 def named(_):
@@ -253,13 +280,16 @@ def described(_):
 
 
 def listed(_):
-    """docs/openapi.yaml has the status of each refusal that docs/API.md lists under a path."""
+    """docs/openapi.yaml has the status of each refusal that docs/API.md lists under a path, and a 404 only if the path
+    has a part or something may be unknown."""
     parts = re.split(r"(?m)^### (GET|POST) (/\S+)$", text_of("docs/API.md"))
     for method, path, text in zip(parts[1::3], parts[2::3], parts[3::3]):
         line = re.search(r"(?m)^Refusals: (.*)$", text)
         if not line:
             raise Wrong(f"{method} {path} lists no refusals")
         statuses = document()["paths"][path][method.lower()]["responses"]
+        may_miss = "{" in path or re.search(r"\b12 |`act`", line[1]) is not None
+        expect(f"{method} {path} has a 404", may_miss, "404" in statuses)
         for number in re.findall(r"\b([0-9]+) `", line[1]):
             status = str(refusals()[int(number)][1])
             expect(f"{method} {path} has the status of {number}", True, status in statuses)
@@ -295,7 +325,8 @@ def lined(_):
         heads = {" ".join(line.split(" ")[:2]) for line in shown}
         agree(f"the lines of {where}", sorted(lines), sorted(heads))
     for note in ("no file is named", "register.db is not there", "register.db has no command"):
-        expect(f"the note {note!r}", (True, True), (f".It note: {note}\n" in text_of("docs/kcr.1"), f"`note: {note}`" in pages))
+        expect(f"the note {note!r} in docs/kcr.1", True, f".It note: {note}\n" in text_of("docs/kcr.1"))
+        expect(f"the note {note!r} in the pages", True, f"`note: {note}`" in pages)
 
 
 # The parts of docs/openapi.yaml
@@ -552,11 +583,12 @@ def unlike(message, head, body):
 
 
 def texts_fit(_):
-    """The SQL texts of commands, questions and reports are as many as docs/COST.md says; with those that begin and end a
-    transaction they fit among the plans that the connection keeps, so none is made twice. Tables of which no request reads
-    all rows are read whole by an opening, an audit or a verification alone, and the rows of safes and of the version are
-    new in an empty register alone."""
-    whole = re.compile(rf"SELECT [^?]* FROM ({'|'.join(NEVER_WHOLE)}) ORDER BY [^?]*(?<!LIMIT 1)$|INSERT INTO (safes|versions) ")
+    """The SQL texts of commands, questions and reports are as many as docs/COST.md says; with those that begin and end
+    a transaction they fit among the plans that the connection keeps, so none is made twice. Only an opening, an audit
+    or a verification reads all rows of the tables in NEVER_WHOLE, and only an empty register gets rows of safes and of
+    the version."""
+    whole = re.compile(rf"SELECT [^?]* FROM ({'|'.join(NEVER_WHOLE)}) ORDER BY [^?]*(?<!LIMIT 1)$"
+                       r"|INSERT INTO (safes|versions) ")
     texts = {text for crate in ("kcr_tables", "kcr_reading") for file in (ROOT / "crates" / crate / "src").glob("*.rt")
              for text in re.findall(r'"((?:SELECT|INSERT|UPDATE) (?:\\"|[^"])*)"', file.read_text(encoding="utf-8"))
              if not whole.match(text)}
@@ -565,16 +597,30 @@ def texts_fit(_):
     expect("whether they fit", True, len(texts) + BEGIN_AND_COMMIT <= PLANS_KEPT)
 
 
+def short(_):
+    """README.md has fewer than 110 lines, and links to files that are there."""
+    text = text_of("README.md")
+    expect("fewer than 110 lines", True, len(text.splitlines()) < 110)
+    for link in re.findall(r"\]\(([^)#:]+)", text):
+        expect(f"{link} is there", True, (ROOT / link).is_file())
+
+
+def brief(_):
+    """README.md and the pages of `docs`, but for docs/STATEMENT.md, have fewer than 23,000 words together, examples
+    included. A word has a letter, and blanks around it."""
+    pages = [ROOT / "README.md", *(page for page in (ROOT / "docs").glob("*.md") if page.name != "STATEMENT.md")]
+    count = sum(len(re.findall(r"\S*[A-Za-z]\S*", page.read_text(encoding="utf-8"))) for page in pages)
+    expect(f"whether {count} words are fewer than {MOST_WORDS}", True, count < MOST_WORDS)
+
+
 def tests(program):
     """Each test: its name, what it shows, and the call that takes an empty folder."""
     for page in ("docs/API.md", "docs/AUDIT.md", "README.md"):
         yield from examples(program, page)
-    for test in (tabled, named, worded, lined):
+    for test in (tabled, decided, named, worded, lined, short, brief):
         yield test.__name__, test.__doc__, test
-    for test in machine.tests():
-        yield test.__name__, test.__doc__, functools.partial(test, program)
     if not yaml:
-        print("no PyYAML here, so docs/openapi.yaml is not tested")
+        kcr.leave_out("PyYAML", "docs/openapi.yaml")
         return
     for test in (described, listed, same_paths, same_bodies, texts_fit):
         yield test.__name__, test.__doc__, test

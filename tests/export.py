@@ -6,7 +6,7 @@
 Shown are, over each kept stream of `files` and the example's ceremony: that the export is the accepted commands in the
 order of their numbers and the feed, joined; that a new register that takes it gives the kept answers, has the same rows
 and the same export; that parts of it, joined, are the whole; that a file of an older version is read and stays so. Then
-what is told of a file that is no register, of one without commands and of a row that no register stores, that a write
+what is told of a file that is no register, of one without commands and of an invalid row, that a write
 fails, and that exports that are taken while commands come in are beginnings of the last one.
 
 The last line is `N passed, M failed`, and the status is 0 where none failed.
@@ -125,6 +125,4 @@ TESTS = [each_command_once, the_same_register, its_parts, of_older_versions, a_r
          *tests_of("export")]
 
 if __name__ == "__main__":
-    if len(sys.argv) < 2:
-        sys.exit(__doc__.strip())
-    kcr.judge_installed(TESTS, {}, sys.argv[1:])
+    kcr.judge_installed(TESTS, {}, __doc__)

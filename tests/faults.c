@@ -6,7 +6,8 @@
  * REGISTER=F The register's file is F, its log F-wal. Whenever one of them says that it is safe (fsync, fdatasync),
  *            what it then holds is kept beside it, as F-safe or F-safe-wal.
  * CALLS=N    Of the file of that register, or with LOG=1 of its log, N calls are passed on (to read, write, cut or sync
- *            it or to ask for its length), and from then on each fails.
+ *            it or to ask for its length), and from then on each fails. Once a file is opened to write it, calls of one
+ *            that is opened to read it pass: `serve` looks at its files beside the register.
  * OUTPUT=N   N calls to write to standard output are passed on, and from then on each fails.
  * FAILED=F   The file F is made as soon as something failed, so that a test can tell a fault from an end before it.
  *
@@ -16,6 +17,7 @@ typedef unsigned long size;
 
 enum { WRITE = 1, PREAD = 17, PWRITE = 18, SENDFILE = 40, FSYNC = 74, FDATASYNC = 75, FTRUNCATE = 77, STATX = 332 };
 enum { HERE = -100, STANDARD_OUTPUT = 1, IO_FAULT = 5, LONGEST_PATH = 4096, MOST_AT_ONCE = 1 << 20 };
+enum { READ_ONLY = 0, ACCESS = 3 };
 enum { DATABASE, LOG, FILES, NEITHER = -1 };
 
 extern void *__libc_malloc(size length);
@@ -41,6 +43,7 @@ static int stopping = NEITHER;
 static size calls_left;
 static char paths[FILES][LONGEST_PATH];
 static int opened[FILES] = {NEITHER, NEITHER};
+static int is_written[FILES]; /* whether it was opened to write it */
 
 __attribute__((constructor)) static void begin(void) {
     const char *refuse = getenv("REFUSE"), *again = getenv("AGAIN"), *output = getenv("OUTPUT");
@@ -151,9 +154,11 @@ int open(const char *path, int flags, ...) {
     __builtin_va_start(rest, flags);
     int file = openat(HERE, path, flags, __builtin_va_arg(rest, unsigned));
     __builtin_va_end(rest);
+    int is_writing = (flags & ACCESS) != READ_ONLY;
     for (int one = 0; one < FILES; one++) {
-        if (file >= 0 && paths[one][0] && strcmp(path, paths[one]) == 0) {
+        if (file >= 0 && paths[one][0] && strcmp(path, paths[one]) == 0 && (is_writing || !is_written[one])) {
             opened[one] = file;
+            is_written[one] = is_writing;
         }
     }
     return file;

@@ -162,8 +162,11 @@ def its_bounds(program, room):
     """Where the feed ends, what is refused, and that HEAD gets the head alone."""
     file = room / "register.db"
     filled(program, file, b"".join(kcr.short_ceremony()))
-    empty = asked(program, file, 10, 11, GREATEST)
-    expect("the feed behind the last command", [b"", b"", b""], empty)
+    expect("the feed behind the last command", [b""], asked(program, file, 10))
+    for number in (11, GREATEST):
+        unknown = b'{"number":12,"refusal":"unknown","thing":"command %d"}' % number
+        output = filled(program, file, kcr.request(b"GET", b"/commands/%d" % number))
+        expect(f"the feed behind command {number}, which was never accepted", kcr.answer(b"404 Not Found", unknown), output)
     text, = asked(program, file, 9)
     expect("the last command", told_again(kcr.short_ceremony()[-1]), text)
     lost = kcr.answer(b"404 Not Found", b'{"number":7,"refusal":"path"}')
@@ -253,6 +256,4 @@ TESTS = [each_command_once, the_same_register, a_front_takes_the_rest, its_bound
          while_it_serves, a_standby]
 
 if __name__ == "__main__":
-    if len(sys.argv) < 2:
-        sys.exit(__doc__.strip())
-    kcr.judge_installed(TESTS, {}, sys.argv[1:])
+    kcr.judge_installed(TESTS, {}, __doc__)

@@ -156,6 +156,4 @@ def a_row_of_no_register(program, room):
 TESTS = [each_command_a_line, of_older_versions, a_row_of_no_register, *tests_of("journal")]
 
 if __name__ == "__main__":
-    if len(sys.argv) < 2:
-        sys.exit(__doc__.strip())
-    kcr.judge_installed(TESTS, {}, sys.argv[1:])
+    kcr.judge_installed(TESTS, {}, __doc__)

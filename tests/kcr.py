@@ -1,12 +1,14 @@
 """What the tests of the program `kcr` share: to start it and end it, to cut streams into requests and answers, and to
 read and change a register's file with C's sqlite, by Python's module sqlite3.
 
-It tests nothing by itself: `program.py`, `worked.py`, `server.py`, `kills.py`, `healthy.py`, `memory.py` and `stops.py`
-use it, the kept streams of `files` and the cases, and `streams.py` makes its requests by it.
+It tests nothing by itself: `program.py`, `changed.py`, `worked.py`, `server.py`, `kills.py`, `healthy.py`, `memory.py`
+and `stops.py` use it, the kept streams of `files` and the cases, and `streams.py` makes its requests by it.
 """
 import ast
 import contextlib
 import functools
+import importlib
+import os
 import pathlib
 import random
 import re
@@ -60,10 +62,15 @@ def expect(what, wanted, got):
 
 # The program
 
-def call(program, *words, stream=b"", **others):
-    """What the program writes to standard output and to standard error, and its status."""
-    run = subprocess.run([program, *map(str, words)], input=stream, stdout=subprocess.PIPE, stderr=subprocess.PIPE,
-                         timeout=SECONDS, **others)
+TASKS = ("run", "serve", "print", "attendance", "custody", "export", "journal", "audit", "verify", "rebuild", "pack")
+
+
+def call(program, *words, stream=b"", explain=True, seconds=SECONDS, **others):
+    """What the program writes to standard output and to standard error, and its status. A task explains what it met,
+    unless it is told not to: so all lines are seen. It may take `seconds` seconds."""
+    more = ["--explain"] if explain and words and words[0] in TASKS else []
+    run = subprocess.run([program, *map(str, words), *more], input=stream, stdout=subprocess.PIPE,
+                         stderr=subprocess.PIPE, timeout=seconds, **others)
     return run.stdout, run.stderr, run.returncode
 
 
@@ -80,9 +87,10 @@ class Server:
     """`kcr serve` on a free port, over a file or over memory, from when it listens, in this environment or in its own.
     It is killed where it is left."""
 
-    def __init__(self, program, connections, file=None, seconds=SECONDS, environment=None, idle=None):
-        words = ["serve", "--connections", str(connections)] + (["--file", str(file)] if file else [])
-        words += ["--idle", str(idle)] if idle else []
+    def __init__(self, program, connections, file=None, seconds=SECONDS, environment=None, idle=None, longest=None):
+        words = ["serve", "--explain", "--connections", str(connections)]
+        for option, value in (("--file", file), ("--idle", idle), ("--longest", longest)):
+            words += [option, str(value)] if value else []
         for _ in range(5):  # somebody may take the port before the program does
             self.port = free_port()
             self.run = subprocess.Popen([program, *words, "--port", str(self.port)], stdin=subprocess.DEVNULL,
@@ -435,35 +443,65 @@ def with_last(test, value):
 
 
 def judge_faults(tests, names, program):
-    """Runs tests that take the program and the library of faults; where there is no C compiler it says so."""
+    """Runs tests that take the program and the library of faults, which needs a C compiler."""
+    picked = [test for test in tests if not names or test.__name__ in names]
     with faults() as library:
         if library is None:
-            print("no C compiler here, so nothing failed")
-            return
-        judge([(test.__name__, test.__doc__, functools.partial(test, program, library)) for test in tests
-               if not names or test.__name__ in names])
+            leave_out("C compiler", ", ".join(test.__name__ for test in picked))
+            picked = []
+        judge([(test.__name__, test.__doc__, functools.partial(test, program, library)) for test in picked])
+
+
+# What is not installed
+
+LEFT_OUT = []  # what the gate was to test, and lacks a tool for
+DEBIAN = "/usr/lib/python3/dist-packages"  # where Debian's packages are, if another python3 comes first
+
+
+def leave_out(tool, what):
+    """Says that this is not tested, as a tool is not installed. By hand that is all; in the gate, where the environment
+    has CI=true, `judge` then fails."""
+    print(f"no {tool} here, so {what} is left out", flush=True)
+    if os.environ.get("CI") == "true":
+        LEFT_OUT.append(f"{what}: the gate needs {tool}")
+
+
+def is_here(commands, what):
+    """Whether these commands are installed, names with blanks between. The first that is not is why this is left
+    out."""
+    path = f"{os.environ['PATH']}:/usr/sbin"
+    lacks = next((command for command in commands.split() if not shutil.which(command, path=path)), None)
+    if lacks:
+        leave_out(lacks, what)
+    return not lacks
+
+
+def debian_module(name):
+    """A module of Python that a package of Debian has; None where it is not installed."""
+    if DEBIAN not in sys.path:
+        sys.path.append(DEBIAN)
+    try:
+        return importlib.import_module(name)
+    except ImportError:
+        return None
 
 
 # Running tests
 
-def judge_installed(tests, needs, words):
-    """Runs tests that take the program, by the words of the command line: the program, and names of tests. `needs` has
-    the commands of a test that needs some; if one is not installed the test is left out, and a line says so."""
-    program, names, found = str(pathlib.Path(words[0]).resolve()), words[1:], []
-    for test in tests:
-        missing = [command for command in needs.get(test, "").split() if not shutil.which(command)]
-        if names and test.__name__ not in names:
-            continue
-        if missing:
-            print(f"no {missing[0]} here, so {test.__name__} is left out")
-            continue
-        found.append((test.__name__, test.__doc__, functools.partial(test, program)))
-    judge(found)
+def judge_installed(tests, needs, usage):
+    """Runs tests that take the program, by the words of the command line: the program, and names of tests; without a
+    word it ends with the usage. `needs` has the commands of a test that needs some; it is left out where one is not
+    installed."""
+    if len(sys.argv) < 2:
+        sys.exit(usage.strip())
+    program, names = str(pathlib.Path(sys.argv[1]).resolve()), sys.argv[2:]
+    judge([(test.__name__, test.__doc__, functools.partial(test, program)) for test in tests
+           if (not names or test.__name__ in names) and is_here(needs.get(test, ""), test.__name__)])
 
 
 def judge(tests):
     """Runs tests, each a name, what it shows and a call that takes an empty folder; prints what is wrong and the
-    numbers, and ends with the status."""
+    numbers, and ends with the status. What the gate leaves out has failed."""
     failed = 0
     for name, shows, test in tests:
         with tempfile.TemporaryDirectory() as room:
@@ -472,5 +510,7 @@ def judge(tests):
             except (Wrong, OSError, ValueError, subprocess.SubprocessError, sqlite3.Error) as fault:
                 failed += 1
                 print(f"not so: {name}: {shows}\n    {type(fault).__name__}: {fault}", flush=True)
-    print(f"{len(tests) - failed} passed, {failed} failed")
-    sys.exit(1 if failed or not tests else 0)
+    for line in LEFT_OUT:
+        print(f"not so: {line}", flush=True)
+    print(f"{len(tests) - failed} passed, {failed + len(LEFT_OUT)} failed")
+    sys.exit(1 if failed or LEFT_OUT or not tests else 0)

@@ -4,11 +4,12 @@
     tests/kills.py PROGRAM [KILLS]
 
 Commands are sent one after the other, the next once the last is answered, and at a random moment (of a fixed seed) the
-program gets SIGKILL: so long after its start in one life, which may be while it opens the file, and so long after its
-first answer in the next, so that half of the lives take commands however slow the machine is. Then it is started anew over the same file, and the command that has no answer yet is sent first.
-Each command has to get its own number: so the file held all that were answered, and at most one more, which was then
-repeated. That goes on with the same file for KILLS times (200 where none is said). At the end an audit finds nothing,
-all commands sent again get their answers again, and sqlite3 finds the file sound.
+program gets SIGKILL: some time after its start in one life, which may be while it opens the file, and some time after
+its first answer in the next, so that half of the lives take commands however slow the machine is. Then it is started
+anew over the same file, and the command that has no answer yet is sent first. Each command has to get its own number:
+so the file held all that were answered, and at most one more, which was then repeated. That goes on with the same file
+for KILLS times (200 if none is said). At the end an audit finds nothing, all commands sent again get their answers
+again, and sqlite3 finds the file sound.
 
 The last line is `N passed, M failed`, and the status is 0 where none failed.
 """
@@ -32,8 +33,8 @@ def command(number):
 
 
 def life(program, file, answered, seconds, is_answering):
-    """How many commands are answered in all, where the program is killed so many seconds after its start, or, where it
-    is to be answering, after its first answer."""
+    """How many commands are answered in all, if the program is killed `seconds` after its start or, if it is to be
+    answering, after its first answer."""
     with subprocess.Popen([program, "run", "--file", file], stdin=subprocess.PIPE, stdout=subprocess.PIPE,
                           bufsize=0) as run:
         clock = threading.Timer(seconds, run.kill)

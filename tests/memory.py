@@ -5,8 +5,8 @@
 
 A library that is loaded before the C library (`faults.c`) refuses the Nth request for memory of a run, for N from 1
 until a run meets no refusal. STRIDES has the steps of each test, and WHOLE those with `--whole`. The opening does not
-read the stream, so it is the same in each run over memory and in each run over a new file: with `--whole` one test of
-each kind refuses all of its requests.
+read the stream, so it is the same in each run over memory and in each run over a new file: one test over memory refuses
+all of its requests, and with `--whole` one over a file. Over memory no other request is left out, and none of a report.
 
 The streams play a ceremony: a short one with questions and reports at its end, and five cases (a person is entered and
 listed, two sign a step, an exception passes a step, sheet rows come out of order, a bag is cut). A request that meets a
@@ -32,7 +32,7 @@ import kcr
 from kcr import Wrong, call, expect
 
 # the step from one N to the next during the opening, and after it
-STRIDES = {"over_memory": (61, 1), "over_a_file": (601, 29), "examples_over_memory": (601, 7),
+STRIDES = {"over_memory": (1, 1), "over_a_file": (601, 29), "examples_over_memory": (601, 1),
            "examples_over_a_file": (601, 41), "reports": (601, 1), "two_refusals": (601, 601), "openings": (61, 61)}
 WHOLE = {"over_memory": (1, 1), "over_a_file": (1, 1), "examples_over_memory": (601, 1),
          "examples_over_a_file": (601, 1), "reports": (1, 1), "two_refusals": (601, 601), "openings": (1, 1)}

@@ -85,7 +85,7 @@ def no_registers(program, room):
     made."""
     file, into, text, other, empty = (room / name for name in ("register.db", "into", "text", "other", "empty"))
     expect("without a file", (b"", NAMELESS, 1), call(program, "pack", "--into", into))
-    refused(program, room / "gone", into, (b"", noted(room / "gone"), 1))
+    refused(program, room / "gone", into, disk("missing", room / "gone"))
     filled(program, empty, b"")
     refused(program, empty, into, (b"", noted(empty, "has no command"), 1))
     text.write_bytes(b"no database\n" * 100)
@@ -148,6 +148,4 @@ def while_it_serves(program, room):
 TESTS = [the_same_register, an_empty_place, no_registers, no_places, while_it_serves]
 
 if __name__ == "__main__":
-    if len(sys.argv) < 2:
-        sys.exit(__doc__.strip())
-    kcr.judge_installed(TESTS, {}, sys.argv[1:])
+    kcr.judge_installed(TESTS, {}, __doc__)

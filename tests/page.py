@@ -3,12 +3,14 @@
 
     tests/page.py PROGRAM [--pictures FOLDER] [NAME ..]
 
-Shown are: that the page's words of refusals are those of REFUSALS; that `page/serve.py` refuses what a foreign web page
-can send; a whole ceremony, that of `examples`, with the three reports byte for byte as from the same requests sent as a
-stream; each refusal that a person can meet, in words; that a command whose answer is lost is executed once, also after
-the page is loaded again; that doubtful moments are asked about; a step by keyboard alone; labels; that texts of the
-register stay texts; 400 steps and 1,000 people in under a second; the annotated script on A4. With `--pictures` the
-main views are written into the folder as PNG. With names only these tests run.
+Shown are: that the page's words of refusals are those of REFUSALS; what `page/serve.py` refuses and bounds; a whole
+ceremony from an empty register (`page_ceremony.py`), with the record compared with the program's reports row by row,
+and the number of clicks; that one press signs one step; who will be recorded; what the page says while the register is
+away or has lost commands; drafts; what it asks first; refusals in words; that a command is executed once, whatever is
+killed at whatever act; doubtful moments; a step by keyboard alone; labels, at 320 pixels, light and dark; that texts of
+the register stay texts; 400 steps and 1,000 people in under a second; the record on A4 and Letter and as a file. With
+`--pictures` the main views are written into the folder as PNG. With names only these tests run. The rules that the page
+knows are tested by `page_rules.py`, without a browser.
 
 Where `chromium`, `chromedriver` or `python3-selenium` is not installed, the tests that need a browser are left out, and
 a line says so. The last line is `N passed, M failed`, and the status is 0 where none failed.
@@ -20,7 +22,6 @@ sys.dont_write_bytecode = True  # no files beside these
 import base64
 import contextlib
 import functools
-import http.client
 import json
 import pathlib
 import re
@@ -28,8 +29,12 @@ import time
 
 import desk
 import kcr
-from desk import PAGE, Desk, Person, Served, commands_of
+import page_ceremony as story
+import page_kills as kills
+import page_served
+from desk import PAGE, Desk, contains
 from kcr import HERE, Wrong, call, expect, post
+from page_small import DAY, act, at, opened, plan, prepared, refused, training
 
 TOP = HERE.parent
 sys.path.insert(0, str(TOP / "tools"))
@@ -38,20 +43,7 @@ import page_refusals
 EXAMPLE = TOP / "examples"
 REFUSALS = (TOP / "docs" / "REFUSALS.md").read_text(encoding="utf-8")
 MOST_BYTES = 150_000  # of a picture
-PICTURED = 112  # so many requests of the example are sent before pictures are taken
-YEAR = b'"from":"2025-01-01","until":"2025-12-31"'
-DAY = "2025-02-13"
-
-
-def at(clock):
-    """A moment of the example's day."""
-    return f"{DAY}T{clock}Z"
-
-
-def contains(what, part, text):
-    """Sees that a text has a part."""
-    if part not in text:
-        raise Wrong(f"{what}: no {part!r} in {text!r:.700}")
+PICTURED = 112  # requests of the example that are sent before pictures are taken
 
 
 # Without a browser
@@ -81,261 +73,209 @@ def sources(_program, _room):
             raise Wrong(f"index.html names {name}, which is not there")
 
 
-def asked(served, method, path, body=None, **fields):
-    """What `serve.py` answers: status, fields and body."""
-    line = http.client.HTTPConnection("127.0.0.1", served.port, timeout=kcr.SECONDS)
-    with contextlib.closing(line):
-        line.putrequest(method, path, skip_host=True)
-        named = {"Host": f"127.0.0.1:{served.port}"} | {name.replace("_", "-"): told for name, told in fields.items()}
-        if body is not None:
-            named.setdefault("Content-Length", str(len(body)))
-        for name, told in named.items():
-            if told is not None:
-                line.putheader(name, told)
-        line.endheaders(body)
-        got = line.getresponse()
-        return got.status, dict(got.headers), got.read()
-
-
-def refuses_foreigners(program, _room):
-    """serve.py refuses a foreign Host or Origin, a POST that is not JSON and a long one, and serves the page's files
-    only; what it hands on gets the register's answer; its answers carry the fields that keep a browser safe."""
-    ann = b'{"key":"k1","who":"AA","name":"Ann Abel"}'
-    with kcr.Server(program, 100) as register, contextlib.closing(Served(register.port)) as served:
-        own, plain = f"http://localhost:{served.port}", "application/json"
-        tries = [
-            (421, {"Host": "kcr.example"}), (421, {"Host": f"127.0.0.1:{served.port + 1}"}), (421, {"Host": None}),
-            (403, {"Origin": "http://evil.example"}), (403, {"Origin": "null"}),
-            (403, {"Origin": f"http://localhost:{served.port + 1}"}), (415, {"Content_Type": "text/plain"}),
-            (415, {"Content_Type": "application/jsonp"}), (415, {"Content_Type": None}),
-            (413, {"Content_Length": "131073"}), (400, {"Content_Length": "x"}),
-        ]
-        for status, fields in tries:
-            got = asked(served, "POST", "/people", ann, **{"Content_Type": plain, **fields})
-            expect(f"the status with {fields}", status, got[0])
-        expect("people", b'{"people":[]}', asked(served, "GET", "/people")[2])
-        expect("a command", (200, b'{"accepted":1}'), asked(served, "POST", "/people", ann, Origin=own,
-                                                            Content_Type="application/json; charset=utf-8")[::2])
-        status, fields, body = asked(served, "HEAD", "/people")
-        expect("a HEAD", (200, b"", "54"), (status, body, fields["Content-Length"]))
-        status, fields, _ = asked(served, "GET", "/boxes")
-        expect("a refusal", (405, "POST"), (status, fields["Allow"]))
-        for path in ("/page/serve.py", "/page/none.js", "/page/../README.md", "/page/%2e%2e/README.md"):
-            status, _, body = asked(served, "GET", path)
-            if status != 404 or b"import" in body:
-                raise Wrong(f"{path} gets {status}")
-        for path in ("/page/", "/page/main.js", "/page/style.css", "/people"):
-            status, fields, _ = asked(served, "GET", path)
-            expect(f"the status of {path}", 200, status)
-            contains(f"the policy of {path}", "default-src 'self'", fields["Content-Security-Policy"])
-            expect(f"sniffing of {path}", "nosniff", fields["X-Content-Type-Options"])
-    with contextlib.closing(Served(kcr.free_port())) as served:
-        expect("without a register", 502, asked(served, "GET", "/people")[0])
-
-
 # A whole ceremony
 
 def whole_ceremony(program, browser, room):
-    """The example's ceremony, played by clicks and typing, gives the reports that its requests give as a stream."""
-    stream = (EXAMPLE / "ceremony.http").read_bytes()
-    told, _, _ = call(program, "run", "--file", room / "sent", stream=stream)
-    with Desk(program, browser, room / "clicked") as played:
-        played.open()
-        person = Person(browser, EXAMPLE)
-        for path, members in commands_of(stream, told):
-            try:
-                person.play(path, members)
-            except Exception as fault:
-                said = browser.text("answer")
-                raise Wrong(f"{path} {members}: {type(fault).__name__}: {fault}; the page says {said}") from fault
+    """A ceremony of 60 steps with 10 bags, from an empty register to its record, by the page alone. Then the file
+    verifies, the audit finds nothing, and the reports have what was done."""
+    clock = story.Clock(browser)
+    with Desk(program, browser, room / "played") as at_desk:
+        browser.driver.get(at_desk.url)
+        clock.go_on(0)
+        at_desk.open("#/beginning")
+        story.begin(browser)
+        story.take_stock(browser, clock)
+        browser.clicks = browser.keys = 0
+        story.play_steps(browser, clock)
+        print(f"60 steps with 10 bags: {browser.clicks} clicks, {browser.keys} keys")
+        story.compare_record(program, browser, room)
         expect("the console", [], browser.log())
-    for words in (("print", "--ceremony", "60"), ("attendance", "--ceremony", "60"), ("print", "--ceremony", "61"),
-                  ("attendance", "--ceremony", "61"), ("custody",)):
-        expect(f"{words}", call(program, *words, "--file", room / "sent"),
-               call(program, *words, "--file", room / "clicked"))
+        at_desk.kill()
+    for words, wanted in ((("verify",), b"verified: "), (("audit",), b"audit: nothing found")):
+        told = call(program, *words, "--file", room / "played")
+        if not told[0].startswith(wanted):
+            raise Wrong(f"{words}: {told}")
 
 
-# A small ceremony
+# One press, and what the page knows
 
-SCRIPT = "step,activity,seats\\n1,Check bags,CA;IW\\n2,Open the module,CA;CO*2\\n3,End,CA\\n"
-
-
-def training(who, role):
-    """The command that trains a person for 2025."""
-    return post(f"/people/{who}/roles".encode(), f"t-{who}-{role}".encode(), b'"role":"%s",%s' % (role.encode(), YEAR))
-
-
-def plan(number, facility="EAST", day=DAY):
-    """The command that plans a ceremony of three steps."""
-    return post(b"/ceremonies", b"plan-%d" % number, (
-        f'"number":{number},"facility":"{facility}","day":"{day}","script":"{SCRIPT}"').encode())
-
-
-def act(number, path, key, clock, members=""):
-    """An act of a ceremony on the example's day."""
-    return post(f"/ceremonies/{number}/{path}".encode(), key.encode(), f'{members}"at":"{at(clock)}"'.encode())
-
-
-def staff():
-    """Six people, their trainings, a place, and a planned ceremony."""
-    names = (("AA", "Ann Abel"), ("BB", "Bob Berg"), ("CC", "Cole, Cy"), ("EA", "Eva Ames"), ("EC", "Edda Cruz"),
-             ("VV", "Vi"))
-    return [
-        *(kcr.person(f"p-{who}".encode(), who.encode(), name.encode()) for who, name in names),
-        training("AA", "CA"), training("BB", "IW"), training("CC", "SSC2"),
-        post(b"/custodians", b"c-EA", b'"place":"CO-EAST-1","who":"EA","day":"2025-01-01"'), plan(61)]
-
-
-def opened():
-    """The same, with the ceremony open and five people in the room."""
-    return [*staff(), act(61, "opening", "o", "20:00:00"),
-            act(61, "sheet", "s", "20:05:00", '"way":"in","who":["AA","BB","CC","EA","EC"],')]
-
-
-def prepared(program, browser, requests, where="#/script/61", clock="20:10:00", file=None):
-    """A desk whose register took these requests, with the page open and its clock set."""
-    found = Desk(program, browser, file)
-    answers = found.send(requests)
-    if b"refusal" in answers:
-        raise Wrong(f"a request was refused: {answers[-300:]!r}")
-    browser.driver.get(found.url)
-    browser.clock(at(clock))
-    found.open(where)
-    return found
+def one_press(program, browser, _room):
+    """A held key signs one step, and so do two presses 50 to 900 ms apart; after a second the next press counts. The
+    focus is on the title of the next step. A safe that was opened is not shut by the rest of a press."""
+    script = "step,activity,seats\\n" + "".join(f"{n},Step {n},CA\\n" for n in range(1, 31))
+    with prepared(program, browser, opened(script)) as at_desk:
+        browser.run("sessionStorage.setItem('test-rest', 'true')")
+        at_desk.open("#/script/61")
+        step = 1
+        for pause in (50, 200, 500, 900):
+            found = browser.find("sign")
+            expect("the button", f"Sign step {step}", found.text)
+            x, y = browser.run("const { x, y } = arguments[0].getBoundingClientRect(); return [x + 20, y + 20]", found)
+            browser.press_at(x, y)
+            time.sleep(pause / 1000)
+            browser.press_at(x, y)
+            step += 1
+            browser.until("the next step", lambda step=step: browser.text("sign") == f"Sign step {step}")
+            browser.until("its rest", lambda: browser.find("sign").get_attribute("data-resting") is None)
+            expect(f"signatures after presses {pause} ms apart", step - 1, signatures(at_desk))
+        browser.run("document.getElementById('sign').focus()")
+        browser.hold("Enter", 40)
+        browser.until("the focus", lambda: browser.run("return document.activeElement.id") == "next-title")
+        expect("the button", f"Sign step {step + 1}", browser.text("sign"))
+        expect("signatures after a held key", step, signatures(at_desk))
+        time.sleep(1.2)
+        browser.hold("Enter", 10)
+        expect("after a held key on the title", step, signatures(at_desk))
+        browser.choose("safe-2-by", "CC")
+        browser.run("document.getElementById('safe-2-send').focus()")
+        browser.hold(" ", 5)
+        browser.until("the safe", lambda: browser.text("safe-2-state") == "Open")
+        browser.press_key("Enter")
+        expect("safes", 1, sum(b"/safes/" in request for request in at_desk.between.seen))
 
 
-def refused(browser, word, *parts):
-    """Sees that the last answer is a refusal with this word, in words."""
-    browser.until(f"the refusal {word}", lambda: f"Refused: {word} (" in browser.text("answer"))
-    told = browser.text("answer")
-    for part in parts:
-        contains(f"the answer {word}", part, told)
-    MET.add(word)
+def signatures(at_desk):
+    """How many signatures were sent."""
+    return sum(b"/signature" in request.split(b"\r\n")[0] for request in at_desk.between.seen)
 
 
-MET = set()
+def will_be_recorded(program, browser, _room):
+    """The next step says who will be recorded, who else fits, and what one can do; if nobody fits, which seats lack
+    people. The check of a plan names the steps that nobody can fill."""
+    more = [kcr.person(b"p-AB", b"AB", b"Abe Lott"), training("AB", "CA"), plan(62, day="2025-02-14")]
+    with prepared(program, browser, [*opened(), *more, act(61, "sheet", "s1", "20:06:00", '"way":"in","who":["AB"],')]):
+        told = browser.text("recorded")
+        contains("the line", "Will be recorded: CA AA Ann Abel, IW BB Bob Berg.", told)
+        contains("the line", "waits outside the room, or is not trained for this day", told)
+        contains("the seats", "also fits: AB", browser.text("next"))
+        browser.click("sign")
+        contains("the line", "Cannot be signed: seat 2 (CO), seat 3 (CO) have only EA.", browser.text("recorded"))
+        browser.click("sign")
+        refused(browser, "short", "seat 2, CO (crypto officer): in the room EA", "In the room: AA AB BB CC EA EC.")
+        story.choose(browser, 62, "script")
+        contains("the verdict", "1 step that these people cannot fill: 2.", browser.text("plan-verdict"))
+        browser.type("expected-who", "bb zz")
+        contains("the verdict", "3 steps that these people cannot fill: 1 to 3.", browser.text("plan-verdict"))
+        contains("the verdict", "Not in the register: ZZ.", browser.text("plan-verdict"))
 
 
-def refusals_of_people(program, browser, _room):
-    """Refusals of people, places and planning, in words; a wrong field is marked, a wrong row is in its place."""
-    with prepared(program, browser, opened(), "#/people"):
-        browser.fill("person", who="v1", name="Vi")
-        refused(browser, "form", "The member who is missing or not of its form.")
+def away(program, browser, room):
+    """While the register is away the page says that it knows nothing, its buttons are off, and it goes on asking; also
+    if it was opened then. Once the register is back, all is there by itself."""
+    with prepared(program, browser, opened(), "#/room/61", file=room / "away") as at_desk:
+        at_desk.kill()
+        at_desk.open("#/room/61")
+        contains("the room", "Not known", browser.text("inside-count"))
+        expect("the button", False, browser.find("way-in-send").is_enabled() and browser.shown("way-in-send"))
+        browser.go("ceremonies")
+        contains("the list", "Not known", browser.text("ceremonies"))
+        contains("the frame", "The register does not answer", browser.text("trouble"))
+        at_desk.start(program)
+        browser.until("the list", lambda: "Ceremony 61" in browser.text("ceremonies"))
+        story.choose(browser, 61, "room")
+        browser.until("the room", lambda: "5 people in the room." in browser.text("inside-count"))
+        at_desk.kill()
+        browser.until("the trouble", lambda: browser.shown("trouble"))
+        contains("the room", "When it last did: 5 people", browser.text("inside-count"))
+        expect("the button", False, browser.find("way-in-send").is_enabled())
+        at_desk.start(program)
+        browser.until("no trouble", lambda: not browser.shown("trouble"))
+        expect("the button", True, browser.find("way-in-send").is_enabled())
+
+
+def lost_commands(program, browser, _room):
+    """If the register has fewer commands than the page saw, the page says so, and sends nothing until that is known."""
+    with prepared(program, browser, opened()) as at_desk:
+        browser.run("localStorage.setItem('kcr.seen', JSON.stringify({count: 40, key: 'gone'}))")
+        at_desk.open("#/script/61")
+        contains("the frame", "The register lost commands", browser.text("trouble"))
+        contains("the frame", "This browser saw command 40", browser.text("trouble"))
+        expect("the button", False, browser.find("sign").is_enabled())
+        browser.click("accept-loss")
+        expect("the button", True, browser.find("sign").is_enabled())
+        at_desk.between.fewer = 1
+        browser.click("look-again")
+        browser.until("the feed again", lambda: at_desk.between.fewer == 0)
+        browser.ready()
+        expect("the button", "Sign step 1", browser.text("sign"))
+
+
+def drafts(program, browser, room):
+    """What was typed stands again after another view, a refusal and a reload; a corrected file of the same name is read
+    again; small letters become capitals."""
+    with prepared(program, browser, opened(), "#/people") as at_desk:
+        browser.fill("person", who="v1", name="Vi Second")
+        refused(browser, "form", "'V1': initials are 2 to 4 capital letters.")
         expect("the mark", "true", browser.find("person-who").get_attribute("aria-invalid"))
         expect("the focus", "person-who", browser.run("return document.activeElement.id"))
-        browser.fill("person", who="AA", name="Ann Again")
-        refused(browser, "taken", "It exists already")
-        browser.fill("training", who="ZZ", role="CA", **{"from": "2025-01-01", "until": "2025-12-31"})
-        refused(browser, "unknown", "The register has no person ZZ.")
-        browser.fill("training", who="VV", role="CA", **{"from": "2025-02-01", "until": "2025-01-31"})
-        refused(browser, "range", "A day is too early")
         browser.go("places")
-        browser.fill("appoint", place="RKSH-1", who="AA", day="2025-03-01")
-        refused(browser, "apart", "Nobody is both trained for a role and put in a place")
-        browser.fill("appoint", place="CO-EAST-1", who="VV", day="2025-03-01")
-        refused(browser, "held", "Replace or release the holder")
-        browser.fill("release", place="CO-EAST-3", day="2025-03-01")
-        refused(browser, "vacant", "There is no holder")
-        browser.fill("release", place="CO-EAST-1", day=DAY)
-        refused(browser, "settled", f"The day is not after the settled day, {DAY}.")
+        browser.go("people")
+        expect("the draft", "Vi Second", browser.find("person-name").get_attribute("value"))
+        at_desk.open("#/people")
+        expect("the draft", "v1", browser.find("person-who").get_attribute("value"))
+        browser.fill("person", who="vs")
+        contains("the answer", "Enter VS, Vi Second: done.", browser.text("answer"))
+        expect("the draft", "", browser.find("person-name").get_attribute("value"))
         browser.go("planning")
-        browser.fill("plan", number="62", facility="WEST", day=DAY,
-                     script="step,activity,seats\n1,One,CA\n2,Two,CA*1\n3,End,CA\n")
-        refused(browser, "script", "The script breaks a rule in row 3.")
-        order = browser.run("return [...document.querySelectorAll('#rows tbody tr')].map(row => row.textContent)")
-        expect("the rows", ["1stepactivityseats", "21OneCA", "32TwoCA*1", "The script breaks a rule in row 3.",
-                            "43EndCA"], order)
+        file = room / "script.csv"
+        for row, told in (("1,One,CA*1", "One breaks a rule."), ("1,One,CA", "All are as they must be.")):
+            file.write_text(f"step,activity,seats\n{row}\n", encoding="utf-8")
+            browser.find("plan-file").send_keys(str(file))
+            browser.until("the file", lambda told=told: told in browser.text("rows-told"))
+        browser.paste("plan-script", "step,activity,seats\n1,One,CA\n2,Two,CA*1\n")
+        browser.fill("plan", number="64", facility="WEST", day=DAY)
+        refused(browser, "script", "Row 3: 'CA*1' is no seat")
+        order = browser.run("return [...document.querySelectorAll('#rows tbody tr')].map(row => row.id)")
+        expect("the rows", ["row-1", "row-2", "row-3", ""], order)
+
+
+def asks_first(program, browser, _room):
+    """To let people out while a safe is open, to pass over a step and to close are asked about; a no sends nothing."""
+    with prepared(program, browser, opened()) as at_desk:
+        browser.safe("2", "CC")
+        browser.go("room")
+        browser.clock(at("20:09:00"))
+        browser.fill("way-out", who="EC VV")
+        contains("the question", "Safe 2 is open.", browser.text("question"))
+        browser.click("question-no")
+        browser.go("script")
+        browser.fill("exception", text="Nobody has the key", **{"pass": True})
+        for part in ("Pass over step 1?", "Will be recorded: CA AA Ann Abel, IW BB Bob Berg."):
+            contains("the question", part, browser.text("question"))
+        browser.click("question-no")
+        browser.click("close")
+        for part in ("Close ceremony 61?", "Steps: 3 steps to do.", "5 in: AA, BB, CC, EA, EC", "Safe 2 is open."):
+            contains("the question", part, browser.text("question"))
+        browser.click("question-no")
+        expect("what was sent", 1, len(at_desk.between.seen))
+        expect("the draft", "Nobody has the key", browser.find("exception-text").get_attribute("value"))
+        browser.click("close")
+        browser.agree()
+        refused(browser, "unfinished", "Steps 1 to 3 are neither signed nor passed over.")
 
 
 def refusals_of_ceremonies(program, browser, _room):
-    """Refusals of a ceremony and its room, in words; short tells the seats and who is in the room."""
+    """Refusals that another desk's act brings about, in words; then the page shows what is so now."""
     with prepared(program, browser, [*opened(), plan(63)]) as at_desk:
         browser.click("sign")
+        browser.moment("20:07:30")
         browser.click("sign")
-        refused(browser, "short", "fit these seats: 2, 3.", "Seat 2, CO (crypto officer): in the room EA.",
-                "In the room: AA BB CC EA EC.", "Let others come in, or pass the step over.")
-        browser.moment(at("20:09:00"))
-        browser.click("sign")
-        refused(browser, "late", f"before the ceremony's mark, {at('20:10:00')}")
+        refused(browser, "late", f"The ceremony has an act at {at('20:08:00')}", "30 s earlier")
         browser.by_clock()
         at_desk.between.deaf = True
-        at_desk.send([act(61, "exceptions", "x", "20:10:00", '"text":"Passed","pass":true,')])
-        browser.click("sign")
+        at_desk.send([act(61, "exceptions", "x", "20:08:00", '"text":"Passed","pass":true,')])
+        browser.find("sign").click()
+        browser.until("the command", lambda: len(at_desk.between.seen) == 3)
+        at_desk.between.deaf = False
         refused(browser, "order", "The next step is 3")
-        expect("the button", "Sign step 3", browser.text("sign"))
-        browser.click("close")
-        refused(browser, "unfinished", "The ceremony cannot be closed: steps.", "neither signed nor passed over.")
-        room_refusals(browser)
-        browser.go("ceremonies")
-        browser.fill("choose", number="63")
-        browser.until("the button", lambda: browser.shown("open"))
-        browser.ready()
-        browser.click("open")
-        refused(browser, "busy", "Another ceremony is open in the facility.")
-        at_desk.send([act(61, "steps/3/signature", "g3", "20:20:00"),
-                      act(61, "sheet", "s2", "20:21:00", '"way":"out","who":["AA","BB","CC","EA","EC"],'),
-                      act(61, "closing", "z", "20:22:00"), act(63, "opening", "o3", "20:23:00")])
-        browser.clock(at("20:24:00"))
-        browser.click("open")
-        refused(browser, "state", "The ceremony is not open or, for an opening, not planned.")
-
-
-def room_refusals(browser):
-    """The refusals of the sheet."""
-    browser.go("room")
-    browser.clock(at("20:11:00"))
-    browser.fill("way-out", who="AA BB CC EA")
-    refused(browser, "lone", f"Exactly one person would be in the room at {at('20:11:00')}.")
-    browser.fill("way-in", who="AA")
-    refused(browser, "turn", "The person AA would not come in and go out in turn")
-
-
-def refusals_of_custody(program, browser, _room):
-    """Refusals of safes, items and bags, in words."""
-    box = post(b"/boxes", b"b", b'"facility":"EAST","box":3,"place":"CO-EAST-1"')
-    with prepared(program, browser, [*opened(), box], "#/custody/61") as at_desk:
-        browser.fill("safe-2", by="AA")
-        refused(browser, "absent", "Somebody is missing: AA.", "not in the room, or not trained for the safe")
-        browser.fill("item-new", item="CARD1")
-        browser.fill("seal", items="CARD1", serial="BB51184287")
-        contains("the answer", "Accepted", browser.text("answer"))
-        browser.choose("to-BB51184287", "")
-        browser.type("other-BB51184287", "3")
-        browser.click("put-BB51184287")
-        refused(browser, "safe", "it is shut and must be open")
-        browser.fill("safe-2", by="CC")
-        at_desk.between.deaf = True
-        at_desk.send([act(61, "sheet", "s3", "20:12:00", '"way":"out","who":["EA"],')])
-        browser.clock(at("20:13:00"))
-        browser.choose("to-BB51184287", "")
-        browser.type("other-BB51184287", "3")
-        browser.click("put-BB51184287")
-        refused(browser, "absent", "Somebody is missing: CO-EAST-1.", "its holder is not in the room")
-        at_desk.send([act(61, "bags/BB51184287/cut", "cut", "20:13:00")])
-        browser.click("cut-BB51184287")
-        refused(browser, "where", "not where the command requires it")
-        browser.fill("find-bag", serial="BB51184287")
-        browser.until("where the bag is", lambda: "BB51184287 is spent" in browser.text("found-bag"))
-        at_desk.send([act(61, "sheet", "s4", "20:14:00", '"way":"out","who":["AA"],')])
-        browser.clock(at("20:15:00"))
-        browser.fill("item-new", item="CARD2")
-        refused(browser, "absent", "Somebody is missing: CA.", "Nobody in the room is trained as ceremony admin")
-
-
-def limits(program, browser, _room):
-    """The refusals of a full room and of a ceremony with 200 exceptions, in words."""
-    many = [kcr.initials(number) for number in range(123)]  # 128 with those who are in
-    fill = [*opened(), *(kcr.person(b"m%d" % n, who, b"Many") for n, who in enumerate(many))]
-    told = [b",".join(b'"%s"' % who for who in many[start:start + 31]) for start in (0, 31, 62, 93)]
-    fill += [act(61, "sheet", f"i{n}", "20:06:00", f'"way":"in","who":[{names.decode()}],')
-             for n, names in enumerate(told)]
-    fill += [act(61, "exceptions", f"x{n}", "20:07:00", '"text":"Again","pass":false,') for n in range(200)]
-    with prepared(program, browser, fill):
-        browser.fill("exception", text="One more", **{"pass": False})
-        refused(browser, "full", "200 exceptions of a ceremony")
+        browser.until("the button", lambda: browser.text("sign") == "Sign step 3")
         browser.go("room")
-        browser.fill("way-in", who="VV")
-        refused(browser, "crowd", "more than 128 people would be in the room")
+        browser.clock(at("20:09:00"))
+        browser.fill("way-out", who="AA BB CC EA")
+        refused(browser, "lone", f"At {at('20:09:00')} exactly one person would be in the room: EC.")
+        story.choose(browser, 63, "script")
+        browser.click("open")
+        refused(browser, "busy", "Ceremony 61 is open in EAST: close it first.")
 
 
 def refusals_in_doubt(program, browser, _room):
@@ -346,112 +286,43 @@ def refusals_in_doubt(program, browser, _room):
                                      (35, "broken", broken)):
             at_desk.between.give = kcr.answer(status, b'{"number":%d,"refusal":"%s"}' % (number, word.encode()))
             browser.fill("person", who="A" * (number - 31), name="Ann")
-            browser.until(word, lambda: f"Refused: {word} ({number})" in browser.text("waiting"))
+            told = f"Refused: {word} ({number})"
+            browser.until(told, lambda told=told: told in browser.text("waiting"))
             at_desk.between.give = None
             browser.click_if("again")
             browser.until("an answer", lambda: "Accepted" in browser.text("answer"))
             browser.ready()
-            MET.add(word)
         expect("the requests", 3, len(set(at_desk.between.seen)))
-
-
-def all_words(program, browser, _room):
-    """Each of the 35 refusals has its sentence with what it carries, and all of 10 to 35 but 11 were met."""
-    with prepared(program, browser, [], "#/people"):
-        told = browser.driver.execute_async_script("""
-            const done = arguments[arguments.length - 1];
-            const from = name => import(`${location.origin}/page/${name}.js`);
-            const carried = {member: 'm-1', thing: 't-1', day: 'd-1', row: 7, mark: 'k-1', next: 8, who: 'CA',
-                moment: 'o-1', part: 'room', seats: [1, 2]};
-            Promise.all([from('words'), from('refusals')]).then(([words, table]) => done(table.REFUSALS.map(
-                ([number, refusal]) => words.inWords({...carried, number, refusal}, '/x'))));""")
-    expect("how many", 35, len(told))
-    for words in told:
-        for part in (words["sentence"], words["advice"]):
-            if not part or "`" in part or "undefined" in part:
-                raise Wrong(f"{words}")
-    for number, value in ((10, "m-1"), (12, "t-1"), (18, "d-1"), (19, "7"), (22, "k-1"), (23, "8"), (26, "o-1"),
-                          (32, "1, 2")):
-        contains(f"refusal {number}", value, told[number - 1]["sentence"])
-    words = [word for number, word, *_ in page_refusals.manual.rows(REFUSALS) if number >= 10 and number != 11]
-    if len(MET) > 12:  # the tests before this one ran too
-        expect("refusals that were not met", [], [word for word in words if word not in MET])
-
-
-# Exactly once
-
-def lost_answer(program, browser, room):
-    """A command whose answer is lost three times is asked for again under its key, and is executed once."""
-    with prepared(program, browser, [], "#/people", file=room / "lost") as at_desk:
-        at_desk.between.lose = 3
-        browser.fill("person", who="AA", name="Ann Abel")
-        browser.until("a command without an answer", lambda: "No answer yet" in browser.text("waiting"))
-        expect("kept", 1, len(browser.run("return Object.keys(localStorage).filter(name => name.includes('outbox'))")))
-        browser.click_if("again")
-        browser.until("the answer", lambda: "Accepted as number 1" in browser.text("answer"))
-        browser.ready()
-        expect("the requests", 1, len(set(at_desk.between.seen)))
-        expect("how often", 4, len(at_desk.between.seen))
-        expect("kept", 0, len(browser.run("return Object.keys(localStorage).filter(name => name.includes('outbox'))")))
-        expect("people", "1 person in the register.", browser.text("people-count"))
-    with kcr.opened(room / "lost") as database:
-        expect("the rows", [("AA", "Ann Abel")], database.execute("SELECT who, name FROM people").fetchall())
-        expect("the keys", 1, database.execute("SELECT count(*) FROM keys").fetchone()[0])
-
-
-def loaded_again(program, browser, room):
-    """A page that is loaded again in the middle of a command asks for its answer under the same key."""
-    with prepared(program, browser, [], "#/people", file=room / "again") as at_desk:
-        at_desk.between.hold = True
-        browser.type("person-who", "AA")
-        browser.type("person-name", "Ann Abel")
-        browser.find("person-send").click()
-        browser.until("the command", lambda: at_desk.between.seen)
-        browser.driver.refresh()
-        browser.until("the command again", lambda: len(at_desk.between.seen) > 1)
-        at_desk.between.hold = False
-        browser.until("the answer", lambda: "Accepted as number 1" in browser.text("answer"))
-        contains("the answer", "(asked again)", browser.text("answer"))
-        browser.ready()
-        expect("the requests", 1, len(set(at_desk.between.seen)))
-    with kcr.opened(room / "again") as database:
-        expect("the rows", [("AA", "Ann Abel")], database.execute("SELECT who, name FROM people").fetchall())
-
-
-def given_up(program, browser, _room):
-    """A command without an answer can be given up, after a question."""
-    with prepared(program, browser, [], "#/people") as at_desk:
-        at_desk.between.lose = 1_000
-        browser.fill("person", who="AA", name="Ann Abel")
-        browser.until("the question", lambda: browser.click_if("give-up") or browser.shown("question"))
-        contains("the question", "It may have been executed already.", browser.text("question"))
-        browser.find("question-yes").click()
-        browser.until("the end", lambda: "Given up" in browser.text("answer"))
-        expect("kept", 0, len(browser.run("return Object.keys(localStorage).filter(name => name.includes('outbox'))")))
 
 
 # Moments, keys, labels, texts
 
 def doubtful_moments(program, browser, _room):
-    """A moment that is off the clock, in the future or on another day is asked about, and sent only after a yes."""
+    """A moment that is off a clock, in the future or on another day is asked about, and sent only after a yes. The page
+    says by how much its clock differs from the proxy's. A moment can be typed as 20:45."""
     with prepared(program, browser, opened()) as at_desk:
         def asks(moment, *parts):
             browser.moment(moment)
             browser.click("sign")
             for part in parts:
                 contains(f"the question of {moment}", part, browser.text("question"))
-        asks("2026-02-13T20:10:00Z", "365 days after the clock", "It is in the future.", "Its day is 2026-02-13.")
+        asks("2026-02-13T20:08:00Z", "365 days after the clock", "It is in the future.", "Its day is 2026-02-13.")
         browser.find("question-no").click()
         browser.until("the end", lambda: "Not sent" in browser.text("answer"))
-        asks(at("20:10:30"), "It is in the future.")
+        asks("20:08:30", "Is 2025-02-13T20:08:30Z right?", "It is in the future.")
         browser.press("\ue00c")  # escape
         browser.until("the end", lambda: "Not sent" in browser.text("answer"))
         expect("what was sent", [], at_desk.between.seen)
+        browser.by_clock()
+        browser.clock(at("20:08:00"), proxy=at("20:15:00"))
+        browser.click("look-again")
+        browser.until("the clocks", lambda: "This clock is 7 min behind the proxy's." in browser.text("clock"))
+        contains("the clocks", f"Last moment in the register: {at('20:05:00')}, 3 min ago.", browser.text("clock"))
+        browser.click("sign")
+        contains("the question", "before the proxy's clock, which shows", browser.text("question"))
+        browser.find("question-no").click()
         browser.clock("2025-02-14T00:30:00Z")
-        asks(at("20:10:00"), "4 h 20 min before the clock")
-        browser.click("question-yes")
-        browser.until("the answer", lambda: "Accepted" in browser.text("answer"))
-        browser.ready()
+        browser.click("look-again")
         browser.fill("exception", text="After midnight", **{"pass": False})
         contains("the question", "Its day is 2025-02-14. Ceremony 61 is planned for 2025-02-13.",
                  browser.text("question"))
@@ -461,7 +332,7 @@ def doubtful_moments(program, browser, _room):
         browser.ready()
         browser.fill("exception", text="Still", **{"pass": False})
         browser.until("the answer", lambda: "exception 2" in browser.text("answer"))
-        expect("what was sent", 3, len(at_desk.between.seen))
+        expect("what was sent", 2, len(at_desk.between.seen))
 
 
 def keyboard_alone(program, browser, _room):
@@ -482,7 +353,7 @@ def keyboard_alone(program, browser, _room):
         browser.press("\ue007")
         browser.until("the answer", lambda: "Step 1 has the seating AA, BB." in browser.text("answer"))
         browser.ready()
-        expect("the focus", "sign", browser.run("return document.activeElement.id"))
+        expect("the focus", "next-title", browser.run("return document.activeElement.id"))
 
 
 UNLABELLED = """
@@ -492,6 +363,11 @@ return [...document.querySelectorAll('input, select, textarea, button, a, dialog
   return !name?.trim() && one.id !== 'question' && one.id !== 'answer';
 }).map(one => one.outerHTML.slice(0, 120));
 """
+ALIKE = """
+const names = [...document.querySelectorAll('main button')].filter(one => one.checkVisibility())
+  .map(one => one.textContent);
+return names.filter((name, place) => names.indexOf(name) !== place);
+"""
 TWICE = """
 const all = [...document.querySelectorAll('[id]')].map(one => one.id);
 return all.filter((id, place) => all.indexOf(id) !== place);
@@ -499,32 +375,42 @@ return all.filter((id, place) => all.indexOf(id) !== place);
 
 
 def labels(program, browser, _room):
-    """In each view each field, button and link has a label, ids are unique, and nothing is wider than 400 pixels."""
-    item = post(b"/items", b"i", f'"ceremony":61,"item":"CARD1","at":"{at("20:08:00")}"'.encode())
-    with prepared(program, browser, [*opened(), item], clock="20:10:00"):
-        browser.size(400, 800)
-        for view in ("ceremonies", "script", "room", "custody", "people", "places", "planning", "reports"):
-            browser.go(view)
-            expect(f"without a label in {view}", [], browser.run(UNLABELLED))
-            expect(f"ids that are there twice in {view}", [], browser.run(TWICE))
-            expect(f"the width of {view}", True, browser.run("return document.documentElement.scrollWidth <= 400"))
+    """In each view each field, button and link has a label, ids are unique, buttons that are alike have names of their
+    own, and nothing is wider than 320 pixels, in light and in dark."""
+    item = post(b"/items", b"i", f'"ceremony":61,"item":"CARD1","at":"{at("20:06:00")}"'.encode())
+    bags = [act(61, f"bags/BB5118428{n}/seal", f"b{n}", "20:07:00", f'"items":["CARD{n}"],') for n in (1, 2)]
+    second = post(b"/items", b"j", f'"ceremony":61,"item":"CARD2","at":"{at("20:06:00")}"'.encode())
+    with prepared(program, browser, [*opened(), item, second, *bags]):
+        for dark in (False, True):
+            browser.size(320, 800, dark)
+            for view in ("ceremonies", "script", "room", "custody", "record", "reports", "people", "places", "planning",
+                         "beginning", "journal"):
+                browser.go(view)
+                expect(f"without a label in {view}", [], browser.run(UNLABELLED))
+                expect(f"ids that are there twice in {view}", [], browser.run(TWICE))
+                expect(f"the width of {view}", 320, browser.run("return document.documentElement.scrollWidth"))
+                expect(f"buttons that are alike in {view}", [], browser.run(ALIKE))
         browser.size(1280, 900)
         expect("the console", [], browser.log())
 
 
 def texts_stay_texts(program, browser, _room):
-    """Names, activities and remarks that look like HTML are shown as they are, and nothing in them is run."""
+    """Names, activities and remarks that look like HTML are shown as they are, and nothing in them is run. Characters
+    that deceive are shown as escapes."""
     bad = '<img src=x onerror="document.title=1"><script>document.title=2</script>'
     written = json.dumps(bad)[1:-1]
-    requests = [kcr.person(b"k1", b"AA", written.encode()), kcr.person(b"k2", b"BB", b"B & <b>b</b>"),
+    turned, shown = "Bob\u202e\u2066\u200b\u2028 Berg\u00a0X", "Bob\\u202E\\u2066\\u200B\\u2028 Berg\\u00A0X"
+    requests = [kcr.person(b"k1", b"AA", written.encode()), kcr.person(b"k2", b"BB", turned.encode()),
                 training("AA", "CA"), training("BB", "IW"), plan(61), act(61, "opening", "o", "20:00:00"),
                 act(61, "sheet", "s", "20:05:00", '"way":"in","who":["AA","BB"],'),
                 act(61, "exceptions", "x", "20:06:00", f'"text":"{written}","pass":false,')]
     with prepared(program, browser, requests):
         for view, name in (("script", "exceptions"), ("room", "inside"), ("people", "people"),
-                           ("reports", "stays-table")):
+                           ("reports", "stays-table"), ("record", "paper"), ("journal", "journal")):
             browser.go(view)
-            contains(f"the text of {name}", bad, browser.text(name))
+            browser.until(f"the text of {name}", lambda name=name: bad in browser.text(name))
+            if name != "exceptions":
+                contains(f"the text of {name}", shown, browser.text(name))
         expect("elements of such texts", 0, browser.run("return document.querySelectorAll('img, main script').length"))
         contains("the title", "kcr desk", browser.driver.title)
 
@@ -571,68 +457,99 @@ def long_lists(program, browser, _room):
 
 
 def reports(program, browser, room):
-    """The reports are downloaded byte for byte, shown as tables and as a picture, and the script is printed on A4."""
-    with prepared(program, browser, opened(), "#/reports/61", file=room / "kept") as at_desk:
+    """The reports are downloaded byte for byte, and shown as a table and as a picture."""
+    with prepared(program, browser, opened(), "#/reports/61", file=room / "kept"):
         browser.driver.execute_cdp_cmd("Browser.setDownloadBehavior", {"behavior": "allow", "downloadPath": str(room)})
-        wanted = {"script": "ceremony-61-script.txt", "attendance": "ceremony-61-attendance.csv"}
-        if at_desk.has(b"/custody"):
-            wanted["custody"] = "custody.txt"
-        else:
-            print("no /custody in this program, so its download is left out")
+        wanted = {"script": "ceremony-61-script.txt", "attendance": "ceremony-61-attendance.csv",
+                  "custody": "custody.txt"}
         for name in wanted:
             browser.click(f"get-{name}")
             browser.until(f"the download of {name}", (room / wanted[name]).is_file)
         expect("stays in the picture", 5, browser.run("return document.querySelectorAll('svg.stays .bar').length"))
         contains("the attendance", "Cole, Cy", browser.text("stays-table"))
-        pdf = base64.b64decode(browser.driver.execute_cdp_cmd("Page.printToPDF", {"preferCSSPageSize": True})["data"])
-        sizes = set(re.findall(rb"/MediaBox\s*\[0 0 ([0-9.]+) ([0-9.]+)\]", pdf))
-        expect("the size of the pages", {(595, 842)}, {tuple(round(float(side)) for side in size) for size in sizes})
-        browser.driver.execute_cdp_cmd("Emulation.setEmulatedMedia", {"media": "print"})
-        seen = [browser.shown(name) for name in ("paper", "nav", "stays-card", "custody-report")]
-        browser.driver.execute_cdp_cmd("Emulation.setEmulatedMedia", {"media": ""})
-        expect("what is on paper", [True, False, False, False], seen)
     for name, words in (("script", ("print", "--ceremony", "61")), ("attendance", ("attendance", "--ceremony", "61")),
                         ("custody", ("custody",))):
-        if name in wanted:
-            printed = call(program, *words, "--file", room / "kept")[0]
-            expect(f"the download {name}", printed, (room / wanted[name]).read_bytes())
+        printed = call(program, *words, "--file", room / "kept")[0]
+        expect(f"the download {name}", printed, (room / wanted[name]).read_bytes())
+
+
+def pages(browser):
+    """The record on paper: the sizes of its pages and their number."""
+    pdf = base64.b64decode(browser.driver.execute_cdp_cmd("Page.printToPDF", {"preferCSSPageSize": True})["data"])
+    sizes = re.findall(rb"/MediaBox\s*\[0 0 ([0-9.]+) ([0-9.]+)\]", pdf)
+    return {tuple(round(float(side)) for side in size) for size in sizes}, len(sizes)
+
+
+def record_on_paper(program, browser, room):
+    """The record is printed on A4 and on Letter, with the ceremony on each page; the file that is saved has the same
+    words, no script and no address, and opens by itself."""
+    script = "step,activity,seats\\n" + "".join(f"{n},Step {n},CA;IW\\n" for n in range(1, 101))
+    with prepared(program, browser, opened(script), "#/record/61"):
+        browser.until("the record", lambda: "not whole yet" in browser.text("record-told"))
+        for size, wanted in (("A4", (595, 842)), ("Letter", (612, 792))):
+            browser.choose("paper-size", size)
+            sizes, number = pages(browser)
+            expect(f"the size on {size}", {wanted}, sizes)
+            if number < 3:
+                raise Wrong(f"{number} pages")
+        rule = browser.run("return document.adoptedStyleSheets.map(one => one.cssRules[0].cssText).join()")
+        for part in ('"Ceremony 61, EAST"', '"page " counter(page) " of " counter(pages)'):
+            contains("the rule of the paper", part, rule)
+        browser.driver.execute_cdp_cmd("Emulation.setEmulatedMedia", {"media": "print"})
+        seen = [browser.shown(name) for name in ("paper", "nav", "print", "record-told")]
+        browser.driver.execute_cdp_cmd("Emulation.setEmulatedMedia", {"media": ""})
+        expect("what is on paper", [True, False, False, False], seen)
+        told = browser.text("paper")
+        browser.driver.execute_cdp_cmd("Browser.setDownloadBehavior", {"behavior": "allow", "downloadPath": str(room)})
+        browser.click("save-record")
+        saved = room / "ceremony-61-record.html"
+        browser.until("the file", saved.is_file)
+    text = saved.read_text(encoding="utf-8")
+    for word in ("<script", "http-equiv=\"refresh", "href=", "src=", "&gt;", "@import"):
+        if word in text:
+            raise Wrong(f"the saved record has {word}")
+    browser.driver.get(saved.as_uri())
+    expect("the saved words", told.split(), browser.driver.find_element("css selector", ".record").text.split())
 
 
 def another_desk(program, browser, _room):
-    """What another desk enters is seen without a click, if the register has a feed; without one a number finds it."""
+    """What another desk enters is seen without a click, also in the journal."""
     with prepared(program, browser, opened()) as at_desk:
-        feed = at_desk.has(b"/commands/0")
-        expect("the feed", feed, browser.run(
-            "return import(`${location.origin}/page/state.js`).then(found => found.state.hasFeed)"))
-        at_desk.send([act(61, "steps/1/signature", "g1", "20:09:00"), plan(64, "WEST")])
-        if feed:
-            browser.until("the next step", lambda: browser.text("sign") == "Sign step 2")
-            browser.go("ceremonies")
-            expect("the list", 2, len(browser.driver.find_elements("css selector", "#ceremonies > li")))
-        else:
-            print("no /commands in this program, so commands of another desk are asked for by number")
-            browser.go("ceremonies")
-            browser.fill("choose", number="64")
-            browser.until("the ceremony", lambda: "WEST" in browser.text("facts"))
+        at_desk.send([act(61, "steps/1/signature", "g1", "20:07:00"), plan(64, "WEST")])
+        browser.until("the next step", lambda: browser.text("sign") == "Sign step 2")
+        browser.go("ceremonies")
+        expect("the list", 2, len(browser.driver.find_elements("css selector", "#ceremonies > li")))
+        browser.go("journal")
+        contains("the journal", "Step 1 of ceremony 61 was signed by Ann Abel (AA), Bob Berg (BB).",
+                 browser.text("journal"))
+        browser.click("journal-only")
+        expect("the commands of the ceremony", "4 commands, the newest first.", browser.text("journal-told"))
 
 
 def pictures(program, browser, room, folder=None):
     """The main views as PNG, under 150 kB each; they are kept if a folder is given."""
     with prepared(program, browser, [], "#/ceremonies", file=room / "kept") as at_desk:
-        at_desk.send(kcr.messages((EXAMPLE / "ceremony.http").read_bytes())[:PICTURED])
+        stream = kcr.messages((EXAMPLE / "ceremony.http").read_bytes())
+        at_desk.send(stream[:PICTURED])
         browser.clock(at("17:40:20"))
-        views = ["script", "room"] + (["custody"] if at_desk.has(b"/custody") else [])
-        for view in views:
+        for view, height in (("script", 900), ("room", 780), ("custody", 780)):
             at_desk.open(f"#/{view}/61")
-            picture(browser, folder or room, f"desk-{view}", 1120, 780)
+            picture(browser, folder or room, f"desk-{view}", 1120, height)
         at_desk.open("#/script/61")
-        browser.moment(at("17:39:00"))
+        browser.size(400, 860, True)
+        browser.moment("17:36:00")
         browser.click("sign")
         refused(browser, "late")
         picture(browser, folder or room, "desk-refused", 400, 860, dark=True)
         at_desk.open("#/reports/61")
         browser.run("document.getElementById('stays-picture').scrollIntoView({block: 'center'})")
         picture(browser, folder or room, "desk-attendance", 1120, 640)
+        at_desk.send(stream[PICTURED:])
+        browser.clock(at("20:30:00"))
+        at_desk.open("#/record/61")
+        browser.until("the record", lambda: browser.shown("paper"))
+        browser.run("document.querySelector('.record .events').scrollIntoView()")
+        picture(browser, folder or room, "desk-record", 900, 800)
         browser.size(1280, 900)
 
 
@@ -646,10 +563,11 @@ def picture(browser, folder, name, width, height, dark=False):
     (folder / f"{name}.png").write_bytes(found)
 
 
-BROWSING = [whole_ceremony, refusals_of_people, refusals_of_ceremonies, refusals_of_custody, limits, refusals_in_doubt,
-            all_words, lost_answer, loaded_again, given_up, doubtful_moments, keyboard_alone, labels, texts_stay_texts,
-            long_lists, reports, another_desk, pictures]
-PLAIN = [words_of_refusals, sources, refuses_foreigners]
+BROWSING = [whole_ceremony, one_press, will_be_recorded, away, lost_commands, drafts, asks_first,
+            refusals_of_ceremonies, refusals_in_doubt, kills.lost_answer, kills.killed,
+            kills.register_killed_at_each_act, kills.browser_killed_at_each_act, kills.given_up, doubtful_moments,
+            keyboard_alone, labels, texts_stay_texts, long_lists, reports, record_on_paper, another_desk, pictures]
+PLAIN = [words_of_refusals, sources, page_served.refuses_foreigners, page_served.bounds_requests]
 
 
 def played(test, program, browser, more, room):
@@ -675,13 +593,11 @@ def main():
     if names[:1] == ["--pictures"]:
         folder, names = pathlib.Path(names[1]).resolve(), names[2:]
     tests = [(test.__name__, test.__doc__, functools.partial(test, program)) for test in pick(PLAIN, names)]
-    lacks = desk.missing()
+    browsing = pick(BROWSING, names)
     with contextlib.ExitStack() as stack:
-        if lacks and pick(BROWSING, names):
-            print(f"no {lacks} here, so {len(pick(BROWSING, names))} tests in a browser are left out")
-        elif pick(BROWSING, names):
+        if browsing and desk.has_browser(f"each of {len(browsing)} tests in a browser"):
             browser = stack.enter_context(contextlib.closing(desk.Browser()))
-            for test in pick(BROWSING, names):
+            for test in browsing:
                 more = {"folder": folder} if test is pictures else {}
                 tests.append((test.__name__, test.__doc__, functools.partial(played, test, program, browser, more)))
         kcr.judge(tests)

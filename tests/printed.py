@@ -25,9 +25,9 @@ def tests_of(word):
     """The tests of a subcommand."""
 
     def without_commands(program, room):
-        """Of a file that is not there, and of a register without commands, nothing is printed, and that is said."""
+        """A file that is not there is refused. Of a register without commands nothing is printed, and that is said."""
         gone, empty = room / "gone", room / "empty"
-        expect("gone", (b"", noted(gone), 0), call(program, word, "--file", gone))
+        expect("gone", disk("missing", gone), call(program, word, "--file", gone))
         expect("whether a file was made", False, gone.exists())
         filled(program, empty, b"")
         expect("empty", (b"", noted(empty, "has no command"), 0), call(program, word, "--file", empty))

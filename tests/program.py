@@ -8,8 +8,8 @@ that the reports and the audit of the file are the kept texts, that sqlite3 find
 schema, and that each accepted command sent again gets its answer again and changes nothing; that it makes no
 difference whether the file is opened anew before each request; that registers of the versions 1 and 2, which sqlite3
 makes, are migrated; that a register is taken as it is where its recorded people are not the first who fill the seats;
-what becomes of files that are no register, and of one that somebody else has open; and what the audit and the reports
-say of a register in which sqlite3 changed a cell. With names only the tests with these names run.
+and what becomes of files that are no register, and of one that somebody else has open. What is said of a register in
+which sqlite3 changed a cell is shown by `changed.py`. With names only the tests with these names run.
 
 The twelve streams were taken from thirty. Together they have each kind of command accepted, each refusal, table, spot,
 state and form of line of the thirty. A folder has the stream (`requests`), what it is answered (`answers`), what the
@@ -24,7 +24,6 @@ sys.dont_write_bytecode = True  # no files beside these
 
 import contextlib
 import functools
-import itertools
 import os
 import pathlib
 import re
@@ -40,7 +39,6 @@ VERSION = (b"", b"open: version\n", 1)
 NAMELESS = b"note: no file is named\n"
 EMPTY = {name: [] for name in TABLES} | {
     "safes": [("EAST", 1, 0), ("EAST", 2, 0), ("WEST", 1, 0), ("WEST", 2, 0)], "versions": [(3,)]}
-MOMENTS = 1_739_476_800  # 2025-02-13T20:00:00Z
 
 
 def disk(step, file, word="open"):
@@ -75,29 +73,36 @@ def reported(program, file, folder):
 
 
 def verified(program, file, commands):
-    """Sees that a file is told to be the register of its commands, of which there are so many. One without commands is
-    told to have none."""
+    """Sees that a file is verified with its number of commands. One without commands gets a note instead."""
     whole = (f"verified: {commands} commands\n".encode(), b"", 0)
     empty = (b"", f"note: {file} has no command\n".encode(), 1)
     expect(f"verify {file.name}", whole if commands else empty, call(program, "verify", "--file", file))
 
 
+def differed(program, file, finding):
+    """Sees that a verification tells this difference, and that it changes nothing."""
+    for time in ["first", "again"]:
+        expect(f"verify {file.name}, {time}", (f"finding: {finding}\n".encode(), b"", 1),
+               call(program, "verify", "--file", file))
+
+
 def rebuilt(program, file, name, room):
-    """Sees that a new register of a file's commands has the same rows, and that no file that holds something is touched."""
+    """Sees that a new register of a file's commands has the same rows, and that no file with content is touched."""
     fresh, tables = room / f"rebuilt-{name}", kcr.kept_tables(stream(name))
     expect("rebuild", (f"rebuilt: {len(tables['keys'])} commands\n".encode(), b"", 0),
            call(program, "rebuild", "--file", file, "--into", fresh))
     kcr.stored(fresh, tables)
     reported(program, fresh, stream(name))
     for into in (fresh, file):
-        expect(f"into {into.name}", (b"", b"into: filled\n", 1), call(program, "rebuild", "--file", file, "--into", into))
+        told = call(program, "rebuild", "--file", file, "--into", into)
+        expect(f"into {into.name}", (b"", b"into: filled\n", 1), told)
         kcr.stored(into, tables)
     for text in (b"x", bytes(4_096)):
         (room / "held").write_bytes(text)
         told = call(program, "rebuild", "--file", file, "--into", room / "held")
         expect("into a file with bytes", ((b"", b"into: filled\n", 1), (text, None)), (told, contents(room / "held")))
     expect("no register", disk("opening", room), call(program, "rebuild", "--file", room, "--into", room / "none"))
-    expect("a register that is not there", (b"", noted(room / "gone"), 1),
+    expect("a register that is not there", disk("missing", room / "gone"),
            call(program, "rebuild", "--file", room / "gone", "--into", room / "none"))
     expect("no new place", disk("opening", room, "into"), call(program, "rebuild", "--file", file, "--into", room))
     expect("new files", [], [name for name in ("none", "gone") if (room / name).exists()])
@@ -201,15 +206,16 @@ def half_older(program, room):
 
 
 def officers_and_staff():
-    """Requests of a ceremony whose three steps each want a Crypto Officer, with three of them and two people of staff in
-    the room: the first step is signed, and the second passed over, which are commands 16 and 17."""
+    """Requests of a ceremony whose three steps each want a Crypto Officer, with three of them and two people of staff
+    in the room: the first step is signed, and the second passed over, which are commands 16 and 17."""
     year = b'"from":"2025-01-01","until":"2025-12-31"'
     roles = [(b"AA", b"CA"), (b"AA", b"IW"), (b"BB", b"CA"), (b"BB", b"IW")]
     places = [(1, b"EA"), (2, b"EB"), (5, b"EE")]
     steps = b"".join(b"%d,Act,CO\\n" % step for step in (1, 2, 3))
     return [
         *(kcr.person(b"p" + who, who, b"N") for who in (b"AA", b"BB", b"EA", b"EB", b"EE")),
-        *(kcr.post(b"/people/%s/roles" % who, b"r" + who + role, b'"role":"%s",%s' % (role, year)) for who, role in roles),
+        *(kcr.post(b"/people/%s/roles" % who, b"r" + who + role, b'"role":"%s",%s' % (role, year))
+          for who, role in roles),
         *(kcr.post(b"/custodians", b"c" + who, b'"place":"CO-EAST-%d","who":"%s","day":"2025-01-01"' % (number, who))
           for number, who in places),
         kcr.post(b"/ceremonies", b"plan", b'"number":61,"facility":"EAST","day":"2025-02-13",'
@@ -230,7 +236,8 @@ def seated(number, people, step, more=b""):
 
 def other_seatings(program, room):
     """A register of any version whose recorded people fill the seats, but are not the first who do, is taken as it is:
-    they are printed, audited and told again, and a new signature records the first ones. Only a verification tells it."""
+    they are printed, audited and told again, and a new signature records the first ones. Only a verification finds
+    it."""
     requests, file = officers_and_staff(), room / "first"
     first = [kcr.accepted(number + 1) for number in range(15)]
     first += [seated(16, [b"EA"], 1), seated(17, [b"AA", b"BB"], 2, b'"exception":1,')]
@@ -286,19 +293,29 @@ def refused(program, file, told, step="reading"):
 
 
 def no_file_yet(program, room):
-    """An empty file and one that is not there become registers by `run`, and so does one at a path with blanks. For all
-    that only read they are empty registers, which they say, and nothing is made."""
+    """An empty file and one that is not there become registers by `run`, and so does one at a path with blanks. For the
+    reports and the audit they are empty registers, which they say; the other tasks refuse one that is not there.
+    Nothing is made."""
     (room / "empty").touch()
     for name in ("empty", "missing", "a name with blanks, \u00e9 and \u540d.db"):
-        note, before = noted(room / name, "has no command" if name == "empty" else "is not there"), set(os.listdir(room))
+        note = noted(room / name, "has no command" if name == "empty" else "is not there")
+        before = set(os.listdir(room))
         for _ in range(2):
             expect(name, (EMPTY_CUSTODY, note, 0), call(program, "custody", "--file", room / name))
             expect(f"audit of {name}", (NOTHING_FOUND[0], note, 0), call(program, "audit", "--file", room / name))
             expect(f"print of {name}", (b"", note + b"refused: 12 unknown ceremony 61\n", 1),
                    call(program, "print", "--ceremony", "61", "--file", room / name))
-            expect(f"verify of {name}", (b"", note, 1), call(program, "verify", "--file", room / name))
-            expect(f"rebuild of {name}", (b"", note, 1),
-                   call(program, "rebuild", "--file", room / name, "--into", room / "fresh"))
+            refused = (b"", note, 1) if name == "empty" else disk("missing", room / name)
+            for words in (["verify"], ["rebuild", "--into", room / "fresh"]):
+                expect(f"{words[0]} of {name}", refused, call(program, *words, "--file", room / name))
+            if name != "empty":
+                expect("one line", (b"", b"open: disk\n", 1),
+                       call(program, "verify", "--file", room / name, explain=False))
+                for task in (["run"], ["serve", "--connections", "1", "--port", str(kcr.free_port())]):
+                    expect(f"{task[0]} --existing", disk("missing", room / name),
+                           call(program, *task, "--existing", "--file", room / name))
+            expect("a refusal alone", (b"", b"refused: 12 unknown ceremony 61\n", 1),
+                   call(program, "print", "--ceremony", "61", "--file", room / name, explain=False))
         expect("what is made", before, set(os.listdir(room)))
         expect(f"run of {name}", (b"", b"", 0), call(program, "run", "--file", room / name))
         kcr.stored(room / name, EMPTY)
@@ -380,7 +397,8 @@ def no_database(program, room):
     (room / "folder").mkdir()
     for path in (room / "folder", "", ":memory:"):
         for words in (["custody"], ["run"]):
-            expect(f"{words[0]} of {path!s:.80}", disk("opening", path), call(program, *words, "--file", path, cwd=room))
+            told = call(program, *words, "--file", path, cwd=room)
+            expect(f"{words[0]} of {path!s:.80}", disk("opening", path), told)
     nowhere = room / "no folder" / "register"
     expect("custody of no folder", (EMPTY_CUSTODY, noted(nowhere), 0), call(program, "custody", "--file", nowhere))
     expect("run of no folder", disk("opening", nowhere), call(program, "run", "--file", nowhere))
@@ -573,216 +591,10 @@ def output_is_full(program, room):
     reported(program, file, stream("009"))
 
 
-# Registers in which a cell was changed
-
-def audited(program, file, finding):
-    """Sees that the audit tells this finding, and that it changes nothing."""
-    expect(f"audit of {file.name}", (f"finding: {finding}\n".encode(), b"", 1), call(program, "audit", "--file", file))
-    expect(f"audit of {file.name} again", (f"finding: {finding}\n".encode(), b"", 1),
-           call(program, "audit", "--file", file))
-
-
-def findings(program, room):
-    """One cell that sqlite3 changes in a register gives the finding that it is."""
-    file = filled(program, room, "003")
-    for number, (statement, finding) in enumerate([
-            ("UPDATE seatings SET who = 'NOBO' WHERE ceremony = 63 AND step = 1 AND seat = 1", "seating 63 1"),
-            ("UPDATE seatings SET seat = 3 WHERE ceremony = 63 AND step = 1 AND seat = 2", "seating 63 1"),
-            ("UPDATE steps SET at = at - 3 WHERE ceremony = 63 AND step = 1", "seating 63 1"),
-            ("UPDATE appointments SET until = since + 1 WHERE who = 'ABC'", "seating 63 1"),
-            ("UPDATE items SET serial = 'NONE' WHERE code = 'HSM4'", "custody HSM4"),
-            ("UPDATE bags SET spot = 'spent'", "custody HSM4"),
-            ("UPDATE bags SET spot = 'box 9 EAST'", "bag BB51184288"),
-            ("UPDATE boxes SET box = 7 WHERE box = 2", "bag BB51184288"),
-            (f"UPDATE sheet SET at = at - 1 WHERE who = 'AB' AND at = {MOMENTS + 1}", "lone 63 2025-02-13T20:00:00Z"),
-    ]):
-        changed = copy(file, room / f"changed-{number}")
-        change(changed, statement)
-        audited(program, changed, finding)
-
-
-def doubled_key(program, room):
-    """A key in two rows, in a table that sqlite3 makes without a unique key, is in nobody's register."""
-    file = filled(program, room, "003")
-    keys = kcr.kept_tables(stream("003"))["keys"]
-    key, _, command, reply = keys[20]
-    refused(program, made_anew(file, room / "doubled", unsaid=" NOT NULL UNIQUE",
-                               keys=[*keys, (key, 1_000, command, reply)]), FOREIGN)
-
-
-def crowd(program, room):
-    """A hundred and twenty-nine people in a room, since one of them is said to have gone later, are found."""
-    people = [kcr.initials(number) for number in range(129)]
-    sheet = b"/ceremonies/1/sheet"
-    requests = [kcr.person(b"p%d" % number, who, b"N") for number, who in enumerate(people)]
-    requests.append(kcr.request(b"POST", b"/ceremonies", b'{"key":"c","number":1,"facility":"EAST","day":"2025-02-13",'
-                                b'"script":"step,activity,seats\\n1,a,CA\\n"}'))
-    requests.append(kcr.request(b"POST", b"/ceremonies/1/opening", b'{"key":"o","at":"2025-02-13T20:00:00Z"}'))
-    for turn, (way, who, second) in enumerate([(b"in", people[start:start + 32], 1) for start in range(0, 128, 32)]
-                                              + [(b"out", people[:1], 10), (b"in", people[128:], 20)]):
-        named = b",".join(b'"%s"' % one for one in who)
-        requests.append(kcr.request(b"POST", sheet, b'{"key":"s%d","way":"%s","who":[%s],"at":"2025-02-13T20:00:%02dZ"}'
-                                    % (turn, way, named, second)))
-    file = room / "crowd"
-    expect("the answers", (b"".join(kcr.accepted(number + 1) for number in range(len(requests))), b"", 0),
-           call(program, "run", "--file", file, stream=b"".join(requests)))
-    expect("audit", NOTHING_FOUND, call(program, "audit", "--file", file))
-    change(file, f"UPDATE sheet SET at = at + 20 WHERE way = 0 AND at = {MOMENTS + 10}")
-    audited(program, file, "crowd 1 2025-02-13T20:00:20Z")
-
-
-# One change of each table, which a verification finds: a cell, and a row more. `(table, cells, row)`
-CHANGES = [
-    ("people", "name = 'Ann Abe1' WHERE who = 'AC'", "'AD', 'Ann Abel'"),
-    ("trainings", "until = 20454 WHERE who = 'BA' AND role = 'CA' AND until = 20453", "'AC', 'CA', 20089, 20453"),
-    ("withdrawals", "day = day + 1", "'AC', 'SSC2', 20089, 20452, 20300"),
-    ("appointments", "until = 20136 WHERE who = 'EE'", "'CO-WEST-7', 20089, 'AC', NULL"),
-    ("boxes", "place = 'CO-EAST-3' WHERE box = 3", "'WEST', 1, 'CO-WEST-1'"),
-    ("safes", "state = 1 WHERE facility = 'EAST' AND safe = 1", None),
-    ("bags", "spot = 'table WEST' WHERE serial = 'BB51184288'", "'BB51184289', 'spent'"),
-    ("items", "facility = 'EAST' WHERE code = 'LAPTOP1'", "'LAPTOP2', 'WEST', NULL"),
-    ("ceremonies", "day = day - 1", "62, 'WEST', 20132, 0, NULL, NULL"),
-    ("marks", "at = at + 1", "62, 1739477121"),
-    ("steps", "activity = '#2'", "61, 2, '#2', 'CA', 0, NULL"),
-    ("seatings", "who = 'EE' WHERE seat = 2", "61, 1, 3, 'AA'"),
-    ("sheet", "at = at - 1 WHERE who = 'ZZ' AND at = 1739477122", "'AC', 1739477200, 61, 1"),
-    ("stays", "until = until - 1 WHERE who = 'ZZ' AND until = 1739477122", "'AC', 1739477200, 61, NULL"),
-    ("exceptions", "text = 'Nobody fitted' WHERE exception = 1", "61, 3, 'One more', 1739476926, NULL"),
-]
-
-
-def quoted_rows(file, table):
-    """The rows of a table in the order of its key, which its first columns are, as sqlite3 prints them in its mode
-    `quote`."""
-    with opened(file) as database:
-        names = [f'"{name}"' for _, name, *_ in database.execute(f"PRAGMA table_info({table})")]
-        shown = " || ',' || ".join(f"quote({name})" for name in names)
-        return [text for text, in database.execute(f"SELECT {shown} FROM {table} ORDER BY {', '.join(names)}")]
-
-
-def row_line(table, expected, found):
-    """The line of the first row in which a table of two files differs."""
-    rows = itertools.zip_longest(quoted_rows(expected, table), quoted_rows(found, table), fillvalue="none")
-    one, other = next((one, other) for one, other in rows if one != other)
-    return f"\nrow: expected {one}; found {other}"
-
-
-def differed(program, file, finding):
-    """Sees that a verification tells this difference, and that it changes nothing."""
-    for time in ["first", "again"]:
-        expect(f"verify {file.name}, {time}", (f"finding: {finding}\n".encode(), b"", 1),
-               call(program, "verify", "--file", file))
-
-
-def differences(program, room):
-    """A cell that sqlite3 changes in any table, a row that it adds or takes out, is found: the table is named, and the
-    first row that differs is told as it should be and as it is."""
-    file = filled(program, room, "072")
-    for table, cells, row in CHANGES:
-        statements = [f"UPDATE {table} SET {cells}", f"DELETE FROM {table} WHERE rowid = (SELECT max(rowid) FROM {table})"]
-        if row is not None:
-            statements.append(f"INSERT INTO {table} VALUES ({row})")
-        for number, statement in enumerate(statements):
-            changed = copy(file, room / f"{table}-{number}")
-            change(changed, statement)
-            differed(program, changed, f"table {table}{row_line(table, file, changed)}")
-
-
-def kept_commands(finding, last):
-    """How many commands a rebuilt register has after a finding: those before the one named, it too where its reply differs."""
-    kind, name = finding.split()
-    if kind == "table":
-        return last - 1
-    return int(name) if kind == "reply" else int(name) - 1
-
-
-def changed_commands(program, room):
-    """What sqlite3 changes among the accepted commands is found, and the command named."""
-    file = filled(program, room, "072")
-    last = len(kcr.kept_tables(stream("072"))["keys"])
-    for number, (statement, finding) in enumerate([
-            ("DELETE FROM keys WHERE accepted = 7", "number 7"),
-            ("UPDATE keys SET accepted = 1000 WHERE accepted = 7", "number 7"),
-            ("UPDATE keys SET accepted = 0 WHERE accepted = 7", "number 1"),
-            ("UPDATE keys SET command = '/people' || char(10) || 'aa' || char(10) || 'A' WHERE accepted = 1", "command 1"),
-            ("UPDATE keys SET command = 'x' WHERE accepted = 13", "command 13"),
-            ("UPDATE keys SET command = '' WHERE accepted = 13", "command 13"),
-            ("UPDATE keys SET command = command || char(10) WHERE accepted = 13", "command 13"),
-            ("UPDATE keys SET command = replace(command, '/ceremonies/', '/rooms/') WHERE accepted = 16", "command 16"),
-            ("UPDATE keys SET reply = '{\"accepted\":14}' WHERE accepted = 13", "reply 13"),
-            ("UPDATE keys SET command = '/people' || char(10) || 'AA' || char(10) || 'Ann Abel' WHERE accepted = 13",
-             "refused 13"),
-            ("UPDATE keys SET command = '/people' || char(10) || 'AC' || char(10) || 'Ann Abel' WHERE accepted = 13",
-             "refused 27"),
-            (f"INSERT INTO keys VALUES ('another', {last + 1}, 'x', '{{}}')", f"command {last + 1}"),
-            (f"DELETE FROM keys WHERE accepted = {last}", "table sheet"),
-    ]):
-        changed = copy(file, room / f"changed-{number}")
-        change(changed, statement)
-        fresh = room / f"fresh-{number}"
-        output, *end = call(program, "rebuild", "--file", changed, "--into", fresh)
-        line = row_line(finding.split()[1], fresh, changed) if finding.startswith("table") else ""
-        expect("rebuild", (f"finding: {finding}{line}\n".encode(), b"", 1), (output, *end))
-        differed(program, changed, finding + line)
-        verified(program, fresh, kept_commands(finding, last))
-
-
-def rows_of_no_register(program, room):
-    """A row that no register stores is refused by the audit, a verification and a rebuild as the disk's fault (34)."""
-    file = filled(program, room, "003")
-    for number, statement in enumerate([
-            f"UPDATE people SET name = '{'x' * 121}' WHERE who = 'FIN'",
-            "UPDATE people SET name = 'a' || char(10) WHERE who = 'FIN'",
-            "UPDATE people SET who = 'fin' WHERE who = 'FIN'",
-            "UPDATE trainings SET until = 47482 WHERE who = 'FIN'",
-            "UPDATE appointments SET place = 'CO-EAST-8' WHERE place = 'CO-EAST-4'",
-            "UPDATE bags SET spot = 'shelf'",
-            "UPDATE items SET facility = 'EAST' WHERE code = 'HSM4'",
-            "UPDATE ceremonies SET state = 3 WHERE number = 61",
-            "UPDATE steps SET seats = 'CO;CO' WHERE ceremony = 61 AND step = 1",
-            "UPDATE sheet SET way = 2 WHERE who = 'FIN'",
-            "UPDATE keys SET key = 'a b' WHERE accepted = 1",
-            "UPDATE marks SET at = -1 WHERE ceremony = 61",
-    ]):
-        changed = copy(file, room / f"changed-{number}")
-        change(changed, statement)
-        for words in (["audit"], ["verify"], ["rebuild", "--into", room / "fresh"]):
-            expect(f"{words[0]}: {statement}", (b"", b"refused: 34 disk\n", 1), call(program, *words, "--file", changed))
-
-
-def broken_in_a_stream(program, room):
-    """A row that no register stores breaks the register of a stream (34, then 35); it is whole when opened again."""
-    file = filled(program, room, "003")
-    change(file, f"UPDATE people SET name = '{'x' * 121}' WHERE who = 'FIN'")
-    people, bag = kcr.request(b"GET", b"/people"), kcr.request(b"GET", b"/bags/BB51184288")
-    shown = kcr.answer(b"200 OK", b'{"items":["HSM4"],"serial":"BB51184288","spot":"box 2 EAST"}')
-    disk = kcr.answer(b"500 Internal Server Error", b'{"number":34,"refusal":"disk"}')
-    broken = kcr.answer(b"500 Internal Server Error", b'{"number":35,"refusal":"broken"}')
-    for _ in range(2):
-        expect("the stream", (shown + disk + broken + broken, b"", 0),
-               call(program, "run", "--file", file, stream=bag + people + bag + people))
-
-
-def report_stops(program, room):
-    """A report that meets such a row is refused, and a beginning of it was printed: of its steps, which are read sixteen
-    at a time, those that were read before."""
-    file, script = room / "stops", ("print", "--ceremony", "61", "--file")
-    call(program, "run", "--file", file, stream=(HERE / "cases" / "reports-of-33-rows").read_bytes())
-    text, faults, status = call(program, *script, file)
-    expect("the whole report", (True, b"", 0), (b"\n33 open" in text, faults, status))
-    for step, before in ((3, b"\n1 signed"), (16, b"\n1 signed"), (17, b"\n17 signed"), (33, b"\n33 open")):
-        marred = copy(file, room / f"stops-{step}")
-        change(marred, f"UPDATE steps SET seats = 'CO;CO' WHERE ceremony = 61 AND step = {step}")
-        output, faults, status = call(program, *script, marred)
-        expect(f"the end at step {step}", (b"refused: 34 disk\n", 1), (faults, status))
-        expect(f"what was printed before step {step}", text[:text.index(before) + 1], output)
-
-
 TESTS = [opened_anew, older_from_its_file, older_from_nothing, half_older, other_seatings, no_file_yet,
          only_read, beside_a_writer, relative_and_linked, no_database, other_databases, another_schema, no_one_number,
          each_its_own, held_by_serve, held_by_sqlite, hot_journal,
-         unknown_ceremony, over_memory, numbers_out_of_range, output_is_full, findings, doubled_key, crowd, differences,
-         changed_commands, rows_of_no_register, broken_in_a_stream, report_stops]
+         unknown_ceremony, over_memory, numbers_out_of_range, output_is_full]
 
 
 def main():

@@ -19,10 +19,9 @@ import functools
 import itertools
 import pathlib
 import threading
-import time
 
 import kcr
-from kcr import NOTHING_FOUND, SECONDS, Wrong, accepted, answer, call, expect, person, post
+from kcr import NOTHING_FOUND, SECONDS, Wrong, answer, call, expect, person, post
 
 READS, WHOLE = 12, 1_000  # reads of each kind
 ROUNDS = 120  # rounds of a register's ceremony, each of six commands
@@ -32,7 +31,7 @@ SCRIPT = b"step,activity,seats\\n" + b"".join(b"%d,a,CA;IW\\n" % step for step i
 
 
 def moment(second):
-    """So many seconds after 20:00."""
+    """The moment `second` seconds after 20:00."""
     return b"2025-02-13T%02d:%02d:%02dZ" % (20 + second // 3_600, second // 60 % 60, second % 60)
 
 
@@ -98,13 +97,13 @@ class Ceremony:
         return b"".join(lines)
 
     def attended(self, count):
-        """The attendance after so many commands."""
+        """The attendance after `count` commands."""
         names = {b"AA": b"Ann Abel", b"BB": b"Ann Abel"}
         return b"who,name,in,out\n" + b"".join(b"%s,%s,%s,%s\n" % (who, names.get(who, b"Bob Berg"), since, until)
                                                for who, since, until in self.states[count][1])
 
     def kept(self, count):
-        """Custody after so many commands."""
+        """Custody after `count` commands."""
         _, _, loose, bags = self.states[count]
         sealed = b"".join(b"BB%08d table EAST\n  ITEM%d\n" % (bag, bag) for bag in range(bags))
         return SAFES + sealed + (b"loose EAST %s\n" % loose if loose else b"")
@@ -114,7 +113,7 @@ class Ceremony:
         return NOTHING_FOUND[0]
 
     def verified(self, count):
-        """A verification after so many commands."""
+        """A verification after `count` commands."""
         return b"verified: %d commands\n" % count
 
 

@@ -5,8 +5,9 @@
 
 Shown are: that the kept streams under tests/files get the kept answers over a connection, in one piece, in pieces of 1,
 7 and 1,000 bytes, and each request over a connection of its own; that the program says where it listens, serves as many
-connections as it was told and ends; that it closes where an answer closes, and where a client keeps silent or never
-reads; what it says of a port that is taken, of numbers out of range and of a register that breaks; that connections
+connections as it was told and ends; that it closes where an answer closes, and where a client keeps silent, never
+reads, or lasts too long; what it says of a port that is taken, of numbers out of range and of a register that breaks;
+that it answers nothing more and ends once its files are removed, cut or changed, also under load; that connections
 which are cut off in a request change nothing, and that a thousand bad clients leave the register, the good clients
 between them and the memory that the program holds as they should be. With names only the tests with these names run.
 
@@ -18,9 +19,11 @@ sys.dont_write_bytecode = True  # no files beside these
 
 import contextlib
 import functools
+import itertools
 import os
 import pathlib
 import random
+import shutil
 import socket
 import struct
 import threading
@@ -43,6 +46,7 @@ MEMORY = answer(b"503 Service Unavailable", b'{"number":33,"refusal":"memory"}')
 SPACE_STEP = 8  # kilobytes of address space from one run to the next
 ANN_ALONE = answer(b"200 OK", b'{"people":[{"name":"Ann Abel","roles":[],"who":"AA"}]}')
 CLIENTS = 1_000
+PAUSE = 4  # seconds, less than the 5 for which a connection may be silent
 MOST_KILOBYTES = 32 * 1_024
 
 
@@ -52,7 +56,7 @@ def stream(name):
 
 
 def received(peer, length):
-    """So many bytes from a connection, or fewer where it ends."""
+    """The next `length` bytes from a connection, or fewer if it ends."""
     got = b""
     while len(got) < length and (piece := peer.recv(length - len(got))):
         got += piece
@@ -144,21 +148,51 @@ def never_reads(peer):
     threading.Thread(target=pour, daemon=True).start()
 
 
+def drip(peer, pieces, pause):
+    """Begins to send these pieces, with this pause in seconds after each, as long as anybody takes them."""
+    def drop():
+        with contextlib.suppress(OSError):
+            for piece in pieces:
+                peer.sendall(piece)
+                time.sleep(pause)
+    threading.Thread(target=drop, daemon=True).start()
+
+
+def asks_on(peer):
+    """Sends a whole question every few seconds, without end."""
+    drip(peer, itertools.repeat(DAY), PAUSE)
+
+
+HOLDS = {says_half: 30, never_reads: 30, asks_on: 300}  # for how many seconds each holds the desk
+
+
 class Stuck:
-    """A client that holds the desk, and a good one that waits behind it. It begins at once, so that its half minute
-    passes beside the other tests."""
+    """A client that holds the desk, and a good one that waits behind it. It begins at once, so that the time passes
+    beside the other tests."""
 
     def __init__(self, program, hold):
+        self.seconds, self.got, self.took = HOLDS[hold], None, 0
         self.server = Server(program, 2, seconds=3_600)
+        self.began = time.monotonic()
         self.stuck = connect(self.server.port)
         hold(self.stuck)
         self.good = connect(self.server.port)
+        self.good.settimeout(2 * self.seconds + 60)
         kcr.send(self.good, [ANN + PEOPLE])
+        self.waiting = threading.Thread(target=self.wait, daemon=True)
+        self.waiting.start()
+
+    def wait(self):
+        """Notes what the good client is answered, and after how many seconds."""
+        with contextlib.suppress(OSError):
+            self.got = kcr.rest_of(self.good)
+            self.took = time.monotonic() - self.began
 
     def ends(self, _room):
-        """A client that holds the desk is given up, and the one that waits behind it is served."""
-        self.good.settimeout(90)
-        expect("the client behind it", accepted(1) + ANN_ALONE, kcr.rest_of(self.good))
+        """A client that holds the desk is given up after its seconds, and the one that waits behind it is served."""
+        self.waiting.join()
+        expect("the client behind it", accepted(1) + ANN_ALONE, self.got)
+        expect(f"its wait of {self.took:.0f} seconds", True, self.seconds - 2 < self.took < 1.5 * self.seconds + 10)
         expect("the end", ENDED, self.server.end())
 
     def close(self):
@@ -171,10 +205,13 @@ class Stuck:
 # Words, lines and statuses
 
 def out_of_range(program, room):
-    """A port or a number of connections out of range, or none, is refused with status 2, and no file is made."""
+    """A port, a number of connections or of seconds out of range, or no port or number of connections, is refused with
+    status 2, and no file is made."""
     good = {"--port": str(kcr.free_port()), "--connections": "1"}
     tried = [("--port", number) for number in ("0", "65536", "-1", "x", "", "8080.0")]
     tried += [("--connections", number) for number in ("0", "1000001", "-1", "x", "", "4294967297")]
+    tried += [("--idle", number) for number in ("0", "301", "-1", "x", "", "0.5")]
+    tried += [("--longest", number) for number in ("0", "86401", "-1", "x", "", "4294967597")]
     for option, number in [*tried, ("--port", None), ("--connections", None)]:
         words = [f"{name}={value}" for name, value in {**good, option: number}.items() if value is not None]
         output, faults, status = call(program, "serve", *words, "--file", room / "register")
@@ -201,7 +238,8 @@ def taken_port(program, room):
         expect("over a file", told, call(program, *words, "--file", room / "register"))
         expect("no register", (b"", f"open: disk\nreading: {room / 'text'}\n".encode(), 1),
                call(program, *words, "--file", room / "text"))
-    expect("the register that was opened", (kcr.EMPTY_CUSTODY, f"note: {room / 'register'} has no command\n".encode(), 0),
+    note = f"note: {room / 'register'} has no command\n".encode()
+    expect("the register that was opened", (kcr.EMPTY_CUSTODY, note, 0),
            call(program, "custody", "--file", room / "register"))
 
 
@@ -215,8 +253,7 @@ def waited(peer):
 def silent_clients(program, _room):
     """A connection that is silent is closed after the seconds of `--idle` where it has sent nothing yet or has its
     answer, and not within a message, also where it was told to go on with one."""
-    waits = request(b"POST", b"/people", ANN.partition(b"\r\n\r\n")[2]).replace(b"\r\n\r\n", b"\r\nExpect: 100-continue\r\n\r\n")
-    head, _, body = waits.partition(b"\r\n\r\n")
+    head, _, body = ANN.replace(b"\r\n\r\n", b"\r\nExpect: 100-continue\r\n\r\n").partition(b"\r\n\r\n")
     with Server(program, 3, idle=1) as server:
         with connect(server.port) as peer:
             expect("nothing sent: closed in time", True, 0.5 < waited(peer) < 5)
@@ -233,6 +270,50 @@ def silent_clients(program, _room):
             peer.sendall(body)
             expect("a body after a while", accepted(1), received(peer, len(accepted(1))))
         expect("the end", ENDED, server.end())
+
+
+def longest_time(program, _room):
+    """A connection ends after the seconds of `--longest`, without a further answer: one that asks again and again, and
+    one that sends a head byte by byte. The client that waits behind it is served then, and the program goes on."""
+    endless = in_pieces(b"GET /people HTTP/1.1\r\nHost: l\r\nX: " + b"a" * 1_000, 1)
+    with Server(program, 5, longest=3) as server:
+        for pieces, told in ((itertools.repeat(DAY), NOBODY), (endless, b"")):
+            with connect(server.port) as slow:
+                began = time.monotonic()
+                drip(slow, pieces, 0.25)
+                expect("the client behind it", NOBODY, exchange(server.port, [DAY]))
+                seconds = time.monotonic() - began
+                expect(f"its wait of {seconds:.1f} seconds", True, 2.5 < seconds < 10)
+                got = kcr.rest_of(slow)
+                count = len(got) // len(NOBODY)
+                expect("the answers before", told * count, got)
+                expect(f"whether {count} answers are some", told != b"", count > 3)
+        expect("the next client", NOBODY, exchange(server.port, [DAY]))
+        expect("the end", ENDED, server.end())
+
+
+def beyond_the_end(program, room):
+    """The feed is refused after more commands than there are, and empty after the last one, in memory and over a
+    file."""
+    empty = b"HTTP/1.1 200 OK\r\ncontent-type: text/plain; charset=utf-8\r\ncontent-length: 0\r\n\r\n"
+
+    def feed(method, after):
+        return exchange(server.port, [request(method, b"/commands/%d" % after)])
+
+    for file in (None, room / "register"):
+        with Server(program, 13, file) as server:
+            for count in (0, 1):
+                for after in (count + 1, 4_000_000_000):
+                    unknown = answer(b"404 Not Found",
+                                     b'{"number":12,"refusal":"unknown","thing":"command %d"}' % after)
+                    expect(f"after {after} of {count}", unknown, feed(b"GET", after))
+                    head, blank, _ = unknown.partition(b"\r\n\r\n")
+                    expect(f"the head after {after} of {count}", head + blank, feed(b"HEAD", after))
+                expect(f"after {count} of {count}", empty, feed(b"GET", count))
+                expect(f"the head after {count} of {count}", empty, feed(b"HEAD", count))
+                if count == 0:
+                    expect("a command", accepted(1), exchange(server.port, [ANN]))
+            expect("the end", ENDED, server.end())
 
 
 def slow_takers(program, _room):
@@ -326,9 +407,14 @@ def log_removed(file):
     kcr.log_of(file).unlink()
 
 
+def lost(file):
+    """What the program writes after its first line once its file is lost, and its status."""
+    return b"", b"fault: file\nlost: %s\n" % str(file).encode(), 1
+
+
 def lost_files(program, room):
-    """A file or its log is removed, cut or replaced while it is served: no command is answered any more, and the program
-    says so and ends. Before, each connection is served."""
+    """A file or its log is removed, cut or replaced while it is served: no command is answered any more, and the
+    program says so and ends. Before, each connection is served."""
     bob = kcr.person(b"k2", b"BB", b"Bob Berg")
     for change in (removed, cut, replaced, log_removed):
         file = room / change.__name__
@@ -336,7 +422,91 @@ def lost_files(program, room):
             expect("the first connection", accepted(1), exchange(server.port, [ANN]))
             change(file)
             expect(f"the answer to a command, {change.__name__}", b"", exchange(server.port, [bob]))
-            expect(f"the end, {change.__name__}", (b"", b"fault: file\nlost: %s\n" % str(file).encode(), 1), server.end())
+            expect(f"the end, {change.__name__}", lost(file), server.end())
+
+
+class Load:
+    """Clients that send commands and questions side by side, each pair over a connection of its own, until nobody
+    listens."""
+
+    def __init__(self, port, clients=4):
+        self.port, self.numbers, self.answered = port, itertools.count(100), []
+        self.threads = [threading.Thread(target=self.send) for _ in range(clients)]
+        for thread in self.threads:
+            thread.start()
+
+    def send(self):
+        """Sends commands, and notes of each that got an answer when it was sent and what came."""
+        with contextlib.suppress(OSError):
+            while True:
+                number = next(self.numbers)
+                command = person(b"k%d" % number, *named(number))
+                sent = time.monotonic()
+                if got := exchange(self.port, [command + DAY]):
+                    self.answered.append((sent, got))
+
+    def sent_after(self, moment):
+        """What was answered to commands that were sent after a moment."""
+        return [got for sent, got in list(self.answered) if sent > moment]
+
+    def end(self):
+        """Waits until nobody listens any more."""
+        for thread in self.threads:
+            thread.join(kcr.SECONDS)
+            expect("whether a client still sends", False, thread.is_alive())
+
+
+def older_files(file, older):
+    """Copies both older files over those that are served, as `cp` does."""
+    shutil.copyfile(older, file)
+    shutil.copyfile(kcr.log_of(older), kcr.log_of(file))
+
+
+def older_log(file, older):
+    """Copies the older log alone."""
+    shutil.copyfile(kcr.log_of(older), kcr.log_of(file))
+
+
+def halved_log(file, _older):
+    """Cuts the log to half its length."""
+    os.truncate(kcr.log_of(file), kcr.log_of(file).stat().st_size // 2)
+
+
+def emptied_log(file, _older):
+    """Cuts the log to nothing."""
+    os.truncate(kcr.log_of(file), 0)
+
+
+def salts(file):
+    """The salts in the head of a log, which change when it is begun anew."""
+    with kcr.log_of(file).open("rb") as log:
+        return log.read(24)[16:]
+
+
+def changed_files(program, room):
+    """An older file and log, or an older log, are copied over those that are served, or the log is cut to half or to
+    nothing, while clients send commands; soon after the copy, and once the log was begun anew. No command that is sent
+    after that is answered, and the program says so and ends."""
+    for is_anew, deed in itertools.product((False, True), (older_files, older_log, halved_log, emptied_log)):
+        what = f"{deed.__name__}{', a log begun anew' * is_anew}"
+        file = room / f"{deed.__name__}-{is_anew}"
+        with Server(program, 1_000_000, file) as server:
+            for number in range(10):
+                expect(f"command {number}, {what}", accepted(number + 1),
+                       exchange(server.port, [person(b"k%d" % number, *named(number))]))
+            older = kcr.copy(file, room / f"{file.name}-older")
+            load = Load(server.port)
+            while len(load.answered) < 30 or is_anew and salts(file) == salts(older):
+                expect(f"how the program ended before, {what}", None, server.run.poll())
+                time.sleep(0.01)
+            deed(file, older)
+            done = time.monotonic()
+            while server.run.poll() is None and not load.sent_after(done):
+                time.sleep(0.01)
+            expect(f"what is answered after it, {what}", [], load.sent_after(done))
+            expect(f"the end, {what}", lost(file), server.end())
+        load.end()
+        expect(f"what is answered in the end, {what}", [], load.sent_after(done))
 
 
 # Bad clients
@@ -415,7 +585,7 @@ def named(number):
 
 
 def people_shown(count):
-    """The answer that tells of so many people."""
+    """The answer with the first `count` people."""
     return answer(b"200 OK", b'{"people":[%s]}' % b",".join(
         b'{"name":"%s","roles":[],"who":"%s"}' % (name, who) for who, name in map(named, range(count))))
 
@@ -449,8 +619,8 @@ def bad_clients(program, room, clients=CLIENTS):
 
 
 TESTS = [in_turn, one_connection, many_connections, closing_answers, cut_connections, out_of_range, most_connections,
-         taken_port, silent_clients, slow_takers, scarce_memory, line_is_not_written, breaking_register, lost_files,
-         bad_clients]
+         taken_port, silent_clients, longest_time, beyond_the_end, slow_takers, scarce_memory, line_is_not_written,
+         breaking_register, lost_files, changed_files, bad_clients]
 
 
 def main():
@@ -459,7 +629,7 @@ def main():
     program, names = str(pathlib.Path(sys.argv[1]).resolve()), sys.argv[2:]
     tests = [(test.__name__, test.__doc__, functools.partial(test, program)) for test in TESTS]
     with contextlib.ExitStack() as stack:
-        for hold in (says_half, never_reads):
+        for hold in HOLDS:
             if not names or hold.__name__ in names:
                 stuck = stack.enter_context(contextlib.closing(Stuck(program, hold)))
                 tests.append((hold.__name__, Stuck.ends.__doc__, stuck.ends))

@@ -3,9 +3,9 @@
 
     tests/stops.py PROGRAM [NAME ..]
 
-A library that stands before the C library (`faults.c`) passes so many calls of one file on (to read, write, cut or sync
-it or to ask for its length) and has each one behind them fail, for every number from 0 on until a run meets no stop,
-and for the database and its log in turn. That goes on while the tables of a new file are made, while registers of the
+A library that stands before the C library (`faults.c`) passes N calls of one file on (to read, write, cut or sync it or
+to ask for its length) and has each one behind them fail, for every N from 0 on until a run meets no stop, and for the
+database and its log in turn. That goes on while the tables of a new file are made, while registers of the
 versions 1 and 2 are brought to version 3 and take a command, while the ten commands of a ceremony are taken, and while
 three cases are played. Shown are: where the opening is stopped the program says `open: disk`; a command that is stopped
 is told that the device failed (34), and all behind it that the register is broken (35). What is then left is opened
@@ -109,7 +109,7 @@ class Trial:
         expect("the tables in the end", self.tables[-1], held(left))
 
     def stopped(self, which, calls):
-        """Stops a file after so many calls; whether that came to a stop."""
+        """Stops a file after `calls` calls; whether that came to a stop."""
         tried = put(self.file, self.file.with_name("tried"))
         safe = put(self.file, self.file.with_name("tried-safe"))  # what the library keeps of it
         what = {"REGISTER": str(tried), "CALLS": str(calls)} | ({"LOG": "1"} if which == "log" else {})

@@ -7,7 +7,8 @@ Standard input is a socket that keeps the borders of its pieces, so that each pi
 cut into reads and no slow reader changes a byte; what each front of a stream is answered; that an answer goes out
 before more is asked for, and `100 Continue` before the body; that answers which were asked for together go out
 together; that a stream without end is answered up to the bound on reads; and what the program says and leaves where a
-read or a write fails. Where a read or a write fails in the middle is a matter of the proved tests of kcr_trials.
+read or a write fails, each write of a stream in turn. Where it fails within an answer is a matter of the proved tests of
+kcr_trials.
 
 The last line is `N passed, M failed`, and the status is 0 where none failed.
 """
@@ -19,6 +20,7 @@ import os
 import pathlib
 import socket
 import subprocess
+import tempfile
 import threading
 
 import kcr
@@ -72,11 +74,12 @@ def written(program, pieces):
     return found, run.wait()
 
 
-def played(program, pieces):
+def played(program, pieces, *words, env=None):
     """What the program writes and its status, where each of these pieces is one read."""
     ours, theirs = socket.socketpair(socket.AF_UNIX, socket.SOCK_SEQPACKET)
     with theirs:
-        run = subprocess.Popen([program, "run"], stdin=theirs, stdout=subprocess.PIPE, stderr=subprocess.PIPE)
+        run = subprocess.Popen([program, "run", *words], stdin=theirs, stdout=subprocess.PIPE, stderr=subprocess.PIPE,
+                               env=env)
     sender = threading.Thread(target=send, args=(ours, pieces), daemon=True)
     sender.start()
     output, faults = run.communicate(timeout=SECONDS)
@@ -204,8 +207,26 @@ def write_fails(program):
     return (run.stderr, run.returncode) == (b"fault: write\n", 1)
 
 
+def each_write_fails(program):
+    """A case whose messages come one a read, over a file: the Nth write fails, for each N. The answers before it are
+    out, the program says so, and the file has the commands up to the one whose answer did not come out."""
+    requests, answers = kcr.case("entered-and-listed"), kcr.case_answers("entered-and-listed")
+    with kcr.faults() as library, tempfile.TemporaryDirectory() as room:
+        if library is None:
+            kcr.leave_out("C compiler", "each_write_fails")
+            return True
+        for passed in range(len(answers) + 1):
+            file = pathlib.Path(room) / f"register-{passed}"
+            told = played(program, requests, "--file", str(file), env={"LD_PRELOAD": str(library), "OUTPUT": str(passed)})
+            end = (b"", 0) if passed == len(answers) else (b"fault: write\n", 1)
+            done = sum(b'{"accepted":' in answer for answer in answers[:passed + 1])
+            if told != (b"".join(answers[:passed]), *end) or kcr.commands_in(file) != done:
+                return False
+    return len(answers) > 1
+
+
 TESTS = [any_cut, any_front, slow_cases, answers_at_once, continue_at_once, answers_together, full_pages,
-         endless_messages, endless_empty_lines, read_fails, write_fails]
+         endless_messages, endless_empty_lines, read_fails, write_fails, each_write_fails]
 
 
 def main():
@@ -217,8 +238,8 @@ def main():
         if not test(program):
             failed += 1
             print(f"not so: {test.__name__}: {test.__doc__}")
-    print(f"{len(TESTS) - failed} passed, {failed} failed")
-    sys.exit(1 if failed else 0)
+    print(f"{len(TESTS) - failed} passed, {failed + len(kcr.LEFT_OUT)} failed")
+    sys.exit(1 if failed or kcr.LEFT_OUT else 0)
 
 
 if __name__ == "__main__":

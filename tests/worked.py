@@ -18,8 +18,9 @@ import functools
 import pathlib
 
 import kcr
+from changed import MOMENTS
 from kcr import NOTHING_FOUND, TABLES, accepted, answer, call, change, expect, post
-from program import EMPTY, MOMENTS, NEWER
+from program import EMPTY, NEWER
 
 SCRIPT = b"""\
 Ceremony 61 EAST 2025-02-13 open
@@ -113,7 +114,7 @@ def respelled(command):
 
 
 def fed(program, file, after):
-    """What the program answers for the commands after the first so many."""
+    """What the program answers for the commands after number `after`."""
     return call(program, "run", "--file", file, stream=kcr.request(b"GET", b"/commands/%d" % after))
 
 
@@ -147,7 +148,7 @@ STAYS = [("AA", 5, None), ("BB", 5, 20), ("CC", 5, 30), ("EA", 5, None)]  # from
 
 
 def at(minutes):
-    """The number of the moment so many minutes after 20:00, or none."""
+    """The number of the moment `minutes` after 20:00, or none."""
     return None if minutes is None else MOMENTS + 60 * minutes
 
 
@@ -167,7 +168,7 @@ def commands():
 
 
 def reply(number, count):
-    """The reply to the number-th of so many commands; the last signs a step."""
+    """The reply to command `number` of `count`; the last signs a step."""
     more = ',"seating":["BB","AA"],"step":1' if number == count else ""
     return f'{{"accepted":{number}{more}}}'
 
