@@ -29,7 +29,7 @@ def initials(number):
 
 
 def people(first, count):
-    """The bytes of commands that enter so many people, each under a key of its own."""
+    """The bytes of commands that enter `count` people, each under a key of its own."""
     bodies = (f'{{"key":"k{n:06d}","who":"{initials(n)}","name":"Person {n}"}}' for n in range(first, first + count))
     return "".join(f"POST /people HTTP/1.1\r\nHost: l\r\nContent-Length: {len(body)}\r\n\r\n{body}"
                    for body in bodies).encode()

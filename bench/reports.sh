@@ -25,7 +25,7 @@ NO_PATH_TOLD = b'{"number":7,"refusal":"path"}'
 
 
 def at(second):
-    """A moment, so many seconds after the opening."""
+    """The moment `second` seconds after the opening."""
     return f"2025-02-13T20:{second // 60:02}:{second % 60:02}Z"
 
 

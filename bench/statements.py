@@ -7,7 +7,7 @@ Two ceremonies are played over a register in memory, with each of the 19 command
 reports; in the first one each statement is compiled, the second one is counted. For each request the stream is played up
 to it and once more with it, and what `valgrind --tool=callgrind` counted is compared: how many statements read and
 wrote, and how many instructions it took. The register is small: twelve people who take part, and ceremonies of five
-steps. Last come a repeat and a refusal. With `--past` so many ceremonies of 60 steps and 12 people lie behind. With
+steps. Last come a repeat and a refusal. With `--past N` there are N earlier ceremonies of 60 steps and 12 people. With
 names of requests only these are counted.
 """
 import argparse
@@ -90,7 +90,7 @@ def made_of(client, asked):
 
 
 def expect_answers(program, stream, refusals):
-    """All requests are answered by 200, but for so many."""
+    """All requests are answered by 200, except for `refusals` of them."""
     told = subprocess.run([program, "run"], input=stream, capture_output=True, check=True).stdout
     others = [line for line in told.splitlines() if b'"refusal":' in line]
     if len(others) != refusals:

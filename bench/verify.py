@@ -19,7 +19,7 @@ import table
 
 
 def stream_of(count):
-    """A stream of so many commands."""
+    """A stream of `count` commands."""
     client = table.Client()
     table.enter_staff(client)
     number = 0
@@ -49,7 +49,7 @@ def cells_of(words, told):
 
 
 def show(program, count, room):
-    """The rows of the table for a file of so many commands."""
+    """The rows of the table for a file of `count` commands."""
     file = room / f"{count}.db"
     table.run([program, "run", "--file", str(file)], stream_of(count))
     commands, rows = f" {count} commands\n".encode(), rows_in(file, room)

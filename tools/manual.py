@@ -12,7 +12,7 @@ import textwrap
 
 DOCS = pathlib.Path(__file__).resolve().parent.parent / "docs"
 WIDTH = 80
-ROW = re.compile(r"(?m)^\| ([0-9]+) \| `(\w+)` \| ([0-9]+) \| ([^|]+) \| ([^|]*?) ?\| [^|]+ \|$")
+ROW = re.compile(r"(?m)^\| ([0-9]+) \| `(\w+)` \| ([0-9]+) \| ([^|]+) \| ([^|]*?) ?\| [^|]+ \| [^|]+ \|$")
 VALUE = re.compile(r"(?m)^\| ([0-9]+) \| ([^|]+) \| ([^|]+) \|$")
 LIST = re.compile(r'(?ms)(^\.\\" refusals.*?\n)(.*?)(^\.\\" end of refusals$)')
 

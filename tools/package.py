@@ -24,6 +24,9 @@ import completion  # noqa: E402
 
 TOP = pathlib.Path(__file__).resolve().parent.parent
 PACKAGING = TOP / "packaging"
+SCRIPTS = ("kcr-backup", "kcr-save", "kcr-restore", "kcr-follow", "kcr-check", "kcr-new")
+UNITS = ("kcr.service", "kcr-failed@.service", *(f"kcr-{name}.{kind}" for name in ("backup", "check", "follow")
+                                                 for kind in ("service", "timer")))
 
 DESCRIPTION = """register of the DNSSEC root zone key ceremonies
  kcr records who was in the room, who filled which seat of each step, who held
@@ -97,10 +100,22 @@ def put_program(root, program):
             put(root, place, (pathlib.Path(folder) / name).read_bytes())
 
 
-def put_texts(root, number, seconds):
-    """The unit with its user, and the documents and examples."""
-    put(root, "usr/lib/systemd/system/kcr.service", (PACKAGING / "kcr.service").read_bytes())
+def put_scripts(root):
+    """The scripts with their man page, and the units with their user and their settings."""
+    for name in SCRIPTS:
+        put(root, f"usr/bin/{name}", (PACKAGING / name).read_bytes(), 0o755)
+    page, *others = SCRIPTS
+    put(root, f"usr/share/man/man8/{page}.8.gz", packed((PACKAGING / f"{page}.8").read_bytes()))
+    for name in others:
+        (root / f"usr/share/man/man8/{name}.8.gz").symlink_to(f"{page}.8.gz")
+    for name in UNITS:
+        put(root, f"usr/lib/systemd/system/{name}", (PACKAGING / name).read_bytes())
     put(root, "usr/lib/sysusers.d/kcr.conf", (PACKAGING / "kcr.sysusers").read_bytes())
+    put(root, "etc/default/kcr", (PACKAGING / "kcr.default").read_bytes())
+
+
+def put_texts(root, number, seconds):
+    """The documents and examples."""
     home = "usr/share/doc/kcr/"
     put(root, home + "copyright", (PACKAGING / "copyright").read_bytes())
     put(root, home + "changelog.gz", packed(changelog(number, seconds)))
@@ -108,6 +123,7 @@ def put_texts(root, number, seconds):
     for file in ran("git", "-C", str(TOP), "ls-files", "README.md", "docs", "examples").splitlines():
         if not file.endswith("kcr.1"):
             put(root, home + file, (TOP / file).read_bytes())
+    put(root, "usr/share/kcr/room.py", (TOP / "tools/room.py").read_bytes(), 0o755)
 
 
 def put_page(root):
@@ -123,7 +139,7 @@ def control(root, number):
         f"Package: kcr\nVersion: {number}\nArchitecture: amd64\n"
         "Maintainer: kcr maintainers <maintainers@users.noreply.pamtugya.example>\n"
         f"Installed-Size: {size}\n"
-        f"Depends: libc6 (>= {libc_of(root / 'usr/bin/kcr')}), systemd | systemd-sysusers\n"
+        f"Depends: libc6 (>= {libc_of(root / 'usr/bin/kcr')}), systemd | systemd-sysusers, curl\n"
         "Recommends: python3\n"
         f"Section: database\nPriority: optional\nDescription: {DESCRIPTION}\n"
     )
@@ -131,7 +147,7 @@ def control(root, number):
 
 def sums(root):
     """The check sums of the package's files."""
-    files = sorted(str(f.relative_to(root)) for f in root.rglob("*") if f.is_file())
+    files = sorted(str(f.relative_to(root)) for f in root.rglob("*") if f.is_file() and not f.is_symlink())
     return ran("sh", "-c", 'cd "$0" && md5sum -- "$@"', str(root), *files)
 
 
@@ -140,7 +156,7 @@ def settle(root, seconds):
     for path in [root, *root.rglob("*")]:
         if path.is_dir():
             path.chmod(0o755)
-        os.utime(path, (seconds, seconds))
+        os.utime(path, (seconds, seconds), follow_symlinks=False)
 
 
 def build(program, folder):
@@ -151,11 +167,13 @@ def build(program, folder):
     with tempfile.TemporaryDirectory() as made:
         root = pathlib.Path(made) / "kcr"
         put_program(root, program)
+        put_scripts(root)
         put_texts(root, number, seconds)
         put_page(root)
         checked = sums(root)
         put(root, "DEBIAN/control", control(root, number).encode())
         put(root, "DEBIAN/md5sums", checked.encode())
+        put(root, "DEBIAN/conffiles", b"/etc/default/kcr\n")
         for script in ("postinst", "prerm", "postrm"):
             put(root, f"DEBIAN/{script}", (PACKAGING / script).read_bytes(), 0o755)
         settle(root, seconds)

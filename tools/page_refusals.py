@@ -14,7 +14,7 @@ sys.path.insert(0, str(pathlib.Path(__file__).resolve().parent))
 import manual  # noqa: E402
 
 TOP = pathlib.Path(__file__).resolve().parent.parent
-ADVICE = re.compile(r"(?m)^\| ([0-9]+) \| `\w+` \| [0-9]+ \| [^|]+ \| [^|]*? ?\| ([^|]+) \|$")
+ADVICE = re.compile(r"(?m)^\| ([0-9]+) \| `\w+` \| [0-9]+ \| [^|]+ \| [^|]*? ?\| ([^|]+) \| [^|]+ \|$")
 HEAD = """// The 35 refusals in words, and what 30 and 31 carry.
 //
 // tools/page_refusals.py writes this file from docs/REFUSALS.md: number, word, status, sentence, and what to do.

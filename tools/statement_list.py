@@ -2,12 +2,13 @@
 
 # The functions whose contracts the statement is: the crate, the file in `src/`, and the function.
 CONTRACTS = [
+    ("kcr_tool", "tasks", "run_file"),
+    ("kcr_tool", "listen", "serve_file"),
+    ("kcr_tool", "act", "report_copied"),
+    ("kcr_tool", "verify", "verify_copied"),
     ("kcr_desk", "desk", "serve"),
-    ("kcr_desk", "connection", "one"),
     ("kcr_store", "register", "Register::in_memory"),
-    ("kcr_store", "open", "connect"),
     ("kcr_store", "register", "Register::adopt"),
-    ("kcr_store", "register", "Register::open"),
     ("kcr_tool", "act", "act"),
     ("kcr_verify", "verification", "verify"),
     ("kcr_verify", "verification", "rebuild"),
@@ -24,37 +25,38 @@ EXAMPLES = [
 # A sentence for each clause that has no comment of its own in the sources. A comment there goes before a sentence here.
 SENTENCES = {
     "kcr_desk::serve": {
-        "founded": "The register stays founded if it was, and not otherwise.",
         "clean": "A disk that is clean at the end was clean at the beginning.",
         "bound": "At most 1,000,000 reads return bytes.",
     },
-    "kcr_desk::one": {
-        "bound": "At most 1,000,000 reads return bytes.",
-        "broken": "The answer says whether the register is broken.",
-        "connects": "Nothing but the messages of this one connection changed the register.",
-        "kept": "The register is whole.",
-    },
     "kcr_store::Register::in_memory": {
-        "new": "The register is founded, has no command, and is not broken.",
+        "new": "The register stands at the empty history.",
         "fault": "The fault is `Memory` or `Disk`.",
     },
-    "kcr_store::connect": {
-        "autocommit": "The connection is outside of a transaction.",
-        "found": "The connection finds what the files held.",
-        "kind": "The fault is `Memory` or `Disk`.",
-    },
     "kcr_store::Register::adopt": {
-        "past": "The caller's proof names a history, and says whether the database is known to hold it.",
         "autocommit": "The connection is outside of a transaction.",
-        "founded": "If the history is said to be known, the database is empty or holds the tables of that history.",
-        "adopted": "The register has the history that was named, and is not broken.",
-        "kept": "The register is outside of a transaction and, if it is founded, whole.",
-        "taken": "A database that holds the named history is refused only for memory or for the device.",
+        "unbroken": "The register is not broken.",
+        "kept": "The register is outside of a transaction.",
+        "taken": "A database that holds a history's tables is refused only for memory or for the device.",
         "known": "Only an empty database, or one with the whole schema of version 1, 2 or 3, is taken.",
     },
-    "kcr_store::Register::open": {
-        "unknown": "Nothing is known of the history that the file holds: the register is not founded.",
-        "kept": "The register is outside of a transaction. More follows only of a founded one.",
+    "kcr_tool::run_file": {
+        "cause": "The fault is that of the stream: `Read` only if a read failed or 1,000,000 reads gave a byte, and "
+        "`Write` only if a write failed. Memory has no cause.",
+        "unopened": "If the file was not opened, nothing was read or written.",
+    },
+    "kcr_tool::serve_file": {
+        "part": "After a fault a prefix of that line was written, or nothing.",
+        "cause": "The faults are those of a port, of a write, of memory, of a lost file and of a broken register.",
+        "unopened": "If the file was not opened, nothing was written.",
+    },
+    "kcr_tool::report_copied": {
+        "cause": "The fault is why the copy was not opened, or why the report stopped.",
+        "noted": "At most a line stands on `faults`, which says that no register or no command is there: if the "
+        "report is done, or if lines are explained.",
+    },
+    "kcr_tool::verify_copied": {
+        "own_in_part": "After a fault a prefix of that line was written, or nothing.",
+        "cause": "The fault is why the rows were not read, or why the verification stopped.",
     },
     "kcr_tool::act": {
         "status": "The exit status is 0, 1 or 2.",
@@ -64,8 +66,8 @@ SENTENCES = {
         "replies or of the task's line was. Of a report nothing is said.",
     },
     "kcr_verify::verify": {
-        "told": "If the answer is `Whole`, the rows are the tables of a history that the machine reaches, with "
-        "that many commands.",
+        "told": "If the answer is `Verified`, the rows are the tables of a history that the machine reaches, with "
+        "that many commands. Otherwise the difference that is named is one.",
         "cause": "The refusals are those for memory and for the device.",
     },
 }
@@ -105,7 +107,7 @@ PARTS = [
     ("The run",
      "The machine's steps over the messages of a stream, and all that is written. The messages and the texts that it "
      "names stand in the parts below.",
-     """kcr_desk/src/fault kcr_desk/src/stream kcr_desk/src/connection kcr_rows/Refusals kcr_store/Commands kcr_store/Rows
+     """kcr_desk/src/fault kcr_desk/src/stream kcr_rows/Refusals kcr_store/Commands kcr_store/Rows
      kcr_print/Written
      kcr_desk/Run kcr_desk/Answers kcr_desk/Streams kcr_desk/Connections kcr_machine/RowDecision kcr_rules/Refusals"""),
     ("The cut of the stream",
@@ -136,7 +138,7 @@ PARTS = [
      kcr_tables/Schema kcr_tables/StoredTables kcr_tables/NewTables kcr_tables/MachineTables kcr_tables/Creation"""),
     ("The file and crash",
      "What a file holds of a history, what an opening makes of it, and what a crash may leave.",
-     """kcr_older/OldFiles kcr_older/Kind kcr_store/src/open
+     """kcr_copy/src/reading kcr_copy/Image kcr_older/OldFiles kcr_older/Kind kcr_store/src/open
      kcr_store/Stored kcr_store/Register kcr_store/src/register kcr_store/Opening"""),
     ("The verification",
      "What it means that a register is the one of its own commands.",
@@ -174,7 +176,7 @@ The words are those of the files, on fewer lines: without `abbrev`, `unfoldable`
 its arguments before the colon, a text as `"EAST"` for `codes "EAST"`, and a variant behind the name of its type. A
 comment stands over its definition or behind its head. `[kcr_base/Same]` heads what stands in
 `crates/kcr_base/specs/Same.antt`, and `[kcr_base/src/day]` what stands in `crates/kcr_base/src/day.rt`. “here `f` of
-`M`” tells names that several files have, or that have another name in `M`.
+`M`” marks a name that several files define, or that `M` spells differently.
 """.strip().split("\n") + [""]
 
 # What the statement leaves out, and why.
@@ -194,9 +196,13 @@ NOT_IN_IT = [
 ]
 
 CONTRACTS_ABOUT = (
-    "The comment over a clause is its sentence. `serve` is the theorem, and `one` the same for a connection of `kcr "
-    "serve`. `in_memory`, or `connect` and then `adopt`, make the register with which it begins; `open` is what the "
-    "program does with a file. `act` is the program. `verify` and `rebuild` compare a register with its own commands."
+    "The comment over a clause is its sentence. The first four are the program over a file: `run_file` and `serve_file` "
+    "open it, `report_copied` and `verify_copied` read a copy of it. `start` is a value of the caller's type `B`: its "
+    "ghost `B.Start` stands for the bytes that the file and its log held when they were opened, which no code can read. "
+    "`main` passes `Unknown`, of whose bytes nothing is known: so a clause about a real file is the one for each `B`, with "
+    "the kit's argument that the files' real bytes are such a `B` (`sqlite_disk/README.md`). `serve` is the theorem "
+    "for a stream over any register, `in_memory` and `adopt` make one. `act` is the program, from its words to its "
+    "exit status. `verify` and `rebuild` compare a register with its own commands."
 )
 
 KIT_ABOUT = (

@@ -73,9 +73,11 @@ class Library:
     def model_of(self, item):
         """The model of a struct, or of the struct that an alias names, or None."""
         if item.kind == "alias":
-            base = re.search(r"= (\w+)", item.text())[1]
+            base = re.search(r"= (\w+)", item.text())
+            if base is None:  # a tuple, whose parts have models of their own
+                return None
             source = self.sources[item.path]
-            item = source.items.get(base) or self.rust(item.path.split("/")[1], source.rust.get(base, ""))
+            item = source.items.get(base[1]) or self.rust(item.path.split("/")[1], source.rust.get(base[1], ""))
         return item and self.sources[item.path].models.get(item.name)
 
     def rust(self, crate, path):

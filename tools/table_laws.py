@@ -201,7 +201,7 @@ use Rattle.sqlite_tied.specs.Compute.{everything}
 use Rattle.kcr_base.specs.Same.{same_text}
 use Rattle.kcr_base.specs.Place.{place_text}
 """
-    words = sorted({r.ask.split()[0] for r in t.readings if r.ask and not r.greatest and r.ty != "Place"})
+    words = sorted({r.ask.split()[0] for r in t.readings if r.ask and r.ty != "Place"})
     if words:
         out += f"use Rattle.kcr_history.specs.Views.{{{', '.join(words)}}}\n"
     if t.name == "appointments":
@@ -231,7 +231,6 @@ use Rattle.kcr_base.specs.Place.{place_text}
     out += one if len(one) <= DEFINITIONS else f"one x y read held h = λ i. {lines(fields)}"
     out += f"\nlists : SelectsRows table.all_sql {t.place} [] (λ _. true)\nunfolding understood everything\nlists = {shows()}\n"
     for r in t.readings:
-        if not r.greatest:
-            out += finds(t, r)
+        out += finds(t, r)
     out += puts(t) + table_laws(t)
     write(f"specs/{t.laws}.antt", out)

@@ -86,13 +86,12 @@ class Column:
 
 
 class Reading:
-    """The rows that pass a test, in the order of their keys; or with `greatest`, the one of them with the greatest number."""
+    """The rows that pass a test, in the order of their keys."""
 
-    def __init__(self, name, doc, where, arg=None, ty=None, kind=None, tests=None, ask=None, greatest=None, prefix=None):
+    def __init__(self, name, doc, where, arg=None, ty=None, kind=None, tests=None, ask=None, prefix=None):
         self.name, self.doc, self.where, self.arg, self.ty, self.kind = name, doc, where, arg, ty, kind
         self.tests = tests  # the test of a row {x} by the argument {v}
         self.ask = ask  # the test as a function, of the argument {v}
-        self.greatest = greatest  # the column of the number
         self.prefix = prefix or name
 
 
@@ -126,9 +125,7 @@ class Table:
         return f"SELECT {self.names()} FROM {self.name} ORDER BY {self.order()}"
 
     def text_of(self, reading):
-        where = f" WHERE {reading.where} = ?1" if reading.where else ""
-        order = f"{reading.greatest} DESC LIMIT 1" if reading.greatest else self.order()
-        return f"SELECT {self.names()} FROM {self.name}{where} ORDER BY {order}"
+        return f"SELECT {self.names()} FROM {self.name} WHERE {reading.where} = ?1 ORDER BY {self.order()}"
 
     def insert_text(self):
         marks = ", ".join(f"?{i + 1}" for i in range(len(self.columns)))
@@ -199,9 +196,7 @@ TABLES = [
           "PutTraining", "same_training", turned=True, always_new=True, readings=[of_person("trainings", "is_training_of")]),
     Table("appointments", "appointment", "Appointment", "kcr_people", "", [Column("place", PLACE), Column("since", DAY), Column("who", INITIALS), Column("until", DAY_OR_NULL)], 2,
           "who holds a custodian's place, under the place and the first day",
-          "PutAppointment", "same_appointment", others=[[2, 1, 0]],
-          readings=[Reading("last_appointment_to", "The row of the place's appointment that began last, alone, or none", "place", "place", "Place", PLACE, "same_place {x}.place {v}", ask="is_appointment_to {v}", greatest="since"),
-                    Reading("last_appointment_of", "The row of the person's appointment that began last, alone, or none", "who", "who", "&Initials", INITIALS, "same_text {x}.who {v}", ask="is_appointment_of {v}", greatest="since")]),
+          "PutAppointment", "same_appointment", others=[[2, 1, 0]]),
     Table("boxes", "box", "BoxRow", "kcr_custody", "", [Column("facility", FACILITY), Column("box", NUMBER, "number"), Column("place", PLACE)], 2,
           "a box under its facility and number", "PutBox", "same_box", always_new=True),
     Table("safes", "safe", "SafeRow", "kcr_custody", "", [Column("facility", FACILITY), Column("safe", SAFE), Column("state", TRUTH, "is_open")], 2,
@@ -223,8 +218,7 @@ TABLES = [
           "a step of a ceremony under both numbers", "PutStep", "same_step", new_where="self.state == StepState::Undone",
           is_read="HasOnlyTheseSeats", is_stored="HasSeatsText", stored_fact="seats"),
     Table("seatings", "seating", "SeatingRow", "kcr_history", "row_types.", [Column("ceremony", NUMBER), Column("step", NUMBER), Column("seat", NUMBER), Column("who", INITIALS)], 3,
-          "who filled a seat of a step, under the ceremony, the step and the seat", "PutSeating", "same_seating", always_new=True,
-          readings=[Reading("last_seating_of", "One row of the ceremony's last step that has a seating, alone, or none", "ceremony", "ceremony", "u32", NUMBER, "{x}.ceremony == {v}", ask="is_seating_of {v}", greatest="step")]),
+          "who filled a seat of a step, under the ceremony, the step and the seat", "PutSeating", "same_seating", always_new=True),
     Table("sheet", "sheet", "SheetRow", "kcr_room", "", [Column("who", INITIALS), Column("at", MOMENT), Column("ceremony", NUMBER), Column("way", WAY)], 2,
           "a row of a ceremony's entry and exit sheet, under the person and the moment", "PutSheet", "same_sheet_row", always_new=True),
     Table("exceptions", "exception", "ExceptionRow", "kcr_history", "row_types.", [Column("ceremony", NUMBER), Column("exception", NUMBER), Column("text", LINE), Column("at", MOMENT), Column("passed", NUMBER_OR_NULL)], 2,
@@ -235,11 +229,9 @@ TABLES = [
     Table("keys", "key", "KeyRow", "kcr_history", "row_types.", [Column("key", KEY), Column("accepted", NUMBER), Column("command", TEXT), Column("reply", TEXT)], 1,
           "a row for each accepted command, under its key; its number is the row id, and that of no other row",
           "PutKey", "same_key_row", alias="accepted", always_new=True,
-          readings=[Reading("key_row_of", "The row of this key, alone, or none", '"key"', "key", "&Key", KEY, "same_text {x}.key {v}", ask="is_of_key {v}"),
-                    Reading("last_key_row", "The row with the greatest number, alone, or none if there is no row", None, greatest="accepted")]),
+          readings=[Reading("key_row_of", "The row of this key, alone, or none", '"key"', "key", "&Key", KEY, "same_text {x}.key {v}", ask="is_of_key {v}")]),
     Table("stays", "stay", "Stay", "kcr_room", "", [Column("who", INITIALS), Column("since", MOMENT), Column("ceremony", NUMBER), Column("until", MOMENT_OR_NULL)], 2,
-          "a stay of a person in the room of a ceremony, under the person and its beginning", "PutStay", "same_stay", others=[[2, 1, 0]], new_where="self.until.is_none()",
-          readings=[Reading("last_stay_of", "The row of the person's stay that began last, alone, or none", "who", "who", "&Initials", INITIALS, "same_text {x}.who {v}", ask="is_of {v}", greatest="since")]),
+          "a stay of a person in the room of a ceremony, under the person and its beginning", "PutStay", "same_stay", others=[[2, 1, 0]], new_where="self.until.is_none()"),
     Table("withdrawals", "withdrawal", "Withdrawal", "kcr_people", "", [Column("who", INITIALS), Column("role", ROLE), Column("since", DAY), Column("until", DAY), Column("day", DAY)], 4,
           "from which day a training is withdrawn, under the training's key", "PutWithdrawal", "same_withdrawn",
           readings=[of_person("withdrawals", "is_withdrawal_of")]),

@@ -109,10 +109,9 @@ fn compare_table<S: Alter>(
 ) -> Result<Option<RowDifference>, Refusal>
     requires intact { IsIntact S.Store register.old }
     requires order { IsSorted by_number rows.now.keys.items }
-    ensures rows { HasCleanDisk (state S.Store register.new.conn)
-        → IfOk result (λ found. IsCompared table (machine.tables register.new.accepted) rows.now found) }
-    ensures register { HasCleanDisk (state S.Store register.new.conn)
-        → IfOk result (λ _. IsRegister register.new.accepted) }
+    ensures rows { OfHistory S.Store register.old register.new
+        (λ A. IfOk result (λ found. IsCompared table (machine.tables A) rows.now found)) }
+    ensures register { OfHistory S.Store register.old register.new (λ A. IfOk result (λ _. IsRegister A)) }
     ensures frame { OnlyLooks S.Store register.old register.new result }
 {
     match table {

@@ -50,7 +50,7 @@ def put_calls(t):
 
 
 def source(t):
-    found = [r for r in t.readings if not r.greatest]
+    found = t.readings
     body = member("table", "laws.table") + text_method("select_all_sql", t.select_all_sql()) + member("table_laws", "laws.table_laws")
     out = impl("TableRow", t, body)
     for r in found:
