@@ -61,7 +61,7 @@ own-rows c k i [] = refl
 own-rows c k i (who ∷ people) = rw (eq-eqb c c refl, eq-eqb k k refl)
     (ap (λ rows. record { ceremony = c; step = k; seat = suc i; who = who } ∷ rows) (own-rows c k (suc i) people))
 
--- the rows that an reply files
+-- the rows that a reply files
 abbrev filed_by : Act → ReplyData → List SeatingRow
 filed_by act reply = seating_rows (ceremony_of_step act) reply.step reply.seating
 

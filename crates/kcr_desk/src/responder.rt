@@ -20,7 +20,7 @@ impl<'a> Model for Request<'a> {
     ghost view = { λ asked. record { method = asked.method.now; target = asked.target.now; body = asked.body.now } };
 }
 
-/// What answers messages: the register, and in tests a small one of their own.
+/// What answers messages.
 pub(crate) trait Responder {
     ghost use Rattle.kcr_desk.specs.Run.{Request};
     ghost use Rattle.kcr_desk.specs.Texts.{ResponseValue};

@@ -43,7 +43,7 @@ seat_request A act = None
 
 -- ANSWERS
 
--- an reply that has no more than its number, one more than there were
+-- a reply that has no more than its number, one more than there were
 abbrev pub plain_reply : History → ReplyData
 plain_reply A = record { accepted = length A + 1; exception = None; seating = None; step = None }
 

@@ -212,8 +212,8 @@ step_row A key =
       step = key.1;
       activity = activity_at (steps_of A key.0) key.1;
       seats = seats_at (steps_of A key.0) key.1;
-      state = unwrap_or (option_map (λ fate. fate.0) (step_result A key.0 key.1)) Undone;
-      at = option_map (λ fate. fate.1) (step_result A key.0 key.1);
+      state = unwrap_or (option_map (λ result. result.0) (step_result A key.0 key.1)) Undone;
+      at = option_map (λ result. result.1) (step_result A key.0 key.1);
     }
 
 abbrev pub steps : History → List StepRow

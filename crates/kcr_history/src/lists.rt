@@ -5,7 +5,7 @@ use kcr_base::{Initials, ItemCode};
 use std::alloc::{AllocError, Global};
 use std::marker::Model;
 
-/// InitialsList, in an order.
+/// Initials, in the order in which they were added.
 #[derive(Drop)]
 pub struct InitialsList {
     list: Vec<Initials>,
@@ -61,7 +61,7 @@ impl Clone for InitialsList {
     }
 }
 
-/// ItemList, in an order.
+/// Items, in the order in which they were added.
 #[derive(Drop)]
 pub struct ItemList {
     list: Vec<ItemCode>,

@@ -44,7 +44,7 @@ IsReplyDataOf (RecordException ceremony text false at) reply =
     IsSome reply.exception × (reply.seating ≡ None) × (reply.step ≡ None)
 IsReplyDataOf act reply = (reply.exception ≡ None) × (reply.seating ≡ None) × (reply.step ≡ None)
 
--- the reply is the text of such an reply
+-- the reply is the text of such a reply
 abbrev pub IsReplyOf : Act → List ℕ → Type 0
 IsReplyOf act text = (reply : ReplyData) × IsReplyDataOf act reply × (text ≡ reply_text reply)
 

@@ -102,7 +102,7 @@ pub(crate) fn number_after(count: u32, new_reply: Option<ReplyData>) -> u32
 }
 
 /// One command as one transaction, which is gone at the return. A repeat is committed as well: nothing was written,
-/// and the commit says that the store still serves. `last_number` is the number of the last command.
+/// and the commit says that the store still serves. `count` is the number of the last command.
 pub(crate) fn run_command<S: Alter>(
     alloc: Global,
     conn: &mut Connection<S>,
