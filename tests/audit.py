@@ -378,7 +378,7 @@ tampering("command_moment", "a command signs half a minute later", compare=({26}
           verify=row("steps", (*STEP_1[:5], STEP_1[5] + 30), STEP_1),
           make=["UPDATE keys SET command = replace(command, '20:10:00', '20:10:30') WHERE accepted = 26"])
 tampering("keys_emptied", "there are no accepted commands", audit=(NOTHING[0], b"note: FILE has no command\n", 0),
-          verify=(b"", b"note: FILE has no command\n", 1), compare=(ALL, (0, None)), anchor=OTHER,
+          verify=row("people", None, ("AA", "Ann Abel")), compare=(ALL, (0, None)), anchor=OTHER,
           make=["DELETE FROM keys"])
 tampering("emptied", "the register is empty", audit=(NOTHING[0], b"note: FILE has no command\n", 0),
           verify=(b"", b"note: FILE has no command\n", 1), compare=(ALL, (0, None)), anchor=OTHER,
