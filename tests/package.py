@@ -127,7 +127,7 @@ def shown(program, room):
     blocks = [text.replace(r"\e", "\\") for text in re.findall(r"(?ms)^\.Bd -literal.*?\n(.*?)^\.Ed$", page)]
     expect("how many blocks", 3, len(blocks))
     text = "".join(blocks).replace("/usr/share/", f"{root}/usr/share/").replace("8053", port)
-    text = text.replace("curl ", "curl -sS --retry 600 --retry-delay 1 --retry-connrefused ") + "kill $!\n"
+    text = text.replace("curl ", "curl -s --retry 600 --retry-delay 1 --retry-connrefused ") + "kill $!\n"
     path = {**os.environ, "PATH": f"{root}/usr/bin:{os.environ['PATH']}"}
     output, status = told("bash", "-euc", text, cwd=room, env=path)
     expect(f"the status after {output[-300:]!r}", 0, status)
