@@ -16,11 +16,78 @@ CONTRACTS = [
 
 # The worked examples: a file or a folder, and how the names of its functions begin that are examples.
 EXAMPLES = [
-    ("crates/kcr_laws/src/worked.rt", ""),
     ("crates/kcr_script/src/laws.rt", "worked_"),
     ("crates/kcr_worked/src/", ""),
-    ("crates/kcr_worked_program/src/", ""),
 ]
+
+# What shows the definitions of a file to which no example leads: cases of `tests/cases`, `words/` and one of
+# `tests/words`, tests of `tests/unproved` and scripts of `tests`, each with one of its functions.
+CASES = {
+    "kcr_base/Lists": "values-out-of-range lib.txt:lists_name_nobody_twice",
+    "kcr_base/Rows": "rows.txt:rows_of_people rows.txt:rows_of_custody",
+    "kcr_base/Counted": "lib.txt:counted_streams",
+    "kcr_base/Forms": "values-out-of-range bodies-of-people lib.txt:codes lib.txt:numbers",
+    "kcr_base/Refusal": "questions lib.txt:texts_of_refusals",
+    "kcr_script/Seat": "seat-texts",
+    "kcr_script/Seats": "seat-texts lib.txt:seat_texts",
+    "kcr_room/Stays": "attendance room-at-a-moment rows.txt:presence",
+    "kcr_room/Forms": "values-out-of-range",
+    "kcr_people/People": "training-and-custodians settled-day withdrawals-of-two-trainings",
+    "kcr_people/Laws": "withdrawals-of-two-trainings",
+    "kcr_custody/Custody": "bag-into-a-box custody-report",
+    "kcr_custody/Destinations": "values-out-of-range",
+    "kcr_history/Tables": "holder-on-the-day-of-a-replacement",
+    "kcr_history/Conditions": "exception-that-passes-nothing no-step-left-to-pass",
+    "kcr_history/Views": "questions",
+    "kcr_history/Questions": "questions withdrawals-of-two-trainings holder-on-the-day-of-a-replacement",
+    "kcr_history/Prints": "annotated-script attendance reports",
+    "kcr_history/Texts": "commands lib.txt:texts_of_commands",
+    "kcr_rules/Refusals": "rules.py:played_cases",
+    "kcr_audit/Views": "changed.py:findings",
+    "kcr_forms/Forms": "values-out-of-range",
+    "kcr_forms/OrMemory": "malformed-bodies memory.py:examples_over_memory",
+    "kcr_forms/Reading": "bodies-of-people",
+    "kcr_forms/Posts": "commands body-with-more-members",
+    "kcr_wire/Routes": "targets",
+    "kcr_wire/Endpoints": "targets questions method-of-another-path",
+    "kcr_wire/Members": "malformed-bodies bodies-of-people",
+    "kcr_wire/Commands": "commands bodies-of-people",
+    "kcr_wire/Questions": "questions commands-beyond-the-end",
+    "kcr_wire/Methods": "method-of-another-path head-of-a-list",
+    "kcr_print/Requests": "commands feed.py:its_bounds",
+    "kcr_export/Requests": "commands export.py:each_command_once",
+    "kcr_export/Bodies": "commands export.py:each_command_once",
+    "kcr_journal/Sentences": "journal.py:each_command_a_line",
+    "kcr_journal/Lines": "journal.py:each_command_a_line",
+    "kcr_journal/Journal": "journal.py:each_command_a_line",
+    "kcr_desk/Run": "the-same-command-again head-cut-short body-cut-short",
+    "kcr_desk/Answers": "entered-and-listed method-of-another-path reports commands",
+    "kcr_desk/Streams": "streams.py:read_fails streams.py:write_fails",
+    "kcr_desk/Members": "close-among-members",
+    "kcr_desk/Framing": "two-hosts head-without-host two-lengths length-with-a-sign transfer-coding",
+    "kcr_desk/Stream": "continue http-1.0-closes",
+    "kcr_desk/Texts": "entered-and-listed head-of-a-list continue method-of-another-path",
+    "kcr_rows/Values": "rows.txt:rows_of_people changed.py:differences",
+    "kcr_rows/States": "rows.txt:rows_of_ceremonies changed.py:differences",
+    "kcr_rows/Rows": "rows.txt:rows_of_people rows.txt:rows_of_custody changed.py:differences",
+    "kcr_rows/Columns": "program.py:another_schema",
+    "kcr_rows/Keyed": "rows.txt:a_new_register",
+    "kcr_tables/Schema": "program.py:another_schema older.txt:other_databases_are_refused",
+    "kcr_tables/StoredTables": "changed.py:findings changed.py:differences",
+    "kcr_tables/NewTables": "rows.txt:a_new_register",
+    "kcr_tables/Creation": "stops.py:tables_are_made",
+    "kcr_copy/Image": "pack.py:the_same_register",
+    "kcr_older/OldFiles": "older.txt:older_versions_are_brought",
+    "kcr_older/Kind": "program.py:no_one_number older.txt:other_databases_are_refused",
+    "kcr_store/Register": "stops.py:commands_are_taken",
+    "kcr_verify/Verification": "changed.py:differences changed.py:changed_commands",
+    "kcr_verify/FirstRow": "changed.py:differences",
+    "kcr_verify/Quoted": "changed.py:differences",
+    "kcr_words/Commands": "words/help words/serve-idle-301 words/export-after-4000000001",
+    "kcr_words/Tasks": "words/serve-longest-0 words/print-ceremony-0 words/pack-into-a-wal words/run-explained",
+    "kcr_fault/Lines": "changed.py:findings changed.py:differences damage.py:frames_are_changed server.py:taken_port",
+    "kcr_fault/Faults": "program.py:no_database server.py:taken_port server.py:lost_files words/run-explained",
+}
 
 # A sentence for each clause that has no comment of its own in the sources. A comment there goes before a sentence here.
 SENTENCES = {
@@ -211,9 +278,12 @@ KIT_ABOUT = (
 )
 
 EXAMPLES_ABOUT = (
-    "Definitions with a value: {shown} on an example, {none} on none. Examples are functions that do nothing, in "
-    "`kcr_laws`, `kcr_script`, `kcr_worked` and `kcr_worked_program`: the prover computes the definitions that their "
-    "contracts name, and the answers stand there in words of their own. Each definition stands behind the example that leads to its name by "
-    "the fewest names between. Cases for a kind of command are followed only if the example has such a command. The "
-    "names do not show which of its other cases a definition takes. Facts and types are not listed."
+    "Examples are functions that do nothing, in `kcr_script` and `kcr_worked`: the prover computes the definitions "
+    "that their contracts name, and the answers stand there in words of their own. They lead to {shown} of the "
+    "definitions with a value. Each of these stands behind the example that leads to its name by the fewest names "
+    "between. Cases for a kind of command are followed only if the example has such a command. The names do not "
+    "show which of its other cases a definition takes. The other {none} are shown by cases of `tests/cases` and by "
+    "other tests: the program is proved equal to its definitions, so what tests its answers tests the definitions "
+    "too. `tools/check.py` computes the answers of the cases by a reading of the rules of its own. Facts and types "
+    "are not listed; `kcr_worked` has examples of facts that no code computes."
 )

@@ -1,10 +1,11 @@
 """Writes the page of the statement."""
+import os
 import re
 
 from statement_kit import KIT, kit_lines
 from statement_layout import comment, filled, laid_out
-from statement_list import (ABOUT, CONTRACTS_ABOUT, CORE_ENDS, EXAMPLES_ABOUT, FIRST, KIT_ABOUT, NOT_IN_IT, PARTS,
-                            SENTENCES)
+from statement_list import (ABOUT, CASES, CONTRACTS_ABOUT, CORE_ENDS, EXAMPLES_ABOUT, FIRST, KIT_ABOUT, NOT_IN_IT,
+                            PARTS, SENTENCES)
 from statement_names import clauses_of
 from statement_read import Stop
 
@@ -216,11 +217,11 @@ def left_out_text(unreached):
 
 
 def examples_text(parts, examples):
-    """The definitions with a value, each with the example that computes it."""
+    """The definitions with a value, each with the example that computes it, or with cases and tests that show it."""
     valued = [item for part in parts for item in part.items() if has_value(item)]
     count = sum(item.key() in examples for item in valued)
     out = ["## Definitions and examples", "", EXAMPLES_ABOUT.format(shown=count, none=len(valued) - count), "",
-           "| File | Example: definitions | No example |", "|---|---|---|"]
+           "| File | Example: definitions | Case or test: definitions |", "|---|---|---|"]
     for path, items in (entry for part in parts for entry in part.files):
         by_example = {}
         for item in filter(has_value, items):
@@ -228,8 +229,24 @@ def examples_text(parts, examples):
         none = ", ".join(by_example.pop("", []))
         if by_example or none:
             told = "; ".join(f"{example}: {', '.join(names)}" for example, names in sorted(by_example.items()))
-            out.append(f"| `{short(path)}` | {told} | {none} |")
+            cases = ", ".join(map(case_text, CASES.get(short(path), "").split())) or "none"
+            out.append(f"| `{short(path)}` | {told} | {none and f'{cases}: {none}'} |")
     return out + [""]
+
+
+def case_text(name):
+    """A case, or a test with its function, as the page names it."""
+    test, _, function = name.partition(":")
+    folder = "unproved/" if test.endswith(".txt") else "" if test.endswith(".py") or "/" in test else "cases/"
+    path = f"tests/{folder}{test}"
+    if not os.path.exists(path) or function and f" {function}(" not in read(path):
+        raise Stop(f"CASES of tools/statement_list.py names `{name}`, which is not in {path}")
+    return f"{test} ({function})" if function else test
+
+
+def read(path):
+    with open(path, encoding="utf-8") as file:
+        return file.read()
 
 
 def has_value(item):
@@ -245,6 +262,7 @@ def unused(contracts, reach):
     there = {short(item.path) for item in reach.items.values()}
     named = ((title, name) for title, _, files in PARTS for name in files.split())
     yield from (f"`{name}` in the part {title}" for title, name in named if name not in there)
+    yield from (f"`{name}` in CASES" for name in CASES if name not in there)
     needed = {(c.root, clause.name) for c in contracts for clause in c.clauses if not clause.comment}
     yield from (f"the sentence of `{clause}` of {root}" for root in SENTENCES for clause in SENTENCES[root]
                 if (root, clause) not in needed)

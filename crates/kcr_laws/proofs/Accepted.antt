@@ -11,7 +11,7 @@ use Rattle.kcr_history.specs.Conditions.{fault}
 use Rattle.kcr_history.specs.Machine.{Outcome, Accepts, Refuses, SeatRequest, seat_request, reply_to, with_command, IsAcceptedWith, seats, DecidesNew, DecidesRepeat, machine}
 use Rattle.kcr_history.specs.Machine.{IsOfMachine, CanFollow, IsRegister}
 use Rattle.kcr_history.proofs.Steps.{follows}
-use Rattle.kcr_laws.specs.Examples.{AreSteps, AreAnswered, new_command}
+use Rattle.kcr_laws.specs.Runs.{AreSteps, AreAnswered, new_command}
 
 pub same_reply : (a b : ReplyData) → Accepts a ≡ Accepts b → a ≡ b
 same_reply a b e = cc

@@ -1,5 +1,4 @@
 pub mod Trials
-pub mod WorkedRows
 pub mod Accepted
 pub mod Once
 pub mod Stays

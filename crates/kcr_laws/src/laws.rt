@@ -29,7 +29,7 @@ ghost use Rattle.kcr_history.specs.Machine.{Outcome, Accepts, Refuses, machine, 
 ghost use Rattle.kcr_history.specs.Laws.{HasFirstSeatings, IsOnce, IsSound, IsBalanced};
 ghost use Rattle.kcr_laws.specs.Conditions.{signature, IsAccepted, CanFill, IsShortOf, IsEverCrowded, IsFirstAlone};
 ghost use Rattle.kcr_laws.specs.Conditions.{IsNeverAlone, IsHeldOnOrAfter, HoldsPlaceOnOrAfter, IsTrainedOnOrAfter, BeginsFrom, held_since};
-ghost use Rattle.kcr_laws.specs.Examples.{AreAnswered};
+ghost use Rattle.kcr_laws.specs.Runs.{AreAnswered};
 
 use kcr_people::laws::{person_holds_from_a_day, place_held_from_a_day, trained_from_a_day};
 

@@ -1,2 +1,3 @@
-pub mod Moments
 pub mod OnLiterals
+pub mod Played
+pub mod Reached

@@ -1,5 +1,1 @@
-pub mod Acts
-pub mod Heads
-pub mod Layouts
-pub mod Requests
-pub mod Words
+pub mod Examples

@@ -1,13 +1,7 @@
-//! Worked examples of what stands above the history: requests as bytes, what is shown as JSON, the journal, the rows
-//! and the schema of a file, and the program's arguments. Functions that do nothing, whose contracts say it.
+//! Worked examples: functions that do nothing, whose contracts say what definitions give for a history that is written
+//! out. They are of definitions that no code computes, and of a few that a reader looks at first.
 #![tactic(auto)]
 
-pub mod files;
-pub mod history;
-pub mod kinds;
-pub mod lines;
-pub mod program;
-pub mod questions;
-pub mod requests;
-pub mod rows;
+pub mod commands;
+pub mod registers;
 pub mod shown;

@@ -1,48 +1,70 @@
-//! A command as the bytes of its request, and the JSON of what is shown.
+//! What a register has and shows: a report, rows of tables, and answers.
 ghost use Rattle.std.specs.Prelude.{◌≡◌, ◌++◌, ℕ, List, [], ◌∷◌, codes, Some};
 ghost use Rattle.std.specs.Global.{Vec};
-ghost use Rattle.kcr_base.specs.declared.place.Place.TheVariants.{Co};
-ghost use Rattle.kcr_base.specs.declared.place.Role.TheVariants.{Ca};
 ghost use Rattle.kcr_base.specs.declared.place.Facility.TheVariants.{East};
+ghost use Rattle.kcr_base.specs.declared.place.Role.TheVariants.{Ca, Iw};
 ghost use Rattle.kcr_custody.specs.declared.Spot.TheVariants as Spots;
-ghost use Rattle.kcr_history.specs.declared.commands.Act.TheVariants.{Enter};
-ghost use Rattle.kcr_history.specs.declared.questions.HolderShown.{HolderShown};
+ghost use Rattle.kcr_custody.specs.declared.Rest.TheVariants as Rests;
+ghost use Rattle.kcr_script.specs.declared.seat.Seat.TheVariants.{Staff};
 ghost use Rattle.kcr_history.specs.declared.questions.PersonShown.{PersonShown};
 ghost use Rattle.kcr_history.specs.declared.questions.RoleShown.{RoleShown};
 ghost use Rattle.kcr_history.specs.declared.questions.Shown.TheVariants as Shown;
+ghost use Rattle.kcr_history.specs.declared.row_types.StepState.TheVariants as StepStates;
+ghost use Rattle.kcr_history.specs.Prints.{custody};
+ghost use Rattle.kcr_history.specs.Tables.{tables};
 ghost use Rattle.kcr_wire.specs.ShownJson.{shown_text};
-ghost use Rattle.kcr_laws.specs.Examples.{AA, BB, HSM4, bag_7, entered};
-ghost use Rattle.kcr_worked.specs.Acts.{first_day, ninth_second};
-ghost use Rattle.kcr_worked.specs.Heads.{message_text};
-ghost use Rattle.kcr_export.specs.Requests.{request_text};
-ghost use Rattle.kcr_print.specs.Requests.{requests_between};
+ghost use Rattle.kcr_worked.specs.Examples.{AA, BB, HSM4, bag_7, bag_8, bag_on_table, clock, entered, lines, new_year};
+ghost use Rattle.kcr_worked.specs.Examples.{signed_by_two, that_day};
 
-/// A command as a request.
-pub fn requests_as_bytes()
-    ensures enter { request_text (record { key = codes "k1"; act = Enter AA (codes "Ann Abel") }) ≡ message_text
-        (codes "POST /people HTTP/1.1" ∷ codes "Host: l" ∷ codes "Content-Length: 41" ∷ [])
-        (codes "{\"key\":\"k1\",\"who\":\"AA\",\"name\":\"Ann Abel\"}") }
-    ensures all { requests_between 0 1000 entered ≡ message_text
-        (codes "POST /people HTTP/1.1" ∷ codes "Host: l" ∷ codes "Content-Length: 41" ∷ [])
-        (codes "{\"key\":\"k1\",\"who\":\"AA\",\"name\":\"Ann Abel\"}") }
-    ensures none { requests_between 1 1000 entered ≡ [] }
+/// Safes, and bags with their items: one is spent, the other lies on the table.
+pub fn custody_of_two_bags()
+    ensures { custody bag_on_table ≡ lines
+        (codes "safe 1 EAST shut"
+        ∷ codes "safe 2 EAST shut"
+        ∷ codes "safe 1 WEST shut"
+        ∷ codes "safe 2 WEST shut"
+        ∷ codes "BB51184287 spent"
+        ∷ codes "BB51184288 table EAST"
+        ∷ codes "  HSM4"
+        ∷ []) }
 {}
 
-/// The JSON of what is shown.
-pub fn shown_as_json()
+/// What the tables hold: the row that was put first stands last.
+pub fn rows_of_a_history()
+    ensures keys { (tables entered).keys ≡
+        record {
+          key = codes "k1";
+          accepted = 1;
+          command = codes "/people\nAA\nAnn Abel";
+          reply = codes "{\"accepted\":1}";
+        } ∷ [] }
+    ensures steps { (tables signed_by_two).steps ≡
+        record {
+          ceremony = 61;
+          step = 1;
+          activity = codes "Check bags";
+          seats = Staff Ca ∷ Staff Iw ∷ [];
+          state = StepStates.Signed;
+          at = Some (clock 20 10 0);
+        } ∷ [] }
+    ensures seatings { (tables signed_by_two).seatings ≡
+        record { ceremony = 61; step = 1; seat = 2; who = AA } ∷ record { ceremony = 61; step = 1; seat = 1; who = BB }
+        ∷ [] }
+    ensures marks { (tables signed_by_two).marks ≡ record { ceremony = 61; at = clock 20 10 0 } ∷ [] }
+    ensures bags { (tables bag_on_table).bags ≡
+        record { serial = bag_8; spot = Spots.Table East } ∷ record { serial = bag_7; spot = Spots.Spent } ∷ [] }
+    ensures items { (tables bag_on_table).items ≡ record { code = HSM4; rest = Rests.Within bag_8 } ∷ [] }
+{}
+
+/// Answers to two questions, as JSON.
+pub fn texts_of_answers()
     ensures people { (people : Vec PersonShown) (roles : Vec RoleShown)
         → people.items ≡ record { who = AA; name = codes "Ann Abel"; roles = roles } ∷ []
-        → roles.items ≡ record { since = first_day; role = Ca; until = first_day; withdrawn = Some first_day } ∷ []
+        → roles.items ≡ record { since = new_year; role = Ca; until = that_day; withdrawn = Some that_day } ∷ []
         → shown_text (Shown.People people) ≡
-        codes "{\"people\":[{\"name\":\"Ann Abel\",\"roles\":[{\"from\":\"2000-01-01\",\"role\":\"CA\","
-        ++ codes "\"until\":\"2000-01-01\",\"withdrawn\":\"2000-01-01\"}],\"who\":\"AA\"}]}" }
-    ensures custodians { (held : Vec HolderShown) → held.items ≡ record { place = Co East 1; who = BB } ∷ []
-        → shown_text (Shown.Custodians (record { day = first_day; holders = held })) ≡
-        codes "{\"day\":\"2000-01-01\",\"places\":[{\"place\":\"CO-EAST-1\",\"who\":\"BB\"}]}" }
+        codes "{\"people\":[{\"name\":\"Ann Abel\",\"roles\":[{\"from\":\"2025-01-01\",\"role\":\"CA\","
+        ++ codes "\"until\":\"2025-02-13\",\"withdrawn\":\"2025-02-13\"}],\"who\":\"AA\"}]}" }
     ensures bag { (items : Vec (List ℕ)) → items.items ≡ HSM4 ∷ []
-        → shown_text (Shown.Bag (record { serial = bag_7; spot = Spots.InBox East 3; items = items })) ≡
-        codes "{\"items\":[\"HSM4\"],\"serial\":\"BB51184287\",\"spot\":\"box 3 EAST\"}" }
-    ensures room { (people : Vec (List ℕ)) → people.items ≡ AA ∷ BB ∷ []
-        → shown_text (Shown.Room (record { at = ninth_second; people = people })) ≡
-        codes "{\"at\":\"2000-01-01T00:00:09Z\",\"in\":[\"AA\",\"BB\"]}" }
+        → shown_text (Shown.Bag (record { serial = bag_8; spot = Spots.Table East; items = items })) ≡
+        codes "{\"items\":[\"HSM4\"],\"serial\":\"BB51184288\",\"spot\":\"table EAST\"}" }
 {}

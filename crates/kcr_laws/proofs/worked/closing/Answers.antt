@@ -1,9 +1,0 @@
-use Rattle.std.proofs.Common.{[], ◌∷◌, refl}
-use Rattle.kcr_laws.specs.Examples.{AA}
-use Rattle.kcr_laws.proofs.Trials.{Seated, answered}
-use Rattle.kcr_laws.proofs.WorkedRows.{rows_on_literals}
-use Rattle.kcr_laws.proofs.worked.closing.Goals as goal
-
-pub returns : goal.returns
-unfolding rows_on_literals
-returns c = answered _ _ (Seated (AA ∷ []) ∷ []) _ refl

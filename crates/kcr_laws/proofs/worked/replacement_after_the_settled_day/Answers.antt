@@ -1,8 +1,0 @@
-use Rattle.std.proofs.Common.{[], refl}
-use Rattle.kcr_laws.proofs.Trials.{answered}
-use Rattle.kcr_laws.proofs.WorkedRows.{rows_on_literals}
-use Rattle.kcr_laws.proofs.worked.replacement_after_the_settled_day.Goals as goal
-
-pub returns : goal.returns
-unfolding rows_on_literals
-returns c = answered _ _ [] _ refl
