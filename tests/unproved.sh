@@ -15,8 +15,6 @@ cp tests/unproved/alone/main.txt "$work/crates/seats_alone/src/main.rt"
 for file in tests/unproved/*.txt; do
   cp "$file" "$work/crates/kcr_unproved/src/$(basename "$file" .txt).rt"
 done
-# how the program serves one connection
-cp crates/kcr_tool/src/one.rt "$work/crates/kcr_unproved/src/"
 # the requests of a case, as bytes of the crate
 python3 - "$work/crates/kcr_unproved/src/stream.rt" tests/cases/bag-into-a-box << 'PYTHON'
 import pathlib
