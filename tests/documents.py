@@ -9,9 +9,11 @@ program takes exactly the parts of paths and the members of bodies that docs/ope
 each form and bound; that the examples fit the schemas; that the refusals in docs/REFUSALS.md, docs/API.md and
 docs/openapi.yaml have the numbers, words, statuses and members of the code, and docs/kcr.1 their sentences; that the
 man page, and docs/OPERATING.md and docs/AUDIT.md together, have each line that the program prints for a fault or a
-finding, and no other; that the SQL texts are as many as docs/COST.md says; and that the pages stay short. With names
-only the tests with these names run. Examples with sqlite3 are left out if it is missing, and docs/openapi.yaml without
-PyYAML. What docs/OPERATING.md says of a machine is tried by `operating.py`.
+finding, and no other; that each number of things that a page counts is that of the things, and each list of crates,
+files, scripts and mutants has those that are there; that the commands of docs/EXAMPLE.md run; and that the pages stay
+short. With names only the tests with these names run. Examples with sqlite3 are left out if it is missing, and
+docs/openapi.yaml without PyYAML. What docs/OPERATING.md says of a machine is tried by `operating.py`, the first screen
+of README.md by `examples.py`.
 
 An example is a fenced block of a page. `http request` has requests, and the block `http answer` behind it their
 answers. Each line of a head is sent with CR LF, a body is as long as its head says, and the empty lines between two
@@ -28,6 +30,7 @@ import sys
 sys.dont_write_bytecode = True  # no files beside these
 
 import contextlib
+import fnmatch
 import functools
 import itertools
 import json
@@ -235,10 +238,16 @@ def functions(crate):
     return found
 
 
+DECIDING = "kcr_people kcr_custody kcr_room kcr_rules kcr_script kcr_seats kcr_machine".split()
+NOT_FIRST = {  # functions that give a refusal which an earlier one has given before them
+    (20, "kcr_rules::changed_stays"), (22, "kcr_room::add_rows"), (22, "kcr_room::add_stays"),
+    (24, "kcr_room::add_rows"), (24, "kcr_rules::record_sheet")}
+
+
 def decided(_):
-    """Each function that docs/REFUSALS.md names beside a refusal has it in its body, and the table of what 10 names has
-    the members of the code."""
-    text, crate = text_of("docs/REFUSALS.md"), None
+    """docs/REFUSALS.md names beside each refusal the functions that have it in their bodies: those of 11 to 32 are all
+    of the crates that decide. The table of what 10 names has the members of the code."""
+    text, crate, told = text_of("docs/REFUSALS.md"), None, set()
     code = text_of("crates/kcr_base/src/refusal.rt")
     numbers = re.findall(r"Refusal::(\w+)(?: \{ \.\. \})? => ([0-9]+),", functions("kcr_base")["number"])
     variants = {int(number): name for name, number in numbers}
@@ -249,9 +258,22 @@ def decided(_):
             crate, _, name = name.rpartition("::") if "::" in name else (crate, "", name)
             body = functions(crate).get(name, "")
             expect(f"{crate}::{name} gives {number}", True, f"Refusal::{variants[int(number)]}" in body)
+            told.add((int(number), f"{crate}::{name}"))
+    given = {(number, f"{crate}::{name}") for crate in DECIDING for name, body in functions(crate).items()
+             for number, variant in variants.items() if 11 <= number <= 32
+             and f"Refusal::{variant}" in re.sub("//.*", "", body)}
+    expect("the functions that are not named", NOT_FIRST, given - told)
     members = re.search(r"(?s)\| Members \| Form \|\n(.*?)\n\n", text)[1]
     agree("the members", sorted(re.findall(r'Member::\w+ => "(\w+)"', code)),
           sorted(re.findall(r"`(\w+)`", " ".join(re.findall(r"(?m)^\| (`[^|]*) \|", members)))))
+
+
+def spelled(_):
+    """The texts of refusals that `kcr_history` writes have the numbers and words of `kcr_base`."""
+    text = text_of("crates/kcr_history/src/refusals.rt")
+    numbers, words = re.findall(r'\\"number\\":([0-9]+)', text), re.findall(r'\\"refusal\\":\\"(\w+)', text)
+    agree("the words", [(number, word) for number, (word, *_) in sorted(refusals().items())],
+          sorted(zip(map(int, numbers), words, strict=True)))
 
 
 def named(_):
@@ -597,6 +619,123 @@ def texts_fit(_):
     expect("whether they fit", True, len(texts) + BEGIN_AND_COMMIT <= PLANS_KEPT)
 
 
+# Counts and lists
+
+COUNTED = ("no one two three four five six seven eight nine ten eleven twelve thirteen fourteen fifteen sixteen "
+           "seventeen eighteen nineteen twenty").split()
+
+
+def numbers_in(page, words):
+    """The numbers that stand in a sentence of a page, for which `words` has a group each."""
+    found = re.search(words, text_of(page))
+    if not found:
+        raise Wrong(f"{page} does not have {words!r}")
+    return [COUNTED.index(text) if text in COUNTED else int(text.replace(",", "")) for text in found.groups()]
+
+
+def crates():
+    """The crates of crates.txt."""
+    return sorted(re.findall(r"(?m)^(\w+)", text_of("crates.txt")))
+
+
+def things():
+    """Each count of a page: the page, the words around it, and the numbers that are right."""
+    lines = numbers_in("docs/GATE.md", r"\| together \| [\d,]+ \| ([\d,]+) \| ([\d,]+) \| ([\d,]+) \|")
+    reads = [schema_in(operation["responses"]["200"]) is not None for _, method, operation in operations()
+             if method == "GET"]
+    commands = sum(method == "POST" for _, method, _ in operations())
+    requests = len(kcr.messages((ROOT / "examples/ceremony.http").read_bytes()))
+    audits = re.search(r"\((\d+), \1\), \(len\(TAMPERINGS\)", text_of("tests/audit.py"))
+    yield ("README.md", r"code has ([\d,]+) lines, the definitions ([\d,]+), the proofs ([\d,]+)",
+           [round(count, -2) for count in lines])
+    yield "README.md", r"the (\d+) refusals in", [len(refusals())]
+    yield ("CHANGELOG.md", r"(\w+) commands, (\w+) questions, (\w+) reports, and the accepted commands",
+           [commands, sum(reads), len(reads) - sum(reads) - 1])
+    of_history = len(kcr.TABLES) - 1  # all but `versions`
+    yield "docs/MAP.md", r"the (\w+) tables, read and changed", [of_history]
+    yield "docs/DEFINITIONS.md", r"the rows of (\w+) tables", [of_history]
+    yield "docs/AUDIT.md", r"does (\d+) things", [int(audits[1])]
+    yield "docs/TESTS.md", r"the (\d+) changes of", [int(audits[1])]
+    yield "docs/AUDIT.md", r"in some (\d+) lines of Python", [round(len(text_of("tools/check.py").splitlines()), -1)]
+    yield "docs/EXAMPLE.md", r"the script, (\d+) steps", [len(text_of("examples/ceremony.csv").splitlines()) - 1]
+    yield "docs/EXAMPLE.md", r"(\d+) requests as one stream", [requests]
+    yield "docs/TESTS.md", r"(\d+) registers \(`tests/files`\)", [len(list((ROOT / "tests/files").iterdir()))]
+
+
+def counted(_):
+    """Each number of things that a page counts is right, and the tables of docs/GATE.md have their sums."""
+    for page, words, wanted_ones in things():
+        expect(f"{page}: {words}", wanted_ones, numbers_in(page, words))
+    for part in text_of("docs/GATE.md").split("\n## Functions"):
+        rows = [[float(cell.replace(",", "").strip() or 0) for cell in row.split("|")[1:-1]]
+                for row in re.findall(r"(?m)^\| (?:kcr_\w+|all crates|together) (\|.*)$", part)]
+        expect("the sums", [round(sum(column), 1) for column in zip(*rows[:-1])], rows[-1])
+
+
+def complete(_):
+    """The lists of crates have those of crates.txt, and docs/TESTS.md has each script that `tests/all` runs."""
+    for page, form in (("README.md", "Its crates .*"), ("docs/MAP.md", r"(?s)\n## Crates\n.*?\n\nIn each crate")):
+        found = re.findall(r"`(kcr_\w+)`", re.search(form, text_of(page))[0])
+        expect(f"the crates of {page}", crates(), sorted(set(found)))
+    for part in text_of("docs/GATE.md").split("\n## Functions"):
+        expect("the crates of a table of docs/GATE.md", crates(), sorted(re.findall(r"(?m)^\| (kcr_\w+) ", part)))
+    page = text_of("docs/TESTS.md")
+    for name in set(re.findall(r'"(\w+\.(?:py|sh))', text_of("tests/all"))):
+        expect(f"whether docs/TESTS.md has {name}", True, f"tests/{name}" in page)
+
+
+def there(_):
+    """Each file that docs/MAP.md names is there, and so are the mutants of docs/PROVED.md and docs/TESTS.md, and the
+    cases of the latter."""
+    files = {path.relative_to(ROOT / "crates").as_posix() for kind in ("rt", "antt", "edit")
+             for path in (ROOT / "crates").glob(f"*/[!o]*/**/*.{kind}")}
+    form = r"`(?:kcr_\w+/)?([a-z]\w*(?:/\w+)*\.rt|specs/\w+\.antt|proofs/\w+\.antt)`"
+    for name in re.findall(form, text_of("docs/MAP.md")):
+        expect(f"whether {name} of docs/MAP.md is there", True, any(file.endswith(f"/{name}") for file in files))
+    for names in re.findall(r"\[(`kcr_.*?)\]", text_of("docs/PROVED.md")):
+        for crate, name in re.findall(r"`(kcr_\w+)/(\w+)`", names):
+            expect(f"whether the mutant {crate}/{name} is there", True, f"{crate}/must-fail/{name}.edit" in files)
+    text = text_of("docs/TESTS.md").partition("\n## Worked examples\n")[2]
+    for line in re.findall(r"(?m)^- (`kcr_.*)$", text.partition("\n## Mutants\n")[2]):
+        owners, _, names = line.partition(": ")
+        for name in re.findall(r"`(\w+)`", re.sub(r"\(.*?\)", "", names)):
+            here = {f"{crate}/must-fail/{name}.edit" for crate in re.findall(r"kcr_\w+", owners)}
+            expect(f"whether the mutant {name} is there", True, bool(here & files))
+    cases = {path.stem for path in (HERE / "cases").iterdir()}
+    for name in set(re.findall(r"`([a-z]+(?:-(?:[a-z0-9*]|\.(?=\d))+)+)`", text)) - {"must-fail"}:
+        expect(f"whether the case {name} is there", True, bool(fnmatch.filter(cases, name)))
+
+
+# Commands without a mark
+
+def played(program, room):
+    """The commands of docs/EXAMPLE.md run as printed, each block with a new file; only the port differs."""
+    if not all(kcr.is_here(name, "docs/EXAMPLE.md") for name in ("sqlite3", "curl")):
+        return
+    blocks = re.findall(r"(?ms)^```sh\n(.*?)^```$", text_of("docs/EXAMPLE.md"))
+    expect("how many blocks", 2, len(blocks))
+    (room / "kcr").symlink_to(program)
+    for number, (text, last) in enumerate(zip(blocks, ("queries.txt", "ceremony.answers.txt"))):
+        folder = room / str(number)
+        folder.mkdir()
+        (folder / "examples").symlink_to(ROOT / "examples")
+        words = text.replace("8053", str(kcr.free_port())) + ("kill $!\n" if " &\n" in text else "")
+        run = subprocess.run(["sh", "-euc", words], cwd=folder, capture_output=True, timeout=SECONDS,
+                             env={**os.environ, "PATH": f"{room}:{os.environ['PATH']}"})
+        expect("the end", (b"", 0), (run.stderr, run.returncode))
+        expect("the last lines", True, run.stdout.endswith((ROOT / "examples" / last).read_bytes()))
+
+
+def called(program, room):
+    """The line of README.md that calls the built program `kcr` does so."""
+    line, place = re.search(r"`(program=\$PWD/(\S+);.*?)` calls", text_of("README.md")).groups()
+    (room / place).parent.mkdir(parents=True)
+    (room / place).symlink_to(program)
+    run = subprocess.run(["sh", "-c", f"{line}\ncd /\nkcr --version"], cwd=room, capture_output=True, text=True,
+                         timeout=SECONDS)
+    expect("what it prints", "kcr ", (run.stdout + run.stderr)[:4])
+
+
 def short(_):
     """README.md has fewer than 110 lines, and links to files that are there."""
     text = text_of("README.md")
@@ -617,12 +756,14 @@ def tests(program):
     """Each test: its name, what it shows, and the call that takes an empty folder."""
     for page in ("docs/API.md", "docs/AUDIT.md", "README.md"):
         yield from examples(program, page)
-    for test in (tabled, decided, named, worded, lined, short, brief):
+    for test in (tabled, decided, spelled, named, worded, lined, complete, there, short, brief):
         yield test.__name__, test.__doc__, test
+    for test in (played, called):
+        yield test.__name__, test.__doc__, functools.partial(test, program)
     if not yaml:
         kcr.leave_out("PyYAML", "docs/openapi.yaml")
         return
-    for test in (described, listed, same_paths, same_bodies, texts_fit):
+    for test in (described, listed, counted, same_paths, same_bodies, texts_fit):
         yield test.__name__, test.__doc__, test
     for test in (same_methods, same_parts, same_members):
         yield test.__name__, test.__doc__, functools.partial(test, program)

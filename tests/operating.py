@@ -5,10 +5,10 @@
 
 Shown are, for each script: its help; that it does its work, also while the register is served; and for each way in
 which it fails that it ends with status 1 and a line, and leaves what was there. Among these are a file that is not
-there, a damaged one, a changed row, a full disk, a proxy that answers HTML, and a source that was restored. Of the
-units: that a lost file does not come back empty, and that an alarm is given. Of the page: that the rehearsal runs as
-printed on two machines, that the certificates are made and the proxy refuses what the page says, and that its links
-have a place.
+there, a damaged one, a changed row, a full disk, a call inside a script that fails, a proxy that answers HTML, and a
+source that was restored. Of the units: that a lost file does not come back empty, and that each gives an alarm. Of the
+page: that the rehearsal runs as printed on two machines, and each other block of commands on one; that the certificates
+are made and the proxy refuses what the page says; and that its links have a place.
 
 systemd, apt and users are stand-ins (`machine.py`, `systemctl.py`); curl, nginx, openssl and a disk of memory are real.
 A test whose command is not installed is left out, and says so. With names only these tests run. The last line is
@@ -22,6 +22,8 @@ import contextlib
 import http.server
 import os
 import re
+import signal
+import subprocess
 import threading
 
 import kcr
@@ -257,6 +259,70 @@ def not_up(program, room):
         here.well("kcr-restore", "--service", "", good)
 
 
+# Calls that fail
+
+STAND_IN = '#!/bin/sh\ncase "${0##*/} $*" in $FAILS) exit 1 ;; esac\nPATH=${PATH#*:}\nexec "${0##*/}" "$@"\n'
+UNCHANGED = "Nothing was changed."
+BROKEN_OFF = (  # the script, the call in it that fails, and what is said; BACKUP, TEXT and FOLDER are given to it
+    ("kcr-backup FOLDER", "mktemp *", "cannot be written"),
+    ("kcr-backup FOLDER", "kcr verify *", "could not be verified"),
+    ("kcr-save FOLDER", "mktemp *", "cannot be written"),
+    ("kcr-save FOLDER", "kcr export *", "could not be exported"),
+    ("kcr-save FOLDER", "kcr run *", "could not be tried"),
+    ("kcr-save FOLDER", "kcr export *again.db", "could not be tried"),
+    ("kcr-save FOLDER", "cmp *", "does not make the register again"),
+    ("kcr-restore BACKUP", "mktemp *", f"cannot be written. {UNCHANGED}"),
+    ("kcr-restore TEXT", "kcr run *", f"could not be entered. {UNCHANGED}"),
+    ("kcr-restore TEXT", "kcr export *", f"could not be compared. {UNCHANGED}"),
+    ("kcr-restore BACKUP", "kcr verify *", f"is not verified. {UNCHANGED}"),
+    ("kcr-restore BACKUP", "systemctl stop *", f"could not be stopped. {UNCHANGED}"),
+    ("kcr-follow http://127.0.0.1:1 BACKUP", "kcr export *", "cannot be read"),
+    ("kcr-follow http://127.0.0.1:1 BACKUP", "mktemp *", "cannot be written"),
+)
+IN_THE_MIDDLE = (  # the call of a restore that fails after the stop, and what is said
+    ("mv *.before-*", "could not be moved to"), ("mv *.restore-*/register.db *", "run it again"),
+    ("systemctl start *", "restored, but kcr does not start"))
+
+
+def broken_off(program, room):
+    """A call inside a script that fails ends it with status 1 and a line, and what is there stays. A restore of which
+    a move or the start failed is done by a second run."""
+    with installed(program, room / "here") as here:
+        for number in (1, 2):
+            expect("a command", kcr.accepted(number), here.post(number))
+        given = {name: room / name for name in ("BACKUP", "TEXT", "FOLDER")}
+        given["FOLDER"].mkdir()
+        given["TEXT"].write_bytes(kcr.call(program, "export", "--file", filled(program, given["BACKUP"], 1))[0])
+        here.well("kcr-new", given["BACKUP"])
+        for name in ("cmp", "kcr", "mktemp", "mv", "systemctl"):
+            here.script(f"stand-ins/{name}", STAND_IN)
+        path = f"PATH={here.root / 'stand-ins'}:{here.env['PATH']}"
+        before = here.files()
+        for script, call, why in BROKEN_OFF:
+            words = (given.get(word, word) for word in script.split())
+            here.badly(1, why, "env", f"FAILS={call}", path, *words)
+            expect(f"what is kept after {script} without {call}", [], list(given["FOLDER"].iterdir()))
+            expect(f"the register after {script} without {call}", before, here.files())
+        for call, why in IN_THE_MIDDLE:
+            here.badly(1, why, "env", f"FAILS={call}", path, "kcr-restore", given["BACKUP"])
+            here.well("kcr-restore", given["BACKUP"])
+            expect("a command again", kcr.accepted(1), here.post(1))
+        here.badly(1, "could not be made", "kcr-new", "/proc/version")
+
+
+def alarmed(program, room):
+    """A backup, a check and a copy that fail give an alarm each, as the register's unit does."""
+    with installed(program, room / "here", started=False) as here:
+        settings = here.root / "etc/default/kcr"
+        settings.write_text(re.sub('SOURCE=.*', f'SOURCE="http://127.0.0.1:{kcr.free_port()}"', settings.read_text()))
+        for name, why in {"backup": "there is no folder", "check": "does not answer", "follow": "be reached"}.items():
+            unit = f"kcr-{name}.service"
+            expect(f"the status of a start of {unit}", 1, here.run("systemctl", "start", unit)[0])
+            expect(f"whether {unit} says why", True, why in here.well("journalctl", "-u", f"kcr-{name}", "-n", "9"))
+            expect("the alarm", f"-p daemon.alert -t kcr {unit} failed: look at journalctl -u {unit}",
+                   (here.root / "alarms").read_text().splitlines()[-1])
+
+
 # A copy
 
 @contextlib.contextmanager
@@ -431,12 +497,15 @@ def proxied(program, room):
             for path, status in (("/", 302), ("/page/", 200), ("/page/main.js", 200), ("/page/serve.py", 404),
                                  ("/page/../tests/kcr.py", 404), ("/page/none.js", 404)):
                 expect(f"the desk's page, {path}", status, proxy.over_tls(room, port, "reader", "GET", (), b"", path))
-            words = ["kcr-follow", "https://kcr.example", room / "copy.db", "--connect-to", f"::127.0.0.1:{port}",
-                     "--cacert", room / "ca.pem", "--cert", room / "reader.pem", "--key", room / "reader.key"]
-            told = here.well(*words)
-            expect("the copy", f"{room / 'copy.db'}: 3 commands, was behind by 3\n", told)
-            here.badly(1, "cannot be reached", *words[:5])
-            here.badly(1, "answers with status 400", *words[:7])
+            for kind in ("pem", "key"):
+                (room / f"standby.{kind}").write_bytes((room / f"reader.{kind}").read_bytes())
+            words = proxy.printed("A copy while it serves", "sh").split()
+            words[3:3] = ["--connect-to", f"::127.0.0.1:{port}"]
+            expect("the copy", "copy.db: 3 commands, was behind by 3\n", here.well(*words, cwd=room))
+            expect("how many commands", 3, kcr.commands_in(room / "copy.db"))
+            for some, why in ((words[:5], "cannot be reached"), (words[:7], "answers with status 400")):
+                status, text = here.run(*some, cwd=room)
+                expect(f"whether {why!r} is in {text!r}", (1, True), (status, why in text))
 
 
 def steps():
@@ -472,6 +541,65 @@ def rehearsed(program, room):
         expect("what is left of the links", [], left)
 
 
+# Its other commands
+
+SERVED = "kcr serve --file register.db --port 8053 --connections 1000000 &"
+LATER = "kcr export --file register.db --until "
+
+
+def others():
+    """The blocks of commands of the page outside the rehearsal, by their first lines."""
+    text = re.sub(r"(?ms)^## A rehearsal$.*?(?=^## )", "", machine.PAGE.read_text(encoding="utf-8"))
+    return {block.splitlines()[0]: block for block in re.findall(r"(?ms)^```sh\n(.*?)^```$", text)}
+
+
+def printed(program, room):
+    """Each other block of commands of the page runs as printed: those that install and watch, back up, restore, follow
+    and take over; those that leave a command out; and those that serve the page without nginx. The first one of a copy
+    is run by `proxied`."""
+    left = others()
+    with contextlib.ExitStack() as stack:
+        here = Machine(program, room / "here")
+        stack.callback(here.run, "systemctl", "stop", "kcr")
+        backups = here.root / "var/backups/kcr"
+        for first in ("apt install ./kcr_1.0.0_amd64.deb", "systemctl enable --now kcr-check.timer",
+                      "kcr-backup /var/backups/kcr", "kcr-restore /var/backups/kcr/2025-02-13T200000Z.db",
+                      "systemctl disable --now kcr-follow.timer", "systemctl enable --now kcr-follow.timer",
+                      "systemctl stop kcr-follow.timer"):
+            if first.startswith("kcr-backup"):
+                backups.mkdir()
+                for number in (1, 2, 3):
+                    expect("a command", kcr.accepted(number), here.post(number))
+            if first == "systemctl stop kcr-follow.timer":
+                here.well("systemctl", "stop", "kcr")
+            here.well("sh", "-euc", here.here(left.pop(first)), cwd=room)
+            for made in backups.glob("*Z.db"):
+                made.rename(backups / "2025-02-13T200000Z.db")
+        copied = here.file.parent / "before" / REGISTER
+        (room / REGISTER).write_bytes(copied.read_bytes())
+        later = left.pop(next(first for first in left if first.startswith(LATER)))
+        here.well("sh", "-euc", f"N=2; {later}", cwd=room)
+        expect("the commands before and after", (1, 1),
+               (kcr.commands_in(room / "corrected.db"), (room / "rest.http").read_text().count("POST ")))
+        (room / "page").symlink_to(machine.TOP / "page")
+        served(here, room, left.pop(SERVED))
+    expect("what is not run", [proxy.printed("A copy while it serves", "sh").splitlines()[0]], list(left))
+
+
+def served(here, room, block):
+    """The page and the register, by the block that serves both, answer on the page's port."""
+    port = str(kcr.free_port())
+    words = ["sh", "-euc", here.here(block).replace("8080", port)]
+    with subprocess.Popen(words, cwd=room, env=here.env, stdout=subprocess.DEVNULL, start_new_session=True) as run:
+        try:
+            for path in ("/page/", "/people"):
+                asked = ("curl", "-sf", "--retry", "60", "--retry-delay", "1", "--retry-all-errors",
+                         f"http://127.0.0.1:{port}{path}")
+                expect(f"whether {path} has an answer", True, here.well(*asked) != "")
+        finally:
+            os.killpg(run.pid, signal.SIGKILL)
+
+
 def links(_program, _room):
     """Each link of the page to a heading of it has one, and each file that it links to is there."""
     text = machine.PAGE.read_text(encoding="utf-8")
@@ -481,9 +609,10 @@ def links(_program, _room):
                heading in headings if not file else (machine.PAGE.parent / file).exists())
 
 
-TESTS = [helps, made_once, lost_file, backed_up, saved, full_disk, restored, not_restored, not_up, followed,
-         another_history, many_answers, no_source, checked, proxied, rehearsed, links]
-CURLED = [lost_file, full_disk, followed, another_history, many_answers, no_source, checked, rehearsed]
+TESTS = [helps, made_once, lost_file, backed_up, saved, full_disk, restored, not_restored, not_up, broken_off, alarmed,
+         followed, another_history, many_answers, no_source, checked, proxied, rehearsed, printed, links]
+CURLED = [lost_file, full_disk, alarmed, followed, another_history, many_answers, no_source, checked, rehearsed,
+          printed]
 NEEDS = dict.fromkeys(CURLED, "curl")
 NEEDS[proxied] = "curl openssl nginx"
 
