@@ -287,9 +287,8 @@ const COMPANION: &str =
 /// says on `faults` if there is no register or one without commands. With `--explain` it says so before a refusal too,
 /// and a second line names what failed.
 ///
-/// What was written is told of a reader that tells the bytes it has left, and of writers that tell those they hold: as
-/// byte slices and vectors do in this library, and files, sockets and terminals never do. `start` stands for what a
-/// register's file and its log held: see `run_file`.
+/// Clauses about output hold only for readers and writers that expose their bytes: slices and vectors do; files,
+/// sockets and terminals do not. `start` stands for what a register's file and its log held: see `run_file`.
 pub fn act<B: Start, R: Read, W: Write, F: Write>(
     rt: &HostRuntime,
     start: B,
