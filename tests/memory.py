@@ -15,8 +15,8 @@ ends with the line `fault: memory` after the answers so far, or with `open: memo
 holds. The file then has the rows of what was answered and no others, the audit finds nothing, and accepted commands get
 their answers again. Two refusals in one run have no other effects. A report or an audit of a file is written whole, or
 a prefix of it and then the line `refused: 33 memory`, or one of those two lines; the file does not change. After `open:
-memory` a new file has no table, and a register of any version is as it was. With names only the tests with these names
-run.
+memory` a new file has no table, and a register of any version is as it was. In too little address space a task over a
+copy of files says that memory ran out, and never that the disk failed. With names only the tests with these names run.
 
 The last line is `N passed, M failed`, and the status is 0 if none failed. Without a C compiler nothing is tested, and
 it says so.
@@ -27,15 +27,18 @@ sys.dont_write_bytecode = True  # no files beside these
 
 import pathlib
 import random
+import resource
 
 import kcr
 from kcr import Wrong, call, expect
 
-# the step from one N to the next during the opening, and after it
+# the step from one N to the next during the opening, and after it; in `little_space`, from one number of MB to the next
 STRIDES = {"over_memory": (1, 1), "over_a_file": (601, 29), "examples_over_memory": (601, 1),
-           "examples_over_a_file": (601, 41), "reports": (601, 1), "two_refusals": (601, 601), "openings": (61, 61)}
+           "examples_over_a_file": (601, 41), "reports": (601, 1), "two_refusals": (601, 601), "openings": (61, 61),
+           "little_space": (2, 2)}
 WHOLE = {"over_memory": (1, 1), "over_a_file": (1, 1), "examples_over_memory": (601, 1),
-         "examples_over_a_file": (601, 1), "reports": (1, 1), "two_refusals": (601, 601), "openings": (1, 1)}
+         "examples_over_a_file": (601, 1), "reports": (1, 1), "two_refusals": (601, 601), "openings": (1, 1),
+         "little_space": (1, 1)}
 LACKING = {1: ("withdrawals", "stays"), 2: ("withdrawals",), 3: ()}  # the tables that a version does not have
 EMPTY = ["BEGIN TRANSACTION;", "COMMIT;"]  # a database without tables, as sqlite3 dumps it
 EXAMPLES = ["entered-and-listed", "signed-by-two", "step-out-of-order", "presence-at-the-moment", "serial-used-once"]
@@ -297,7 +300,30 @@ def reports(program, library, room, strides):
     expect("the files", held, kcr.contents(file))
 
 
-TESTS = [over_memory, over_a_file, examples_over_memory, examples_over_a_file, two_refusals, openings, reports]
+def little_space(program, _library, room, strides):
+    """A task over a copy of a register with a long log, in 12 to 60 MB of address space: it is done, or memory ran out,
+    and no disk has failed."""
+    file, into = room / "register", room / "into"
+    answered(program, [kcr.person(b"k%d" % number, kcr.initials(number), b"Ann Abel") for number in range(300)],
+             "--file", file)
+    expect("whether the log is long", True, kcr.log_of(file).stat().st_size > 2_000_000)
+    for words in [("custody",), ("export",), ("journal",), ("audit",), ("verify",), ("pack", "--into", into)]:
+        unopened = 0
+        for size in range(12, 61, strides[0]):
+            into.unlink(missing_ok=True)
+            most = size * 1_000_000
+            told = call(program, *words, "--file", file,
+                        preexec_fn=lambda: resource.setrlimit(resource.RLIMIT_AS, (most, most)))
+            if told[1].startswith(b"open: disk"):
+                raise Wrong(f"{words[0]} in {size} MB of address space: {told!r:.300}")
+            unopened += told[1:] == UNOPENED
+        print(f"    {words[0]}: `open: memory` at {unopened} sizes")
+        expect(f"{words[0]} in the end", 0, told[2])
+        expect(f"{words[0]} is not opened for memory at some size", True, unopened > 0)
+
+
+TESTS = [over_memory, over_a_file, examples_over_memory, examples_over_a_file, two_refusals, openings, reports,
+         little_space]
 
 
 def main():

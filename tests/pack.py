@@ -113,9 +113,13 @@ def no_places(program, room):
     (room / "logged").touch()
     (room / "logged-wal").write_bytes(b"\0")
     refused(program, file, room / "logged", (b"", b"into: filled\n", 1))
+    (room / "lone-wal").write_bytes(b"\0")
+    refused(program, file, room / "lone", (b"", b"into: filled\n", 1))
     (room / "hot").touch()
     (room / "hot-journal").write_bytes(bytes.fromhex("d9d505f920a163d7") + bytes(504))
     refused(program, file, room / "hot", disk("opening", room / "hot", "into"))
+    (room / "unlogged-wal").mkdir()  # so that a file is made and no log
+    refused(program, file, room / "unlogged", disk("opening", room / "unlogged", "into"))
     told = call(program, "pack", "--file", file, "--into", room / "none" / "into")
     expect("no folder", disk("opening", room / "none" / "into", "into"), told)
     expect("a folder", disk("opening", room, "into"), call(program, "pack", "--file", file, "--into", room))

@@ -292,6 +292,20 @@ def longest_time(program, _room):
         expect("the end", ENDED, server.end())
 
 
+def many_wait(program, _room):
+    """Behind a client that holds the desk as many wait as the system allows, here 300 or fewer."""
+    count = min(300, int(pathlib.Path("/proc/sys/net/core/somaxconn").read_text()))
+    with Server(program, count + 1) as server, contextlib.ExitStack() as peers:
+        peers.enter_context(connect(server.port))
+        for number in range(count):
+            peer = peers.enter_context(socket.socket())
+            peer.settimeout(0.9)  # a client whose first attempt is dropped tries again after a second
+            try:
+                peer.connect(("127.0.0.1", server.port))
+            except OSError as error:
+                raise Wrong(f"client {number} cannot wait: {error}") from None
+
+
 def beyond_the_end(program, room):
     """The feed is refused after more commands than there are, and empty after the last one, in memory and over a
     file."""
@@ -619,8 +633,8 @@ def bad_clients(program, room, clients=CLIENTS):
 
 
 TESTS = [in_turn, one_connection, many_connections, closing_answers, cut_connections, out_of_range, most_connections,
-         taken_port, silent_clients, longest_time, beyond_the_end, slow_takers, scarce_memory, line_is_not_written,
-         breaking_register, lost_files, changed_files, bad_clients]
+         taken_port, silent_clients, longest_time, many_wait, beyond_the_end, slow_takers, scarce_memory,
+         line_is_not_written, breaking_register, lost_files, changed_files, bad_clients]
 
 
 def main():

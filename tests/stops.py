@@ -13,8 +13,8 @@ twice: all that was written, as when the program alone ends, and only what each 
 machine stops. Either has, as sqlite3 reads it, the tables as they were before the step that was stopped or as they are
 after it, and so all commands that were answered; and the commands from the stopped one on, and the accepted one before
 it, sent again, get the answers that they would have had. Of a port: the program ends with a line after a connection in
-which the file stopped. Of reports: where a write fails a beginning was printed, and the next report is whole. With
-names only the tests with these names run.
+which the file stopped. Of reports: where a write fails a beginning was printed, and the next report is whole. Of a pack
+and a rebuild: no file without a byte is left that was made for it. With names only the tests with these names run.
 
 The last line is `N passed, M failed`, and the status is 0 where none failed. Where there is no C compiler nothing is
 tested, and it says so.
@@ -210,8 +210,34 @@ def reports_are_cut(program, library, room):
     expect("the files", held, kcr.contents(file))
 
 
+def no_empty_file_is_left(program, library, room):
+    """A file stops while a register is packed or rebuilt into it: of one that was not there before, none without a byte
+    is left; one that was there stays."""
+    file, into = room / "register", room / "into"
+    call(program, "run", "--file", file, stream=b"".join(kcr.short_ceremony()))
+    for task, which, was_there in itertools.product(("pack", "rebuild"), ("database", "log"), (False, True)):
+        for calls in itertools.count():
+            for path in (into, log_of(into)):
+                path.unlink(missing_ok=True)
+            if was_there:
+                into.touch()
+            what = {"REGISTER": str(into), "CALLS": str(calls)} | ({"LOG": "1"} if which == "log" else {})
+            told, is_stopped = kcr.faulty(program, library, what, task, "--file", file, "--into", into)
+            if not is_stopped:
+                break
+            name = f"{task}, the {which} stopped after {calls} calls: {told!r:.300}"
+            if was_there:
+                expect(f"{name}: whether the file is there", True, into.exists())
+            else:
+                expect(f"{name}: whether a file without a byte is left", False,
+                       into.exists() and into.stat().st_size == 0)
+                expect(f"{name}: whether a log without its file is left", False,
+                       log_of(into).exists() and not into.exists())
+        expect(f"{task} with nothing stopped", 0, told[2])
+
+
 TESTS = [tables_are_made, older_registers_are_brought, commands_are_taken, a_signature_is_taken,
-         examples_are_played, a_connection_breaks_it, reports_are_cut]
+         examples_are_played, a_connection_breaks_it, reports_are_cut, no_empty_file_is_left]
 
 
 def main():

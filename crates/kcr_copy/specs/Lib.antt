@@ -1,3 +1,4 @@
 pub mod Unread
 pub mod Image
 pub mod Packed
+pub mod Noted

@@ -6,11 +6,13 @@
 
 mod files;
 mod memory;
+mod noted;
 mod packing;
 mod reading;
 
 use kcr_log::Log;
-pub use memory::connect;
+pub use memory::{CopyConnection, CopyFile, connect, has_run_out};
+pub use noted::Noted;
 pub use packing::{Unmade, fill, play_in};
 pub use reading::{Copied, copy_of};
 

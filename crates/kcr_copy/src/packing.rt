@@ -32,11 +32,12 @@ pub fn play_in(alloc: Global, copy: Copied) -> Result<Files<Memory>, Unread>
 {
     let connection = connect(alloc, copy)?;
     match connection.close_files() {
-        Ok(files) => Ok(files),
-        Err((error, store)) => {
-            drop(store.close());
-            Err(unread(error))
+        Ok(files) => {
+            let log = files.log.into_file();
+            let db = files.db.into_file();
+            Ok(Files { log, db })
         }
+        Err((error, store)) => Err(unread(error, &store.close())),
     }
 }
 

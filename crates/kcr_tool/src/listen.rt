@@ -26,6 +26,7 @@ use kcr_words::Serving;
 use sqlite::{Alter, Start};
 use std::io::Write;
 use std::net::{Ipv4Addr, TcpListener, TcpStream};
+use std::os::fd::AsRawFd;
 
 /// Whether the register's file was found to be gone. A register in memory has none.
 fn is_lost(watch: Option<&Watch<'_>>) -> bool {
@@ -113,6 +114,8 @@ pub fn listen<S: Alter, W: Write>(
     let Ok(listener) = TcpListener::bind(rt, (Ipv4Addr::LOCALHOST, serving.port)) else {
         return Err(Fault::Net(Call::Binding));
     };
+    // The kit's listener lets 128 connections wait. Listening once more, it lets as many wait as the system allows.
+    let _ = libc::net::listen(listener.as_raw_fd(), i32::MAX);
     let Ok(line) = around(
         rt.alloc(),
         "listening 127.0.0.1:",

@@ -11,9 +11,9 @@ ghost use Rattle.std.specs.Prelude.{◌≡◌, ◌⊎◌, ◌≤◌};
 mod act;
 mod audit;
 mod listen;
-mod one;
 mod opening;
 mod pack;
+mod place;
 mod tasks;
 mod verify;
 

@@ -14,12 +14,11 @@ ghost use Rattle.kcr_history.specs.History.{History};
 ghost use Rattle.kcr_store.specs.Opening.{FilesHoldHistory, IsGenuine};
 ghost use Rattle.kcr_store.specs.Register.{StandsAt, whole};
 
-use kcr_copy::{Copied, Unread, connect, copy_of};
+use kcr_copy::{Copied, CopyConnection, CopyFile, Unread, connect, copy_of, has_run_out};
 use kcr_fault::{Fault, Missing, Step};
 use kcr_store::{FileRegister, OpenFault, Register};
 use kcr_watch::Watch;
 use sqlite::{Alter, Connection, Error, ErrorCode, FileFrom, FileStore, Files, Start};
-use sqlite_disk::Memory;
 use sqlite_std_file::OpenError;
 use std::alloc::Global;
 use std::fs;
@@ -28,11 +27,8 @@ use std::io::ErrorKind;
 /// A connection to the files at a path.
 pub type FileConnection<F> = Connection<FileStore<FileFrom<F>>>;
 
-/// A connection to a copy of files.
-pub type CopyConnection = Connection<FileStore<Memory>>;
-
 /// The register in a copy of files.
-pub type CopyRegister = Register<FileStore<Memory>>;
+pub type CopyRegister = Register<FileStore<CopyFile>>;
 
 /// Why a file was not read, as the fault of a task.
 pub fn fault_of_reading(unread: Unread) -> Fault
@@ -127,6 +123,32 @@ pub fn take<S: Alter + Drop>(alloc: Global, connection: Connection<S>) -> Result
     }
 }
 
+/// Why the database in a copy of files was not taken, as the fault of a task. The engine tells memory that ran out for
+/// such a copy as a fault of its disk.
+fn fault_of_copy(fault: OpenFault, connection: CopyConnection) -> Fault
+    ensures { StopsOpening result }
+{
+    let has_run_out = has_run_out(connection);
+    match fault {
+        OpenFault::Disk if has_run_out => Fault::Open(OpenFault::Memory),
+        other => fault_of_taking(other),
+    }
+}
+
+/// As `take`, of a copy of files.
+pub fn take_copied(alloc: Global, connection: CopyConnection) -> Result<CopyRegister, Fault>
+    requires autocommit { connection.in_transaction ≡ false }
+    ensures unbroken { IfOk result (λ r. r.is_broken ≡ false) }
+    ensures stands { IfOk result (λ r. (A : History) → IsGenuine A (file_state connection)
+        → StandsAt over_files (whole A) r) }
+    ensures cause { IfErr result StopsOpening }
+{
+    match Register::adopt(alloc, connection) {
+        Ok(register) => Ok(register),
+        Err((fault, left)) => Err(fault_of_copy(fault, left)),
+    }
+}
+
 /// Opens the register in a file, to be written; a missing file is created. First a copy of it is opened in memory: so
 /// what is refused is refused before a byte is written, and before a log is created. `start` stands for what the file
 /// and its log held, which no code can read: the register stands at each history of which that was the tables.
@@ -137,7 +159,7 @@ pub fn open_file<F: Start>(rt: &HostRuntime, path: &str, start: F) -> Result<Fil
     ensures cause { IfErr result StopsOpening }
 {
     let (copy, _) = connect_to_copy(rt, path)?;
-    take(rt.alloc(), copy)?;
+    take_copied(rt.alloc(), copy)?;
     match connect_to(rt, path, start) {
         Ok(connection) => take(rt.alloc(), connection),
         Err(Some(step)) => Err(Fault::File(step)),
@@ -229,7 +251,7 @@ pub fn open_copied(alloc: Global, copy: Copied) -> Result<(CopyRegister, Option<
         Ok(connection) => connection,
         Err(unread) => return Err(fault_of_reading(unread)),
     };
-    let register = take(alloc, connection)?;
+    let register = take_copied(alloc, connection)?;
     let missing = missing_of(is_there, register.last_number());
     Ok((register, missing))
 }

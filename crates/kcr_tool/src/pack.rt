@@ -6,7 +6,8 @@ ghost use Rattle.kcr_tool.specs.Runs.{Finishes};
 ghost use Rattle.kcr_fault.specs.Lines.{packed_head};
 ghost use Rattle.kcr_tool.specs.Verifications.{WritesVerified, TellsWholeFront};
 
-use crate::opening::{copy_named, fault_of_reading, files_at, take};
+use crate::opening::{copy_named, fault_of_reading, files_at, take_copied};
+use crate::place::{is_free, remove_log, take_back};
 use crate::verify::write_verification;
 use kcr_base::Counted;
 use kcr_copy::{Copied, Unmade, connect, fill, play_in};
@@ -16,8 +17,7 @@ use kcr_verify::{CreateFault, Verification};
 use sqlite::{Files, Start, Unknown};
 use sqlite_disk::Memory;
 use std::alloc::{AllocError, Global};
-use std::fs;
-use std::io::{self, Write};
+use std::io::Write;
 
 /// One file with everything that a register's file and its log hold, in memory.
 #[derive(Drop)]
@@ -49,7 +49,7 @@ fn commands_in(alloc: Global, bytes: &[u8]) -> Result<u32, Fault>
         Ok(connection) => connection,
         Err(unread) => return Err(fault_of_reading(unread)),
     };
-    let register = take(alloc, connection)?;
+    let register = take_copied(alloc, connection)?;
     Ok(register.last_number())
 }
 
@@ -69,16 +69,6 @@ pub fn read_packed(rt: &HostRuntime, path: &str) -> Result<Packed, Fault>
         return Err(Fault::Nothing(Missing::Empty));
     }
     Ok(Packed { files, count })
-}
-
-/// Takes away the log beside a new file, which its opening has made, unless the log has a byte.
-fn remove_log(rt: &HostRuntime, path: &str) -> io::Result<()> {
-    let real = fs::canonicalize(rt, path)?;
-    let log = format!(in rt.alloc(); "{}-wal", real.as_str())?;
-    if fs::symlink_metadata(rt, log.as_str())?.len() == 0 {
-        fs::remove_file(rt, log.as_str())?;
-    }
-    Ok(())
 }
 
 /// Writes the bytes of a new file at the path, where there is none or it holds nothing, and waits until they are safe.
@@ -102,9 +92,9 @@ fn make<S: Start>(rt: &HostRuntime, path: &str, start: S, bytes: &[u8]) -> Resul
 }
 
 /// Writes a packed register into the file at the path, where there is none or it holds nothing, and a line that says
-/// how many commands it has. Where the file cannot be made, nothing is written.
+/// how many commands it has. The faults are those of `pack`.
 #[tactic(auto, using(crate::proofs::Causes::making_stops, crate::proofs::Causes::replay_stops))]
-pub fn pack<W: Write>(
+fn pack_into<W: Write>(
     rt: &HostRuntime,
     packed: &Packed,
     path: &str,
@@ -118,4 +108,24 @@ pub fn pack<W: Write>(
     make(rt, path, Unknown, packed.files.db.bytes())?;
     let whole = Verification::Verified(packed.count as usize);
     write_verification(rt.alloc(), "packed: ", &whole, output)
+}
+
+/// Writes a packed register into the file at the path, where there is none or it holds nothing, and a line that says
+/// how many commands it has. Where the file cannot be made, nothing is written, and a file without a byte that was made
+/// for it is taken away.
+pub fn pack<W: Write>(
+    rt: &HostRuntime,
+    packed: &Packed,
+    path: &str,
+    output: &mut Counted<W>,
+) -> Result<u8, Fault>
+    ensures ends { Finishes (WritesVerified packed_head (writing W.contents output.old output.new))
+        (TellsWholeFront packed_head (writing W.contents output.old output.new))
+        (writing W.contents output.old output.new) result }
+    ensures cause { IfErr result (StopsRebuild (writing W.contents output.old output.new)) }
+{
+    let was_free = is_free(rt, path);
+    let ended = pack_into(rt, packed, path, output);
+    take_back(rt, path, was_free, &ended);
+    ended
 }

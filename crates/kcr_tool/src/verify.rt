@@ -20,9 +20,10 @@ ghost use Rattle.kcr_verify.specs.Fresh.{IsMadeOn};
 ghost use Rattle.kcr_verify.specs.Verification.{EndsAt, IsFresh, IsVerification};
 
 use crate::opening::{connect_to, fault_of_reading, fault_of_taking};
+use crate::place::{is_free, take_back};
 use itoa::Buffer;
 use kcr_base::{Counted, Refusal};
-use kcr_copy::{Copied, Unread, connect, copy_of};
+use kcr_copy::{Copied, CopyConnection, Unread, connect, copy_of, has_run_out};
 use kcr_fault::{Fault, Missing, Step, around};
 use kcr_history::FullView;
 use kcr_print::write_whole;
@@ -115,6 +116,20 @@ pub fn write_verification<W: Write>(
     }
 }
 
+/// Why no rows of a copy of files were read. The engine tells memory that ran out for such a copy as a fault of its
+/// disk, as it does an invalid row.
+#[tactic(auto, using(crate::proofs::Causes::opening_reads))]
+fn fault_of_rows(fault: OpenFault, connection: CopyConnection) -> Fault
+    ensures { StopsReading result }
+{
+    let has_run_out = has_run_out(connection);
+    match fault {
+        OpenFault::Disk if has_run_out => Fault::Open(OpenFault::Memory),
+        OpenFault::Disk => Fault::Refused(Refusal::Disk),
+        other => fault_of_taking(other),
+    }
+}
+
 /// All rows of the register that a copy of its file and its log holds, whichever version it is of. `Refused` comes for
 /// an invalid row, as it does in a report.
 #[tactic(auto, using(crate::proofs::Causes::opening_reads))]
@@ -129,8 +144,7 @@ pub fn rows_of(alloc: Global, copy: Copied) -> Result<FullView, Fault>
             let mut connection = connection;
             match read_tables(alloc, &mut connection) {
                 Ok(rows) => Ok(rows),
-                Err(OpenFault::Disk) => Err(Fault::Refused(Refusal::Disk)),
-                Err(fault) => Err(fault_of_taking(fault)),
+                Err(fault) => Err(fault_of_rows(fault, connection)),
             }
         }
         Err(unread) => Err(fault_of_reading(unread)),
@@ -251,12 +265,29 @@ fn fresh_in<B: Start>(rt: &HostRuntime, path: &str, start: B) -> Result<FileRegi
     }
 }
 
+/// Makes a new register in the file at the path, and gives it the commands among these rows of a register. What is told
+/// and the errors are those of `rebuild`.
+#[tactic(auto, using(crate::proofs::Causes::making_stops, crate::proofs::Causes::replay_stops))]
+fn rebuild_into<W: Write>(
+    rt: &HostRuntime,
+    rows: FullView,
+    path: &str,
+    output: &mut Counted<W>,
+) -> Result<u8, Fault>
+    ensures ends { EndsVerification rebuilt_head (λ _. Unit {0}) (writing W.contents output.old output.new) result }
+    ensures cause { IfErr result (StopsRebuild (writing W.contents output.old output.new)) }
+{
+    let mut fresh = fresh_in(rt, path, Unknown)?;
+    rebuild_in(rt.alloc(), rows, &mut fresh, output)
+}
+
 /// Makes a new register in the file at the path, if there is none or it holds nothing, and gives it the commands
 /// among these rows of a register: a line that says of how many commands both are the register, or the first thing that
 /// differs from what the commands lead to, and the exit status, 1 if something differs. The new register has then
 /// the commands before the one that differs, that one too if its reply does, and all of them if a table does. Out
 /// of memory is refused (33), as is a fault of the new register's device (34); it then keeps what it was given. In all
-/// these cases, and if no new register can be made, nothing is written; of no command none is made.
+/// these cases, and if no new register can be made, nothing is written; of no command none is made, and a file without a
+/// byte that was made for it is taken away.
 #[tactic(auto, using(crate::proofs::Causes::making_stops, crate::proofs::Causes::replay_stops))]
 pub fn rebuild<W: Write>(
     rt: &HostRuntime,
@@ -270,6 +301,8 @@ pub fn rebuild<W: Write>(
     if rows.keys.is_empty() {
         return Err(Fault::Nothing(Missing::Empty));
     }
-    let mut fresh = fresh_in(rt, path, Unknown)?;
-    rebuild_in(rt.alloc(), rows, &mut fresh, output)
+    let was_free = is_free(rt, path);
+    let ended = rebuild_into(rt, rows, path, output);
+    take_back(rt, path, was_free, &ended);
+    ended
 }
