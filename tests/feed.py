@@ -8,7 +8,7 @@ order of their numbers, each as one request with exactly the members that the co
 docs/API.md; that a new register that takes them gives the kept answers and has the same rows; that this register tells
 them by the same bytes; that a register with the first of them takes the rest and keeps what it had; where the feed ends
 and what it refuses; that it can be asked for while commands come in; and that a standby has a front of the commands
-whenever the first register is killed.
+whenever the first register is killed. Long commands come as many at a time as fit into 1 MiB.
 
 The last line is `N passed, M failed`, and the status is 0 where none failed.
 """
@@ -25,7 +25,7 @@ import threading
 import kcr
 from kcr import Wrong, call, expect
 
-AT_MOST = 1000  # commands in one answer of the feed
+AT_MOST, LONGEST = 1000, 1_048_576  # commands, and their bytes, in one answer of the feed
 GREATEST = 4_000_000_000
 KILLS = 50
 
@@ -78,16 +78,21 @@ def asked(program, file, *numbers):
 
 
 def feed(program, file, after=0):
-    """The feed of a file behind this number, asked for until it is empty; each answer but the last is full."""
+    """The feed of a file behind this number, asked for until it is empty; each answer but the last is full: a further
+    command would be too many, or too long."""
     found = []
     while True:
         text, = asked(program, file, after)
         commands = kcr.messages(text)
+        if found and len(kcr.messages(found[-1])) < AT_MOST:
+            expect("whether a further command is too long", True,
+                   not commands or len(found[-1]) + len(commands[0]) > LONGEST)
+        if not commands:
+            return b"".join(found)
+        expect("whether the commands of one answer are few and short", True,
+               len(commands) <= AT_MOST and len(text) <= LONGEST)
         found.append(text)
         after += len(commands)
-        if len(commands) < AT_MOST:
-            return b"".join(found)
-        expect("the commands of one answer", AT_MOST, len(commands))
 
 
 def filled(program, file, stream):
@@ -191,6 +196,20 @@ def a_thousand_at_a_time(program, room):
     expect("the answers joined", b"".join(commands), b"".join(texts))
 
 
+def long_commands(program, room):
+    """Ceremonies with scripts of some 100 KB come as many at a time as fit into an answer, also one by one."""
+    file, copied = room / "register.db", room / "copy.db"
+    commands = [kcr.long_plan(number) for number in range(1, 31)]
+    answers = filled(program, file, b"".join(commands))
+    told = feed(program, file)
+    expect("the feed", b"".join(map(told_again, commands)), told)
+    text, rest = asked(program, file, 0, 25)
+    expect("how many commands come at a time", (LONGEST // len(told_again(commands[-1])), 5),
+           (len(kcr.messages(text)), len(kcr.messages(rest))))
+    expect("the answers of a copy", answers, filled(program, copied, told))
+    expect("its rows", kcr.rows_of(file), kcr.rows_of(copied))
+
+
 def get(port, path):
     """The body that a connection of its own gets for a path."""
     return bodies(kcr.exchange(port, [kcr.request(b"GET", path)]), 1)[0]
@@ -253,7 +272,7 @@ def a_standby(program, room):
 
 
 TESTS = [each_command_once, the_same_register, a_front_takes_the_rest, its_bounds, a_thousand_at_a_time,
-         while_it_serves, a_standby]
+         long_commands, while_it_serves, a_standby]
 
 if __name__ == "__main__":
     kcr.judge_installed(TESTS, {}, __doc__)

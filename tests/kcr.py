@@ -205,6 +205,13 @@ def post(path, key, members):
     return request(b"POST", path, b'{"key":"%s",%s}' % (key, members))
 
 
+def long_plan(number):
+    """The request that plans a ceremony with a script of some 100 KB."""
+    steps = b"".join(b"%d,Check %s,CA\\n" % (step, b"x" * 490) for step in range(1, 201))
+    return post(b"/ceremonies", b"c%d" % number,
+                b'"number":%d,"facility":"EAST","day":"2025-02-13","script":"step,activity,seats\\n%s"' % (number, steps))
+
+
 def short_ceremony():
     """Ten commands of a ceremony: two people enter, are trained, come, sign a step, add an item and seal it."""
     return [

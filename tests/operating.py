@@ -425,6 +425,18 @@ def many_answers(program, room):
     expect("the rows of the copy", kcr.rows_of(file), kcr.rows_of(room / "copy.db"))
 
 
+def long_commands(program, room):
+    """kcr-follow goes on from a copy whose last commands are longer than one answer of the feed."""
+    file, copy = room / "source.db", room / "copy.db"
+    with installed(program, room / "here", started=False) as here:
+        for numbers, count in ((range(1, 31), 30), ((31,), 1), ((), 0)):
+            kcr.call(program, "run", "--file", file, stream=b"".join(map(kcr.long_plan, numbers)))
+            with source(program, file) as url:
+                told = here.well("kcr-follow", url, copy)
+            expect("the last line", f"{copy}: {kcr.commands_in(file)} commands, was behind by {count}\n", told)
+    expect("the rows of the copy", kcr.rows_of(file), kcr.rows_of(copy))
+
+
 def no_source(program, room):
     """A source that cannot be reached, or answers something other than commands, ends kcr-follow with status 1; the
     copy stays. So does a copy that was lost, that another program has open, or that refuses a command."""
@@ -610,8 +622,8 @@ def links(_program, _room):
 
 
 TESTS = [helps, made_once, lost_file, backed_up, saved, full_disk, restored, not_restored, not_up, broken_off, alarmed,
-         followed, another_history, many_answers, no_source, checked, proxied, rehearsed, printed, links]
-CURLED = [lost_file, full_disk, alarmed, followed, another_history, many_answers, no_source, checked, rehearsed,
+         followed, another_history, many_answers, long_commands, no_source, checked, proxied, rehearsed, printed, links]
+CURLED = [lost_file, full_disk, alarmed, followed, another_history, many_answers, long_commands, no_source, checked, rehearsed,
           printed]
 NEEDS = dict.fromkeys(CURLED, "curl")
 NEEDS[proxied] = "curl openssl nginx"

@@ -1,5 +1,5 @@
 -- What a report that was printed into memory is told.
-use Rattle.std.proofs.Common.{◌≡◌, ◌∙◌, ℕ, List, [], Bool, false, refl, ap, sym, subst, inl, inr}
+use Rattle.std.proofs.Common.{◌≡◌, ◌∙◌, ℕ, List, [], Bool, true, false, refl, ap, sym, subst, inl, inr}
 use Rattle.std.proofs.lemmas.Bool.{true≢false}
 use Rattle.std.specs.Prelude.{◌↔◌, ◌⊎◌, ◌<◌, ◌≤◌, ⊤, Option, Some, Result, Ok, Err, IfErr, MatchResult, OnOk, IsTrue, length}
 use Rattle.sqlite.specs.Store.{Ghosts}
@@ -19,7 +19,7 @@ use Rattle.kcr_print.specs.Requests.{Exports}
 use Rattle.kcr_print.specs.declared.fault.PrintFault.{PrintFault}
 use Rattle.kcr_print.specs.declared.fault.PrintFault.TheVariants.{Refused, Write}
 use Rattle.kcr_desk.specs.declared.response.MediaType.{MediaType}
-use Rattle.kcr_desk.specs.Answers.{IsReported, IsText, IsFeed, feed, no_command, MayBeFed, MayBeReported, MayBeText, outcome_of, report_response, RespondsOrMemory, AnswersReading}
+use Rattle.kcr_desk.specs.Answers.{IsReported, IsText, IsFeed, IsFeedText, feed, no_command, MayBeFed, MayBeReported, MayBeText, outcome_of, report_response, Replies, RespondsOrMemory, RespondsRefusal, AnswersReading}
 use Rattle.kcr_desk.specs.Texts.{ResponseValue}
 use Rattle.kcr_desk.proofs.AnswerLemmas.{reading_answered}
 
@@ -47,12 +47,12 @@ is_text text_of A (Ok done) text printed = printed
 is_text text_of A (Err (Refused refusal)) text printed = undenied refusal printed.1
 is_text text_of A (Err Write) text printed = inl refl
 
-is_feed : (number : ℕ) (A : History) (outcome : Result ⊤ PrintFault) (text : List ℕ) → number ≤ length A
-    → IsPrinted (λ _. ⊥) (feed number A) outcome (Some []) (Some text) → MatchResult (outcome_of outcome text)
-    (λ t. (number ≤ length A) × (t ≡ feed number A)) (λ refusal. IsFault refusal ⊎ ((length A < number) × (refusal ≡ no_command number)))
-is_feed number A (Ok done) text enough printed = (enough, printed)
-is_feed number A (Err (Refused refusal)) text enough printed = inl (undenied refusal printed.1)
-is_feed number A (Err Write) text enough printed = inl (inl refl)
+is_feed : (number count : ℕ) (A : History) (outcome : Result ⊤ PrintFault) (text : List ℕ) → 0 < count → count ≤ 1000 → number ≤ length A
+    → IsPrinted (λ _. ⊥) (feed number count A) outcome (Some []) (Some text) → MatchResult (outcome_of outcome text)
+    (λ t. (number ≤ length A) × IsFeedText number A t) (λ refusal. IsFault refusal ⊎ ((length A < number) × (refusal ≡ no_command number)))
+is_feed number count A (Ok done) text some most enough printed = (enough, (count, some, most, printed))
+is_feed number count A (Err (Refused refusal)) text some most enough printed = inl (undenied refusal printed.1)
+is_feed number count A (Err Write) text some most enough printed = inl (inl refl)
 
 -- a report that is not whole is refused as it may be
 may_fail : {MayDeny MayFail : Refusal → Type 0} → ((r : Refusal) → IsFault r ⊎ MayDeny r → MayFail r) → (outcome : Result ⊤ PrintFault) (text : List ℕ)
@@ -106,14 +106,37 @@ module _ {S W : Type 0} (g : Ghosts S) {contents : W → Option (List ℕ)} {bef
       (λ c A at. is_text text_of A outcome text (printed c A at))
 
   -- the feed
-  pub feed_answered : {n u : ℕ} (number : ℕ) → Exports g contents before after x y outcome n u
-      → OfHistory g before after (λ A. AreValues A → IsPrinted (λ _. ⊥) (feed number A) outcome (Some []) (Some text))
+  pub feed_answered : {n u : ℕ} (number count : ℕ) → 0 < count → count ≤ 1000 → Exports g contents before after x y outcome n u
+      → OfHistory g before after (λ A. AreValues A → IsPrinted (λ _. ⊥) (feed number count A) outcome (Some []) (Some text))
       → (before.is_broken ≡ false → number ≤ before.last_number) → RespondsOrMemory (report_response kind) (outcome_of outcome text) told
       → AnswersReading g before told after (report_response kind) (MayBeFed number) (IsFeed number)
-  feed_answered number exports requests enough =
+  feed_answered number count some most exports requests enough =
       says_answered (λ _. ⊥) (λ refusal. IsFault refusal ⊎ (refusal ≡ no_command number)) (IsFeed number) (λ r h. inl (undenied r h)) exports.prints
       (λ c A at values. let counts = (at.shows refl).counts (exports.prints.clean c) in
-      is_feed number A outcome text (subst (λ n. number ≤ n) counts (enough at.broken)) (requests c A at values))
+      is_feed number count A outcome text some most (subst (λ n. number ≤ n) counts (enough at.broken)) (requests c A at values))
+
+not_so : (b : Bool) → (IsTrue b → ⊥) → b ≡ false
+not_so true never = absurd (never refl)
+not_so false never = refl
+
+-- after an export of which the writer did not take all, a register answers as it would have before
+module _ {S W Value : Type 0} (g : Ghosts S) {contents : W → Option (List ℕ)} {before between after : RegisterState S} {x y : Counted W} {outcome : Result ⊤ PrintFault} where
+  pub answered_again : {D : History → Refusal → Type 0} {MayDeny : Refusal → Type 0} {t : History → List ℕ} (told : ResponseValue)
+      (told_by : Result Value Refusal → ResponseValue) (MayBe : Result Value Refusal → Type 0) (Says : History → Result Value Refusal → Type 0)
+      → Prints g contents before between x y outcome D MayDeny t → outcome ≡ Err Write
+      → AnswersReading g between told after told_by MayBe Says → AnswersReading g before told after told_by MayBe Says
+  answered_again told told_by MayBe Says prints ended answers =
+      let whole : before.is_broken ≡ false =
+      not_so before.is_broken (λ yes. let e : ◌≡◌ {A = Result ⊤ PrintFault} (Err Write) (Err (Refused Refusals.Broken)) = sym ended ∙ (prints.broken yes).0 in cc) in
+      let still : between.is_broken ≡ false =
+      not_so between.is_broken
+      (λ yes. let e : ◌≡◌ {A = Result ⊤ PrintFault} (Err Write) (Err (Refused Refusals.Disk)) = sym ended ∙ (prints.leaves.breaks whole).0 yes in cc) in
+      record {
+        clean = λ now. prints.clean (answers.clean now);
+        reply = subst (λ (b : Bool). RespondsRefusal b told after.is_broken Refusals.Memory ⊎ Replies told_by MayBe b told after.is_broken) (still ∙ sym whole)
+            answers.reply;
+        answer = λ now s at. answers.answer now s (subst (λ (b : Bool). StandsAt g (left_at b s) between) still (prints.leaves.stands s at));
+      }
 
 -- the number that a feed begins behind is none of a command
 pub unknown_answered : {S : Type 0} (g : Ghosts S) (register : RegisterState S) (told : ResponseValue) (kind : MediaType) (number : ℕ)

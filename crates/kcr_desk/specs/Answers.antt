@@ -99,20 +99,24 @@ IsReported report ceremony A result =
 abbrev pub IsText : (History → List ℕ) → History → Result (List ℕ) Refusal → Type 0
 IsText text_of A result = MatchResult result (λ text. text ≡ text_of A) IsFault
 
--- the requests of the accepted commands after the first N, at most 1,000 of them
-abbrev pub feed : ℕ → History → List ℕ
-feed after A = requests_between after (after + 1000) A
+-- the requests of the accepted commands after the first N, at most this many of them
+abbrev pub feed : ℕ → ℕ → History → List ℕ
+feed after count A = requests_between after (after + count) A
+
+-- this text is a feed, of at most 1,000 commands and of one at least, if there is one
+abbrev pub IsFeedText : ℕ → History → List ℕ → Type 0
+IsFeedText after A text = (count : ℕ) × (0 < count) × (count ≤ 1000) × (text ≡ feed after count A)
 
 -- the refusal of the number of a command that was never accepted
 abbrev pub no_command : ℕ → Refusal
 no_command number = Refusals.Unknown (Things.Command number)
 
--- of a history whose commands are of values the feed, unless the number that it begins behind is greater than that of
+-- of a history whose commands are of values a feed, unless the number that it begins behind is greater than that of
 -- the last command: then this is refused; or out of memory, or an I/O error
 abbrev pub IsFeed : ℕ → History → Result (List ℕ) Refusal → Type 0
 IsFeed after A result =
     AreValues A
-    → MatchResult result (λ text. (after ≤ length A) × (text ≡ feed after A))
+    → MatchResult result (λ text. (after ≤ length A) × IsFeedText after A text)
     (λ refusal. IsFault refusal ⊎ ((length A < after) × (refusal ≡ no_command after)))
 
 -- the refusal is told, and the register stays as it was

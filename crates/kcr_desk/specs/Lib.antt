@@ -14,3 +14,4 @@ pub mod NextItem
 pub mod Answers
 pub mod Connections
 pub mod Export
+pub mod Pages

@@ -1,5 +1,5 @@
 //! What the register is asked by a message, and what the message is told.
-ghost use Rattle.std.specs.Prelude.{◌≡◌, ◌⊎◌, ◌<◌, ◌≤◌, false, None, IsTrue};
+ghost use Rattle.std.specs.Prelude.{◌≡◌, ◌⊎◌, ◌<◌, ◌≤◌, false, None, Err, IfSome, IsTrue};
 ghost use Rattle.sqlite.specs.Held.{state};
 ghost use Rattle.sqlite.specs.State.{HasCleanDisk};
 ghost use Rattle.kcr_store.specs.Commands.{IsQuestionResult};
@@ -15,6 +15,7 @@ ghost use Rattle.kcr_desk.specs.declared.response.MediaType.TheVariants as kinds
 ghost use Rattle.kcr_history.specs.Prints as prints;
 ghost use Rattle.kcr_desk.specs.Responses.{response_value};
 
+use crate::page::Page;
 use crate::responder::{Request, Responder};
 use crate::response::{Body, Heading, MediaType, Response, refusal_heading};
 use http::StatusCode;
@@ -212,21 +213,88 @@ fn answer_unknown<S: Alter>(alloc: Global, register: &Register<S>, after: After)
     refusal_response(alloc, None, &Refusal::Unknown { thing })
 }
 
-/// Writes the requests of the commands behind those that the client has into memory, and tells them.
-fn answer_feed<S: Alter>(alloc: Global, register: &mut Register<S>, after: After) -> Response
+/// Writes the requests of this many commands behind those that the client has into memory, and tells them.
+fn answer_count<S: Alter>(
+    alloc: Global,
+    register: &mut Register<S>,
+    after: After,
+    count: u32,
+) -> Response
     requires enough { register.old.is_broken ≡ false → after ≤ register.old.last_number }
+    requires some { 0 < count }
+    requires most { count ≤ 1000 }
     ensures { AnswersReading S.Store register.old (response_value result) register.new
         (report_response kinds.Text) (MayBeFed after) (IsFeed after) }
 {
     let after = after.get();
     let mut page = Counted::new(Vec::new(alloc));
-    let outcome = export(alloc, register, after, after + MAX_FEED_COMMANDS, &mut page);
+    let outcome = export(alloc, register, after, after + count, &mut page);
     let text = page.into_inner();
     report_response(alloc, MediaType::Text, text, outcome)
 }
 
-/// Tells the commands behind those that the client has. One that has more than were accepted is told that its last one
-/// is unknown: it followed another register.
+/// Tells this many commands behind those that the client has, unless it has more than were accepted.
+fn answer_some<S: Alter>(
+    alloc: Global,
+    register: &mut Register<S>,
+    after: After,
+    count: u32,
+) -> Response
+    requires some { 0 < count }
+    requires most { count ≤ 1000 }
+    ensures { AnswersReading S.Store register.old (response_value result) register.new
+        (report_response kinds.Text) (MayBeFed after) (IsFeed after) }
+{
+    if is_ahead(register, after) {
+        answer_unknown(alloc, register, after)
+    } else {
+        answer_count(alloc, register, after, count)
+    }
+}
+
+/// How many commands a page took, if an export ended because the next one did not fit.
+fn fitting(outcome: &Result<(), PrintFault>, page: &Page) -> Option<u32>
+    ensures cause { IfSome result (λ _. outcome.now ≡ Err PrintFault.Write) }
+    ensures some { IfSome result (λ count. 0 < count) }
+    ensures most { IfSome result (λ count. count ≤ 1000) }
+{
+    match outcome {
+        Err(PrintFault::Write) => {
+            if page.is_full() {
+                Some(page.writes().max(1).min(MAX_FEED_COMMANDS))
+            } else {
+                None
+            }
+        }
+        _ => None,
+    }
+}
+
+/// Writes the requests of the commands behind those that the client has onto a page, and tells them. If the page is full
+/// before all are written, those that fit are told.
+fn answer_feed<S: Alter>(alloc: Global, register: &mut Register<S>, after: After) -> Response
+    requires enough { register.old.is_broken ≡ false → after ≤ register.old.last_number }
+    ensures { AnswersReading S.Store register.old (response_value result) register.new
+        (report_response kinds.Text) (MayBeFed after) (IsFeed after) }
+{
+    let first = after.get();
+    let mut page = Counted::new(Page::new(alloc));
+    let outcome = export(alloc, register, first, first + MAX_FEED_COMMANDS, &mut page);
+    let page = page.into_inner();
+    match fitting(&outcome, &page) {
+        Some(count) => {
+            drop(page);
+            answer_some(alloc, register, after, count)
+        }
+        None => {
+            let text = page.into_text();
+            report_response(alloc, MediaType::Text, text, outcome)
+        }
+    }
+}
+
+/// Tells the commands behind those that the client has, at most 1,000, or as many as fit on a page. A client that has
+/// more than were accepted is told that its last one is unknown: it followed another register.
 fn answer_commands<S: Alter>(alloc: Global, register: &mut Register<S>, after: After) -> Response
     ensures { AnswersReading S.Store register.old (response_value result) register.new
         (report_response kinds.Text) (MayBeFed after) (IsFeed after) }

@@ -14,6 +14,7 @@ mod input_buffer;
 mod members;
 mod output;
 mod output_buffer;
+mod page;
 mod responder;
 pub mod response;
 pub mod stream;

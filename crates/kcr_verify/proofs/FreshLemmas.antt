@@ -1,19 +1,14 @@
 -- A database of any other standing has something, and an opening makes of an empty one an empty register.
-use Rattle.std.proofs.Common.{◌≡◌, ◌≢◌, ◌⊎◌, inl, inr, refl, sym, subst, arith}
-use Rattle.sqlite.specs.Held.{Held, state}
-use Rattle.sqlite.specs.Recovery.{Image}
+use Rattle.std.proofs.Common.{◌≡◌, ◌≢◌, ◌⊎◌, inl, inr, refl, arith}
 use Rattle.sqlite.specs.Schema.{Schema}
 use Rattle.sqlite.specs.State.{State, Survives}
-use Rattle.sqlite.specs.Store.{Ghosts}
 use Rattle.sqlite.specs.Tree.{Trees}
 use Rattle.kcr_older.specs.Kind.{IsOfKind, no_schema}
 use Rattle.kcr_older.specs.declared.kind.DatabaseKind.{DatabaseKind}
 use Rattle.kcr_older.specs.declared.kind.DatabaseKind.TheVariants.{Empty, Current, Version2, Version1, Versioned, Foreign}
 use Rattle.kcr_store.proofs.OpenLemmas.{apart}
 use Rattle.kcr_store.specs.Opening.{IsOpeningOf}
-use Rattle.kcr_verify.specs.Fresh.{IsGivenBack, IsNewOf, IsOpenedOn}
-use Rattle.kcr_verify.specs.declared.new_register.CreateFault.{CreateFault}
-use Rattle.kcr_verify.specs.declared.new_register.CreateFault.TheVariants.{Memory, Disk, Filled}
+use Rattle.kcr_verify.specs.Fresh.{IsNewOf}
 
 pub has_something : (schema : Schema) (standing : DatabaseKind) → IsOfKind schema standing → standing ≢ Empty → schema ≢ no_schema
 has_something schema Empty stands other is = other refl
@@ -39,14 +34,3 @@ makes_new old new empty out = record {
   closes = out.closes;
   crash = λ clean db left. made_of old db empty (out.crash clean db left);
 }
-
--- the connection that is given back, by the fault
-module _ {S : Type 0} (g : Ghosts S) (image : Image) (was c : Held S) where
-  pub given_back : (fault : CreateFault) → IsOpenedOn g image was → (fault ≡ Filled → ((state g was).now.schema ≢ no_schema) × (c ≡ was))
-      → (fault ≢ Disk → Survives (state g was) (state g c) (λ _. ⊥)) → Survives (state g was) (state g c) (IsNewOf (state g was).now)
-      → IsGivenBack g image fault c
-  given_back Memory opened filled left crash = record { was = was; opened = opened; survives = left (λ e. cc) }
-  given_back Disk opened filled left crash = record { was = was; opened = opened; survives = crash }
-  given_back Filled opened filled left crash =
-      let full = filled refl in
-      subst (λ d. IsOpenedOn g image d × ((state g d).now.schema ≢ no_schema)) (sym full.1) (opened, full.0)

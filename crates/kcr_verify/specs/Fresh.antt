@@ -1,5 +1,5 @@
 -- What making a new register leaves of the files that it is made in.
-use Rattle.std.specs.Prelude.{◌≡◌, ◌≢◌, []}
+use Rattle.std.specs.Prelude.{◌≡◌, []}
 use Rattle.sqlite.specs.Effect.{Database}
 use Rattle.sqlite.specs.Held.{Held, state}
 use Rattle.sqlite.specs.Recovery.{Image}
@@ -9,8 +9,6 @@ use Rattle.sqlite.specs.Store.{Ghosts}
 use Rattle.sqlite.specs.Tree.{Trees}
 use Rattle.kcr_older.specs.Kind.{no_schema}
 use Rattle.kcr_store.specs.Stored.{IsTables}
-use Rattle.kcr_verify.specs.declared.new_register.CreateFault.{CreateFault}
-use Rattle.kcr_verify.specs.declared.new_register.CreateFault.TheVariants.{Memory, Disk, Filled}
 
 -- what a crash may leave of an empty database that a new register is made in: the tables of an empty register
 abbrev pub IsNewOf : Database → Trees → Type 0
@@ -26,16 +24,3 @@ pub record IsMadeOn {S : Type 0} (g : Ghosts S) (image : Image) (c : Held S) : T
   pub opened : IsOpenedOn g image was
   pub empty : (state g was).now.schema ≡ no_schema
   pub survives : Survives (state g was) (state g c) (IsNewOf (state g was).now)
-
--- a crash leaves what the files held, or one of these
-pub record IsLeftOn {S : Type 0} (g : Ghosts S) (image : Image) (MayLeave : Database → Trees → Type 0) (c : Held S) : Type 0 where
-  pub was : Held S
-  pub opened : IsOpenedOn g image was
-  pub survives : Survives (state g was) (state g c) (MayLeave (state g was).now)
-
--- the connection that comes with a fault: to files that hold something, it is as it was opened; after out of memory the
--- files are as they were; after an I/O error an empty database may have become an empty register
-abbrev pub IsGivenBack : {S : Type 0} → Ghosts S → Image → CreateFault → Held S → Type 0
-IsGivenBack g image Filled c = IsOpenedOn g image c × ((state g c).now.schema ≢ no_schema)
-IsGivenBack g image Memory c = IsLeftOn g image (λ _ _. ⊥) c
-IsGivenBack g image Disk c = IsLeftOn g image IsNewOf c

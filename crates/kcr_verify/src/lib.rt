@@ -5,8 +5,8 @@
 //! numbers, to an empty register in memory, compares each reply, and then compares the tables, one after the other, up to
 //! the first row that differs.
 //! Where it finds nothing that differs, the rows are the tables of a history that the machine leads to, whoever wrote
-//! them. `rebuild` gives them to an empty register of the caller's, as `create` makes one in a file: so one goes on
-//! from a file that one has to doubt.
+//! them. `rebuild` gives them to an empty register of the caller's, as `init` makes one: so one goes on from a file that
+//! one has to doubt.
 #![tactic(auto)]
 
 mod compare;
@@ -18,5 +18,5 @@ mod sort;
 mod verification;
 
 pub use compare::{RowDifference, TableName};
-pub use new_register::{CreateFault, create, init};
+pub use new_register::{CreateFault, init};
 pub use verification::{Difference, Verification, rebuild, verify};

@@ -1,17 +1,15 @@
 //! A new register, to rebuild another in.
-ghost use Rattle.std.specs.Prelude.{◌≡◌, ◌≢◌, false, IsSome, IfOk, IfErr, IfSome, MatchResult};
-ghost use Rattle.sqlite.specs.Files.{over_files};
+ghost use Rattle.std.specs.Prelude.{◌≡◌, ◌≢◌, false, IfOk, IfErr, MatchResult};
 ghost use Rattle.sqlite.specs.Held.{state};
 ghost use Rattle.sqlite.specs.State.{Survives};
-ghost use Rattle.sqlite.specs.WalFiles.{image_at};
 ghost use Rattle.kcr_older.specs.Kind.{no_schema};
-ghost use Rattle.kcr_verify.specs.Fresh.{IsGivenBack, IsMadeOn, IsNewOf};
+ghost use Rattle.kcr_verify.specs.Fresh.{IsNewOf};
 ghost use Rattle.kcr_verify.specs.Verification.{IsFresh};
 
 use kcr_base::Refusal;
 use kcr_older::{DatabaseKind, database_kind};
-use kcr_store::{OpenFault, Register, connect};
-use sqlite::{Alter, Connection, FileFrom, FileStore, Start};
+use kcr_store::{OpenFault, Register};
+use sqlite::{Alter, Connection};
 use std::alloc::Global;
 
 /// Why no new register is made.
@@ -64,32 +62,5 @@ pub fn init<S: Alter + Drop>(
         Ok(_) => Err((CreateFault::Filled, connection)),
         Err(Refusal::Memory) => Err((CreateFault::Memory, connection)),
         Err(_) => Err((CreateFault::Disk, connection)),
-    }
-}
-
-/// As `init`, in the file at the path and its log beside it; a file that is not there is made. `start` stands for what
-/// the two held. A fault comes with the connection, when the file was opened. What `connect` refuses as a fault of the
-/// disk is one here.
-pub fn create<S: Start>(
-    rt: &HostRuntime,
-    path: &str,
-    start: S,
-) -> Result<
-    Register<FileStore<FileFrom<S>>>,
-    (CreateFault, Option<Connection<FileStore<FileFrom<S>>>>),
->
-    ensures new { IfOk result (IsFresh over_files) }
-
-    // The file held nothing. One that holds something is refused as filled, and after each fault it is as it was.
-    ensures made { IfOk result (λ r. IsMadeOn over_files (image_at S.Start) r.conn) }
-    ensures filled { IfErr result (λ e. e.0 ≡ CreateFault.Filled → IsSome e.1) }
-    ensures left { IfErr result (λ e. IfSome e.1 (IsGivenBack over_files (image_at S.Start) e.0)) }
-{
-    match connect(rt, path, start) {
-        Ok(connection) => match init(rt.alloc(), connection) {
-            Ok(register) => Ok(register),
-            Err((fault, connection)) => Err((fault, Some(connection))),
-        },
-        Err(fault) => Err((fault_of(fault), None)),
     }
 }

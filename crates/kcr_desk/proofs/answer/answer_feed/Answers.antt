@@ -1,12 +1,19 @@
-use Rattle.std.proofs.Common.{◌≡◌, ◌∙◌, [], ap}
+use Rattle.std.proofs.Common.{◌≡◌, ◌∙◌, [], ap, arith}
 use Rattle.kcr_base.specs.Counted.{inner_of}
+use Rattle.kcr_desk.specs.Answers.{IsFeed, MayBeFed, report_response}
+use Rattle.kcr_desk.specs.Pages.{text_of}
 use Rattle.kcr_desk.specs.declared.response.MediaType.TheVariants.{Text}
-use Rattle.kcr_desk.proofs.ReportLemmas.{feed_answered}
+use Rattle.kcr_desk.proofs.ReportLemmas.{answered_again, feed_answered}
 use Rattle.kcr_desk.proofs.answer.answer_feed.Goals as goal
 
-pub returns : goal.returns
-returns g c =
-    let e = rw c.get-after.ensures.value at c.export-outcome.ensures in
-    let blank : (inner_of c.new-page.result).items ≡ [] = ap (λ v. v.items) c.new-page.ensures.inner ∙ c.new.ensures.items in
-    feed_answered g.S.Store _ Text c.into_inner-text.result.items c.args.after
-    e (λ clean A at values. let printed = e.requests clean A at values in rw c.into_inner-text.ensures (rw blank at printed)) c.requires.enough c.report_response.ensures
+pub returns-in-Some : goal.returns-in-Some
+returns-in-Some g c =
+    answered_again g.S.Store _ (report_response Text) (MayBeFed c.args.after) (IsFeed c.args.after)
+    c.export-outcome.ensures.prints c.in-Some.ensures.cause c.answer_some.ensures
+
+pub returns-in-None : goal.returns-in-None
+returns-in-None g c =
+    let e = rw c.get-first.ensures.value at c.export-outcome.ensures in
+    let blank : text_of (inner_of c.new-page.result) ≡ [] = ap text_of c.new-page.ensures.inner ∙ c.new.ensures in
+    feed_answered g.S.Store _ Text c.into_text-text.result.items c.args.after 1000 (omega arith) (omega arith)
+    e (λ clean A at values. let printed = e.requests clean A at values in rw (c.into_text-text.ensures, c.into_inner-page.ensures) (rw blank at printed)) c.requires.enough c.report_response.ensures
