@@ -8,6 +8,7 @@
  * CALLS=N    Of the file of that register, or with LOG=1 of its log, N calls are passed on (to read, write, cut or sync
  *            it or to ask for its length), and from then on each fails. Once a file is opened to write it, calls of one
  *            that is opened to read it pass: `serve` looks at its files beside the register.
+ * NO_ROOM=1  Of these calls only those to write it are counted and fail, as on a full disk.
  * OUTPUT=N   N calls to write to standard output are passed on, and from then on each fails.
  * FAILED=F   The file F is made as soon as something failed, so that a test can tell a fault from an end before it.
  *
@@ -16,7 +17,7 @@
 typedef unsigned long size;
 
 enum { WRITE = 1, PREAD = 17, PWRITE = 18, SENDFILE = 40, FSYNC = 74, FDATASYNC = 75, FTRUNCATE = 77, STATX = 332 };
-enum { HERE = -100, STANDARD_OUTPUT = 1, IO_FAULT = 5, LONGEST_PATH = 4096, MOST_AT_ONCE = 1 << 20 };
+enum { HERE = -100, STANDARD_OUTPUT = 1, IO_FAULT = 5, NO_ROOM = 28, LONGEST_PATH = 4096, MOST_AT_ONCE = 1 << 20 };
 enum { READ_ONLY = 0, ACCESS = 3 };
 enum { DATABASE, LOG, FILES, NEITHER = -1 };
 
@@ -41,6 +42,7 @@ static int is_output_failing;
 static size writes_left; /* calls to write to standard output that are passed on, if others are to fail */
 static int stopping = NEITHER;
 static size calls_left;
+static int is_full; /* whether only calls to write fail, for want of room */
 static char paths[FILES][LONGEST_PATH];
 static int opened[FILES] = {NEITHER, NEITHER};
 static int is_written[FILES]; /* whether it was opened to write it */
@@ -59,6 +61,7 @@ __attribute__((constructor)) static void begin(void) {
     if (calls) {
         stopping = getenv("LOG") ? LOG : DATABASE;
         calls_left = strtoul(calls, 0, 10);
+        is_full = getenv("NO_ROOM") != 0;
     }
 }
 
@@ -120,16 +123,16 @@ static int which(int file) {
     return NEITHER;
 }
 
-/* Whether this call of a file fails. */
-static int is_stopped(int file) {
-    if (stopping == NEITHER || which(file) != stopping) {
+/* Whether this call of a file fails. `is_writing` says whether it writes the file. */
+static int is_stopped(int file, int is_writing) {
+    if (stopping == NEITHER || which(file) != stopping || (is_full && !is_writing)) {
         return 0;
     }
     if (calls_left > 0) {
         calls_left--;
         return 0;
     }
-    *__errno_location() = IO_FAULT;
+    *__errno_location() = is_full ? NO_ROOM : IO_FAULT;
     fail();
     return 1;
 }
@@ -167,29 +170,29 @@ int open(const char *path, int flags, ...) {
 int open64(const char *path, int flags, ...) __attribute__((alias("open")));
 
 long pread(int file, void *bytes, size length, long at) {
-    return is_stopped(file) ? -1 : syscall(PREAD, file, bytes, length, at);
+    return is_stopped(file, 0) ? -1 : syscall(PREAD, file, bytes, length, at);
 }
 
 long pread64(int file, void *bytes, size length, long at) __attribute__((alias("pread")));
 
 long pwrite(int file, const void *bytes, size length, long at) {
-    return is_stopped(file) ? -1 : syscall(PWRITE, file, bytes, length, at);
+    return is_stopped(file, 1) ? -1 : syscall(PWRITE, file, bytes, length, at);
 }
 
 long pwrite64(int file, const void *bytes, size length, long at) __attribute__((alias("pwrite")));
 
 int ftruncate(int file, long length) {
-    return is_stopped(file) ? -1 : (int)syscall(FTRUNCATE, file, length);
+    return is_stopped(file, 0) ? -1 : (int)syscall(FTRUNCATE, file, length);
 }
 
 int ftruncate64(int file, long length) __attribute__((alias("ftruncate")));
 
 int statx(int file, const char *path, int flags, unsigned mask, void *found) {
-    return is_stopped(file) ? -1 : (int)syscall(STATX, file, path, flags, mask, found);
+    return is_stopped(file, 0) ? -1 : (int)syscall(STATX, file, path, flags, mask, found);
 }
 
 static int synced(int file, long number) {
-    if (is_stopped(file)) {
+    if (is_stopped(file, 0)) {
         return -1;
     }
     int told = (int)syscall(number, file);

@@ -195,6 +195,23 @@ def full_disk(program, room):
             expect("a new command", kcr.accepted(3), here.post(3))
 
 
+def no_room(program, room):
+    """A command for which a full disk has no room is told so, and the journal says why the register stopped. With room
+    it is served again and takes that command, after all that were accepted."""
+    with small_disk(room / "var", 16) as disk:
+        if disk is None:
+            return kcr.leave_out("disk of memory", "no_room")
+        with installed(program, room / "var") as here:
+            machine.fill(disk, 0)
+            number = next(number for number in range(1, 1000) if here.post(number) != kcr.accepted(number))
+            here.wait(lambda: "refused: 35 broken\nbroken: no room\n" in here.well("journalctl", "-u", "kcr", "-n", "20"))
+            (disk / "filler").unlink()
+            here.run("systemctl", "reset-failed", "kcr")
+            here.well("systemctl", "start", "kcr")
+            expect("the command again", kcr.accepted(number), here.post(number))
+            expect("the commands", number, here.commands())
+
+
 # Restore
 
 def restored(program, room):
@@ -621,10 +638,11 @@ def links(_program, _room):
                heading in headings if not file else (machine.PAGE.parent / file).exists())
 
 
-TESTS = [helps, made_once, lost_file, backed_up, saved, full_disk, restored, not_restored, not_up, broken_off, alarmed,
-         followed, another_history, many_answers, long_commands, no_source, checked, proxied, rehearsed, printed, links]
-CURLED = [lost_file, full_disk, alarmed, followed, another_history, many_answers, long_commands, no_source, checked, rehearsed,
-          printed]
+TESTS = [helps, made_once, lost_file, backed_up, saved, full_disk, no_room, restored, not_restored, not_up, broken_off,
+         alarmed, followed, another_history, many_answers, long_commands, no_source, checked, proxied, rehearsed, printed,
+         links]
+CURLED = [lost_file, full_disk, alarmed, followed, another_history, many_answers, long_commands, no_source, checked,
+          rehearsed, printed]
 NEEDS = dict.fromkeys(CURLED, "curl")
 NEEDS[proxied] = "curl openssl nginx"
 

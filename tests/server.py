@@ -391,7 +391,8 @@ def line_is_not_written(program, _room):
 
 
 def breaking_register(program, room):
-    """After a connection that leaves the register broken the program says so and ends, with two more to serve."""
+    """After a connection that leaves the register broken the program says so, and by what, and ends, with two more to
+    serve."""
     file = room / "register"
     expect("run", (accepted(1), b"", 0), call(program, "run", "--file", file, stream=ANN))
     kcr.change(file, f"UPDATE people SET name = '{'x' * 121}'")
@@ -400,7 +401,7 @@ def breaking_register(program, room):
     with Server(program, 4, file) as server:
         expect("the first connection", NOBODY, exchange(server.port, [DAY]))
         expect("the second", NOBODY + disk + broken, exchange(server.port, [DAY + PEOPLE + DAY]))
-        expect("the end", (b"", b"refused: 35 broken\n", 1), server.end())
+        expect("the end", (b"", b"refused: 35 broken\nbroken: reading\n", 1), server.end())
 
 
 def removed(file):

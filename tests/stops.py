@@ -12,9 +12,10 @@ is told that the device failed (34), and all behind it that the register is brok
 twice: all that was written, as when the program alone ends, and only what each file had said to be safe, as when the
 machine stops. Either has, as sqlite3 reads it, the tables as they were before the step that was stopped or as they are
 after it, and so all commands that were answered; and the commands from the stopped one on, and the accepted one before
-it, sent again, get the answers that they would have had. Of a port: the program ends with a line after a connection in
-which the file stopped. Of reports: where a write fails a beginning was printed, and the next report is whole. Of a pack
-and a rebuild: no file without a byte is left that was made for it. With names only the tests with these names run.
+it, sent again, get the answers that they would have had. Of a port: the program ends after a connection in which the
+file stopped, with a line that says so, and one that says whether the disk had no room. Of reports: where a write fails
+a beginning was printed, and the next report is whole. Of a pack and a rebuild: no file without a byte is left that was
+made for it. With names only the tests with these names run.
 
 The last line is `N passed, M failed`, and the status is 0 where none failed. Where there is no C compiler nothing is
 tested, and it says so.
@@ -172,13 +173,13 @@ def examples_are_played(program, library, room):
         Trial(program, library, room / name / "register", kcr.case(name)).swept(name)
 
 
-def a_connection_breaks_it(program, library, room):
-    """A file stops in a connection, which is told so; then the program says that the register is broken and ends, with
-    two more connections to serve."""
+def stops_in_a_connection(program, library, room, how, line):
+    """A log stops in a connection, which is told so; then the program says that the register is broken, and by what, and
+    ends, with two more connections to serve. The command that was stopped is then sent again."""
     file, commands = room / "register", kcr.short_ceremony()
     question = kcr.request(b"GET", b"/people")
     for calls in itertools.count():
-        what = {"REGISTER": str(put(file, room / "tried")), "CALLS": str(calls), "LOG": "1"}
+        what = {"REGISTER": str(put(file, room / "tried")), "CALLS": str(calls), "LOG": "1"} | how
         told = kcr.faulty(program, library, what, "run", "--file", room / "tried", stream=commands[0])[0]
         if not is_unopened(told):
             break
@@ -188,7 +189,19 @@ def a_connection_breaks_it(program, library, room):
         expect("a connection without a request", b"", kcr.exchange(server.port, []))
         expect("the connection in which the file stops", DISK + BROKEN + BROKEN,
                kcr.exchange(server.port, [commands[0] + question + commands[0]]))
-        expect("the end", (b"", b"refused: 35 broken\n", 1), server.end())
+        expect("the end", (b"", b"refused: 35 broken\n" + line, 1), server.end())
+    expect("the first command again", (kcr.accepted(1), b"", 0),
+           call(program, "run", "--file", room / "tried", stream=commands[0]))
+
+
+def a_connection_breaks_it(program, library, room):
+    """A write fails in a connection, and the program says so."""
+    stops_in_a_connection(program, library, room, {}, b"broken: writing\n")
+
+
+def a_disk_is_full(program, library, room):
+    """A write finds no room in a connection, and the program says so."""
+    stops_in_a_connection(program, library, room, {"NO_ROOM": "1"}, b"broken: no room\n")
 
 
 def reports_are_cut(program, library, room):
@@ -237,7 +250,7 @@ def no_empty_file_is_left(program, library, room):
 
 
 TESTS = [tables_are_made, older_registers_are_brought, commands_are_taken, a_signature_is_taken,
-         examples_are_played, a_connection_breaks_it, reports_are_cut, no_empty_file_is_left]
+         examples_are_played, a_connection_breaks_it, a_disk_is_full, reports_are_cut, no_empty_file_is_left]
 
 
 def main():

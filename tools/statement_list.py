@@ -213,9 +213,9 @@ PARTS = [
      kcr_verify/src/verification kcr_verify/Verification"""),
     ("The program",
      "Which arguments are which task, and what each task writes.",
-     """kcr_verify/src/new_register kcr_log/src/judgement kcr_words/src/words kcr_fault/src/fault kcr_words/Commands
-     kcr_words/Tasks kcr_fault/Lines kcr_fault/Notes kcr_fault/Faults kcr_tool/Audits kcr_tool/Verifications
-     kcr_tool/Runs"""),
+     """kcr_verify/src/new_register kcr_log/src/judgement kcr_store/src/breakage kcr_words/src/words kcr_fault/src/fault
+     kcr_words/Commands kcr_words/Tasks kcr_fault/Lines kcr_fault/Notes kcr_fault/Faults kcr_tool/Audits
+     kcr_tool/Verifications kcr_tool/Runs"""),
 ]
 
 # The contract whose definitions the table at the front counts.

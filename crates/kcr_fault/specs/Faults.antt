@@ -12,16 +12,17 @@ use Rattle.kcr_print.specs.declared.fault.PrintFault.{PrintFault}
 use Rattle.kcr_print.specs.declared.fault.PrintFault.TheVariants as print
 use Rattle.kcr_store.specs.Register.{RegisterState}
 use Rattle.kcr_store.specs.Rows.{MayHaveNoRow}
+use Rattle.kcr_store.specs.declared.breakage.Breakage.{Breakage}
 use Rattle.kcr_store.specs.declared.«open».OpenFault.TheVariants as opening
 use Rattle.kcr_log.specs.declared.judgement.Log.TheVariants as logs
 use Rattle.kcr_tables.specs.Refusals.{IsFault}
 use Rattle.kcr_verify.specs.declared.new_register.CreateFault.TheVariants as fresh
 use Rattle.kcr_fault.specs.Lines.{ended, found_line, into_head, missing_line, name_of, net_head, numbered, open_head}
-use Rattle.kcr_fault.specs.Lines.{damage_lines}
+use Rattle.kcr_fault.specs.Lines.{broken_lines, damage_lines}
 use Rattle.kcr_fault.specs.Notes.{IsMissing, IsNoted, IsUnfilled, WritesLines}
 use Rattle.kcr_fault.specs.declared.fault.Fault.{Fault}
 use Rattle.kcr_fault.specs.declared.fault.Fault.TheVariants.{Open, File, Log, Nothing, Into, IntoFile, Stream, Refused}
-use Rattle.kcr_fault.specs.declared.fault.Fault.TheVariants.{Unwritten, Net, Lost, Words}
+use Rattle.kcr_fault.specs.declared.fault.Fault.TheVariants.{Broken, Unwritten, Net, Lost, Words}
 use Rattle.kcr_fault.specs.declared.fault.Call.TheVariants as call
 use Rattle.kcr_words.specs.declared.words.Serving.{Serving}
 use Rattle.kcr_words.specs.declared.words.Task.{Task}
@@ -55,6 +56,7 @@ reason_of (Stream stream.Read) = ended (codes "fault: read")
 reason_of (Stream stream.Write) = ended (codes "fault: write")
 reason_of (Stream stream.Memory) = ended (codes "fault: memory")
 reason_of (Refused r) = ended (codes "fault: memory")
+reason_of (Broken why) = ended (codes "refused: 35 broken")
 reason_of Unwritten = ended (codes "fault: write")
 reason_of (Net call) = ended (codes "fault: net")
 reason_of Lost = ended (codes "fault: file")
@@ -73,6 +75,7 @@ explained_lines task file into (File step) = found_line (open_head step) (name_o
 explained_lines task file into (IntoFile step) = found_line (into_head step) (name_of into)
 explained_lines task file into (Net call) = found_line (net_head call) (decimal (port_of task))
 explained_lines task file into Lost = found_line (codes "fault: file\nlost: ") (name_of file)
+explained_lines task file into (Broken why) = broken_lines why
 explained_lines task file into other = reason_of other
 
 -- the line that tells a fault, or if it is explained its lines; of a refusal, and of a register without commands, the line
@@ -102,11 +105,10 @@ fault_of_print (print.Refused r) = Refused r
 fault_of_print print.Write = Unwritten
 
 -- the refusals of a task, if nothing broke the register before: out of memory and an I/O error; of a report of
--- a ceremony, that this ceremony is unknown; of a port, that a connection broke the register. A stream has its refusals
--- as answers
+-- a ceremony, that this ceremony is unknown; of a port, out of memory alone. A stream has its refusals as answers
 abbrev pub MayMeet : Task → Refusal → Type 0
 MayMeet Run met = ⊥
-MayMeet (Serve serving) met = (met ≡ refusal.Memory) ⊎ (met ≡ refusal.Broken)
+MayMeet (Serve serving) met = met ≡ refusal.Memory
 MayMeet (Write (Print ceremony)) met = MayHaveNoRow ceremony met
 MayMeet (Write (Attendance ceremony)) met = MayHaveNoRow ceremony met
 MayMeet other met = IsFault met
@@ -128,6 +130,7 @@ StopsTask task s (Refused met) = MayMeet task met
 StopsTask task s Unwritten = HasFailed s.output
 StopsTask task s (Net call) = IsServe task
 StopsTask task s Lost = IsServe task
+StopsTask task s (Broken why) = IsServe task
 StopsTask task s other = ⊥
 
 -- the task is known, and its fault has this cause
@@ -197,7 +200,8 @@ StopsRebuild w other = StopsReplay w other
 -- broken now
 abbrev pub StopsListening : {S : Type 0} → RegisterState S → Fault → Type 0
 StopsListening register fault =
-    (fault ≡ Net call.Accepting) ⊎ ((fault ≡ Lost) ⊎ ((fault ≡ Refused refusal.Broken) × IsTrue register.is_broken))
+    (fault ≡ Net call.Accepting)
+    ⊎ ((fault ≡ Lost) ⊎ (((why : Breakage) × (fault ≡ Broken why)) × IsTrue register.is_broken))
 
 -- the same for the whole task of listening, which binds the port and writes a line first
 abbrev pub StopsServing : {S W : Type 0} → RegisterState S → Writing W → Fault → Type 0

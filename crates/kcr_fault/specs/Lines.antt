@@ -6,6 +6,8 @@ use Rattle.kcr_history.specs.declared.views.Finding.{Finding}
 use Rattle.kcr_history.specs.declared.views.Finding.TheVariants as Findings
 use Rattle.kcr_log.specs.declared.judgement.Log.{Log}
 use Rattle.kcr_log.specs.declared.judgement.Log.TheVariants as Logs
+use Rattle.kcr_store.specs.declared.breakage.Breakage.{Breakage}
+use Rattle.kcr_store.specs.declared.breakage.Breakage.TheVariants as Breakages
 use Rattle.kcr_verify.specs.Quoted.{row_line}
 use Rattle.kcr_verify.specs.Verification.{name_of as table_name}
 use Rattle.kcr_verify.specs.declared.verification.Difference.{Difference}
@@ -110,3 +112,10 @@ into_head Reading = codes "into: disk\nreading: "
 abbrev pub net_head : Call → List ℕ
 net_head Binding = codes "fault: net\nbinding: "
 net_head Accepting = codes "fault: net\naccepting: "
+
+-- the two lines of a broken register, by what broke it
+abbrev pub broken_lines : Breakage → List ℕ
+broken_lines Breakages.NoRoom = codes "refused: 35 broken\nbroken: no room\n"
+broken_lines Breakages.Writing = codes "refused: 35 broken\nbroken: writing\n"
+broken_lines Breakages.Reading = codes "refused: 35 broken\nbroken: reading\n"
+broken_lines Breakages.Memory = codes "refused: 35 broken\nbroken: memory\n"

@@ -4,7 +4,7 @@ ghost use Rattle.kcr_desk.specs.Streams.{writing};
 ghost use Rattle.kcr_fault.specs.Faults.{AreLinesOf, refusal_line, reason_of, explained_lines, lines_of, port_of};
 ghost use Rattle.kcr_fault.specs.Notes.{IsTold, WritesLines};
 ghost use Rattle.kcr_words.specs.Tasks.{file_in, into_in};
-ghost use Rattle.kcr_fault.specs.Lines.{damage_lines, log_line, name_of, missing_line, open_head, into_head, net_head};
+ghost use Rattle.kcr_fault.specs.Lines.{broken_lines, damage_lines, log_line, name_of, missing_line, open_head, into_head, net_head};
 
 use crate::lines::{around, numbered};
 use itoa::Buffer;
@@ -12,7 +12,7 @@ use kcr_base::{Counted, Refusal};
 use kcr_desk::DeskFault;
 use kcr_log::Log;
 use kcr_print::{PrintFault, WriteFailed, write_whole};
-use kcr_store::OpenFault;
+use kcr_store::{Breakage, OpenFault};
 use kcr_verify::CreateFault;
 use kcr_words::{Order, Task};
 use std::alloc::{AllocError, Global};
@@ -70,6 +70,8 @@ pub enum Fault {
     Stream(DeskFault),
     /// The register refused what the task asks for.
     Refused(Refusal),
+    /// The register is broken, so that it refuses whatever is asked.
+    Broken(Breakage),
     /// A report or a line could not be written to its end.
     Unwritten,
     /// The port failed.
@@ -238,6 +240,18 @@ fn net_head(call: Call) -> &'static str
     }
 }
 
+/// The two lines of a broken register: that it refuses whatever is asked, and what broke it.
+fn broken_lines(why: Breakage) -> &'static str
+    ensures { result.now ≡ broken_lines why }
+{
+    match why {
+        Breakage::NoRoom => "refused: 35 broken\nbroken: no room\n",
+        Breakage::Writing => "refused: 35 broken\nbroken: writing\n",
+        Breakage::Reading => "refused: 35 broken\nbroken: reading\n",
+        Breakage::Memory => "refused: 35 broken\nbroken: memory\n",
+    }
+}
+
 /// The port of a task, 0 if it has none.
 fn port_of(task: Task) -> u16
     ensures { result ≡ port_of (Some task) }
@@ -267,6 +281,7 @@ fn explained_lines(alloc: Global, order: &Order<'_>, fault: &Fault) -> Result<St
             )
         }
         Fault::Lost => around(alloc, "fault: file\nlost: ", name_of(order.file), "\n"),
+        Fault::Broken(why) => String::from_str(alloc, broken_lines(*why)),
         other => String::from_str(alloc, reason(*other)),
     }
 }
@@ -305,6 +320,7 @@ fn reason(fault: Fault) -> &'static str
         Fault::Stream(DeskFault::Write) | Fault::Unwritten => "fault: write\n",
         Fault::Net(_) => "fault: net\n",
         Fault::Lost => "fault: file\n",
+        Fault::Broken(_) => "refused: 35 broken\n",
         Fault::Stream(DeskFault::Memory) | Fault::Words | Fault::Refused(_) | Fault::Nothing(_) =>
             "fault: memory\n",
     }

@@ -254,8 +254,8 @@ module _ {count : ℕ} {A : History} {x : Command} {new : State} where
   }
 
   -- the commit failed, and may stand
-  pub doubtful_ends : (v : Verdict) → AppliesCommand A x (Ok v.reply) (with_reply A x v.new_reply)
-      → AfterCrash A (with_reply A x v.new_reply) new → EndsCommand count A x InDoubt new
+  pub doubtful_ends : {error : Error} (v : Verdict) → AppliesCommand A x (Ok v.reply) (with_reply A x v.new_reply)
+      → AfterCrash A (with_reply A x v.new_reply) new → EndsCommand count A x (InDoubt error) new
   doubtful_ends v step crash = record {
     next = with_reply A x v.new_reply;
     step = (refl, λ memory disk. absurd (disk refl));
@@ -265,6 +265,11 @@ module _ {count : ℕ} {A : History} {x : Command} {new : State} where
   }
 
 -- ---- where a register stands
+
+-- one that says that nothing has broken it
+pub seen_unbroken : {S : Type 0} {inside seen : RegisterState S} {told : Bool} → inside ≡ seen → told ≡ seen.is_broken → told ≡ false
+    → inside.is_broken ≡ false
+seen_unbroken is told unbroken = ap (λ s. s.is_broken) is ∙ (sym told ∙ unbroken)
 
 -- a whole database that nothing has broken
 pub stands_whole : {S : Type 0} {g : Ghosts S} {A : History} {r : RegisterState S} → r.is_broken ≡ false → IsDurableWith r.last_number A (state g r.conn)
@@ -338,11 +343,11 @@ module _ {S : Type 0} (g : Ghosts S) (old new : RegisterState S) (x : Command) (
         takes s (record { accepted = s.accepted; in_doubt = Some s.accepted }) (Err Disk) (none_in_doubt is at) e.step (λ _. refl, λ _. refl) (inl refl),
       )
 
-  pub doubtful_leads : IsTrue new.is_broken
+  pub doubtful_leads : (error : Error) → IsTrue new.is_broken
       → (HasCleanDisk (state g new.conn) → (A : History) → IsDurableWith old.last_number A (state g old.conn)
-      → EndsCommand old.last_number A x InDoubt (state g new.conn))
+      → EndsCommand old.last_number A x (InDoubt error) (state g new.conn))
       → Leads g old new (λ s after. TakesStep s x (Err Disk) after)
-  doubtful_leads broken ends clean s at =
+  doubtful_leads error broken ends clean s at =
       let e = ends clean s.accepted (counted_at is at) in (
         record { accepted = s.accepted; in_doubt = Some e.next },
         stands_broken broken e.crash,

@@ -25,7 +25,7 @@ ends_with (Err refusal) = Err refusal
 abbrev pub result_of : TransactionResult → Result Reply Refusal
 result_of (Accepted v) = Ok v.reply
 result_of (Refused e) = Err e
-result_of InDoubt = Err Disk
+result_of (InDoubt error) = Err Disk
 
 -- the history that stands, after one and the next
 abbrev pub history_after : History → History → TransactionResult → History
@@ -39,7 +39,7 @@ last_number_after old _ = old
 
 -- the commit may stand or not
 abbrev pub is_in_doubt : TransactionResult → Bool
-is_in_doubt InDoubt = true
+is_in_doubt (InDoubt error) = true
 is_in_doubt _ = false
 
 -- a command over a database that was whole, with the tables of this history and its number, ended so: it leads to the

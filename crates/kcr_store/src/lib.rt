@@ -9,6 +9,7 @@
 //! The history of accepted commands, of which the clauses speak, is ghost data: nothing in memory holds it.
 #![tactic(auto)]
 
+mod breakage;
 mod database_rows;
 mod full_view;
 mod lists;
@@ -19,6 +20,7 @@ mod rows;
 mod shown;
 mod transaction;
 
+pub use breakage::Breakage;
 pub use database_rows::read_tables;
 pub use open::{OpenFault, connect};
 pub use register::{FileRegister, Register};

@@ -1,11 +1,12 @@
 //! The register itself.
-ghost use Rattle.std.specs.Prelude.{[], false, true, ◌≡◌, ◌↔◌, IsTrue, IfOk, IfErr, OnOk, Ok, Err, None};
+ghost use Rattle.std.specs.Prelude.{[], false, true, ◌≡◌, ◌↔◌, IsTrue, IfOk, IfErr, OnOk, Ok, Err, None, is_some};
 ghost use Rattle.sqlite.specs.State.{HasCleanDisk};
 ghost use Rattle.sqlite.specs.Held.{state};
 ghost use Rattle.kcr_history.specs.History.{History};
 ghost use Rattle.kcr_store.specs.ByRows.{RepliesBy};
 ghost use Rattle.kcr_store.specs.Commands.{GoesByRow, IsQuestionResult, MayBeReplied, MayRefuseQuestion, TakesStep};
 
+use crate::breakage::{Breakage, breakage_of};
 use crate::full_view::{audit_database, full_view, read_table};
 use crate::open::{OpenFault, connect, open_or_migrate};
 use crate::transaction::{TransactionResult, number_after, run_command, run_query};
@@ -21,7 +22,8 @@ use std::marker::Model;
 /// number of its last command; of what it accepted they speak by what the database holds (`StandsAt`).
 pub struct Register<S: Alter> {
     pub(crate) conn: Connection<S>,
-    pub(crate) broken: bool,
+    /// What broke it, if anything did.
+    breakage: Option<Breakage>,
     /// The number of its last command.
     last_number: u32,
     pub(crate) alloc: Global,
@@ -37,16 +39,17 @@ impl<S: Alter + Drop> Drop for Register<S> {
 }
 
 impl<S: Alter> Model for Register<S> {
+    ghost use Rattle.std.specs.Prelude.{is_some};
     ghost use Rattle.kcr_store.specs.Register.{RegisterState, register_state_code, IsConsistent};
 
     ghost Value = { RegisterState S };
 
     ghost coded = { register_state_code S.code };
 
-    ghost view = { λ r. record { conn = r.conn; is_broken = r.broken; last_number = r.last_number } };
+    ghost view = { λ r. record { conn = r.conn; is_broken = is_some r.breakage; last_number = r.last_number } };
 
     ghost invariant = { λ r. IsConsistent S.Store
-        (record { conn = r.conn; is_broken = r.broken; last_number = r.last_number }) };
+        (record { conn = r.conn; is_broken = is_some r.breakage; last_number = r.last_number }) };
 }
 
 impl<S: Alter + Drop> Register<S> {
@@ -101,7 +104,7 @@ impl<S: Alter + Drop> Register<S> {
         match open_or_migrate(alloc, &mut conn) {
             Ok(count) => Ok(Register {
                 conn,
-                broken: false,
+                breakage: None,
                 last_number: count,
                 alloc,
             }),
@@ -238,7 +241,7 @@ impl<S: Alter> Register<S> {
         ensures clean { HasCleanDisk (state S.Store self.new.conn) → HasCleanDisk (state S.Store self.old.conn) }
         ensures kept { IsConsistent S.Store self.new }
     {
-        if self.broken {
+        if self.is_broken() {
             return Err(Refusal::Broken);
         }
         match run_command(self.alloc, &mut self.conn, self.last_number, command) {
@@ -247,12 +250,12 @@ impl<S: Alter> Register<S> {
                 Ok(verdict.reply)
             }
             TransactionResult::Refused(Refusal::Disk) => {
-                self.broken = true;
+                self.breakage = Some(Breakage::Reading);
                 Err(Refusal::Disk)
             }
             TransactionResult::Refused(refusal) => Err(refusal),
-            TransactionResult::InDoubt => {
-                self.broken = true;
+            TransactionResult::InDoubt(error) => {
+                self.breakage = Some(breakage_of(error));
                 Err(Refusal::Disk)
             }
         }
@@ -269,7 +272,7 @@ impl<S: Alter> Register<S> {
         ensures by_rows { IfOk result (IsShownByRows question.now) }
         ensures looks { ReadsHistory S.Store (MayRefuseQuestion question.now) self.old self.new result }
     {
-        if self.broken {
+        if self.is_broken() {
             return Err(Refusal::Broken);
         }
         let shown = run_query(self.alloc, &mut self.conn, question);
@@ -288,7 +291,7 @@ impl<S: Alter> Register<S> {
             (λ A. IfOk result (λ rows. IsRegister A × AreRows R.table.rows_in (tables A) rows.items)) }
         ensures looks { ReadsHistory S.Store IsFault self.old self.new result }
     {
-        if self.broken {
+        if self.is_broken() {
             return Err(Refusal::Broken);
         }
         let rows = read_table(self.alloc, &mut self.conn);
@@ -305,7 +308,7 @@ impl<S: Alter> Register<S> {
             (λ A. IfOk result (λ all. IsRegister A × IsListed (tables A) all)) }
         ensures looks { ReadsHistory S.Store IsFault self.old self.new result }
     {
-        if self.broken {
+        if self.is_broken() {
             return Err(Refusal::Broken);
         }
         let all = full_view(self.alloc, &mut self.conn);
@@ -323,7 +326,7 @@ impl<S: Alter> Register<S> {
         ensures nothing { OfHistory S.Store self.old self.new (λ _. IfOk result (λ found. found ≡ None)) }
         ensures looks { ReadsHistory S.Store IsFault self.old self.new result }
     {
-        if self.broken {
+        if self.is_broken() {
             return Err(Refusal::Broken);
         }
         let found = audit_database(self.alloc, &mut self.conn);
@@ -350,7 +353,14 @@ impl<S: Alter> Register<S> {
         ensures value { result ≡ self.now.is_broken }
         ensures kept { IsConsistent S.Store self.now }
     {
-        self.broken
+        self.breakage.is_some()
+    }
+
+    /// What broke it, if anything did.
+    pub fn breakage(&self) -> Option<Breakage>
+        ensures value { is_some result ≡ self.now.is_broken }
+    {
+        self.breakage
     }
 
     /// The number of the last command that was accepted; 0 if none was.
@@ -360,12 +370,12 @@ impl<S: Alter> Register<S> {
         self.last_number
     }
 
-    /// Breaks it after a fault that a caller met, so that every later call answers 35.
+    /// Breaks it after a caller met a read that failed or an invalid row, so that every later call answers 35.
     pub fn mark_broken(&mut self)
         ensures same { self.new ≡ after_fault self.old }
         ensures kept { IsConsistent S.Store self.new }
     {
-        self.broken = true;
+        self.breakage = Some(Breakage::Reading);
     }
 
     /// Gives the connection back.
@@ -374,7 +384,7 @@ impl<S: Alter> Register<S> {
     {
         let Register {
             conn,
-            broken: _,
+            breakage: _,
             last_number: _,
             alloc: _,
         } = self;

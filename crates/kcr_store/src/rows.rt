@@ -50,7 +50,7 @@ impl<'a, S: Alter, R: Cursor> Rows<'a, S, R> {
         ensures peeks { ReadsWithoutBreaking S.Store IsFault self.old.register.now self.new.register.now result }
     {
         let register = &mut *self.register;
-        if register.broken {
+        if register.is_broken() {
             return Err(Refusal::Broken);
         }
         next_row(register.alloc, &mut register.conn, &mut self.reading)
@@ -68,7 +68,7 @@ impl<S: Alter> Register<S> {
         ensures same_reference { IfOk result (λ rows. rows.register.ghost_name ≡ self.entry.ghost_name) }
         ensures begun { Begins self.old reading result }
     {
-        if self.broken {
+        if self.is_broken() {
             return Err(Refusal::Broken);
         }
         Ok(Rows::new(self, reading))
@@ -82,7 +82,7 @@ impl<S: Alter> Register<S> {
             (λ A. MatchResult result (IsRowOf A ceremony) (HasNoRow A ceremony)) }
         ensures peeks { ReadsWithoutBreaking S.Store (MayHaveNoRow ceremony) self.old self.new result }
     {
-        if self.broken {
+        if self.is_broken() {
             return Err(Refusal::Broken);
         }
         run_query(self.alloc, &mut self.conn, &ceremony)

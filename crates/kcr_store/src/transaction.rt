@@ -87,8 +87,8 @@ pub(crate) enum TransactionResult {
     Accepted(Verdict),
     /// Nothing was changed.
     Refused(Refusal),
-    /// The commit failed, and a crash may leave what it would have made.
-    InDoubt,
+    /// The commit failed with this, and a crash may leave what it would have made.
+    InDoubt(Error),
 }
 
 /// The number of the last command after one that is not refused: that of its reply, or the same after a repeat.
@@ -131,10 +131,10 @@ pub(crate) fn run_command<S: Alter>(
             // The store may be shut, and then the commit may stand.
             match conn.prepare("COMMIT") {
                 Ok(_) => TransactionResult::Refused(Refusal::Memory),
-                Err(_) => TransactionResult::InDoubt,
+                Err(error) => TransactionResult::InDoubt(error),
             }
         }
-        Err(_) => TransactionResult::InDoubt,
+        Err(error) => TransactionResult::InDoubt(error),
     }
 }
 

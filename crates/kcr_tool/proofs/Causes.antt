@@ -5,7 +5,6 @@ use Rattle.std.proofs.lemmas.List.{take_all}
 use Rattle.std.specs.Io.KnownBytes.{Appends}
 use Rattle.std.specs.Prelude.{IfSome, IsTrue, option_map}
 use Rattle.kcr_base.specs.declared.refusal.Refusal.{Refusal}
-use Rattle.kcr_base.specs.declared.refusal.Refusal.TheVariants as refusal
 use Rattle.kcr_desk.specs.Streams.{Streams, Writing, HasFailed, IsUntouched, WritesNothing, WritesPart, WritesText, bytes_before, bytes_after}
 use Rattle.kcr_print.specs.Reports.{Stops}
 use Rattle.kcr_print.specs.declared.fault.PrintFault.{PrintFault}
@@ -17,7 +16,7 @@ use Rattle.kcr_fault.specs.Notes.{IsMissing, IsUnfilled}
 use Rattle.kcr_fault.specs.declared.fault.Missing.{Missing}
 use Rattle.kcr_fault.specs.declared.fault.Missing.TheVariants.{Unnamed, Absent, Empty}
 use Rattle.kcr_fault.specs.declared.fault.Fault.{Fault}
-use Rattle.kcr_fault.specs.declared.fault.Fault.TheVariants.{Open, File, Log, Nothing, Into, IntoFile, Stream, Refused, Unwritten, Net, Lost, Words}
+use Rattle.kcr_fault.specs.declared.fault.Fault.TheVariants.{Open, File, Log, Nothing, Into, IntoFile, Stream, Refused, Broken, Unwritten, Net, Lost, Words}
 use Rattle.kcr_tool.specs.Runs.{StopsCopied, StopsVerification}
 use Rattle.kcr_words.specs.declared.words.Report.{Report}
 use Rattle.kcr_words.specs.declared.words.Serving.{Serving}
@@ -51,6 +50,7 @@ stops_weaker May Other w (IntoFile step) weaker stops = absurd stops
 stops_weaker May Other w (Net call) weaker stops = absurd stops
 stops_weaker May Other w Lost weaker stops = absurd stops
 stops_weaker May Other w Words weaker stops = absurd stops
+stops_weaker May Other w (Broken why) weaker stops = absurd stops
 
 -- CAUSES
 
@@ -67,6 +67,7 @@ met_cause task (IntoFile step) s stops = absurd stops
 met_cause task (Net call) s stops = absurd stops
 met_cause task Lost s stops = absurd stops
 met_cause task Words s stops = absurd stops
+met_cause task (Broken why) s stops = absurd stops
 
 -- what stopped a report over a register that nothing broke before
 pub report_stops : {S W : Type 0} (register : RegisterState S) (report : Report) (why : Fault) (w : Writing W) → register.is_broken ≡ false
@@ -85,10 +86,9 @@ serving_cause {S} {R} {W} register serving why s (inr (inl (inl none))) =
 serving_cause {S} {R} {W} register serving why s (inr (inl (inr (inl lost)))) =
     subst (λ (fault : Fault). StopsTask (Serve serving) s fault) (sym lost) (serving, refl)
 serving_cause {S} {R} {W} register serving why s (inr (inl (inr (inr broken)))) =
-    subst (λ (fault : Fault). StopsTask (Serve serving) s fault) (sym broken.0) (inr refl)
+    subst (λ (fault : Fault). StopsTask (Serve serving) s fault) (sym broken.0.1) (serving, refl)
 serving_cause {S} {R} {W} register serving why s (inr (inr stops)) =
-    met_cause (Serve serving) why s
-    (stops_weaker (λ met. met ≡ refusal.Memory) (MayMeet (Serve serving)) s.output why (λ met is. inl is) stops)
+    met_cause (Serve serving) why s stops
 
 -- a fault of a task over an open register, whichever file that came from
 pub task_cause : {R W : Type 0} (task : Task) (why : Fault) (file : Option (List ℕ)) (s : Streams R W) → StopsTask task s why
@@ -105,6 +105,7 @@ task_cause task (Open fault) file s stops = absurd stops
 task_cause task (Log log) file s stops = absurd stops
 task_cause task (Into fault) file s stops = absurd stops
 task_cause task Words file s stops = absurd stops
+task_cause task (Broken why) file s stops = (task, refl, stops)
 
 pub report_cause : {R W : Type 0} (report : Report) (why : Fault) (file : Option (List ℕ)) (s : Streams R W)
     → StopsReport (MayMeet (Write report)) s.output why → HasCause (Some (Write report)) file s why
@@ -135,6 +136,7 @@ opening_cause task (Stream fault) path s still stops = absurd stops
 opening_cause task (Net call) path s still stops = absurd stops
 opening_cause task Lost path s still stops = absurd stops
 opening_cause task Words path s still stops = absurd stops
+opening_cause task (Broken why) path s still stops = absurd stops
 
 -- why a report of a copy was not written whole
 pub copied_cause : {R W : Type 0} (report : Report) (why : Fault) (path : List ℕ) (s : Streams R W) → s.after ≡ s.before
@@ -157,6 +159,7 @@ reading_cause (Stream fault) path s still stops = absurd stops
 reading_cause (Net call) path s still stops = absurd stops
 reading_cause Lost path s still stops = absurd stops
 reading_cause Words path s still stops = absurd stops
+reading_cause (Broken why) path s still stops = absurd stops
 
 -- why a verification stopped
 pub replay_cause : {R W : Type 0} (why : Fault) (path : List ℕ) (s : Streams R W) → s.after ≡ s.before → StopsReplay s.output why
@@ -173,6 +176,7 @@ replay_cause (Stream fault) path s still stops = absurd stops
 replay_cause (Net call) path s still stops = absurd stops
 replay_cause Lost path s still stops = absurd stops
 replay_cause Words path s still stops = absurd stops
+replay_cause (Broken why) path s still stops = absurd stops
 
 -- why a verification of a copy was not told whole
 pub verification_cause : {R W : Type 0} (why : Fault) (path : List ℕ) (s : Streams R W) → s.after ≡ s.before
@@ -194,6 +198,7 @@ opening_reads (Stream fault) stops = absurd stops
 opening_reads (Net call) stops = absurd stops
 opening_reads Lost stops = absurd stops
 opening_reads Words stops = absurd stops
+opening_reads (Broken why) stops = absurd stops
 
 -- why no new register was made, before anything was written
 pub making_stops : {W : Type 0} (why : Fault) (w : Writing W) → WritesNothing w → StopsMaking why → StopsRebuild w why
@@ -209,6 +214,7 @@ making_stops (Stream fault) w none stops = absurd stops
 making_stops (Net call) w none stops = absurd stops
 making_stops Lost w none stops = absurd stops
 making_stops Words w none stops = absurd stops
+making_stops (Broken why) w none stops = absurd stops
 
 -- what stops a replay stops a rebuild
 pub replay_stops : {W : Type 0} (why : Fault) (w : Writing W) → StopsReplay w why → StopsRebuild w why
@@ -224,6 +230,7 @@ replay_stops (Stream fault) w stops = absurd stops
 replay_stops (Net call) w stops = absurd stops
 replay_stops Lost w stops = absurd stops
 replay_stops Words w stops = absurd stops
+replay_stops (Broken why) w stops = absurd stops
 
 -- no file is named
 pub none_mapped : {X Y : Type 0} (f : X → Y) (o : Option X) → option_map f o ≡ None → o ≡ None

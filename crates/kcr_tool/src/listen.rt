@@ -56,14 +56,14 @@ fn serve_stream<S: Alter>(
     let mut input = Counted::new(TimedReader::new(socket, &patience));
     let writer = TimedWriter::new(socket, &patience);
     let mut output = Counted::new(Watched::new(writer, watch));
-    let ended = one(rt.alloc(), &mut input, &mut output, register);
+    one(rt.alloc(), &mut input, &mut output, register);
     if is_lost(watch) {
         return Err(Fault::Lost);
     }
-    if ended.is_broken {
-        return Err(Fault::Refused(Refusal::Broken));
+    match register.breakage() {
+        Some(why) => Err(Fault::Broken(why)),
+        None => Ok(()),
     }
-    Ok(())
 }
 
 /// Serves connections, one after the other, and returns how many were served.

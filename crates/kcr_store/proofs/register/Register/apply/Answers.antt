@@ -1,20 +1,24 @@
 use Rattle.std.proofs.Common.{refl}
-use Rattle.kcr_store.proofs.WholeLemmas.{accepted_leads, doubtful_leads, failed_leads}
+use Rattle.kcr_store.proofs.WholeLemmas.{accepted_leads, doubtful_leads, failed_leads, seen_unbroken}
 use Rattle.kcr_store.proofs.register.Register.apply.Goals as goal
 
 pub returns-in-Accepted-clause-step : goal.returns-in-Accepted-clause-step
 returns-in-Accepted-clause-step g c =
-    rw (← c.self.view_is) (accepted_leads g.S.Store _ _ c.args.command.now c.if-self.false c.in-Accepted.verdict c.if-self.false
+    let unbroken = seen_unbroken c.self.view_is c.is_broken.ensures.value c.if-is_broken.false in
+    rw (← c.self.view_is) (accepted_leads g.S.Store _ _ c.args.command.now unbroken c.in-Accepted.verdict unbroken
     c.number_after-self-inside.ensures c.in-Accepted.ensures.step)
 
 pub returns-in-Refused-Disk-clause-step : goal.returns-in-Refused-Disk-clause-step
 returns-in-Refused-Disk-clause-step g c =
-    rw (← c.self.view_is) (failed_leads g.S.Store _ _ c.args.command.now c.if-self.false refl
+    let unbroken = seen_unbroken c.self.view_is c.is_broken.ensures.value c.if-is_broken.false in
+    rw (← c.self.view_is) (failed_leads g.S.Store _ _ c.args.command.now unbroken refl
     (rw c.in-Refused-Disk.field-0-is at c.in-Refused-Disk.ensures.step))
 
 pub returns-in-InDoubt-clause-step : goal.returns-in-InDoubt-clause-step
 returns-in-InDoubt-clause-step g c =
-    rw (← c.self.view_is) (doubtful_leads g.S.Store _ _ c.args.command.now c.if-self.false refl c.in-InDoubt.ensures.step)
+    let unbroken = seen_unbroken c.self.view_is c.is_broken.ensures.value c.if-is_broken.false in
+    rw (← c.self.view_is) (doubtful_leads g.S.Store _ _ c.args.command.now unbroken c.in-InDoubt.error refl
+    c.in-InDoubt.ensures.step)
 
 pub returns-in-Accepted-clause-by_rows : goal.returns-in-Accepted-clause-by_rows
 returns-in-Accepted-clause-by_rows g c _ = rw (← c.self.view_is) c.in-Accepted.ensures.by_rows
