@@ -1,9 +1,13 @@
-use Rattle.std.proofs.Common.{inl, inr, refl, rules, Ok}
-use Rattle.sqlite.specs.State.{HasCleanDisk, Survives}
+use Rattle.std.proofs.Common.{inl, inr, refl, rules, Ok, ℕ}
+use Rattle.std.proofs.lemmas.Bool.{true≢false}
+use Rattle.sqlite.specs.declared.error.Error.{Error}
+use Rattle.sqlite.specs.State.{HasCleanDisk, State, Survives}
 use Rattle.sqlite.specs.Held.{state}
 use Rattle.kcr_rows.proofs.InsideLemmas.{was_clean}
 use Rattle.kcr_rows.proofs.FrameLemmas.{clean_before}
 use Rattle.kcr_store.proofs.KeyLemmas.{fault_goes, refused_goes, replied_goes}
+use Rattle.kcr_history.specs.History.{History}
+use Rattle.kcr_history.specs.declared.commands.Command.{Command}
 use Rattle.kcr_store.specs.ByRows.{RepliesBy}
 use Rattle.kcr_store.proofs.ByRows.{begun_had, committed_by, refused_by}
 use Rattle.kcr_store.proofs.WholeLemmas.{accepted_ends, begins, begun_clean, counted_as, doubtful_ends, either, either_last, made_by, read_back, read_stores}
@@ -22,11 +26,11 @@ returns-in-Err-clause-kind g c = c.in-Err.ensures.kind
 pub returns-in-Ok-commit-clause-kind : goal.returns-in-Ok-commit-clause-kind
 returns-in-Ok-commit-clause-kind g c = c.in-Ok.ensures.kind
 
-pub returns-in-Err-commit-clause-kind : goal.returns-in-Err-commit-clause-kind
-returns-in-Err-commit-clause-kind g c = fault-refused c.args.command.now Disk (inr refl)
+pub returns-clause-kind : goal.returns-clause-kind
+returns-clause-kind g c = fault-refused c.args.command.now Disk (inr refl)
 
-pub returns-in-Err-prepare-clause-kind : goal.returns-in-Err-prepare-clause-kind
-returns-in-Err-prepare-clause-kind g c = fault-refused c.args.command.now Disk (inr refl)
+pub returns-in-Err-SqliteFailure-OutOfMemory-clause-kind : goal.returns-in-Err-SqliteFailure-OutOfMemory-clause-kind
+returns-in-Err-SqliteFailure-OutOfMemory-clause-kind g c = fault-refused c.args.command.now Disk (inr refl)
 
 pub returns-in-Ok-prepare-clause-kind : goal.returns-in-Ok-prepare-clause-kind
 returns-in-Ok-prepare-clause-kind g c = fault-refused c.args.command.now Memory (inl refl)
@@ -47,11 +51,11 @@ returns-in-Ok-commit-clause-by_row g c =
     c.commit.ensures.survives (λ clean. (c.in-Ok-commit.ensures.ok clean).1) c.in-Ok.ensures.by_row in
     search rules
 
-pub returns-in-Err-commit-clause-by_row : goal.returns-in-Err-commit-clause-by_row
-returns-in-Err-commit-clause-by_row g c = fault_goes _ _ c.args.command.now Disk (inr refl)
+pub returns-clause-by_row : goal.returns-clause-by_row
+returns-clause-by_row g c = fault_goes _ _ c.args.command.now Disk (inr refl)
 
-pub returns-in-Err-prepare-clause-by_row : goal.returns-in-Err-prepare-clause-by_row
-returns-in-Err-prepare-clause-by_row g c = fault_goes _ _ c.args.command.now Disk (inr refl)
+pub returns-in-Err-SqliteFailure-OutOfMemory-clause-by_row : goal.returns-in-Err-SqliteFailure-OutOfMemory-clause-by_row
+returns-in-Err-SqliteFailure-OutOfMemory-clause-by_row g c = fault_goes _ _ c.args.command.now Disk (inr refl)
 
 pub returns-in-Ok-prepare-clause-by_row : goal.returns-in-Ok-prepare-clause-by_row
 returns-in-Ok-prepare-clause-by_row g c = fault_goes _ _ c.args.command.now Memory (inl refl)
@@ -72,11 +76,11 @@ returns-in-Ok-commit-clause-by_rows g c clean m had =
     committed_by {mid = state g.S.Store c.decide_and_write.new.tx.conn.now} by (c.in-Ok-commit.ensures.ok at).1 in
     search rules
 
-pub returns-in-Err-commit-clause-by_rows : goal.returns-in-Err-commit-clause-by_rows
-returns-in-Err-commit-clause-by_rows g c clean m had = refused_by (inl (inr refl))
+pub returns-clause-by_rows : goal.returns-clause-by_rows
+returns-clause-by_rows g c clean m had = refused_by (inl (inr refl))
 
-pub returns-in-Err-prepare-clause-by_rows : goal.returns-in-Err-prepare-clause-by_rows
-returns-in-Err-prepare-clause-by_rows g c clean m had = refused_by (inl (inr refl))
+pub returns-in-Err-SqliteFailure-OutOfMemory-clause-by_rows : goal.returns-in-Err-SqliteFailure-OutOfMemory-clause-by_rows
+returns-in-Err-SqliteFailure-OutOfMemory-clause-by_rows g c clean m had = refused_by (inl (inr refl))
 
 pub returns-in-Ok-prepare-clause-by_rows : goal.returns-in-Ok-prepare-clause-by_rows
 returns-in-Ok-prepare-clause-by_rows g c clean m had = refused_by (inl (inl refl))
@@ -123,8 +127,19 @@ returns-in-Ok-commit-clause-clean g c clean =
 
 -- ---- the commit failed, and may stand
 
-pub returns-in-Err-commit-clause-step : goal.returns-in-Err-commit-clause-step
-returns-in-Err-commit-clause-step g c clean A was =
+-- whatever error it failed with
+doubtful_by : {error other : Error} {count : ℕ} {A : History} {x : Command} {new : State} → EndsCommand count A x (InDoubt error) new
+    → EndsCommand count A x (InDoubt other) new
+doubtful_by e = record {
+  next = e.next;
+  step = e.step;
+  candidate = e.candidate;
+  shows = λ is. absurd (true≢false is);
+  crash = e.crash;
+}
+
+pub returns-clause-step : goal.returns-clause-step
+returns-clause-step g c clean A was =
     let made =
     made_by g.S.Store c.args.conn.now _ c.transaction-tx.ensures.begun _ c.decide_and_write.ensures.frame.survives c.args.command.now c.args.count c.in-Ok.verdict
     refl c.in-Ok.ensures.done was in
@@ -132,17 +147,17 @@ returns-in-Err-commit-clause-step g c clean A was =
     let left = either _ _ _ began c.decide_and_write.ensures.frame.survives c.decide_and_write.ensures.frame.kept _ _ c.commit.ensures.survives (λ clean. (made clean).1) in
     let ended : EndsCommand c.args.count A c.args.command.now (InDoubt c.in-Err-commit.error) (state g.S.Store c.commit.new.self.0) =
     doubtful_ends c.in-Ok.verdict (made (was_clean _ _ _ c.commit.ensures.survives (search rules))).0 left in
-    search rules
+    doubtful_by {error = c.in-Err-commit.error} (search rules)
 
-pub returns-in-Err-commit-clause-clean : goal.returns-in-Err-commit-clause-clean
-returns-in-Err-commit-clause-clean g c clean =
+pub returns-clause-clean : goal.returns-clause-clean
+returns-clause-clean g c clean =
     begun_clean g.S.Store c.args.conn.now _ c.transaction-tx.ensures.begun
     (clean_before c.decide_and_write.ensures.frame (was_clean _ _ _ c.commit.ensures.survives (search rules)))
 
 -- ---- memory ran out at the commit, and the store is asked whether it is still open
 
-pub returns-in-Err-prepare-clause-step : goal.returns-in-Err-prepare-clause-step
-returns-in-Err-prepare-clause-step g c clean A was =
+pub returns-in-Err-SqliteFailure-OutOfMemory-clause-step : goal.returns-in-Err-SqliteFailure-OutOfMemory-clause-step
+returns-in-Err-SqliteFailure-OutOfMemory-clause-step g c clean A was =
     let made =
     made_by g.S.Store c.args.conn.now _ c.transaction-tx.ensures.begun _ c.decide_and_write.ensures.frame.survives c.args.command.now c.args.count c.in-Ok.verdict
     refl c.in-Ok.ensures.done was in
