@@ -5,7 +5,7 @@ import { act, actNow } from "./act.js";
 import { clockOf, moment, now } from "./clock.js";
 import { card, fill, make, show } from "./dom.js";
 import { form, offer, toggles } from "./forms.js";
-import { pressButton } from "./press.js";
+import { pressButton, rest } from "./press.js";
 import { isTrained } from "./staff.js";
 import { ceremony, inRoom, person, state } from "./state.js";
 
@@ -121,6 +121,9 @@ function safeCard(safe, role, words, brief = false) {
     fill(told, open ? "Open" : "Shut");
     node.classList.toggle("open", open);
     if (shown !== open) {
+      if (shown !== null) {
+        rest(); // it may be another desk that turned it
+      }
       shown = open; // another act, another button
       place.replaceChildren(pressButton(`safe-${safe}-send`, `${open ? "Shut" : "Open"} safe ${safe}`,
         () => turn(safe, by.value, told)));

@@ -3,6 +3,7 @@
 // What was typed stands again after another view, a refusal and a reload, until the command was accepted.
 
 import { button, fill, keepSafely, make, show } from "./dom.js";
+import { sendDraft } from "./outbox.js";
 import { rests } from "./press.js";
 
 const DRAFT = "kcr.draft.";
@@ -59,6 +60,11 @@ function contents(input) {
   return input.type === "checkbox" ? input.checked : input.value;
 }
 
+/** What the controls of a form have, by their names. */
+function contentsOf(made) {
+  return Object.fromEntries(made.map(({ field, input }) => [field.name, contents(input)]));
+}
+
 /** Puts what a draft kept into a control. */
 function putBack(input, kept) {
   if (input.type === "checkbox") {
@@ -79,8 +85,7 @@ function draftOf(name) {
 
 /** Keeps a form's fields as a draft, and the choices that are remembered. */
 function keepDraft(name, made) {
-  const kept = Object.fromEntries(made.map(({ field, input }) => [field.name, contents(input)]));
-  keepSafely(sessionStorage, DRAFT + name, kept);
+  keepSafely(sessionStorage, DRAFT + name, contentsOf(made));
   made.filter(({ field }) => field.remember).forEach(({ field, input }) => {
     keepSafely(localStorage, REMEMBERED + field.remember, input.value);
   });
@@ -108,9 +113,15 @@ function mark(made, { body, words }) {
   }
 }
 
-/** Empties the fields of a form that do not stay. */
-function empty(made) {
-  made.filter(({ field }) => !field.keep).forEach(({ input }) => {
+/** Takes what was sent and accepted out of a draft, but for what was changed since. */
+export function dropSent({ name, sent }) {
+  const left = Object.entries(draftOf(name) ?? {}).filter(([field, value]) => sent[field] !== value);
+  keepSafely(sessionStorage, DRAFT + name, Object.fromEntries(left));
+}
+
+/** Empties the fields of a form that have what was sent. What was typed since stays. */
+function empty(made, sent) {
+  made.filter(({ field, input }) => contents(input) === sent[field.name]).forEach(({ input }) => {
     if (input.type === "checkbox") {
       input.checked = false;
     } else if (input.tagName !== "SELECT") {
@@ -136,9 +147,11 @@ export function form({ id, fields, text, send, kind = "primary", of = "", isLoca
       input.removeAttribute("aria-invalid");
       show(wrong, false);
     });
-    const answer = await send(Object.fromEntries(made.map(({ field, input }) => [field.name, valueOf(field, input)])));
+    const values = Object.fromEntries(made.map(({ field, input }) => [field.name, valueOf(field, input)]));
+    const sent = contentsOf(made.filter(({ field }) => !field.keep));
+    const answer = await sendDraft({ name, sent }, () => send(values));
     if (answer && !answer.refused) {
-      empty(made);
+      empty(made, sent);
       keepDraft(name, made);
       isTouched = false;
     } else if (answer?.body) {

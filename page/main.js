@@ -174,7 +174,9 @@ async function start() {
   document.getElementById("look-again").addEventListener("click", () => whileBusy(update));
   await whileBusy(async () => {
     await Promise.all([go(), update()]);
-    await resume();
+    if (await resume()) {
+      await go();
+    }
   });
   setTimeout(lookAround, 1000 * (isAway() ? AWAY_SECONDS : LOOK_SECONDS));
 }

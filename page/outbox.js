@@ -12,6 +12,7 @@ const FIRST_PAUSE = 1000;
 const MOST_PAUSE = 15000;
 const IN_DOUBT = [33, 34, 35];
 let opened = null;
+let draft = null; // of the form that sends now: its name, and what was sent of it
 
 /** A random key: 32 hexadecimal digits. */
 function newKey() {
@@ -41,11 +42,21 @@ async function stored(mode, work) {
   });
 }
 
+/** Runs the sending of a form. The command that is kept meanwhile is that of its draft. */
+export async function sendDraft(of, work) {
+  draft = of;
+  try {
+    return await work();
+  } finally {
+    draft = null;
+  }
+}
+
 /** Makes the entry of a command, and keeps it. Errors: an exception if the browser keeps nothing. */
 export async function keep(command) {
   const key = newKey();
   const body = JSON.stringify({ key, ...command.members });
-  const entry = { key, path: command.path, body, says: command.says, since: Date.now() };
+  const entry = { key, path: command.path, body, says: command.says, since: Date.now(), draft };
   await stored("readwrite", (all) => all.put(entry));
   return entry;
 }

@@ -1,5 +1,6 @@
 // One press, one act. A key that is held down counts once. After an accepted act no button takes a press until the key
-// or the pointer was let go and a second has passed: what stands under a second press may be another act by then.
+// or the pointer was let go and a second has passed: what stands under a second press may be another act by then. So it
+// is if another desk's act changes a button, and if a question opens under a press.
 
 import { make } from "./dom.js";
 
@@ -79,15 +80,16 @@ function isNew() {
   return !isResting && (!byHand || began >= armed);
 }
 
-/** Makes the button of an act. It takes a press only if it does not rest. */
-export function pressButton(id, text, act, kind = "") {
+/** Makes the button of an act. It takes a press only if it does not rest. If it sends no command, it stays on while the
+ *  register is away. */
+export function pressButton(id, text, act, kind = "", isCommand = true) {
   const click = () => {
     if (isNew()) {
       act();
     }
   };
   return make("button", {
-    type: "button", id, class: kind, click, "data-press": true, "data-command": true, "data-resting": isResting,
+    type: "button", id, class: kind, click, "data-press": true, "data-command": isCommand, "data-resting": isResting,
   }, text);
 }
 

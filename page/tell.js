@@ -1,6 +1,7 @@
 // Tells the user what came of a command, which commands have no answer yet, and asks before a doubtful one is sent.
 
 import { button, fill, make, show } from "./dom.js";
+import { pressButton, rest } from "./press.js";
 import { acceptedInWords, inWords } from "./words.js";
 
 const answer = document.getElementById("answer");
@@ -84,7 +85,8 @@ export function confirm(title, lines, yes, no, box = null) {
       tick ? make("label", { class: "tick", for: "question-box" }, tick, box) : null,
       make("div", { class: "row" },
         button("question-no", no, () => end(false), "primary"),
-        button("question-yes", yes, () => end(true))));
+        pressButton("question-yes", yes, () => end(true), "", false)));
+    rest();
     dialog.oncancel = (event) => {
       event.preventDefault();
       end(false);

@@ -49,15 +49,16 @@ function batchCard({ id, title, hint, example, batch, fields = [], more = null }
   });
   made.node.insertBefore(file, made.node.lastChild);
   const update = () => {
-    const { commands, faults: wrong } = batch(values());
+    const { commands, faults: wrong } = state.isWhole ? batch(values()) : { commands: [], faults: [] };
     fill(faults, wrong.map((one) => make("li", {}, one)));
     fill(list, commands.slice(0, MOST_SHOWN).map(({ says }) => make("li", {}, says)));
     made.go.textContent = `Send ${count(commands.length, "command")}`;
     show(made.go, commands.length > 0 && wrong.length === 0);
     show(nothing, made.inputs.list.value.trim() !== "" && commands.length === 0 && wrong.length === 0);
+    fill(nothing, state.isWhole ? "All of it is in the register." : "Not known: the register did not answer yet.");
     more?.update(values());
   };
-  const nothing = make("p", {}, "All of it is in the register.");
+  const nothing = make("p", { id: `${id}-nothing` });
   Object.values(made.inputs).forEach((input) => ["input", "change"].forEach((name) =>
     input.addEventListener(name, update)));
   const node = card(`${id}-card`, title, make("p", { class: "hint" }, hint), more?.node, made.node, faults, told,
@@ -71,8 +72,8 @@ function needsList() {
   const isTrainedNow = (who, role) => isTrained(person(who), role, state.placesDay);
   return { node: list, update: ({ list: text }) => {
     const found = stockNeeds(state.known, ceremony(), inRoomAtMoment(), isTrainedNow, state.places, text);
-    fill(list, found.map(([told, isMet]) => make("li", { class: isMet ? "met" : "unmet" }, `${told}: ${isMet ? "yes"
-      : "no"}`)));
+    const told = (isMet) => (!state.isWhole ? "not known" : isMet ? "yes" : "no");
+    fill(list, found.map(([need, isMet]) => make("li", { class: isMet ? "met" : "unmet" }, `${need}: ${told(isMet)}`)));
   } };
 }
 

@@ -119,8 +119,8 @@ export function roomView() {
   const forms = make("div", { class: "two" },
     card("come", "Come in", comeIn.node), card("leave", "Go out", goOut.node));
   const closed = make("p", { class: "facts" });
-  const node = make("div", {}, make("h1", {}, "Room"), number, card("now", "In the room now", inside), forms, closed,
-    card("fit", "Who fits which role", rolesTitle, roles));
+  const cards = [card("now", "In the room now", inside), card("fit", "Who fits which role", rolesTitle, roles)];
+  const node = make("div", {}, make("h1", {}, "Room"), number, cards[0], forms, closed, cards[1]);
   const update = () => {
     const here = inRoom();
     show(forms, state.script?.state === "open");
@@ -129,6 +129,7 @@ export function roomView() {
       ? `The ceremony is closed since ${state.script.closed}: nobody comes in or goes out.`
       : "The ceremony is not open yet, so nobody comes in or goes out.");
     fill(number, numberText(here.length));
+    cards.forEach((one) => show(one, state.isWhole));
     fill(inside, here.map(insideRow));
     comeIn.draw();
     goOut.draw();

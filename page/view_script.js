@@ -8,7 +8,7 @@ import { card, count, fill, make, pairs, show } from "./dom.js";
 import { form } from "./forms.js";
 import { fitting, seatingAt } from "./known.js";
 import { planCard } from "./plan_check.js";
-import { pressButton } from "./press.js";
+import { pressButton, rest } from "./press.js";
 import { shortSeats } from "./seating.js";
 import { seatName } from "./staff.js";
 import { ceremony, inRoom, inRoomAtMoment, isAway, person, state } from "./state.js";
@@ -114,6 +114,9 @@ function nextCard() {
     fill(told, recordedText(step.seats, found));
     told.className = found.seating ? "" : "wrong";
     if (shown !== step.number) {
+      if (shown !== null) {
+        rest(); // it may be another desk that signed
+      }
       shown = step.number;
       place.replaceChildren(pressButton("sign", `Sign step ${step.number}`, () => sign(step.number), "primary large"));
     }

@@ -101,7 +101,8 @@ def whole_ceremony(program, browser, room):
 
 def one_press(program, browser, _room):
     """A held key signs one step, and so do two presses 50 to 900 ms apart; after a second the next press counts. The
-    focus is on the title of the next step. A safe that was opened is not shut by the rest of a press."""
+    focus is on the title of the next step. A safe that was opened is not shut by the rest of a press. A press just
+    after another desk signed, or just after a question opened, does nothing."""
     script = "step,activity,seats\\n" + "".join(f"{n},Step {n},CA\\n" for n in range(1, 31))
     with prepared(program, browser, opened(script)) as at_desk:
         browser.run("sessionStorage.setItem('test-rest', 'true')")
@@ -132,6 +133,21 @@ def one_press(program, browser, _room):
         browser.until("the safe", lambda: browser.text("safe-2-state") == "Open")
         browser.press_key("Enter")
         expect("safes", 1, sum(b"/safes/" in request for request in at_desk.between.seen))
+        at_desk.send([act(61, f"steps/{step + 1}/signature", "other", "20:08:00")])
+        browser.until("the next step", lambda: browser.text("sign") == f"Sign step {step + 2}")
+        press_middle(browser, "sign")
+        browser.click("close")
+        press_middle(browser, "question-yes")
+        time.sleep(0.3)
+        expect("the question", True, browser.shown("question"))
+        browser.click("question-no")
+        expect("signatures after another desk's", step, signatures(at_desk))
+
+
+def press_middle(browser, name):
+    """Presses the pointer in the middle of a thing, whether it rests or not."""
+    browser.press_at(*browser.run("const { x, y, width, height } = arguments[0].getBoundingClientRect();"
+                                  "return [x + width / 2, y + height / 2]", browser.find(name)))
 
 
 def signatures(at_desk):
@@ -166,7 +182,11 @@ def away(program, browser, room):
         at_desk.kill()
         at_desk.open("#/room/61")
         contains("the room", "Not known", browser.text("inside-count"))
+        if "nobody" in browser.text("content"):
+            raise Wrong(f"the room says {browser.text('content')!r}")
         expect("the button", False, browser.find("way-in-send").is_enabled() and browser.shown("way-in-send"))
+        browser.go("beginning")
+        contains("the needs", "A ceremony is chosen and open: not known", browser.text("stock-needs"))
         browser.go("ceremonies")
         contains("the list", "Not known", browser.text("ceremonies"))
         contains("the frame", "The register does not answer", browser.text("trouble"))
@@ -227,6 +247,27 @@ def drafts(program, browser, room):
         refused(browser, "script", "Row 3: 'CA*1' is no seat")
         order = browser.run("return [...document.querySelectorAll('#rows tbody tr')].map(row => row.id)")
         expect("the rows", ["row-1", "row-2", "row-3", ""], order)
+
+
+def typed_while_sending(program, browser, _room):
+    """What is typed while a command has no answer stays. After a reload, what was sent and accepted is not there to be
+    sent again."""
+    with prepared(program, browser, opened()) as at_desk:
+        for number, then in enumerate(("", "", " and more"), 1):
+            at_desk.between.hold = True
+            browser.enter("exception", text="First", **{"pass": False})
+            browser.again(lambda: browser.click_on("exception-send"))
+            browser.until("the command", lambda number=number: len(set(at_desk.between.seen)) == number)
+            if number == 2:
+                browser.driver.get("about:blank")
+                browser.driver.get(f"{at_desk.url}#/script/61")
+            elif then:
+                browser.find("exception-text").send_keys(then)
+            at_desk.between.hold = False
+            browser.until("the answer", lambda number=number: f"exception {number}." in browser.text("answer"))
+            browser.ready()
+            expect(f"the draft {number}", then and f"First{then}",
+                   browser.find("exception-text").get_attribute("value"))
 
 
 def asks_first(program, browser, _room):
@@ -376,11 +417,14 @@ return all.filter((id, place) => all.indexOf(id) !== place);
 
 def labels(program, browser, _room):
     """In each view each field, button and link has a label, ids are unique, buttons that are alike have names of their
-    own, and nothing is wider than 320 pixels, in light and in dark."""
+    own, and nothing is wider than 320 pixels, in light and in dark, however long a word is."""
     item = post(b"/items", b"i", f'"ceremony":61,"item":"CARD1","at":"{at("20:06:00")}"'.encode())
     bags = [act(61, f"bags/BB5118428{n}/seal", f"b{n}", "20:07:00", f'"items":["CARD{n}"],') for n in (1, 2)]
     second = post(b"/items", b"j", f'"ceremony":61,"item":"CARD2","at":"{at("20:06:00")}"'.encode())
-    with prepared(program, browser, [*opened(), item, second, *bags]):
+    long = [kcr.person(b"p-LL", b"LL", b"L" * 120), act(61, "sheet", "l", "20:07:30", '"way":"in","who":["LL"],'),
+            act(61, "exceptions", "e", "20:07:40", f'"text":"{"e" * 1_000}","pass":false,')]
+    script = f"step,activity,seats\\n1,{'a' * 500},CA;IW\\n2,Last,CA\\n"
+    with prepared(program, browser, [*opened(script), item, second, *bags, *long]):
         for dark in (False, True):
             browser.size(320, 800, dark)
             for view in ("ceremonies", "script", "room", "custody", "record", "reports", "people", "places", "planning",
@@ -563,8 +607,8 @@ def picture(browser, folder, name, width, height, dark=False):
     (folder / f"{name}.png").write_bytes(found)
 
 
-BROWSING = [whole_ceremony, one_press, will_be_recorded, away, lost_commands, drafts, asks_first,
-            refusals_of_ceremonies, refusals_in_doubt, kills.lost_answer, kills.killed,
+BROWSING = [whole_ceremony, one_press, will_be_recorded, away, lost_commands, drafts, typed_while_sending,
+            asks_first, refusals_of_ceremonies, refusals_in_doubt, kills.lost_answer, kills.killed,
             kills.register_killed_at_each_act, kills.browser_killed_at_each_act, kills.given_up, doubtful_moments,
             keyboard_alone, labels, texts_stay_texts, long_lists, reports, record_on_paper, another_desk, pictures]
 PLAIN = [words_of_refusals, sources, page_served.refuses_foreigners, page_served.bounds_requests]
