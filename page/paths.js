@@ -20,9 +20,6 @@ const KINDS = [
     [act, new RegExp(`^/ceremonies/(?<ceremony>\\d+)/bags/(?<serial>[^/]*)/${act}$`)]),
 ];
 
-/** The kinds of commands. */
-export const ALL_KINDS = KINDS.map(([kind]) => kind);
-
 /** The kind of a command, and what its path names: `{ kind: "take", ceremony: "61", serial: "BB51184287" }`. */
 export function readPath(path) {
   for (const [kind, form] of KINDS) {

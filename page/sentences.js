@@ -6,7 +6,6 @@
 
 import { seconds } from "./clock.js";
 import { holdersOn, presentAt } from "./known.js";
-import { ALL_KINDS } from "./paths.js";
 import { bytesOf, faultOfLine, faultOfScript } from "./script_rules.js";
 import { fits, seatName } from "./staff.js";
 
@@ -14,6 +13,7 @@ const INITIALS = /^[A-Z]{2,4}$/;
 const CODE = /^[A-Z0-9]{4,16}$/;
 const ACTS = ["item", "closing", "sheet", "signature", "exception", "safe", "seal", "take", "put", "cut"];
 const OF_BAGS = ["seal", "take", "put", "cut"];
+const OF_PEOPLE = ["training", "withdrawal", "appointment", "replacement", "sheet", "safe"];
 
 /** A value as it was sent, in quotes. */
 const quoted = (value) => `'${value}'`;
@@ -181,7 +181,7 @@ const PATHS = [
 ];
 
 const PEOPLE = [
-  [ALL_KINDS, 12, ({ body }) => body.thing.startsWith("person"), ({ body }) =>
+  [OF_PEOPLE, 12, ({ body }) => body.thing.startsWith("person"), ({ body }) =>
     `The register has no ${body.thing}: enter ${body.thing.slice(7)} under People first.`],
   [["person"], 13, null, ({ members, known }) =>
     `${members.who} is in the register already: ${known.people.get(members.who)?.name ?? "somebody else"}.`],
@@ -216,7 +216,7 @@ const PEOPLE = [
 ];
 
 const CEREMONIES = [
-  [ALL_KINDS, 12, ({ body }) => body.thing.startsWith("ceremony"), ({ body }) =>
+  [["opening", ...ACTS], 12, ({ body }) => body.thing.startsWith("ceremony"), ({ body }) =>
     `The register has no ${body.thing}: plan it first.`],
   [["signature"], 12, null, ({ body, ceremony }) => `Ceremony ${ceremony?.number} has no ${body.thing}.`],
   [["plan"], 13, null, ({ members, known }) => `Ceremony ${members.number} is there already`
@@ -236,7 +236,7 @@ const CEREMONIES = [
   }],
   [["sheet"], 22, null, ({ body, members }) => `The ceremony has an act at ${body.mark}. Who comes or goes does so `
     + `after it: not at ${members.at}.`],
-  [ACTS, 22, null, ({ body, members }) => `The ceremony has an act at ${body.mark}, so nothing before it is taken: `
+  [ACTS.filter((kind) => kind !== "sheet"), 22, null, ({ body, members }) => `The ceremony has an act at ${body.mark}, so nothing before it is taken: `
     + `${members.at} is ${seconds(body.mark) - seconds(members.at)} s earlier.`],
   [["signature"], 23, null, ({ body, ceremony, parts }) => (body.next > ceremony.steps.length
     ? "All steps of the script are done."

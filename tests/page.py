@@ -136,6 +136,7 @@ def one_press(program, browser, _room):
         at_desk.send([act(61, f"steps/{step + 1}/signature", "other", "20:08:00")])
         browser.until("the next step", lambda: browser.text("sign") == f"Sign step {step + 2}")
         press_middle(browser, "sign")
+        browser.dismiss()
         browser.click("close")
         press_middle(browser, "question-yes")
         time.sleep(0.3)

@@ -36,6 +36,7 @@ import { lineOf } from "%(page)s/journal.js";
 import { recordOf } from "%(page)s/record.js";
 import { readScript, readStays } from "%(page)s/reports.js";
 import { inWords, ofCommand } from "%(page)s/words.js";
+import { readPath } from "%(page)s/paths.js";
 import { ROWS, rowOf } from "%(page)s/sentences.js";
 import { peopleBatch, boxesBatch, stockBatch } from "%(page)s/batches.js";
 import { visible } from "%(page)s/visible.js";
@@ -433,23 +434,24 @@ return found;
 
 WORDS = """
 const all = known.nothing();
-const rows = new Set();
+const met = new Set();
 const sentences = given.map(({ path, members, body }) => {
   if (!body) {
     known.learn(all, { path, members });
     return null;
   }
   const found = ofCommand(body, { path, members }, all);
-  rows.add(found?.row);
+  met.add(`${found?.row} ${readPath(path).kind}`);
   return found?.sentence ?? inWords(body, { path, members }, all).sentence;
 });
-return { sentences, unmet: ROWS.map((row, place) => [place, row]).filter(([place]) => !rows.has(place))
-  .map(([, row]) => `${row[0].join("/")} ${row[1]} ${row[3]}`) };
+return { sentences, unmet: ROWS.flatMap(([kinds, number, , say], place) => kinds.filter(kind =>
+  !met.has(`${place} ${kind}`)).map(kind => `${kind} ${number} ${say}`)) };
 """
 
 
 def sentences(program, _room):
-    """The page's sentence for each refusal of each command says what is wrong; each row of the table is met."""
+    """The page's sentence for each refusal of each command says what is wrong; each row of the table is met by each
+    command that it names."""
     play = page_sentences.whole_play()
     answers = kcr.answers(call(program, "run", stream=b"".join(play.requests), seconds=LONG)[0], play.requests)
     given = []
@@ -463,7 +465,7 @@ def sentences(program, _room):
             raise Wrong(f"{item}: no {wanted[1]!r} in {sentence!r}")
         if wanted and ("undefined" in sentence or "null" in sentence or "`" in sentence):
             raise Wrong(f"{item}: {sentence!r}")
-    expect("rows of the table that were not met", [], told["unmet"])
+    expect("pairs of the table that were not met", [], told["unmet"])
 
 
 LISTS = """

@@ -19,6 +19,7 @@ ACT_PATHS = {  # each act with members that are of their form
 def at(second):
     """A moment of the day."""
     return f"{DAY}T{second // 3600:02}:{second // 60 % 60:02}:{second % 60:02}Z"
+BAG_ACTS = {"seal": {"items": ["HSM4"]}, "take": {}, "put": {"to": "3"}, "cut": {}}
 
 
 class Play:
@@ -61,13 +62,14 @@ def play_people(play):
     """People, trainings and places."""
     for who, name in (("AA", "Ann Abel"), ("BB", "Bob Berg"), ("CC", "Cole, Cy"), ("DD", "Dee Dorn"),
                       ("EA", "Eva Ames"),
-                      ("EB", "Eli Boon"), ("VV", "Vi")):
+                      ("EB", "Eli Boon"), ("VV", "Vi"), ("WA", "Wim")):
         play.ok("/people", who=who, name=name)
     year = {"from": "2025-01-01", "until": "2025-12-31"}
     for who, role in (("AA", "CA"), ("BB", "IW"), ("CC", "SSC2"), ("DD", "SSC1")):
         play.ok(f"/people/{who}/roles", role=role, **year)
     play.ok("/custodians", place="CO-EAST-1", who="EA", day="2025-01-01")
     play.ok("/custodians", place="CO-EAST-2", who="EB", day="2025-01-01")
+    play.ok("/custodians", place="CO-WEST-1", who="WA", day="2025-01-01")
     play.no(10, "'a1': initials are 2 to 4 capital letters.", "/people", who="a1", name="X")
     play.no(10, "Initials are missing: 2 to 4 capital letters.", "/people", who="", name="X")
     play.no(10, "A name has 1 to 120 bytes on one line: it is empty.", "/people", who="XX", name="")
@@ -115,12 +117,13 @@ def play_replacements(play):
     play.no(17, "RKSH-7 has no holder", "/custodians/RKSH-7/release", day="2025-03-01")
     play.ok("/boxes", facility="EAST", box=3, place="CO-EAST-1")
     play.ok("/boxes", facility="EAST", box=4, place="CO-EAST-4")
+    play.ok("/boxes", facility="WEST", box=7, place="CO-WEST-1")
     play.no(10, "The number of a box is 1 to 9999, without zeros in front: not '0'.", "/boxes", facility="EAST", box=0,
             place="CO-EAST-2")
     play.no(13, "EAST has box 3 already, for CO-EAST-1.", "/boxes", facility="EAST", box=3, place="CO-EAST-2")
     play.no(13, "CO-EAST-1 has box 3 already.", "/boxes", facility="EAST", box=5, place="CO-EAST-1")
-    play.no(14, "CO-WEST-1 is no place of a crypto officer of EAST.", "/boxes", facility="EAST", box=5,
-            place="CO-WEST-1")
+    play.no(14, "CO-WEST-2 is no place of a crypto officer of EAST.", "/boxes", facility="EAST", box=5,
+            place="CO-WEST-2")
 
 
 FAULTS = (
@@ -208,13 +211,18 @@ def play_custody(play):
     bag, at_20 = "bags/BB51184287", "20:20:00"
     play.no(10, "'HS': an item has capital letters and digits, 4 to 16 of them.", "/items", ceremony=61, item="HS",
             at=f"{DAY}T20:11:00Z")
-    play.ok("/items", ceremony=61, item="HSM4", at=f"{DAY}T20:11:00Z")
+    for item in ("HSM4", "CARD5"):
+        play.ok("/items", ceremony=61, item=item, at=f"{DAY}T20:11:00Z")
     play.no(13, "HSM4 was added before", "/items", ceremony=61, item="HSM4", at=f"{DAY}T20:11:00Z")
-    play.not_act(7, "'bb-1': a serial has capital letters and digits, 4 to 16 of them.", "bags/bb-1/take", "20:12:00")
+    for what, members in BAG_ACTS.items():
+        play.not_act(7, "'bb-1': a serial has capital letters and digits, 4 to 16 of them.", f"bags/bb-1/{what}",
+                     "20:12:00", **members)
     play.not_act(10, "Name the items.", f"{bag}/seal", "20:12:00", items=[])
     play.not_act(10, "HSM4 is named twice.", f"{bag}/seal", "20:12:00", items=["HSM4", "HSM4"])
     play.not_act(12, "The register has no item CARD7: add it first.", f"{bag}/seal", "20:12:00", items=["CARD7"])
-    play.not_act(12, "The register has no bag BB51184287: look at its serial again.", f"{bag}/cut", "20:12:00")
+    for what in ("take", "put", "cut"):
+        play.not_act(12, "The register has no bag BB51184287: look at its serial again.", f"{bag}/{what}", "20:12:00",
+                     **BAG_ACTS[what])
     play.act(f"{bag}/seal", "20:12:00", items=["HSM4"])
     play.not_act(13, "BB51184287 was sealed before: each bag has a new serial.", f"{bag}/seal", "20:12:00",
                  items=["HSM4"])
@@ -248,12 +256,19 @@ def play_safes(play, bag, at_20):
                  "20:15:00")
     play.act("sheet", "20:16:00", way="in", who=["EA", "EB"])
     play.act("safes/2", "20:17:00", open=True, by="CC")
+    play.act("sheet", "20:17:10", way="out", who=["AA"])
+    play.not_act(30, "Nobody in the room is trained as CA on 2025-02-13.", f"{bag}/take", "20:17:20")
+    play.act("sheet", "20:17:30", way="in", who=["AA"])
     play.act(f"{bag}/take", "20:18:00")
+    play.act("sheet", "20:18:10", way="out", who=["EA"])
+    play.not_act(30, "EA holds CO-EAST-1, whose box it is, and is not in the room.", f"{bag}/put", "20:18:20", to="3")
+    play.act("sheet", "20:18:30", way="in", who=["EA"])
     play.act("sheet", "20:19:00", way="out", who=["AA"])
     play.no(30, "Nobody in the room is trained as CA on 2025-02-13.", "/items", ceremony=61, item="CARD1",
             at=f"{DAY}T{at_20}Z")
-    for what, members in (("cut", {}), ("put", {"to": "3"})):
-        play.not_act(30, "Nobody in the room is trained as CA on 2025-02-13.", f"{bag}/{what}", at_20, **members)
+    for path, members in ((f"{bag}/cut", {}), (f"{bag}/put", {"to": "3"}), ("bags/BB51184288/seal",
+                                                                         {"items": ["CARD5"]})):
+        play.not_act(30, "Nobody in the room is trained as CA on 2025-02-13.", path, at_20, **members)
     play.not_act(32, "Too few people fit: seat 1, CA (ceremony administrator): nobody in the room fits.", "exceptions",
                  at_20, text="No", **{"pass": True})
 
@@ -294,6 +309,20 @@ def play_end(play):
     play.no(18, "trainings are no longer withdrawn", "/people/AA/withdrawals", role="CA", day=DAY)
 
 
+def play_next_day(play):
+    """A bag in a box whose place has no holder the next day."""
+    def act(path, clock, /, **members):
+        play.ok(f"/ceremonies/64/{path}", **members, at=f"{DAY}T{clock}Z")
+    act("sheet", "20:41:00", way="in", who=["AA", "CC", "WA"])
+    play.ok("/items", ceremony=64, item="UNIT1", at=f"{DAY}T20:42:00Z")
+    act("bags/BB51184290/seal", "20:43:00", items=["UNIT1"])
+    act("safes/2", "20:44:00", open=True, by="CC")
+    act("bags/BB51184290/put", "20:45:00", to="7")
+    play.ok("/custodians/CO-WEST-1/release", day="2025-02-14")
+    play.no(30, "CO-WEST-1, whose box it is, has no holder on 2025-02-14.", "/ceremonies/64/bags/BB51184290/take",
+            at="2025-02-14T08:00:00Z")
+
+
 def play_limits(play):
     """A full room, 1,000 entries of people who came in, and 200 exceptions."""
     many = [kcr.initials(n).decode() for n in range(128)]
@@ -331,6 +360,6 @@ def play_limits(play):
 def whole_play():
     """All of it."""
     play = Play()
-    for part in (play_people, play_plans, play_room, play_steps, play_custody, play_end, play_limits):
+    for part in (play_people, play_plans, play_room, play_steps, play_custody, play_end, play_next_day, play_limits):
         part(play)
     return play
