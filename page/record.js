@@ -71,7 +71,8 @@ function cutIn({ acts }) {
 /** The codes that the record uses, each with its meaning. */
 function legendOf(script, people) {
   const codes = new Set(script.steps.flatMap((step) => step.seats));
-  people.forEach(({ role }) => role.split(", ").filter((one) => ROLES.includes(one)).forEach((one) => codes.add(one)));
+  people.flatMap(({ role }) => role.split(", ")).map((one) => one.split("-")[0]).filter((one) => one in ROLE_NAMES)
+    .forEach((one) => codes.add(one)); // the place CO-EAST-1 is that of a CO
   const rank = (code) => [...Object.keys(ROLE_NAMES)].indexOf(code.split("/")[0]);
   return [...codes].sort((one, other) => rank(one) - rank(other) || (one < other ? -1 : 1))
     .map((code) => [code, seatName(code)]);

@@ -83,7 +83,7 @@ def whole_ceremony(program, browser, room):
         browser.driver.get(at_desk.url)
         clock.go_on(0)
         at_desk.open("#/beginning")
-        story.begin(browser)
+        story.begin(browser, room)
         story.take_stock(browser, clock)
         browser.clicks = browser.keys = 0
         story.play_steps(browser, clock)

@@ -1,6 +1,8 @@
 """A ceremony of WEST, from an empty register to its record, played in the desk's page: 60 steps, 16 people, 10 bags, an
 exception and somebody who comes late. `page.py` runs it.
 """
+import csv
+import io
 import re
 
 from desk import contains
@@ -80,13 +82,16 @@ def send_list(browser, name):
     browser.ready()
 
 
-def begin(browser):
-    """People, boxes and the plan, from lists."""
-    for name, text in (("people-list", people_list()), ("boxes-list", BOXES)):
-        if name == "boxes-list":
-            browser.choose("boxes-list-facility", "WEST")
-        browser.paste(f"{name}-list", text)
-        send_list(browser, name)
+def begin(browser, room):
+    """People, boxes and the plan, from lists: that of people is a file, and the others are pasted."""
+    file = room / "people.csv"
+    file.write_text(people_list(), encoding="utf-8")
+    browser.find("people-list-file").send_keys(str(file))
+    browser.until("the list", lambda: "Enter AL, Ada Lund" in browser.text("people-list-lines"))
+    send_list(browser, "people-list")
+    browser.choose("boxes-list-facility", "WEST")
+    browser.paste("boxes-list-list", BOXES)
+    send_list(browser, "boxes-list")
     browser.go("planning")
     expect("the facility", "WEST", browser.find("plan-facility").get_attribute("value"))
     for number, text in ((NUMBER, script()), (70, "step,activity,seats\n1,Take stock,CA\n")):
@@ -167,6 +172,7 @@ def play_steps(browser, clock):
     let(browser, clock, "out", "al cd ds eq fm gt hn jb kv lr mp ni va vb vc")
     browser.go("script")
     act_on(browser, clock, "close")
+    contains("the facts", f"closed since {DAY}T", browser.text("facts"))
 
 
 def turn_safes(browser, clock):
@@ -196,35 +202,72 @@ def put_bags(browser, clock):
     turn_safes(browser, clock)
 
 
+CELLS = """
+return [...document.querySelectorAll(`.record .${arguments[0]} tbody tr`)].map(row => [...row.cells].map(cell =>
+  cell.innerText.trim()));
+"""
+
+
 def compare_record(program, browser, room):
     """The record tells what `kcr print`, `attendance`, `custody` and `journal` print, row by row."""
     browser.go("record")
     browser.until("the record", lambda: "whole record" in browser.text("record-told"))
-    rows = browser.run("return [...document.querySelectorAll('.record .events tbody tr')].map(row => row.innerText)")
+    events = browser.run(CELLS, "events")
+
+    def printed(*words):
+        return call(program, *words, "--file", room / "played")[0].decode()
+    compare_steps(events, printed("print", "--ceremony", NUMBER))
+    lines = printed("journal", "--ceremony", NUMBER).splitlines()
+    compare_acts([row for row in events if row[1].startswith("Custody.")], lines)
+    stays = list(csv.reader(io.StringIO(printed("attendance", "--ceremony", NUMBER))))[1:]
+    told = [[who, name, since, until] for who, name, _, all_since, all_until in browser.run(CELLS, "people")
+            for since, until in zip(all_since.split("\n"), all_until.split("\n"), strict=True)]
+    expect("the stays", sorted([who, name, since[11:19], until[11:19]] for who, name, since, until in stays),
+           sorted(told))
+    compare_custody(browser, printed("custody"))
+    contains("the number of commands", f"{len(lines)} of them name ceremony {NUMBER}", browser.text("paper"))
+
+
+def compare_steps(events, script):
+    """Compares the steps and the exceptions of the record with the annotated script: number, activity, seats with
+    initials and name, and time."""
+    names = {one[0]: one[1] for one in STAFF + OFFICERS + VISITORS}
+    steps, exceptions = [], []
+    for line in script.splitlines():
+        if step := re.fullmatch(r"(\d+) signed \S+T(\S+)Z (.*)", line):
+            steps.append([step[1], step[3], [], step[2]])
+        elif seat := re.fullmatch(r"  (\S+) ([A-Z]+)", line):
+            steps[-1][2].append(f"{seat[1]} {seat[2]} {names[seat[2]]}")
+        elif exception := re.fullmatch(r"Exception (\d+) \S+T(\S+)Z (.*)", line):
+            exceptions.append(["", f"Exception {exception[1]}. {exception[3]}", exception[2]])
+    expect("the steps", [[number, activity, "\n".join(seats), time] for number, activity, seats, time in steps],
+           [row for row in events if row[0]])
     for number in range(1, 61):
-        row = next(row for row in rows if re.match(rf"{number}\t", row))
-        for who in seating_of(number):
-            contains(f"step {number}", f"{who} ", row)
-    file = room / "played"
-    script = call(program, "print", "--ceremony", NUMBER, "--file", file)[0].decode()
-    signed = re.findall(r"(?m)^(\d+) signed \S+T(\S+)Z (.*)$", script)
-    expect("signed steps", 60, len(signed))
-    for number, at_clock, activity in signed:
-        contains(f"step {number}", f"{activity}\t", next(row for row in rows if row.startswith(f"{number}\t")))
-        contains(f"step {number}", at_clock, next(row for row in rows if row.startswith(f"{number}\t")))
-    acts = [row for row in rows if row.strip().startswith("Custody.")]
-    lines = call(program, "journal", "--ceremony", NUMBER, "--file", file)[0].decode().splitlines()
+        expect(f"step {number}", seating_of(number), [seat.split()[1] for seat in steps[number - 1][2]])
+    expect("the exceptions", exceptions, [row for row in events if row[1].startswith("Exception")])
+
+
+def compare_acts(acts, lines):
+    """Compares the acts on custody of the record with the lines of the journal."""
     wanted = [line for line in lines if re.search(r"  Bag |  Item | (opened|shut) safe ", line)]
-    expect("acts on custody", len(wanted), len(acts))
-    for line, row in zip(wanted, acts):
-        contains("an act on custody", re.search(r"W[AB]\d+|safe \d", line)[0].lower(), row.lower())
-        contains("its time", line[8:28][11:19], row)
-    record = browser.text("paper")
-    for line in call(program, "attendance", "--ceremony", NUMBER, "--file", file)[0].decode().splitlines()[1:]:
-        who, since, until = line[:2], line[-41:][:20], line[-20:]
-        for part in (who, since[11:19], until[11:19]):
-            contains(f"the stay of {who}", part, record)
-    for line in call(program, "custody", "--file", file)[0].decode().splitlines():
-        if line[:1] == "W" and not line.endswith("spent"):
-            contains("custody", line.split()[0], record)
-    contains("the number of commands", f"{len(lines)} of them name ceremony {NUMBER}", record)
+    for line, row in zip(wanted, acts, strict=True):
+        contains("an act on custody", re.search(r"W[AB]\d+|safe \d", line)[0].lower(), row[1].lower())
+        expect("its time", line[8:28][11:19], row[2])
+
+
+def compare_custody(browser, report):
+    """Compares the custody at the end of the record with the report: safes, bags with their places and items, and loose
+    items."""
+    bags, paper = [], browser.text("paper")
+    for line in report.splitlines():
+        words = line.split()
+        if line.startswith("  "):
+            bags[-1][2].append(words[0])
+        elif words[0] == "safe" and words[2] == "WEST":
+            contains("a safe", f"Safe {words[1]} of WEST is {words[3]}.", paper)
+        elif words[0] not in ("safe", "loose"):
+            bags.append([words[0], " ".join(words[1:]), []])
+    expect("the bags", [[serial, spot, ", ".join(items)] for serial, spot, items in bags if spot.endswith("WEST")],
+           browser.run(CELLS, "bags"))
+    loose = [line.split()[2] for line in report.splitlines() if line.startswith("loose WEST")]
+    contains("loose items", f"Loose items: {', '.join(loose) or 'none'}.", paper)

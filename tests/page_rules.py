@@ -277,6 +277,10 @@ def records(_program, _room):
             for seat, who in zip(event.get("seats", []), event.get("seating", [])):
                 if f"\n  {seat} {who}\n".encode() not in script:
                     raise Wrong(f"{folder.name}: {seat} {who} is not in the script")
+        codes = {code for code, _ in record["legend"]} | {"visitor"}
+        used = {role.partition("-")[0] for one in record["people"] for role in one["role"].split(", ")}
+        used |= {seat for event in record["events"] for seat in event.get("seats", [])}
+        expect(f"codes of {folder.name} without a meaning", set(), used - codes)
         steps = [one for one in record["events"] if one["kind"] == "step"]
         expect("the steps", list(range(1, len(steps) + 1)), [one["number"] for one in steps])
     if events < 100:
