@@ -2,6 +2,7 @@
 
 import { acceptDay, clockOf, doubts, moment, now, setMoment } from "./clock.js";
 import { dropSent } from "./forms.js";
+import { onTable, openSafes } from "./known.js";
 import { deliver, keep, kept } from "./outbox.js";
 import { rest } from "./press.js";
 import { ceremony, checkAccepted, isAway, state, update } from "./state.js";
@@ -128,9 +129,8 @@ export function actNow(path, members, says, asks = null) {
 /** What is open in the ceremony's facility, as sentences: safes, and bags on the table. */
 export function openThings() {
   const facility = ceremony()?.facility;
-  const safes = [1, 2].filter((safe) => state.custody.safes[`${safe} ${facility}`] === "open");
-  const bags = state.custody.bags.filter((bag) => bag.spot === `table ${facility}`).map((bag) => bag.serial);
-  return [...safes.map((safe) => `Safe ${safe} is open.`),
+  const bags = onTable(state.known, facility);
+  return [...openSafes(state.known, facility).map((safe) => `Safe ${safe} is open.`),
     ...(bags.length > 0 ? [`On the table: ${bags.join(", ")}.`] : [])];
 }
 

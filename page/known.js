@@ -197,6 +197,21 @@ export function staysOf(known, ceremony) {
     .sort((one, other) => byText(one.since, other.since) || byText(one.who, other.who));
 }
 
+/** The safes of a facility that are open. */
+export function openSafes(known, facility) {
+  return [1, 2].filter((safe) => known.safes[`${safe} ${facility}`] === "open");
+}
+
+/** The serials of the bags on the table of a facility. */
+export function onTable(known, facility) {
+  return Object.keys(known.bags).filter((serial) => known.bags[serial].spot === `table ${facility}`).sort(byText);
+}
+
+/** The box of a place in a facility; undefined if it has none. */
+export function boxOf(known, facility, place) {
+  return Object.keys(known.boxes[facility] ?? {}).find((box) => known.boxes[facility][box] === place);
+}
+
 /** The custody: safes by `1 EAST`, bags by serial, and loose items by facility. */
 export function custodyOf(known) {
   const safes = { "1 EAST": "shut", "2 EAST": "shut", "1 WEST": "shut", "2 WEST": "shut", ...known.safes };

@@ -156,10 +156,13 @@ function drawMoment() {
 
 /** Goes on asking: for commands of other desks, and for a register that was away. */
 async function lookAround() {
-  if (!document.hidden || isAway()) {
-    await update();
+  try {
+    if (!document.hidden || isAway()) {
+      await update();
+    }
+  } finally {
+    setTimeout(lookAround, 1000 * (isAway() ? AWAY_SECONDS : LOOK_SECONDS));
   }
-  setTimeout(lookAround, 1000 * (isAway() ? AWAY_SECONDS : LOOK_SECONDS));
 }
 
 /** Starts. */
@@ -172,13 +175,13 @@ async function start() {
   addEventListener("hashchange", () => go());
   addEventListener("online", () => update());
   document.getElementById("look-again").addEventListener("click", () => whileBusy(update));
+  setTimeout(lookAround, 1000 * AWAY_SECONDS);
   await whileBusy(async () => {
     await Promise.all([go(), update()]);
     if (await resume()) {
       await go();
     }
   });
-  setTimeout(lookAround, 1000 * (isAway() ? AWAY_SECONDS : LOOK_SECONDS));
 }
 
 addEventListener("unhandledrejection", (event) => {

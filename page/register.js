@@ -62,6 +62,15 @@ function needAnswer({ status, body }) {
   }
 }
 
+/** What a reader makes of an answer. If it makes nothing of it, the answer is not the register's. */
+export function readBy(reader, answer) {
+  try {
+    return reader(answer);
+  } catch {
+    throw new NoAnswer("what answers is not the register");
+  }
+}
+
 /** Asks a question. Returns its JSON; a refusal has `refused`. */
 export async function question(path) {
   const answer = readJson(await ask(path, { method: "GET" }));

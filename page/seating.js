@@ -45,6 +45,11 @@ export function firstSeating(seats, people, fits) {
   return chosen;
 }
 
+/** Whether all seats can be filled with this person on this seat. */
+export function canHave(seat, person, seats, people, fits) {
+  return canFill(seats, people, (one, who) => (one === seat ? who === person : fits(one, who)));
+}
+
 /** Seats that outnumber the people who fit them: their positions from 0. Empty if all seats can be filled. */
 export function shortSeats(seats, people, fits) {
   const holders = new Map();

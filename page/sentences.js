@@ -5,7 +5,7 @@
 // state), `ceremony` (as it is known), `day` (of the moment) and `on` (that day in words).
 
 import { seconds } from "./clock.js";
-import { holdersOn, presentAt } from "./known.js";
+import { boxOf, holdersOn, onTable, openSafes, presentAt } from "./known.js";
 import { bytesOf, faultOfLine, faultOfScript } from "./script_rules.js";
 import { fits, seatName } from "./staff.js";
 
@@ -52,16 +52,6 @@ const lineForm = (what, text, most) => `${what} has 1 to ${most} bytes on one li
 
 /** The people that a list of initials names, with their names. */
 const named = (known, list) => list.map((who) => `${who} ${known.people.get(who)?.name ?? ""}`.trim()).join(", ");
-
-/** The open things of a facility. */
-function openSafes({ known, ceremony }) {
-  return [1, 2].filter((safe) => known.safes[`${safe} ${ceremony.facility}`] === "open");
-}
-
-/** The bags that are on the table of a facility. */
-function onTable({ known, ceremony }) {
-  return Object.keys(known.bags).filter((serial) => known.bags[serial].spot === `table ${ceremony.facility}`).sort();
-}
 
 /** Where a bag is, in words. */
 const spotText = (spot) => (spot === "spent" ? "spent" : `at ${spot}`);
@@ -151,10 +141,6 @@ const placeEver = (known, who) => Object.keys(known.places).find((place) =>
 
 /** The roles that somebody was ever trained for. */
 const rolesEver = (known, who) => [...new Set(known.people.get(who)?.roles.map((one) => one.role))].join(", ");
-
-/** The box of a place. */
-const boxOf = (known, facility, place) => Object.keys(known.boxes[facility]).find((box) =>
-  known.boxes[facility][box] === place);
 
 const FORMS = [
   [["person", "appointment", "replacement"], 10, "who", ({ members }) => initials(members.who)],
@@ -246,9 +232,10 @@ const CEREMONIES = [
   [["exception"], 27, null, () => "The ceremony has 200 exceptions: no more are taken."],
   [["closing"], 31, ({ body }) => body.part === "steps", (it) => stepsLeft(it)],
   [["closing"], 31, ({ body }) => body.part === "room", (it) => roomLeft(it)],
-  [["closing"], 31, ({ body }) => body.part === "safes", (it) => `Open in ${it.ceremony.facility}: safe `
-    + `${openSafes(it).join(" and safe ")}.`],
-  [["closing"], 31, null, (it) => `On the table of ${it.ceremony.facility}: ${onTable(it).join(", ")}.`],
+  [["closing"], 31, ({ body }) => body.part === "safes", ({ known, ceremony: { facility } }) =>
+    `Open in ${facility}: safe ${openSafes(known, facility).join(" and safe ")}.`],
+  [["closing"], 31, null, ({ known, ceremony: { facility } }) =>
+    `On the table of ${facility}: ${onTable(known, facility).join(", ")}.`],
   [["sheet"], 24, null, (it) => turnText(it)],
   [["sheet"], 25, null, () => "At some moment more than 128 people would be in the room: let people go out first."],
   [["sheet"], 26, null, (it) => loneText(it)],

@@ -5,7 +5,7 @@ import { dayOfMoment, moment } from "./clock.js";
 import { keepSafely } from "./dom.js";
 import { commandsOf } from "./feed.js";
 import * as known from "./known.js";
-import { NoAnswer, feedAfter, report } from "./register.js";
+import { NoAnswer, feedAfter, readBy, report } from "./register.js";
 import { readScript } from "./reports.js";
 
 const SEEN = "kcr.seen";
@@ -113,7 +113,7 @@ async function readFeed() {
       state.isWhole = true;
       return;
     } else {
-      commandsOf(bytes).forEach((command) => known.learn(state.known, command));
+      readBy(commandsOf, bytes).forEach((command) => known.learn(state.known, command));
     }
   }
 }
@@ -127,7 +127,7 @@ async function readChosen() {
   } else if (scriptRead !== wanted) {
     const text = await report(`/ceremonies/${number}/script`);
     if (state.number === number) {
-      state.script = text === null ? null : readScript(text);
+      state.script = text === null ? null : readBy(readScript, text);
       scriptRead = wanted;
     }
   }

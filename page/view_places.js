@@ -3,6 +3,7 @@
 import { act } from "./act.js";
 import { card, fill, make } from "./dom.js";
 import { form, propose } from "./forms.js";
+import { boxOf } from "./known.js";
 import { PLACES } from "./staff.js";
 import { person, state } from "./state.js";
 
@@ -14,17 +15,11 @@ const WHO = {
   name: "who", label: "Initials", capitals: true, example: "EA", list: true,
 };
 
-/** The box of a place, if it is known. */
-function boxOf(place) {
-  const boxes = state.known.boxes[place.split("-")[1]] ?? {};
-  return Object.keys(boxes).find((box) => boxes[box] === place) ?? null;
-}
-
 /** The 21 places with their holders and boxes. */
 function rows() {
   return PLACES.map((place) => {
     const who = state.places[place];
-    const box = boxOf(place);
+    const box = boxOf(state.known, place.split("-")[1], place);
     return make("li", { class: "line", id: `place-${place}` }, make("strong", {}, place),
       make("span", { class: "grow" }, who ? `${who} ${person(who).name}`
         : make("span", { class: "hint" }, state.isWhole ? "no holder" : "not known")),

@@ -9,7 +9,7 @@ import { form } from "./forms.js";
 import { fitting, seatingAt } from "./known.js";
 import { planCard } from "./plan_check.js";
 import { pressButton, rest } from "./press.js";
-import { shortSeats } from "./seating.js";
+import { canHave, shortSeats } from "./seating.js";
 import { seatName } from "./staff.js";
 import { ceremony, inRoom, inRoomAtMoment, isAway, person, state } from "./state.js";
 
@@ -34,7 +34,8 @@ function seatNode(seat, who, others, isShort) {
     who && others.length > 0 ? make("span", { class: "hint" }, `also fits: ${others.join(", ")}`) : null);
 }
 
-/** What a signature of these seats would record at the moment, for the next step and for passing it over. */
+/** What a signature of these seats would record at the moment, for the next step and for passing it over: the seating,
+ *  the seats that nobody is left for, who fits each seat, and who else could be recorded for it. */
 function seatingOf(seats) {
   const people = inRoomAtMoment();
   const at = moment();
@@ -42,15 +43,17 @@ function seatingOf(seats) {
   const seating = seatingAt(state.known, state.number, seats, at);
   const short = shortSeats(seats.length, people.length, fits);
   const fitsSeat = seats.map((_, seat) => people.filter((__, person) => fits(seat, person)));
-  return { seating, short, fitsSeat };
+  const isOther = (who, seat) => seats.every((one, place) => one !== seats[seat] || seating[place] !== who)
+    && canHave(seat, people.indexOf(who), seats.length, people.length, fits);
+  const others = fitsSeat.map((all, seat) => (seating ? all.filter((who) => isOther(who, seat)) : all));
+  return { seating, short, fitsSeat, others };
 }
 
 /** The line that says what will be recorded, or why nothing can be. */
-function recordedText(seats, { seating, short, fitsSeat }) {
+function recordedText(seats, { seating, short, fitsSeat, others }) {
   if (seating) {
-    const hasOthers = fitsSeat.some((people, seat) => people.some((who) => !seating.includes(who)));
     return [`Will be recorded: ${seats.map((seat, place) => `${seat} ${named(seating[place])}`).join(", ")}. `,
-      hasOthers ? "The register records the first by initials. If somebody else has the seat: who is not meant to be "
+      others.some((people) => people.length > 0) ? "The register records the first by initials. If somebody else has the seat: who is not meant to be "
         + "recorded waits outside the room, or is not trained for this day." : ""];
   }
   const people = new Set(short.flatMap((seat) => fitsSeat[seat]));
@@ -109,8 +112,8 @@ function nextCard() {
     }
     fill(title, `${step.number}. ${step.activity}`);
     const found = seatingOf(step.seats);
-    fill(seats, step.seats.map((seat, number) => seatNode(seat, found.seating?.[number],
-      found.fitsSeat[number].filter((who) => !found.seating?.includes(who)), found.short.includes(number))));
+    fill(seats, step.seats.map((seat, number) => seatNode(seat, found.seating?.[number], found.others[number],
+      found.short.includes(number))));
     fill(told, recordedText(step.seats, found));
     told.className = found.seating ? "" : "wrong";
     if (shown !== step.number) {

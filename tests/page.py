@@ -22,9 +22,11 @@ sys.dont_write_bytecode = True  # no files beside these
 import base64
 import contextlib
 import functools
+import http.server
 import json
 import pathlib
 import re
+import threading
 import time
 
 import desk
@@ -160,19 +162,25 @@ def will_be_recorded(program, browser, _room):
     """The next step says who will be recorded, who else fits, and what one can do; if nobody fits, which seats lack
     people. The check of a plan names the steps that nobody can fill."""
     more = [kcr.person(b"p-AB", b"AB", b"Abe Lott"), training("AB", "CA"), plan(62, day="2025-02-14")]
-    with prepared(program, browser, [*opened(), *more, act(61, "sheet", "s1", "20:06:00", '"way":"in","who":["AB"],')]):
+    comes = act(61, "sheet", "s1", "20:06:00", '"way":"in","who":["AB"],')
+    with prepared(program, browser, [*opened(), *more, comes]) as at_desk:
         told = browser.text("recorded")
         contains("the line", "Will be recorded: CA AA Ann Abel, IW BB Bob Berg.", told)
         contains("the line", "waits outside the room, or is not trained for this day", told)
         contains("the seats", "also fits: AB", browser.text("next"))
+        goes = act(61, "sheet", "s2", "20:07:00", '"way":"out","who":["AB"],')
+        at_desk.send([training("AA", "IW"), training("BB", "CA"), goes])
+        browser.until("who could change seats", lambda: "also fits: BB" in browser.text("next"))
+        contains("the seats", "also fits: AA", browser.text("next"))
+        contains("the line", "If somebody else has the seat", browser.text("recorded"))
         browser.click("sign")
         contains("the line", "Cannot be signed: seat 2 (CO), seat 3 (CO) have only EA.", browser.text("recorded"))
         browser.click("sign")
-        refused(browser, "short", "seat 2, CO (crypto officer): in the room EA", "In the room: AA AB BB CC EA EC.")
+        refused(browser, "short", "seat 2, CO (crypto officer): in the room EA", "In the room: AA BB CC EA EC.")
         story.choose(browser, 62, "script")
         contains("the verdict", "1 step that these people cannot fill: 2.", browser.text("plan-verdict"))
         browser.type("expected-who", "bb zz")
-        contains("the verdict", "3 steps that these people cannot fill: 1 to 3.", browser.text("plan-verdict"))
+        contains("the verdict", "2 steps that these people cannot fill: 1 to 2.", browser.text("plan-verdict"))
         contains("the verdict", "Not in the register: ZZ.", browser.text("plan-verdict"))
 
 
@@ -191,6 +199,10 @@ def away(program, browser, room):
         browser.go("ceremonies")
         contains("the list", "Not known", browser.text("ceremonies"))
         contains("the frame", "The register does not answer", browser.text("trouble"))
+        with stranger() as port:
+            at_desk.between.register = port
+            at_desk.open("#/ceremonies")
+            contains("the frame", "what answers is not the register", browser.text("trouble").lower())
         at_desk.start(program)
         browser.until("the list", lambda: "Ceremony 61" in browser.text("ceremonies"))
         story.choose(browser, 61, "room")
@@ -202,6 +214,21 @@ def away(program, browser, room):
         at_desk.start(program)
         browser.until("no trouble", lambda: not browser.shown("trouble"))
         expect("the button", True, browser.find("way-in-send").is_enabled())
+
+
+@contextlib.contextmanager
+def stranger():
+    """A server in place of the register that answers each request with a web page. Gives its port."""
+    class Sorry(http.server.BaseHTTPRequestHandler):
+        def do_GET(self):
+            self.wfile.write(b"HTTP/1.1 200 OK\r\nContent-Type: text/html\r\nContent-Length: 11\r\n\r\n<p>Sorry</p")
+
+        def log_message(self, *_):
+            """Writes no log."""
+    with http.server.HTTPServer(("127.0.0.1", kcr.free_port()), Sorry) as server:
+        threading.Thread(target=server.serve_forever, daemon=True).start()
+        yield server.server_port
+        server.shutdown()
 
 
 def lost_commands(program, browser, _room):
@@ -237,7 +264,14 @@ def drafts(program, browser, room):
         browser.fill("person", who="vs")
         contains("the answer", "Enter VS, Vi Second: done.", browser.text("answer"))
         expect("the draft", "", browser.find("person-name").get_attribute("value"))
-        browser.go("planning")
+        typed = (("script/61", "exception-text", "A pen"), ("room/61", "way-in-who", "vv"),
+                 ("planning", "plan-script", "step,activity,seats\n1,One,CA"))
+        for view, field, text in typed:
+            at_desk.open(f"#/{view}")
+            browser.type(field, text)
+        for view, field, text in typed:
+            at_desk.open(f"#/{view}")
+            expect(f"the draft of {field}", text, browser.find(field).get_attribute("value"))
         file = room / "script.csv"
         for row, told in (("1,One,CA*1", "One breaks a rule."), ("1,One,CA", "All are as they must be.")):
             file.write_text(f"step,activity,seats\n{row}\n", encoding="utf-8")
@@ -272,13 +306,17 @@ def typed_while_sending(program, browser, _room):
 
 
 def asks_first(program, browser, _room):
-    """To let people out while a safe is open, to pass over a step and to close are asked about; a no sends nothing."""
-    with prepared(program, browser, opened()) as at_desk:
+    """To let people out while a safe is open or a bag on the table, to pass over a step and to close are asked about; a
+    no sends nothing."""
+    item = post(b"/items", b"i", f'"ceremony":61,"item":"CARD1","at":"{at("20:06:00")}"'.encode())
+    bag = act(61, "bags/BB51184281/seal", "b", "20:07:00", '"items":["CARD1"],')
+    with prepared(program, browser, [*opened(), item, bag]) as at_desk:
         browser.safe("2", "CC")
         browser.go("room")
         browser.clock(at("20:09:00"))
         browser.fill("way-out", who="EC VV")
-        contains("the question", "Safe 2 is open.", browser.text("question"))
+        for part in ("Safe 2 is open.", "On the table: BB51184281."):
+            contains("the question", part, browser.text("question"))
         browser.click("question-no")
         browser.go("script")
         browser.fill("exception", text="Nobody has the key", **{"pass": True})
@@ -286,7 +324,8 @@ def asks_first(program, browser, _room):
             contains("the question", part, browser.text("question"))
         browser.click("question-no")
         browser.click("close")
-        for part in ("Close ceremony 61?", "Steps: 3 steps to do.", "5 in: AA, BB, CC, EA, EC", "Safe 2 is open."):
+        for part in ("Close ceremony 61?", "Steps: 3 steps to do.", "5 in: AA, BB, CC, EA, EC", "Safe 2 is open.",
+                     "On the table: BB51184281."):
             contains("the question", part, browser.text("question"))
         browser.click("question-no")
         expect("what was sent", 1, len(at_desk.between.seen))
@@ -351,6 +390,9 @@ def doubtful_moments(program, browser, _room):
         asks("2026-02-13T20:08:00Z", "365 days after the clock", "It is in the future.", "Its day is 2026-02-13.")
         browser.find("question-no").click()
         browser.until("the end", lambda: "Not sent" in browser.text("answer"))
+        asks("20:09", "Is 2025-02-13T20:09:00Z right?", "It is in the future.")
+        browser.find("question-no").click()
+        browser.until("the end", lambda: not browser.shown("question"))
         asks("20:08:30", "Is 2025-02-13T20:08:30Z right?", "It is in the future.")
         browser.press("\ue00c")  # escape
         browser.until("the end", lambda: "Not sent" in browser.text("answer"))
