@@ -1,7 +1,7 @@
 // The one way by which the page sends commands: doubts are asked about, the command is kept, sent, answered and told.
 
 import { acceptDay, clockOf, doubts, moment, now, setMoment } from "./clock.js";
-import { dropSent } from "./forms.js";
+import { takeOut } from "./forms.js";
 import { onTable, openSafes } from "./known.js";
 import { deliver, keep, kept } from "./outbox.js";
 import { rest } from "./press.js";
@@ -134,22 +134,18 @@ export function openThings() {
     ...(bags.length > 0 ? [`On the table: ${bags.join(", ")}.`] : [])];
 }
 
-/** Asks again for the answers of all kept commands, as after the page was loaded again. Others wait until then. Returns
- *  whether a draft was sent with them. */
+/** Asks again for the answers of all kept commands, as after the page was loaded again. Others wait until then. */
 export async function resume() {
-  let wasDraft = false;
   sending = true;
   try {
     for (const entry of await kept()) {
       const { key, ...members } = JSON.parse(entry.body);
       const answer = await deliver(entry, wait);
       if (entry.draft && answer && !answer.refused) {
-        dropSent(entry.draft);
-        wasDraft = true;
+        takeOut(entry.draft);
       }
       await settle({ path: entry.path, members, says: `${entry.says} (asked again)` }, answer, key);
     }
-    return wasDraft;
   } finally {
     sending = false;
   }

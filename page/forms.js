@@ -8,6 +8,7 @@ import { rests } from "./press.js";
 
 const DRAFT = "kcr.draft.";
 const REMEMBERED = "kcr.remembered.";
+const latest = new Map(); // of each name the fields of the form that was made last
 
 /** The control of a field: a text, a number, a choice, a longer text, or a tick. */
 function control(id, field) {
@@ -113,14 +114,12 @@ function mark(made, { body, words }) {
   }
 }
 
-/** Takes what was sent and accepted out of a draft, but for what was changed since. */
-export function dropSent({ name, sent }) {
+/** Takes what was sent and accepted out of a form, as it was made last, and out of its draft. What was typed since
+ *  stays. */
+export function takeOut({ name, sent }) {
   const left = Object.entries(draftOf(name) ?? {}).filter(([field, value]) => sent[field] !== value);
   keepSafely(sessionStorage, DRAFT + name, Object.fromEntries(left));
-}
-
-/** Empties the fields of a form that have what was sent. What was typed since stays. */
-function empty(made, sent) {
+  const made = latest.get(name) ?? [];
   made.filter(({ field, input }) => contents(input) === sent[field.name]).forEach(({ input }) => {
     if (input.type === "checkbox") {
       input.checked = false;
@@ -148,11 +147,10 @@ export function form({ id, fields, text, send, kind = "primary", of = "", isLoca
       show(wrong, false);
     });
     const values = Object.fromEntries(made.map(({ field, input }) => [field.name, valueOf(field, input)]));
-    const sent = contentsOf(made.filter(({ field }) => !field.keep));
-    const answer = await sendDraft({ name, sent }, () => send(values));
+    const draft = { name, sent: contentsOf(made.filter(({ field }) => !field.keep)) };
+    const answer = await sendDraft(draft, () => send(values));
     if (answer && !answer.refused) {
-      empty(made, sent);
-      keepDraft(name, made);
+      takeOut(draft);
       isTouched = false;
     } else if (answer?.body) {
       mark(made, answer);
@@ -166,6 +164,7 @@ export function form({ id, fields, text, send, kind = "primary", of = "", isLoca
   const node = make("form", { id, class: "fields", novalidate: true, submit, input: touch, change: touch },
     made.map((one) => one.node), make("div", { class: "row wide" }, go));
   restore(name, made);
+  latest.set(name, made);
   made.forEach(({ input }) => input.addEventListener("input", touch));
   return { node, go, inputs: Object.fromEntries(made.map((one) => [one.field.name, one.input])),
     lists: Object.fromEntries(made.map((one) => [one.field.name, one.list])) };

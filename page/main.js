@@ -178,9 +178,7 @@ async function start() {
   setTimeout(lookAround, 1000 * AWAY_SECONDS);
   await whileBusy(async () => {
     await Promise.all([go(), update()]);
-    if (await resume()) {
-      await go();
-    }
+    await resume();
   });
 }
 

@@ -53,8 +53,8 @@ function seatingOf(seats) {
 function recordedText(seats, { seating, short, fitsSeat, others }) {
   if (seating) {
     return [`Will be recorded: ${seats.map((seat, place) => `${seat} ${named(seating[place])}`).join(", ")}. `,
-      others.some((people) => people.length > 0) ? "The register records the first by initials. If somebody else has the seat: who is not meant to be "
-        + "recorded waits outside the room, or is not trained for this day." : ""];
+      others.flat().length > 0 ? "The register records the first by initials. If somebody else has the seat: who is "
+        + "not meant to be recorded waits outside the room, or is not trained for this day." : ""];
   }
   const people = new Set(short.flatMap((seat) => fitsSeat[seat]));
   return [`Cannot be signed: ${short.map((seat) => `seat ${seat + 1} (${seats[seat]})`).join(", ")} `

@@ -285,23 +285,29 @@ def drafts(program, browser, room):
 
 
 def typed_while_sending(program, browser, _room):
-    """What is typed while a command has no answer stays. After a reload, what was sent and accepted is not there to be
-    sent again."""
+    """What is typed while a command has no answer stays. What was sent and accepted is not there to be sent again, also
+    if another view was open meanwhile, or the page was loaded again."""
     with prepared(program, browser, opened()) as at_desk:
-        for number, then in enumerate(("", "", " and more"), 1):
+        for number, then in enumerate(("wait", "go", "load", "type"), 1):
             at_desk.between.hold = True
             browser.enter("exception", text="First", **{"pass": False})
             browser.again(lambda: browser.click_on("exception-send"))
             browser.until("the command", lambda number=number: len(set(at_desk.between.seen)) == number)
-            if number == 2:
+            if then == "go":
+                browser.run("location.hash = '#/people'")
+                browser.until("the people", lambda: browser.shown("find-people"))
+                browser.run("location.hash = '#/script/61'")
+                browser.until("the form", lambda: browser.shown("exception-text"))
+                expect("the draft", "First", browser.find("exception-text").get_attribute("value"))
+            elif then == "load":
                 browser.driver.get("about:blank")
                 browser.driver.get(f"{at_desk.url}#/script/61")
-            elif then:
-                browser.find("exception-text").send_keys(then)
+            elif then == "type":
+                browser.find("exception-text").send_keys(" and more")
             at_desk.between.hold = False
             browser.until("the answer", lambda number=number: f"exception {number}." in browser.text("answer"))
             browser.ready()
-            expect(f"the draft {number}", then and f"First{then}",
+            expect(f"the draft after {then}", "First and more" if then == "type" else "",
                    browser.find("exception-text").get_attribute("value"))
 
 
