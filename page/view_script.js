@@ -45,8 +45,11 @@ function seatingOf(seats) {
   const fitsSeat = seats.map((_, seat) => people.filter((__, person) => fits(seat, person)));
   const isOther = (who, seat) => seats.every((one, place) => one !== seats[seat] || seating[place] !== who)
     && canHave(seat, people.indexOf(who), seats.length, people.length, fits);
-  const others = fitsSeat.map((all, seat) => (seating ? all.filter((who) => isOther(who, seat)) : all));
-  return { seating, short, fitsSeat, others };
+  const others = {}; // by the seat's name: seats that are alike have the same
+  seats.forEach((seat, place) => {
+    others[seat] ??= seating ? fitsSeat[place].filter((who) => isOther(who, place)) : fitsSeat[place];
+  });
+  return { seating, short, fitsSeat, others: seats.map((seat) => others[seat]) };
 }
 
 /** The line that says what will be recorded, or why nothing can be. */

@@ -104,23 +104,23 @@ def whole_ceremony(program, browser, room):
 def one_press(program, browser, _room):
     """A held key signs one step, and so do two presses 50 to 900 ms apart; after a second the next press counts. The
     focus is on the title of the next step. A safe that was opened is not shut by the rest of a press. A press just
-    after another desk signed, or just after a question opened, does nothing."""
+    as another desk signs, or just as a question opens, does nothing."""
     script = "step,activity,seats\\n" + "".join(f"{n},Step {n},CA\\n" for n in range(1, 31))
     with prepared(program, browser, opened(script)) as at_desk:
         browser.run("sessionStorage.setItem('test-rest', 'true')")
         at_desk.open("#/script/61")
-        step = 1
-        for pause in (50, 200, 500, 900):
-            found = browser.find("sign")
-            expect("the button", f"Sign step {step}", found.text)
-            x, y = browser.run("const { x, y } = arguments[0].getBoundingClientRect(); return [x + 20, y + 20]", found)
-            browser.press_at(x, y)
-            time.sleep(pause / 1000)
-            browser.press_at(x, y)
-            step += 1
-            browser.until("the next step", lambda step=step: browser.text("sign") == f"Sign step {step}")
+        browser.run(NOTE_PRESSES)
+        pauses = [50, 200, 500, 900]
+        while pauses:
+            step = signatures(at_desk) + 1
+            browser.until("the step", lambda step=step: browser.text("sign") == f"Sign step {step}")
             browser.until("its rest", lambda: browser.find("sign").get_attribute("data-resting") is None)
-            expect(f"signatures after presses {pause} ms apart", step - 1, signatures(at_desk))
+            if press_twice(browser, pauses[0]) < 1_000:  # else the machine was too busy: once more
+                browser.until("the end", lambda step=step: browser.text("sign") != f"Sign step {step}")
+                browser.until("its rest", lambda: browser.find("sign").get_attribute("data-resting") is None)
+                expect(f"signatures after presses {pauses.pop(0)} ms apart", step, signatures(at_desk))
+            browser.ready()
+        step = signatures(at_desk) + 1
         browser.run("document.getElementById('sign').focus()")
         browser.hold("Enter", 40)
         browser.until("the focus", lambda: browser.run("return document.activeElement.id") == "next-title")
@@ -135,22 +135,43 @@ def one_press(program, browser, _room):
         browser.until("the safe", lambda: browser.text("safe-2-state") == "Open")
         browser.press_key("Enter")
         expect("safes", 1, sum(b"/safes/" in request for request in at_desk.between.seen))
+        browser.until("its rest", lambda: browser.find("sign").get_attribute("data-resting") is None)
+        browser.run(PRESS_CHANGED)
         at_desk.send([act(61, f"steps/{step + 1}/signature", "other", "20:08:00")])
-        browser.until("the next step", lambda: browser.text("sign") == f"Sign step {step + 2}")
-        press_middle(browser, "sign")
-        browser.dismiss()
-        browser.click("close")
-        press_middle(browser, "question-yes")
-        time.sleep(0.3)
+        browser.until("the press", lambda: browser.run("return window.pressed === true"))
+        browser.until("its rest", lambda: browser.find("sign").get_attribute("data-resting") is None)
+        browser.run("document.getElementById('close').click(); document.getElementById('question-yes').click();")
         expect("the question", True, browser.shown("question"))
         browser.click("question-no")
         expect("signatures after another desk's", step, signatures(at_desk))
 
 
-def press_middle(browser, name):
-    """Presses the pointer in the middle of a thing, whether it rests or not."""
-    browser.press_at(*browser.run("const { x, y, width, height } = arguments[0].getBoundingClientRect();"
-                                  "return [x + width / 2, y + height / 2]", browser.find(name)))
+NOTE_PRESSES = "window.presses = []; addEventListener('pointerdown', () => presses.push(performance.now()), true);"
+
+
+def press_twice(browser, pause):
+    """Presses the button of the next step, and the same place again after a pause. Returns the milliseconds that there
+    were between them."""
+    x, y = browser.run("const { x, y } = arguments[0].getBoundingClientRect(); return [x + 20, y + 20]",
+                       browser.find("sign"))
+    begun = time.monotonic()
+    browser.press_at(x, y)
+    time.sleep(max(0, begun + pause / 1000 - time.monotonic()))
+    browser.press_at(x, y)
+    return browser.run("return presses.at(-1) - presses.at(-2)")
+
+
+PRESS_CHANGED = """
+const before = document.getElementById("sign");
+new MutationObserver((_, watch) => {
+  const now = document.getElementById("sign");
+  if (now && now !== before) {
+    watch.disconnect();
+    now.click();
+    window.pressed = true;
+  }
+}).observe(document.getElementById("next"), { childList: true, subtree: true });
+"""
 
 
 def signatures(at_desk):
