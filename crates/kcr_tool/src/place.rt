@@ -1,70 +1,61 @@
 //! The place of a file that a task makes.
 
 use kcr_fault::{Fault, Step};
-use kcr_verify::CreateFault;
+use std::alloc::AllocError;
 use std::fs;
 use std::io::{self, ErrorKind};
 
-/// The bytes of the head of a log, behind which its transactions begin.
-const LOG_HEAD: u64 = 32;
+/// The path of the log beside a file.
+fn log_of(rt: &HostRuntime, path: &str) -> Result<String, AllocError> {
+    format!(in rt.alloc(); "{}-wal", path)
+}
 
-/// Whether no file is at a path, so that one that is there later was made.
-pub fn is_free(rt: &HostRuntime, path: &str) -> bool {
-    match fs::metadata(rt, path) {
+/// Whether nothing is at a path, not even a link.
+fn is_absent(rt: &HostRuntime, path: &str) -> bool {
+    match fs::symlink_metadata(rt, path) {
         Ok(_) => false,
         Err(error) => error.kind() == ErrorKind::NotFound,
     }
 }
 
-/// Whether a file has more bytes than these. One that cannot be looked at may have.
-fn is_longer(rt: &HostRuntime, path: &str, bytes: u64) -> bool {
+/// Whether neither a file is at a path nor a log beside it, so that what is there later was made.
+pub fn is_free(rt: &HostRuntime, path: &str) -> bool {
+    match log_of(rt, path) {
+        Ok(log) => is_absent(rt, path) && is_absent(rt, log.as_str()),
+        Err(_) => false,
+    }
+}
+
+/// Whether a file has a byte. One that cannot be looked at may have.
+fn has_bytes(rt: &HostRuntime, path: &str) -> bool {
     match fs::symlink_metadata(rt, path) {
-        Ok(found) => found.is_file() && found.len() > bytes,
+        Ok(found) => found.is_file() && found.len() > 0,
         Err(error) => error.kind() != ErrorKind::NotFound,
     }
 }
 
-/// The path of a file without a link in it, and that of its log.
-fn paths_of(rt: &HostRuntime, path: &str) -> io::Result<(String, String)> {
-    let real = fs::canonicalize(rt, path)?;
-    let file = String::from_str(rt.alloc(), real.as_str())?;
-    let log = format!(in rt.alloc(); "{}-wal", real.as_str())?;
-    Ok((file, log))
-}
-
 /// Takes away the log beside a new file, which its opening has made, unless the log has a byte.
 pub fn remove_log(rt: &HostRuntime, path: &str) -> io::Result<()> {
-    let (_, log) = paths_of(rt, path)?;
-    if !is_longer(rt, log.as_str(), 0) {
+    let real = fs::canonicalize(rt, path)?;
+    let log = log_of(rt, real.as_str())?;
+    if !has_bytes(rt, log.as_str()) {
         fs::remove_file(rt, log.as_str())?;
     }
     Ok(())
 }
 
-/// Takes away a file without a byte, and, if it was made too, a log without a transaction beside it.
-fn remove_empty(rt: &HostRuntime, path: &str, has_own_log: bool) -> io::Result<()> {
-    let (file, log) = paths_of(rt, path)?;
-    if is_longer(rt, file.as_str(), 0) {
-        return Ok(());
-    }
-    if has_own_log && !is_longer(rt, log.as_str(), LOG_HEAD) {
-        let _ = fs::remove_file(rt, log.as_str());
-    }
-    fs::remove_file(rt, file.as_str())
-}
-
-/// Takes away the file that a task has made, and its log, if nothing came of the task and the file has no byte. A file
-/// that was there before stays, as does one that another process has opened, and a log that had bytes.
+/// Takes away the file that a task has made and its log, if the task failed before the file had a byte. A file that was
+/// there before stays, or whose log was, as does one that another process has open.
 pub fn take_back(rt: &HostRuntime, path: &str, was_free: bool, ended: &Result<u8, Fault>) {
     let is_kept = match ended {
-        Ok(0) | Err(Fault::IntoFile(Step::Locking)) => true,
-        _ => !was_free,
+        Ok(_) | Err(Fault::IntoFile(Step::Locking)) => true,
+        Err(_) => !was_free,
     };
-    if !is_kept {
-        let has_own_log = match ended {
-            Err(Fault::Into(CreateFault::Filled)) => false,
-            _ => true,
-        };
-        let _ = remove_empty(rt, path, has_own_log);
+    if is_kept || has_bytes(rt, path) {
+        return;
     }
+    if let Ok(log) = log_of(rt, path) {
+        let _ = fs::remove_file(rt, log.as_str());
+    }
+    let _ = fs::remove_file(rt, path);
 }
