@@ -31,6 +31,7 @@ export function journalView() {
   const only = make("input", { type: "checkbox", id: "journal-only", change: () => update() });
   const find = make("input", { type: "search", id: "find-journal", autocomplete: "off", input: () => update() });
   const told = make("p", { class: "hint", id: "journal-told" });
+  const passed = make("p", { class: "hint" }, "A passed step was not carried out.");
   const list = make("ul", { class: "lines", id: "journal" });
   let shown = MORE;
   const more = button("journal-more", "Show more", () => {
@@ -41,8 +42,8 @@ export function journalView() {
     state.number === null ? "Only the chosen ceremony" : `Only ceremony ${state.number}`));
   show(tick, state.number !== null);
   const node = make("div", {}, make("h1", {}, "Journal"), card("journal-card", "What was entered", tick,
-    make("div", { class: "field" }, make("label", { for: "find-journal" }, "Find in the sentences"), find), told, list,
-    more));
+    make("div", { class: "field" }, make("label", { for: "find-journal" }, "Find in the sentences"), find), told, passed,
+    list, more));
   const update = () => {
     const found = matching(only.checked, find.value);
     fill(told, isAway() && !state.isWhole ? "Not known: the register did not answer yet."

@@ -636,6 +636,7 @@ def another_desk(program, browser, _room):
         browser.go("journal")
         contains("the journal", "Step 1 of ceremony 61 was signed by Ann Abel (AA), Bob Berg (BB).",
                  browser.text("journal"))
+        contains("the journal's card", "A passed step was not carried out.", browser.text("journal-card"))
         browser.click("journal-only")
         expect("the commands of the ceremony", "4 commands, the newest first.", browser.text("journal-told"))
 

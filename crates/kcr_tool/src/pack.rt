@@ -7,7 +7,7 @@ ghost use Rattle.kcr_fault.specs.Lines.{packed_head};
 ghost use Rattle.kcr_tool.specs.Verifications.{WritesVerified, TellsWholeFront};
 
 use crate::opening::{copy_named, fault_of_reading, files_at, take_copied};
-use crate::place::{is_free, remove_log, take_back};
+use crate::place::{place_at, remove_log, take_back};
 use crate::verify::write_verification;
 use kcr_base::Counted;
 use kcr_copy::{Copied, Unmade, connect, fill, play_in};
@@ -124,8 +124,8 @@ pub fn pack<W: Write>(
         (writing W.contents output.old output.new) result }
     ensures cause { IfErr result (StopsRebuild (writing W.contents output.old output.new)) }
 {
-    let was_free = is_free(rt, path);
+    let before = place_at(rt, path);
     let ended = pack_into(rt, packed, path, output);
-    take_back(rt, path, was_free, &ended);
+    take_back(rt, path, before, &ended);
     ended
 }

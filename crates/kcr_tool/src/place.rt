@@ -18,11 +18,24 @@ fn is_absent(rt: &HostRuntime, path: &str) -> bool {
     }
 }
 
-/// Whether neither a file is at a path nor a log beside it, so that what is there later was made.
-pub fn is_free(rt: &HostRuntime, path: &str) -> bool {
+/// What is at the path of a file that a task is to make.
+#[derive(Clone, Copy)]
+pub struct Place {
+    has_file: bool,
+    has_log: bool,
+}
+
+/// What is at a path and at that of the log beside it. Both are said to be there if memory runs out.
+pub fn place_at(rt: &HostRuntime, path: &str) -> Place {
     match log_of(rt, path) {
-        Ok(log) => is_absent(rt, path) && is_absent(rt, log.as_str()),
-        Err(_) => false,
+        Ok(log) => Place {
+            has_file: !is_absent(rt, path),
+            has_log: !is_absent(rt, log.as_str()),
+        },
+        Err(_) => Place {
+            has_file: true,
+            has_log: true,
+        },
     }
 }
 
@@ -44,18 +57,20 @@ pub fn remove_log(rt: &HostRuntime, path: &str) -> io::Result<()> {
     Ok(())
 }
 
-/// Takes away the file that a task has made and its log, if the task failed before the file had a byte. A file that was
-/// there before stays, or whose log was, as does one that another process has open.
-pub fn take_back(rt: &HostRuntime, path: &str, was_free: bool, ended: &Result<u8, Fault>) {
+/// Takes away the file that a task has made, and the log that it made beside it, if the task failed before the file had a
+/// byte. What was there before stays, as does a file that another process has open.
+pub fn take_back(rt: &HostRuntime, path: &str, before: Place, ended: &Result<u8, Fault>) {
     let is_kept = match ended {
         Ok(_) | Err(Fault::IntoFile(Step::Locking)) => true,
-        Err(_) => !was_free,
+        Err(_) => before.has_file,
     };
     if is_kept || has_bytes(rt, path) {
         return;
     }
-    if let Ok(log) = log_of(rt, path) {
-        let _ = fs::remove_file(rt, log.as_str());
+    if !before.has_log {
+        if let Ok(log) = log_of(rt, path) {
+            let _ = fs::remove_file(rt, log.as_str());
+        }
     }
     let _ = fs::remove_file(rt, path);
 }

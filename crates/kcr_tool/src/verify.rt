@@ -20,7 +20,7 @@ ghost use Rattle.kcr_verify.specs.Fresh.{IsMadeOn};
 ghost use Rattle.kcr_verify.specs.Verification.{EndsAt, IsFresh, IsVerification};
 
 use crate::opening::{connect_to, fault_of_reading, fault_of_taking};
-use crate::place::{is_free, take_back};
+use crate::place::{place_at, take_back};
 use itoa::Buffer;
 use kcr_base::{Counted, Refusal};
 use kcr_copy::{Copied, CopyConnection, Unread, connect, copy_of, has_run_out};
@@ -301,8 +301,8 @@ pub fn rebuild<W: Write>(
     if rows.keys.is_empty() {
         return Err(Fault::Nothing(Missing::Empty));
     }
-    let was_free = is_free(rt, path);
+    let before = place_at(rt, path);
     let ended = rebuild_into(rt, rows, path, output);
-    take_back(rt, path, was_free, &ended);
+    take_back(rt, path, before, &ended);
     ended
 }
