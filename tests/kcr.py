@@ -484,7 +484,7 @@ def is_here(commands, what):
 
 
 def debian_module(name):
-    """A module of Python that a package of Debian has; None where it is not installed."""
+    """A module of Python that a package of Debian has; None if it is not installed."""
     if DEBIAN not in sys.path:
         sys.path.append(DEBIAN)
     try:
