@@ -268,14 +268,6 @@ def decided(_):
           sorted(re.findall(r"`(\w+)`", " ".join(re.findall(r"(?m)^\| (`[^|]*) \|", members)))))
 
 
-def spelled(_):
-    """The texts of refusals that `kcr_history` writes have the numbers and words of `kcr_base`."""
-    text = text_of("crates/kcr_history/src/refusals.rt")
-    numbers, words = re.findall(r'\\"number\\":([0-9]+)', text), re.findall(r'\\"refusal\\":\\"(\w+)', text)
-    agree("the words", [(number, word) for number, (word, *_) in sorted(refusals().items())],
-          sorted(zip(map(int, numbers), words, strict=True)))
-
-
 def named(_):
     """Each refusal that a page names with its number and its word is one of the code."""
     for page in ("docs/API.md", "docs/REFUSALS.md", "docs/OPERATING.md", "docs/AUDIT.md", "README.md"):
@@ -759,7 +751,7 @@ def tests(program):
     """Each test: its name, what it shows, and the call that takes an empty folder."""
     for page in ("docs/API.md", "docs/AUDIT.md", "README.md"):
         yield from examples(program, page)
-    for test in (tabled, decided, spelled, named, worded, lined, complete, there, short, brief):
+    for test in (tabled, decided, named, worded, lined, complete, there, short, brief):
         yield test.__name__, test.__doc__, test
     for test in (played, called):
         yield test.__name__, test.__doc__, functools.partial(test, program)

@@ -8,7 +8,7 @@ use Rattle.kcr_desk.specs.Texts.{ResponseValue}
 abbrev pub body_bytes : Body → List ℕ
 body_bytes (Made text) = text
 body_bytes (Printed bytes) = bytes.items
-body_bytes (Fixed text) = text.now
+body_bytes (Fixed text) = text.bytes
 
 abbrev pub response_value : Response → ResponseValue
 response_value r = record { heading = r.heading; body = body_bytes r.body }

@@ -18,7 +18,7 @@ use crate::output_buffer::{OUTPUT_BUFFER_SIZE, OutputBuffer, add};
 use http::StatusCode;
 use itoa::Buffer;
 use kcr_base::{Counted, Refusal, Text};
-use kcr_history::fixed_text;
+use kcr_history::{FixedText, fixed_text};
 use kcr_wire::Allow;
 use std::io::Write;
 
@@ -46,8 +46,8 @@ pub enum Body {
     Made(Text),
     /// A report that was printed into memory.
     Printed(Vec<u8>),
-    /// A text that stands in the program.
-    Fixed(&'static str),
+    /// The text of a refusal, which takes no memory.
+    Fixed(FixedText),
 }
 
 impl Body {

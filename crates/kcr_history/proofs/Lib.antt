@@ -9,3 +9,4 @@ pub mod Trained
 pub mod Settled
 pub mod Distinct
 pub mod Tops
+pub mod Refused

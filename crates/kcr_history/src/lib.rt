@@ -34,7 +34,7 @@ pub use questions::{
     BagShown, CustodiansShown, CustodyShown, HolderShown, PersonShown, Question, RoleShown,
     RoomShown, Shown, StepsShown,
 };
-pub use refusals::{fixed_text, refusal_text};
+pub use refusals::{FixedText, fixed_text, refusal_text};
 pub use replies::reply_text;
 pub use report_rows::{BagWithItems, SeatedStep, StayWithName};
 pub use row_laws::{

@@ -1,47 +1,30 @@
 //! The texts of refusals.
-ghost use Rattle.std.specs.Prelude.{◌≡◌, ◌++◌, IfOk, MatchOption, IsTrue, map, string_bytes};
+ghost use Rattle.std.specs.Prelude.{◌≡◌, [], ◌∷◌, ◌++◌, codes, IfOk, OnOk, MatchOption, IsTrue, false, map, string_bytes};
 ghost use Rattle.std.specs.Fmt.{decimal};
 ghost use Rattle.std.specs.List.{join_with_byte};
-ghost use Rattle.kcr_history.specs.Texts;
+ghost use Rattle.kcr_base.specs.Refusal.{number_of, word_of};
+ghost use Rattle.kcr_history.specs.Json as json;
 ghost use Rattle.kcr_history.specs.Refusals;
 
+use arrayvec::ArrayString;
 use itoa::Buffer;
 use kcr_base::{Positions, Refusal, Text};
 use std::alloc::{AllocError, Global};
 
+/// Room for the text of a refusal that carries nothing, in bytes.
+const FIXED_TEXT_SIZE: usize = 48;
+
+/// The text of a refusal that carries nothing. It lies in the value itself.
+pub type FixedText = ArrayString<FIXED_TEXT_SIZE>;
+
 /// The JSON text of a refusal that carries nothing, as `{"number":11,"refusal":"key"}`, or `None` if the refusal
 /// carries something. It takes no memory, so out of memory itself (33), an I/O error (34) and a broken
 /// register (35) can always be answered.
-#[tactic(auto, using(crate::proofs::Listed::number_text))]
-pub fn fixed_text(refusal: &Refusal) -> Option<&'static str>
+pub fn fixed_text(refusal: &Refusal) -> Option<FixedText>
     ensures { MatchOption result
-        (IsTrue (Refusals.carries refusal.now)) (λ text. text.now ≡ Refusals.refusal_text refusal.now) }
+        (IsTrue (Refusals.carries refusal.now)) (λ text. text.bytes ≡ Refusals.refusal_text refusal.now) }
 {
     match refusal {
-        Refusal::Head => Some("{\"number\":1,\"refusal\":\"head\"}"),
-        Refusal::Host => Some("{\"number\":2,\"refusal\":\"host\"}"),
-        Refusal::Length => Some("{\"number\":3,\"refusal\":\"length\"}"),
-        Refusal::Coding => Some("{\"number\":4,\"refusal\":\"coding\"}"),
-        Refusal::Large => Some("{\"number\":5,\"refusal\":\"large\"}"),
-        Refusal::Cut => Some("{\"number\":6,\"refusal\":\"cut\"}"),
-        Refusal::Path => Some("{\"number\":7,\"refusal\":\"path\"}"),
-        Refusal::Method => Some("{\"number\":8,\"refusal\":\"method\"}"),
-        Refusal::Json => Some("{\"number\":9,\"refusal\":\"json\"}"),
-        Refusal::Key => Some("{\"number\":11,\"refusal\":\"key\"}"),
-        Refusal::Taken => Some("{\"number\":13,\"refusal\":\"taken\"}"),
-        Refusal::Range => Some("{\"number\":14,\"refusal\":\"range\"}"),
-        Refusal::Apart => Some("{\"number\":15,\"refusal\":\"apart\"}"),
-        Refusal::Held => Some("{\"number\":16,\"refusal\":\"held\"}"),
-        Refusal::Vacant => Some("{\"number\":17,\"refusal\":\"vacant\"}"),
-        Refusal::State => Some("{\"number\":20,\"refusal\":\"state\"}"),
-        Refusal::Busy => Some("{\"number\":21,\"refusal\":\"busy\"}"),
-        Refusal::Crowd => Some("{\"number\":25,\"refusal\":\"crowd\"}"),
-        Refusal::Full => Some("{\"number\":27,\"refusal\":\"full\"}"),
-        Refusal::Safe => Some("{\"number\":28,\"refusal\":\"safe\"}"),
-        Refusal::Elsewhere => Some("{\"number\":29,\"refusal\":\"where\"}"),
-        Refusal::Memory => Some("{\"number\":33,\"refusal\":\"memory\"}"),
-        Refusal::Disk => Some("{\"number\":34,\"refusal\":\"disk\"}"),
-        Refusal::Broken => Some("{\"number\":35,\"refusal\":\"broken\"}"),
         Refusal::Form { .. }
         | Refusal::Unknown { .. }
         | Refusal::Settled { .. }
@@ -53,7 +36,23 @@ pub fn fixed_text(refusal: &Refusal) -> Option<&'static str>
         | Refusal::Absent { .. }
         | Refusal::Unfinished { .. }
         | Refusal::Short { .. } => None,
+        _ => Some(bare_text(refusal)),
     }
+}
+
+/// The text of a refusal that carries nothing.
+#[tactic(auto, using(crate::proofs::Refused::word_short))]
+fn bare_text(refusal: &Refusal) -> FixedText
+    requires { Refusals.carries refusal.now ≡ false }
+    ensures { result.bytes ≡ Refusals.refusal_text refusal.now }
+{
+    let mut text = FixedText::new();
+    text.push_str("{\"number\":");
+    text.push_str(Buffer::new().format(refusal.number()));
+    text.push_str(",\"refusal\":\"");
+    text.push_str(refusal.word());
+    text.push_str("\"}");
+    text
 }
 
 /// The JSON text of a refusal: its number, its word and what it carries, members in byte order, as
@@ -62,7 +61,7 @@ pub fn refusal_text(alloc: Global, refusal: &Refusal) -> Result<Text, AllocError
     ensures { IfOk result (λ text. text ≡ Refusals.refusal_text refusal.now) }
 {
     if let Some(text) = fixed_text(refusal) {
-        return Text::copy_of(alloc, text);
+        return Text::copy_of(alloc, text.as_str());
     }
     carried_text(alloc, refusal)
 }
@@ -73,90 +72,153 @@ fn carried_text(alloc: Global, refusal: &Refusal) -> Result<Text, AllocError>
     ensures { IfOk result (λ text. text ≡ Refusals.refusal_text refusal.now) }
 {
     match refusal {
-        Refusal::Form { member } => around(
-            alloc,
-            "{\"member\":\"",
-            member.text(),
-            "\",\"number\":10,\"refusal\":\"form\"}",
-        ),
+        Refusal::Form { member } => led_by_text(alloc, "member", member.text(), refusal),
         Refusal::Unknown { thing } => {
             let thing = thing.text(alloc)?;
-            around(
-                alloc,
-                "{\"number\":12,\"refusal\":\"unknown\",\"thing\":\"",
-                thing.as_str(),
-                "\"}",
-            )
+            followed_by_text(alloc, refusal, "thing", thing.as_str())
         }
-        Refusal::Settled { day } => around(
-            alloc,
-            "{\"day\":\"",
-            day.code().as_str(),
-            "\",\"number\":18,\"refusal\":\"settled\"}",
-        ),
-        Refusal::Script { row } => around(
-            alloc,
-            "{\"number\":19,\"refusal\":\"script\",\"row\":",
-            Buffer::new().format(*row),
-            "}",
-        ),
-        Refusal::Late { mark } => around(
-            alloc,
-            "{\"mark\":\"",
-            mark.code().as_str(),
-            "\",\"number\":22,\"refusal\":\"late\"}",
-        ),
-        Refusal::Order { next } => around(
-            alloc,
-            "{\"next\":",
-            Buffer::new().format(*next),
-            ",\"number\":23,\"refusal\":\"order\"}",
-        ),
-        Refusal::Turn { who } => around(
-            alloc,
-            "{\"number\":24,\"refusal\":\"turn\",\"who\":\"",
-            who.as_str(),
-            "\"}",
-        ),
-        Refusal::Lone { moment } => around(
-            alloc,
-            "{\"moment\":\"",
-            moment.code().as_str(),
-            "\",\"number\":26,\"refusal\":\"lone\"}",
-        ),
-        Refusal::Absent { who } => around(
-            alloc,
-            "{\"number\":30,\"refusal\":\"absent\",\"who\":\"",
-            who.text().as_str(),
-            "\"}",
-        ),
-        Refusal::Unfinished { part } => around(
-            alloc,
-            "{\"number\":31,\"part\":\"",
-            part.text(),
-            "\",\"refusal\":\"unfinished\"}",
-        ),
+        Refusal::Settled { day } => led_by_text(alloc, "day", day.code().as_str(), refusal),
+        Refusal::Script { row } => followed_by(alloc, refusal, "row", Buffer::new().format(*row)),
+        Refusal::Late { mark } => led_by_text(alloc, "mark", mark.code().as_str(), refusal),
+        Refusal::Order { next } => led_by(alloc, "next", Buffer::new().format(*next), refusal),
+        Refusal::Turn { who } => followed_by_text(alloc, refusal, "who", who.as_str()),
+        Refusal::Lone { moment } => led_by_text(alloc, "moment", moment.code().as_str(), refusal),
+        Refusal::Absent { who } => followed_by_text(alloc, refusal, "who", who.text().as_str()),
+        Refusal::Unfinished { part } => parted_by_text(alloc, refusal, "part", part.text()),
         Refusal::Short { seats } => {
-            let seats = listed(alloc, *seats)?;
-            around(
+            let list = listed(alloc, *seats)?;
+            followed_by(
                 alloc,
-                "{\"number\":32,\"refusal\":\"short\",\"seats\":[",
-                seats.as_str(),
-                "]}",
+                refusal,
+                "seats",
+                bracketed(alloc, list.as_str())?.as_str(),
             )
         }
         _ => unreachable!(),
     }
 }
 
-/// A text with one before it and one behind it.
-fn around(alloc: Global, before: &str, carried: &str, after: &str) -> Result<Text, AllocError>
-    ensures { IfOk result (λ text. text ≡ before.now ++ (carried.now ++ after.now)) }
+/// A text in quotes.
+fn quoted(alloc: Global, text: &str) -> Result<String, AllocError>
+    ensures { IfOk result (λ whole. string_bytes whole ≡ json.quoted text.now) }
 {
-    let mut text = String::from_str(alloc, before)?;
-    text.push_str(carried)?;
-    text.push_str(after)?;
+    ["\"", text, "\""].concat(alloc)
+}
+
+/// A list's texts in brackets.
+fn bracketed(alloc: Global, list: &str) -> Result<String, AllocError>
+    ensures { IfOk result (λ whole. string_bytes whole ≡ codes "[" ++ (list.now ++ codes "]")) }
+{
+    ["[", list, "]"].concat(alloc)
+}
+
+/// Adds a member of an object: its name, and the JSON text of its value.
+fn push_member(text: &mut String, name: &str, value: &str) -> Result<(), AllocError>
+    ensures { OnOk result (string_bytes text.new ≡ string_bytes text.old ++ json.member name.now value.now) }
+{
+    text.push_str("\"")?;
+    text.push_str(name)?;
+    text.push_str("\":")?;
+    text.push_str(value)
+}
+
+/// Adds the member with a refusal's number.
+fn push_number(text: &mut String, refusal: &Refusal) -> Result<(), AllocError>
+    ensures { OnOk result (string_bytes text.new
+        ≡ string_bytes text.old ++ json.member (codes "number") (decimal (number_of refusal.now))) }
+{
+    push_member(text, "number", Buffer::new().format(refusal.number()))
+}
+
+/// Adds the member with a refusal's word.
+fn push_word(text: &mut String, refusal: &Refusal) -> Result<(), AllocError>
+    ensures { OnOk result (string_bytes text.new
+        ≡ string_bytes text.old ++ json.member (codes "refusal") (json.quoted (word_of refusal.now))) }
+{
+    text.push_str("\"refusal\":\"")?;
+    text.push_str(refusal.word())?;
+    text.push_str("\"")
+}
+
+/// The text of a refusal with this member before its number.
+fn led_by(alloc: Global, name: &str, value: &str, refusal: &Refusal) -> Result<Text, AllocError>
+    ensures { IfOk result (λ text.
+        text ≡ Refusals.refused_with (json.member name.now value.now ∷ []) refusal.now [] []) }
+{
+    let mut text = String::from_str(alloc, "{")?;
+    push_member(&mut text, name, value)?;
+    text.push_str(",")?;
+    push_number(&mut text, refusal)?;
+    text.push_str(",")?;
+    push_word(&mut text, refusal)?;
+    text.push_str("}")?;
     Ok(Text::from_string(text))
+}
+
+/// The text of a refusal with this text, in quotes, before its number.
+fn led_by_text(
+    alloc: Global,
+    name: &str,
+    before: &str,
+    refusal: &Refusal,
+) -> Result<Text, AllocError>
+    ensures { IfOk result (λ text.
+        text ≡ Refusals.refused_with (json.member name.now (json.quoted before.now) ∷ []) refusal.now [] []) }
+{
+    led_by(alloc, name, quoted(alloc, before)?.as_str(), refusal)
+}
+
+/// The text of a refusal with this text, in quotes, between its number and its word.
+fn parted_by_text(
+    alloc: Global,
+    refusal: &Refusal,
+    name: &str,
+    part: &str,
+) -> Result<Text, AllocError>
+    ensures { IfOk result (λ text.
+        text ≡ Refusals.refused_with [] refusal.now (json.member name.now (json.quoted part.now) ∷ []) []) }
+{
+    let mut text = String::from_str(alloc, "{")?;
+    push_number(&mut text, refusal)?;
+    text.push_str(",")?;
+    push_member(&mut text, name, quoted(alloc, part)?.as_str())?;
+    text.push_str(",")?;
+    push_word(&mut text, refusal)?;
+    text.push_str("}")?;
+    Ok(Text::from_string(text))
+}
+
+/// The text of a refusal with this member behind its word.
+fn followed_by(
+    alloc: Global,
+    refusal: &Refusal,
+    name: &str,
+    value: &str,
+) -> Result<Text, AllocError>
+    ensures { IfOk result (λ text.
+        text ≡ Refusals.refused_with [] refusal.now [] (json.member name.now value.now ∷ [])) }
+{
+    let mut text = String::from_str(alloc, "{")?;
+    push_number(&mut text, refusal)?;
+    text.push_str(",")?;
+    push_word(&mut text, refusal)?;
+    text.push_str(",")?;
+    push_member(&mut text, name, value)?;
+    text.push_str("}")?;
+    Ok(Text::from_string(text))
+}
+
+/// The text of a refusal with this text, in quotes, behind its word.
+fn followed_by_text(
+    alloc: Global,
+    refusal: &Refusal,
+    name: &str,
+    behind: &str,
+) -> Result<Text, AllocError>
+    ensures { IfOk result (λ text.
+        text ≡ Refusals.refused_with [] refusal.now [] (json.member name.now (json.quoted behind.now) ∷ [])) }
+{
+    followed_by(alloc, refusal, name, quoted(alloc, behind)?.as_str())
 }
 
 /// Positions in decimal, parted by commas.
