@@ -6,8 +6,8 @@
 
 A case is NAME (the program's standard input), NAME.args (its words, one a line), NAME.stdout and NAME.stderr (what it
 writes to standard output and to standard error; nothing if there is no NAME.stderr) and, if it is not 0, NAME.status
-(its exit status). FOLDER is tests/cases, which has the named cases too. Each request has a field `X-Why:` that says
-what it shows. The program is called by the name `kcr`, which its lines of usage repeat.
+(its exit status). FOLDER is tests/cases, which has a folder for each subject, and the named cases. Each request has a
+field `X-Why:` that says what it shows. The program is called by the name `kcr`, which its lines of usage repeat.
 
 The last line is `N passed, M failed`, and the status is 0 where none failed.
 """
@@ -78,8 +78,8 @@ def fault_of(program, case):
 
 
 def cases_in(folder):
-    """The cases of a folder, by name."""
-    return [path.with_suffix("") for path in sorted(folder.glob("*.stdout"))]
+    """The cases of a folder and of the folders in it, by name."""
+    return sorted((path.with_suffix("") for path in folder.rglob("*.stdout")), key=lambda case: case.name)
 
 
 def chosen(words):

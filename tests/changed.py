@@ -212,7 +212,7 @@ def report_stops(program, room):
     """A report that meets such a row is refused, and a prefix of it was printed: of its steps, which are read sixteen
     at a time, those that were read before."""
     file, script = room / "stops", ("print", "--ceremony", "61", "--file")
-    call(program, "run", "--file", file, stream=(HERE / "cases" / "reports-of-33-rows").read_bytes())
+    call(program, "run", "--file", file, stream=kcr.case_file("reports-of-33-rows").read_bytes())
     text, faults, status = call(program, *script, file)
     expect("the whole report", (True, b"", 0), (b"\n33 open" in text, faults, status))
     for step, before in ((3, b"\n1 signed"), (16, b"\n1 signed"), (17, b"\n17 signed"), (33, b"\n33 open")):

@@ -696,7 +696,7 @@ def there(_):
         for name in re.findall(r"`(\w+)`", re.sub(r"\(.*?\)", "", names)):
             here = {f"{crate}/must-fail/{name}.edit" for crate in re.findall(r"kcr_\w+", owners)}
             expect(f"whether the mutant {name} is there", True, bool(here & files))
-    cases = {path.stem for path in (HERE / "cases").iterdir()}
+    cases = {path.stem for path in (HERE / "cases").glob("*/*")}
     for name in set(re.findall(r"`([a-z]+(?:-(?:[a-z0-9*]|\.(?=\d))+)+)`", text)) - {"must-fail"}:
         expect(f"whether the case {name} is there", True, bool(fnmatch.filter(cases, name)))
 

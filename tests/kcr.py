@@ -262,14 +262,20 @@ def answers(stream, requests):
     return found
 
 
+def case_file(name):
+    """The file of a case, or one beside it, by its name: `cases` has a folder for each subject."""
+    found, = (HERE / "cases").glob(f"*/{name}")
+    return found
+
+
 def case(name):
-    """The requests of a case of `cases`."""
-    return messages((HERE / "cases" / name).read_bytes())
+    """The requests of a case."""
+    return messages(case_file(name).read_bytes())
 
 
 def case_answers(name):
     """The answers that a case wants, each by itself."""
-    return answers((HERE / "cases" / f"{name}.stdout").read_bytes(), case(name))
+    return answers(case_file(f"{name}.stdout").read_bytes(), case(name))
 
 
 # The kept streams

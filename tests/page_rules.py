@@ -122,9 +122,9 @@ return given.map(stream => {
 def kept_answers(_program, _room):
     """After the commands of each case and each kept stream, the page knows what the kept answers say: seatings, numbers
     of exceptions, people with their trainings, holders, bags, and who is in a room."""
-    names = sorted(path.name for path in (HERE / "cases").iterdir() if "." not in path.name)
+    names = sorted(path.stem for path in (HERE / "cases").rglob("*.stdout"))
     streams = [(name, list(items(zip(kcr.case(name), kcr.case_answers(name))))) for name in names
-               if b"POST" in (HERE / "cases" / name).read_bytes() and whole(name)]
+               if b"POST" in kcr.case_file(name).read_bytes() and whole(name)]
     streams += [(folder.name, list(items(kcr.exchanges(folder)))) for folder in kcr.folders()]
     told = node(ANSWERS, [[item for item, _ in stream] for _, stream in streams])
     answers = 0
@@ -139,8 +139,8 @@ def kept_answers(_program, _room):
 def whole(name):
     """Whether a case is a stream of whole requests over an empty register."""
     try:
-        return len(kcr.case(name)) == len(kcr.case_answers(name)) and "--file" not in (
-            HERE / "cases" / f"{name}.args").read_text()
+        return len(kcr.case(name)) == len(kcr.case_answers(name)) and "--file" not in kcr.case_file(
+            f"{name}.args").read_text()
     except (AttributeError, IndexError, ValueError, TypeError):
         return False
 

@@ -25,7 +25,6 @@ import threading
 
 import kcr
 
-CASES = pathlib.Path(__file__).resolve().parent / "cases"
 SECONDS = 60
 HEAD = (b"HTTP/1.1 400 Bad Request\r\ncontent-type: application/json\r\ncontent-length: 29\r\n"
         b"connection: close\r\n\r\n{\"number\":1,\"refusal\":\"head\"}")
@@ -120,8 +119,8 @@ def slow_cases(program):
     names = ["head-of-8192-bytes", "head-of-8193-bytes", "fields-64", "fields-65", "empty-lines-of-8192-bytes",
              "empty-lines-without-end", "two-hosts", "two-lengths", "length-with-a-sign", "transfer-coding",
              "body-too-large", "body-cut-short", "head-cut-short", "continue", "http-1.0-closes"]
-    return all(played(program, bytes_of((CASES / name).read_bytes()))
-               == ((CASES / (name + ".stdout")).read_bytes(), b"", 0) for name in names)
+    return all(played(program, bytes_of(kcr.case_file(name).read_bytes()))
+               == (kcr.case_file(f"{name}.stdout").read_bytes(), b"", 0) for name in names)
 
 
 def told_in_turn(program, turns):

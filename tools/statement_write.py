@@ -1,4 +1,5 @@
 """Writes the page of the statement."""
+import glob
 import os
 import re
 
@@ -237,10 +238,10 @@ def examples_text(parts, examples):
 def case_text(name):
     """A case, or a test with its function, as the page names it."""
     test, _, function = name.partition(":")
-    folder = "unproved/" if test.endswith(".txt") else "" if test.endswith(".py") or "/" in test else "cases/"
-    path = f"tests/{folder}{test}"
-    if not os.path.exists(path) or function and f" {function}(" not in read(path):
-        raise Stop(f"CASES of tools/statement_list.py names `{name}`, which is not in {path}")
+    folder = "unproved/" if test.endswith(".txt") else "" if test.endswith(".py") or "/" in test else "cases/*/"
+    found = glob.glob(f"tests/{folder}{test}")
+    if not found or function and f" {function}(" not in read(found[0]):
+        raise Stop(f"CASES of tools/statement_list.py names `{name}`, which is not in tests/{folder}")
     return f"{test} ({function})" if function else test
 
 
