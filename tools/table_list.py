@@ -1,4 +1,6 @@
 """The tables of the register: the kinds of their columns, their keys, and the readings of each."""
+import re
+
 from table_writer import codes
 
 
@@ -22,7 +24,11 @@ class Kind:
         return self.write.split("(")[0]
 
     def reader(self):
-        return self.read.split("(")[0]
+        return re.split(r"\(|::", self.read)[0]
+
+    def counted(self):
+        """The kind of number that the reader is told, if any."""
+        return re.findall(r"<(\w+)>", self.read or "")
 
 
 TEXT_AT = "text_at(alloc, row, {at})?"
@@ -40,13 +46,22 @@ def integer_or_null():
     return Kind("INT", "number_or_null", "int_or_null {x}", "number_or_null_at(row, {at})?", "number_or_null_cell({x})", one="one_number", cast="cast_or_null {x} i", words=("int_or_null",), casts=("cast_or_null",))
 
 
+def counted(kind):
+    """A number from 1 to the greatest of its kind."""
+    return Kind("INT NOT NULL", "number", "Int (pos {x})", f"counted_at::<{kind}>(row, {{at}})?", "number_cell({x})", cast="cast_int (pos {x}) i", ties="number_ties", casts=("cast_int",))
+
+
+def counted_or_null(kind):
+    return Kind("INT", "number_or_null", "int_or_null {x}", f"counted_or_null_at::<{kind}>(row, {{at}})?", "number_or_null_cell({x})", one="one_number", cast="cast_or_null {x} i", words=("int_or_null",), casts=("cast_or_null",))
+
+
 def numbered(name, word, ties=None):
     return Kind("INT NOT NULL", "number", f"Int (pos ({word} {{x}}))", "number_at(row, {at})?", "number_cell({x})", one=f"one_{name}", cast=f"cast_int (pos ({word} {{x}})) i", ties=ties, words=(word,), casts=("cast_int",))
 
 
-def named(name, write="text_cell({x}.text())", prelude=None):
+def named(name, write="text_cell({x}.text())", prelude=None, read=TEXT_AT):
     word = f"{name}_text"
-    return Kind("TEXT NOT NULL", "words", f"Text ({word} {{x}})", TEXT_AT, write, one=f"one_{name}", ties=f"{name}_ties", words=(word,), prelude=prelude)
+    return Kind("TEXT NOT NULL", "words", f"Text ({word} {{x}})", read, write, one=f"one_{name}", ties=f"{name}_ties", words=(word,), prelude=prelude)
 
 
 INITIALS = text()
@@ -56,14 +71,22 @@ ITEM = text()
 LINE = text()
 TEXT = text()
 NUMBER = integer()
+CEREMONY = counted("OfCeremony")
+BOX = counted("OfBox")
+STEP = counted("OfStep")
+SEAT = counted("OfSeat")
+EXCEPTION = counted("OfException")
+COMMAND = counted("OfCommand")
 DAY = integer()
 MOMENT = integer()
 DAY_OR_NULL = integer_or_null()
 MOMENT_OR_NULL = integer_or_null()
-NUMBER_OR_NULL = integer_or_null()
+STEP_OR_NULL = counted_or_null("OfStep")
 FACILITY = named("facility")
 ROLE = named("role")
 PLACE = named("place", "text_cell({f}.as_str())", "let {f} = {x}.text();")
+# the place of a box: a Crypto Officer's of its facility
+OFFICER = named("place", "text_cell({f}.as_str())", "let {f} = {x}.text();", read="officer_at(alloc, row, {at}, facility)?")
 SAFE = numbered("safe", "safe_digit", "safe_ties")
 TRUTH = numbered("truth", "truth_number")
 WAY = numbered("way", "way_number")
@@ -183,7 +206,7 @@ def of_person(table, word):
 
 
 def of_ceremony(table, word):
-    return Reading(f"{table}_of", "The rows of one ceremony", "ceremony", "ceremony", "u32", NUMBER, "{x}.ceremony == {v}", ask=f"{word} {{v}}")
+    return Reading(f"{table}_of", "The rows of one ceremony", "ceremony", "ceremony", "u32", CEREMONY, "{x}.ceremony == {v}", ask=f"{word} {{v}}")
 
 
 TABLES = [
@@ -197,7 +220,7 @@ TABLES = [
     Table("appointments", "appointment", "Appointment", "kcr_people", "", [Column("place", PLACE), Column("since", DAY), Column("who", INITIALS), Column("until", DAY_OR_NULL)], 2,
           "who holds a custodian's place, under the place and the first day",
           "PutAppointment", "same_appointment", others=[[2, 1, 0]]),
-    Table("boxes", "box", "BoxRow", "kcr_custody", "", [Column("facility", FACILITY), Column("box", NUMBER, "number"), Column("place", PLACE)], 2,
+    Table("boxes", "box", "BoxRow", "kcr_custody", "", [Column("facility", FACILITY), Column("box", BOX, "number"), Column("place", OFFICER)], 2,
           "a box under its facility and number", "PutBox", "same_box", always_new=True),
     Table("safes", "safe", "SafeRow", "kcr_custody", "", [Column("facility", FACILITY), Column("safe", SAFE), Column("state", TRUTH, "is_open")], 2,
           "a safe under its facility and number", "PutSafe", "same_safe_row"),
@@ -208,29 +231,29 @@ TABLES = [
           "an item under its code", "PutItem", "same_item", others=[[2, 0]],
           readings=[Reading("item_of", "The row of the item with this code, alone, or none", "code", "code", "&ItemCode", ITEM, "same_text {x}.code {v}"),
                     Reading("items_within", "The rows of the items in the bag with this serial", "serial", "serial", "&Serial", SERIAL, "lies_in {v} {x}", ask="is_item_of (Wanted.Bag {v})")]),
-    Table("ceremonies", "ceremony", "CeremonyRow", "kcr_history", "row_types.", [Column("number", NUMBER), Column("facility", FACILITY), Column("day", DAY), Column("state", CEREMONY_STATE), Column("opened", MOMENT_OR_NULL), Column("closed", MOMENT_OR_NULL)], 1,
+    Table("ceremonies", "ceremony", "CeremonyRow", "kcr_history", "row_types.", [Column("number", CEREMONY), Column("facility", FACILITY), Column("day", DAY), Column("state", CEREMONY_STATE), Column("opened", MOMENT_OR_NULL), Column("closed", MOMENT_OR_NULL)], 1,
           "a ceremony under its number", "PutCeremony", "same_ceremony",
-          readings=[Reading("ceremony_of", "The row of the ceremony with this number, alone, or none", "number", "number", "u32", NUMBER, "{x}.number == {v}", ask="is_of_number {v}")]),
-    Table("marks", "mark", "MarkRow", "kcr_history", "row_types.", [Column("ceremony", NUMBER), Column("at", MOMENT)], 1,
+          readings=[Reading("ceremony_of", "The row of the ceremony with this number, alone, or none", "number", "number", "u32", CEREMONY, "{x}.number == {v}", ask="is_of_number {v}")]),
+    Table("marks", "mark", "MarkRow", "kcr_history", "row_types.", [Column("ceremony", CEREMONY), Column("at", MOMENT)], 1,
           "the mark of a ceremony that was opened, under its number", "PutMark", "same_mark",
-          readings=[Reading("mark_of", "The row of the ceremony, alone, or none", "ceremony", "ceremony", "u32", NUMBER, "{x}.ceremony == {v}", ask="is_mark_of {v}")]),
-    Table("steps", "step", "StepRow", "kcr_history", "row_types.", [Column("ceremony", NUMBER), Column("step", NUMBER), Column("activity", LINE), Column("seats", SEATS), Column("state", STEP_STATE), Column("at", MOMENT_OR_NULL)], 2,
+          readings=[Reading("mark_of", "The row of the ceremony, alone, or none", "ceremony", "ceremony", "u32", CEREMONY, "{x}.ceremony == {v}", ask="is_mark_of {v}")]),
+    Table("steps", "step", "StepRow", "kcr_history", "row_types.", [Column("ceremony", CEREMONY), Column("step", STEP), Column("activity", LINE), Column("seats", SEATS), Column("state", STEP_STATE), Column("at", MOMENT_OR_NULL)], 2,
           "a step of a ceremony under both numbers", "PutStep", "same_step", new_where="self.state == StepState::Undone",
           is_read="HasOnlyTheseSeats", is_stored="HasSeatsText", stored_fact="seats"),
-    Table("seatings", "seating", "SeatingRow", "kcr_history", "row_types.", [Column("ceremony", NUMBER), Column("step", NUMBER), Column("seat", NUMBER), Column("who", INITIALS)], 3,
+    Table("seatings", "seating", "SeatingRow", "kcr_history", "row_types.", [Column("ceremony", CEREMONY), Column("step", STEP), Column("seat", SEAT), Column("who", INITIALS)], 3,
           "who filled a seat of a step, under the ceremony, the step and the seat", "PutSeating", "same_seating", always_new=True),
-    Table("sheet", "sheet", "SheetRow", "kcr_room", "", [Column("who", INITIALS), Column("at", MOMENT), Column("ceremony", NUMBER), Column("way", WAY)], 2,
+    Table("sheet", "sheet", "SheetRow", "kcr_room", "", [Column("who", INITIALS), Column("at", MOMENT), Column("ceremony", CEREMONY), Column("way", WAY)], 2,
           "a row of a ceremony's entry and exit sheet, under the person and the moment", "PutSheet", "same_sheet_row", always_new=True),
-    Table("exceptions", "exception", "ExceptionRow", "kcr_history", "row_types.", [Column("ceremony", NUMBER), Column("exception", NUMBER), Column("text", LINE), Column("at", MOMENT), Column("passed", NUMBER_OR_NULL)], 2,
+    Table("exceptions", "exception", "ExceptionRow", "kcr_history", "row_types.", [Column("ceremony", CEREMONY), Column("exception", EXCEPTION), Column("text", LINE), Column("at", MOMENT), Column("passed", STEP_OR_NULL)], 2,
           "a script exception of a ceremony under both numbers", "PutException", "same_exception", always_new=True,
           readings=[of_ceremony("exceptions", "is_exception_of")]),
     Table("versions", "version", "Version", "kcr_rows", "row_impls.", [Column("number", NUMBER)], 1,
           "one row with the number of the schema", always_new=True),
-    Table("keys", "key", "KeyRow", "kcr_history", "row_types.", [Column("key", KEY), Column("accepted", NUMBER), Column("command", TEXT), Column("reply", TEXT)], 1,
+    Table("keys", "key", "KeyRow", "kcr_history", "row_types.", [Column("key", KEY), Column("accepted", COMMAND), Column("command", TEXT), Column("reply", TEXT)], 1,
           "a row for each accepted command, under its key; its number is the row id, and that of no other row",
           "PutKey", "same_key_row", alias="accepted", always_new=True,
           readings=[Reading("key_row_of", "The row of this key, alone, or none", '"key"', "key", "&Key", KEY, "same_text {x}.key {v}", ask="is_of_key {v}")]),
-    Table("stays", "stay", "Stay", "kcr_room", "", [Column("who", INITIALS), Column("since", MOMENT), Column("ceremony", NUMBER), Column("until", MOMENT_OR_NULL)], 2,
+    Table("stays", "stay", "Stay", "kcr_room", "", [Column("who", INITIALS), Column("since", MOMENT), Column("ceremony", CEREMONY), Column("until", MOMENT_OR_NULL)], 2,
           "a stay of a person in the room of a ceremony, under the person and its beginning", "PutStay", "same_stay", others=[[2, 1, 0]], new_where="self.until.is_none()"),
     Table("withdrawals", "withdrawal", "Withdrawal", "kcr_people", "", [Column("who", INITIALS), Column("role", ROLE), Column("since", DAY), Column("until", DAY), Column("day", DAY)], 4,
           "from which day a training is withdrawn, under the training's key", "PutWithdrawal", "same_withdrawn",

@@ -124,11 +124,13 @@ ghost use Rattle.std.specs.Prelude.{⊤};
         out += f"ghost use Rattle.kcr_rows.specs.Rows.{{{', '.join(t.row_of for t in TABLES[at : at + 6])}}};\n"
     out += f"ghost use Rattle.kcr_rows.specs.States.{{{', '.join(t.is_read for t in TABLES if t.is_read)}}};\n\n"
     readers = {c.kind.reader() for t in TABLES for c in t.columns if c.kind.read}
-    types = {"kcr_base": {"Refusal"}}
+    kinds = {kind for t in TABLES for c in t.columns for kind in c.kind.counted()}
+    own = sorted(kinds & {"OfSeat", "OfException", "OfCommand"})
+    types = {"kcr_base": {"Refusal"}, "kcr_base::number": kinds - set(own)}
     for t in TABLES:
         if t.crate != ROWS_CRATE:
             types.setdefault(t.crate, set()).add(t.type)
-    imports = [f"use crate::cells::{{{', '.join(sorted(readers))}}};", "use crate::from_row::FromRow;"]
+    imports = [f"use crate::cells::{{{', '.join(sorted(readers))}}};", "use crate::from_row::FromRow;", f"use crate::numbers::{{{', '.join(own)}}};"]
     imports += [f"use {crate}::{{{', '.join(sorted(types[crate]))}}};" for crate in sorted(types)]
     imports += ["use sqlite::Row;", "use std::alloc::Global;"]
     out += "\n".join(imports) + "\n\n" + "\n".join(decoded(t) for t in TABLES)

@@ -1,12 +1,15 @@
 //! One value of a row: read from a column, counted from 0, and made into a parameter of a statement. Each reader's error
 //! is `Disk` if the column has no such value; those that take an allocator answer `Memory` when out of memory.
 
-ghost use Rattle.std.specs.Prelude.{◌≡◌, ◌≢◌, ◌+◌, ◌<◌, List, length, pos, Err, IfOk, IfErr, OnOk, OnErr};
+ghost use Rattle.std.specs.Prelude.{◌≡◌, ◌≢◌, ℕ, ◌+◌, ◌<◌, List, length, pos, Err, IfOk, IfErr, IfSome, OnOk, OnErr};
 ghost use Rattle.std.specs.Prelude.{true, false, IsTrue};
 ghost use Rattle.sqlite.specs.declared.types.Value.TheVariants.{Null, Int, Text as Chars};
 ghost use Rattle.sqlite.specs.Order.{column};
 ghost use Rattle.sqlite.specs.Values.{bound_value};
 ghost use Rattle.sqlite.specs.Value.{owned};
+ghost use Rattle.kcr_base.specs.Number.{IsNumber};
+ghost use Rattle.kcr_base.specs.Place.{place_text};
+ghost use Rattle.kcr_custody.specs.Custody.{is_co_place_of};
 ghost use Rattle.kcr_custody.specs.Spots.{spot_text};
 ghost use Rattle.kcr_script.specs.Seats.{StandsFor, written};
 ghost use Rattle.kcr_script.specs.declared.seat.Seat.{Seat};
@@ -15,7 +18,8 @@ ghost use Rattle.kcr_rows.specs.Values.{or_null};
 ghost use Rattle.kcr_rows.specs.States.{loose_value, within_value, IsNumbered};
 
 use crate::numbers::AsNumber;
-use kcr_base::{Facility, Refusal, Serial, Text, Written};
+use kcr_base::number::{Number, Numbered};
+use kcr_base::{Facility, Place, Refusal, Serial, Text, Written};
 use kcr_custody::{Rest, Spot};
 use kcr_script::{Seats, read_seats, write_seats};
 use sqlite::Row;
@@ -50,6 +54,61 @@ pub fn number_at<T: AsNumber>(row: &Row, at: usize) -> Result<T, Refusal>
             None => Err(Refusal::Disk),
         },
         _ => Err(Refusal::Disk),
+    }
+}
+
+/// The number in a column, from 1 to the greatest of its kind, `K`.
+pub fn counted_at<K: Numbered>(row: &Row, at: usize) -> Result<u32, Refusal>
+    ensures value { IfOk result (λ found. column row.now at ≡ Int (pos found)) }
+    ensures range { IfOk result (IsNumber K.limit) }
+    ensures none { OnErr result ((n : ℕ) → IsNumber K.limit n → column row.now at ≢ Int (pos n)) }
+    ensures cause { IfErr result IsFault }
+{
+    let number = number_at(row, at)?;
+    match Number::<K>::new(number) {
+        Some(found) => Ok(found.get()),
+        None => Err(Refusal::Disk),
+    }
+}
+
+/// The number in a column, from 1 to the greatest of its kind, `K`, or `None` if it is NULL.
+pub fn counted_or_null_at<K: Numbered>(row: &Row, at: usize) -> Result<Option<u32>, Refusal>
+    ensures value { IfOk result (λ found. column row.now at ≡ or_null (λ n. n) found) }
+    ensures range { IfOk result (λ found. IfSome found (IsNumber K.limit)) }
+    ensures null { OnErr result (at < length row.now → column row.now at ≢ Null) }
+    ensures none { OnErr result ((n : ℕ) → IsNumber K.limit n → column row.now at ≢ Int (pos n)) }
+    ensures cause { IfErr result IsFault }
+{
+    if is_null(row, at) {
+        return Ok(None);
+    }
+    match counted_at::<K>(row, at) {
+        Ok(found) => Ok(Some(found)),
+        Err(refusal) => Err(refusal),
+    }
+}
+
+/// The place in a column, a Crypto Officer's of this facility.
+pub fn officer_at(alloc: Global, row: &Row, at: usize, facility: Facility) -> Result<Place, Refusal>
+    ensures value { IfOk result (λ found. column row.now at ≡ Chars (place_text found)) }
+    ensures own { IfOk result (λ found. IsTrue (is_co_place_of facility found)) }
+    ensures cause { IfErr result IsFault }
+{
+    let found = text_at(alloc, row, at)?;
+    if is_officer_of(facility, &found) {
+        Ok(found)
+    } else {
+        Err(Refusal::Disk)
+    }
+}
+
+/// Whether a place is a Crypto Officer's of this facility.
+fn is_officer_of(facility: Facility, place: &Place) -> bool
+    ensures { result ≡ is_co_place_of facility place.now }
+{
+    match place {
+        Place::Co(of, _) => *of == facility,
+        Place::Rksh(_) => false,
     }
 }
 

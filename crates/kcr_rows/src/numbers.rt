@@ -1,11 +1,13 @@
 //! Values that a column stores as a whole number.
 
 ghost use Rattle.std.specs.Prelude.{⊤, ◌≡◌, ◌<◌, ◌^◌, ℕ, pos, IfSome, Some};
+ghost use Rattle.std.proofs.Common.{arith};
 ghost use Rattle.kcr_base.specs.Day.{IsDay};
 ghost use Rattle.kcr_base.specs.Moment.{IsMoment};
 ghost use Rattle.kcr_rows.specs.Values.{truth_number};
 ghost use Rattle.kcr_rows.specs.States.{safe_digit, way_number, ceremony_number, step_number};
 
+use kcr_base::number::Numbered;
 use kcr_base::{Day, Moment};
 use kcr_custody::SafeNumber;
 use kcr_history::{CeremonyState, StepState};
@@ -192,4 +194,46 @@ impl AsNumber for StepState {
             StepState::Passed => 2,
         }
     }
+}
+
+/// That a number is a seat's position among those of its step.
+#[derive(Clone, Copy, PartialEq, Eq)]
+pub struct OfSeat;
+
+impl Numbered for OfSeat {
+    ghost limit = { 16 };
+
+    fn limit() -> u32 {
+        16
+    }
+
+    ghost fits = { omega arith };
+}
+
+/// That a number is an exception's, of 200 in a ceremony at most.
+#[derive(Clone, Copy, PartialEq, Eq)]
+pub struct OfException;
+
+impl Numbered for OfException {
+    ghost limit = { 200 };
+
+    fn limit() -> u32 {
+        200
+    }
+
+    ghost fits = { omega arith };
+}
+
+/// That a number is an accepted command's.
+#[derive(Clone, Copy, PartialEq, Eq)]
+pub struct OfCommand;
+
+impl Numbered for OfCommand {
+    ghost limit = { 4000000000 };
+
+    fn limit() -> u32 {
+        4_000_000_000
+    }
+
+    ghost fits = { omega arith };
 }

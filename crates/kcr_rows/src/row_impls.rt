@@ -7,9 +7,14 @@ ghost use Rattle.kcr_rows.specs.Rows.{item_row, ceremony_row, mark_row, step_row
 ghost use Rattle.kcr_rows.specs.Rows.{exception_row, version_row, key_row, stay_row, withdrawal_row};
 ghost use Rattle.kcr_rows.specs.States.{HasBoxNumber, HasOnlyTheseSeats};
 
-use crate::cells::{number_at, number_or_null_at, rest_at, seats_at, spot_at, text_at};
+use crate::cells::{
+    counted_at, counted_or_null_at, number_at, number_or_null_at, officer_at, rest_at, seats_at,
+    spot_at, text_at,
+};
 use crate::from_row::FromRow;
+use crate::numbers::{OfCommand, OfException, OfSeat};
 use kcr_base::Refusal;
+use kcr_base::number::{OfBox, OfCeremony, OfStep};
 use kcr_custody::{Bag, BoxRow, Item, SafeRow};
 use kcr_history::{CeremonyRow, ExceptionRow, KeyRow, MarkRow, SeatingRow, StepRow};
 use kcr_people::{Appointment, Person, Training, Withdrawal};
@@ -86,8 +91,8 @@ impl FromRow for BoxRow {
             return Err(Refusal::Disk);
         }
         let facility = text_at(alloc, row, 0)?;
-        let number = number_at(row, 1)?;
-        let place = text_at(alloc, row, 2)?;
+        let number = counted_at::<OfBox>(row, 1)?;
+        let place = officer_at(alloc, row, 2, facility)?;
         Ok(BoxRow {
             facility,
             number,
@@ -155,7 +160,7 @@ impl FromRow for CeremonyRow {
         if row.column_count() != 6 {
             return Err(Refusal::Disk);
         }
-        let number = number_at(row, 0)?;
+        let number = counted_at::<OfCeremony>(row, 0)?;
         let facility = text_at(alloc, row, 1)?;
         let day = number_at(row, 2)?;
         let state = number_at(row, 3)?;
@@ -181,7 +186,7 @@ impl FromRow for MarkRow {
         if row.column_count() != 2 {
             return Err(Refusal::Disk);
         }
-        let ceremony = number_at(row, 0)?;
+        let ceremony = counted_at::<OfCeremony>(row, 0)?;
         let at = number_at(row, 1)?;
         Ok(MarkRow { ceremony, at })
     }
@@ -196,8 +201,8 @@ impl FromRow for StepRow {
         if row.column_count() != 6 {
             return Err(Refusal::Disk);
         }
-        let ceremony = number_at(row, 0)?;
-        let step = number_at(row, 1)?;
+        let ceremony = counted_at::<OfCeremony>(row, 0)?;
+        let step = counted_at::<OfStep>(row, 1)?;
         let activity = text_at(alloc, row, 2)?;
         let seats = seats_at(alloc, row, 3)?;
         let state = number_at(row, 4)?;
@@ -222,9 +227,9 @@ impl FromRow for SeatingRow {
         if row.column_count() != 4 {
             return Err(Refusal::Disk);
         }
-        let ceremony = number_at(row, 0)?;
-        let step = number_at(row, 1)?;
-        let seat = number_at(row, 2)?;
+        let ceremony = counted_at::<OfCeremony>(row, 0)?;
+        let step = counted_at::<OfStep>(row, 1)?;
+        let seat = counted_at::<OfSeat>(row, 2)?;
         let who = text_at(alloc, row, 3)?;
         Ok(SeatingRow {
             ceremony,
@@ -246,7 +251,7 @@ impl FromRow for SheetRow {
         }
         let who = text_at(alloc, row, 0)?;
         let at = number_at(row, 1)?;
-        let ceremony = number_at(row, 2)?;
+        let ceremony = counted_at::<OfCeremony>(row, 2)?;
         let way = number_at(row, 3)?;
         Ok(SheetRow {
             who,
@@ -266,11 +271,11 @@ impl FromRow for ExceptionRow {
         if row.column_count() != 5 {
             return Err(Refusal::Disk);
         }
-        let ceremony = number_at(row, 0)?;
-        let exception = number_at(row, 1)?;
+        let ceremony = counted_at::<OfCeremony>(row, 0)?;
+        let exception = counted_at::<OfException>(row, 1)?;
         let text = text_at(alloc, row, 2)?;
         let at = number_at(row, 3)?;
-        let passed = number_or_null_at(row, 4)?;
+        let passed = counted_or_null_at::<OfStep>(row, 4)?;
         Ok(ExceptionRow {
             ceremony,
             exception,
@@ -311,7 +316,7 @@ impl FromRow for KeyRow {
             return Err(Refusal::Disk);
         }
         let key = text_at(alloc, row, 0)?;
-        let accepted = number_at(row, 1)?;
+        let accepted = counted_at::<OfCommand>(row, 1)?;
         let command = text_at(alloc, row, 2)?;
         let reply = text_at(alloc, row, 3)?;
         Ok(KeyRow {
@@ -334,7 +339,7 @@ impl FromRow for Stay {
         }
         let who = text_at(alloc, row, 0)?;
         let since = number_at(row, 1)?;
-        let ceremony = number_at(row, 2)?;
+        let ceremony = counted_at::<OfCeremony>(row, 2)?;
         let until = number_or_null_at(row, 3)?;
         Ok(Stay {
             who,
