@@ -146,7 +146,7 @@ def changed_commands(program, room):
     for number, (statement, finding) in enumerate([
             ("DELETE FROM keys WHERE accepted = 7", "number 7"),
             ("UPDATE keys SET accepted = 1000 WHERE accepted = 7", "number 7"),
-            ("UPDATE keys SET accepted = 0 WHERE accepted = 7", "number 1"),
+            ("UPDATE keys SET accepted = 4000000000 WHERE accepted = 7", "number 7"),
             ("UPDATE keys SET command = '/people' || char(10) || 'aa' || char(10) || 'A' WHERE accepted = 1",
              "command 1"),
             ("UPDATE keys SET command = 'x' WHERE accepted = 13", "command 13"),
@@ -186,7 +186,13 @@ def rows_of_no_register(program, room):
             "UPDATE steps SET seats = 'CO;CO' WHERE ceremony = 61 AND step = 1",
             "UPDATE sheet SET way = 2 WHERE who = 'FIN'",
             "UPDATE keys SET key = 'a b' WHERE accepted = 1",
+            "UPDATE keys SET accepted = 0 WHERE accepted = 7",
             "UPDATE marks SET at = -1 WHERE ceremony = 61",
+            "UPDATE marks SET at = 946684799 WHERE ceremony = 61",
+            "UPDATE ceremonies SET number = 70000 WHERE number = 61",
+            "UPDATE steps SET step = 5000 WHERE ceremony = 61 AND step = 1",
+            "INSERT INTO seatings VALUES (61, 1, 17, 'FIN')",
+            "INSERT INTO boxes VALUES ('EAST', 9000, 'CO-WEST-3')",
     ]):
         changed = copy(file, room / f"changed-{number}")
         change(changed, statement)
