@@ -76,7 +76,7 @@ CASES = {
     "kcr_tables/StoredTables": "changed.py:findings changed.py:differences",
     "kcr_tables/NewTables": "rows.txt:a_new_register",
     "kcr_tables/Creation": "stops.py:tables_are_made",
-    "kcr_copy/Image": "pack.py:the_same_register",
+    "kcr_edges/Image": "pack.py:the_same_register",
     "kcr_older/OldFiles": "older.txt:older_versions_are_brought",
     "kcr_older/Kind": "program.py:no_one_number older.txt:other_databases_are_refused",
     "kcr_store/Register": "stops.py:commands_are_taken",
@@ -205,7 +205,7 @@ PARTS = [
      kcr_tables/Schema kcr_tables/StoredTables kcr_tables/NewTables kcr_tables/MachineTables kcr_tables/Creation"""),
     ("The file and crash",
      "What a file holds of a history, what an opening makes of it, and what a crash may leave.",
-     """kcr_copy/src/reading kcr_copy/Image kcr_older/OldFiles kcr_older/Kind kcr_store/src/open
+     """kcr_edges/src/reading kcr_edges/Image kcr_older/OldFiles kcr_older/Kind kcr_store/src/open
      kcr_store/Stored kcr_store/Register kcr_store/src/register kcr_store/Opening"""),
     ("The verification",
      "What it means that a register is the one of its own commands.",

@@ -49,6 +49,7 @@ pub one-step : (header : Header) (log : List ℕ) (i n : ℕ) → carries header
 unfolding commits_from
 one-step header log i n h = rw h refl
 
+-- a test counts at most 1
 pub one-at-most : (b : Bool) → (if b then 1 else 0) ≤ 1
 one-at-most true = omega arith
 one-at-most false = omega arith

@@ -70,6 +70,7 @@ begun log first bytes =
     let three = bytes 3 in
     omega arith
 
+-- a log whose head is being written anew is being emptied
 pub over-head : (file old log : List ℕ) (count : ℕ) → IsOverHead file old log count → IsEmptied file log
 over-head file old log count left = record {
   begun = begun log left.gate left.bytes;

@@ -1,3 +1,4 @@
+pub mod BegunAnew
 pub mod Counting
 pub mod Judging
 pub mod Safe

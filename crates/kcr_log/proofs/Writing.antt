@@ -115,6 +115,7 @@ lower-begun : (header : Header) (log : List ℕ) (i : ℕ) → (frame_of header 
 unfolding begins
 lower-begun header log i low = and_right _ _ (ne_eqb (frame_of header log i).page count_page (λ e. omega arith))
 
+-- a log is cut short while a transaction is written behind a frame that is shut
 pub behind-shut : (header : Header) (log : List ℕ) (done : ℕ) → IsBehindShut header log done → IsCutShort header log
 behind-shut header log done left = record {
   done = done;
@@ -127,6 +128,7 @@ behind-shut header log done left = record {
   rest = inl (left.shut, inl refl);
 }
 
+-- a log is cut short while a transaction is written over zeros
 pub over-zeros : (header : Header) (new log : List ℕ) (done end : ℕ) → IsOverZeros header new log done end
     → IsCutShort header log
 unfolding frame_of
@@ -193,6 +195,7 @@ old-salts header old log i reached back past older =
           ])
     ]
 
+-- a log is cut short while a transaction is written over older frames
 pub over-older : (header : Header) (old new log : List ℕ) (done end reached : ℕ)
     → IsOverOlder header old new log done end reached → IsCutShort header log
 unfolding frame_of

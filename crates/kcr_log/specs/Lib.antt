@@ -3,3 +3,4 @@ pub mod Pages
 pub mod Damage
 pub mod Stop
 pub mod Written
+pub mod BegunAnew

@@ -5,11 +5,11 @@ ghost use Rattle.kcr_log.specs.Frames.{header_of, is_signed, frame_at, frame_cou
 
 use sqlite_wal::checksum_of;
 
-/// The bytes of a head.
-const HEAD: usize = 32;
+/// The bytes of the head of a log.
+pub const HEAD_SIZE: usize = 32;
 
 /// The bytes of a frame before its page.
-pub(crate) const FRAME_HEAD: usize = 24;
+pub const FRAME_HEAD_SIZE: usize = 24;
 
 /// The page number of a frame that counts the bytes of a transaction.
 pub(crate) const COUNT_PAGE: u32 = 0xff00_0000;
@@ -45,9 +45,9 @@ pub(crate) struct Frame {
     pub sum: (u32, u32),
 }
 
-/// The four bytes at `at` as a number, the highest first.
+/// Returns the number that four bytes from `at` on are, the highest first.
 #[tactic(auto, unfolding(sqlite_wal::specs::Format::be32))]
-pub(crate) fn number(log: &[u8], at: usize) -> u32
+pub fn number_at(log: &[u8], at: usize) -> u32
     requires { at + 4 ≤ length log.now }
     ensures { result ≡ be32 log.now at }
 {
@@ -62,9 +62,9 @@ pub(crate) fn is_signed(log: &[u8]) -> bool
     requires { 32 ≤ length log.now }
     ensures { result ≡ is_signed log.now }
 {
-    let magic = number(log, 0);
+    let magic = number_at(log, 0);
     let sum = checksum_of(magic == BIG, (0, 0), &log[..24]);
-    magic / 2 == BIG / 2 && sum.0 == number(log, 24) && sum.1 == number(log, 28)
+    magic / 2 == BIG / 2 && sum.0 == number_at(log, 24) && sum.1 == number_at(log, 28)
 }
 
 /// What the head says.
@@ -73,10 +73,10 @@ pub(crate) fn read_header(log: &[u8]) -> Header
     ensures { result ≡ header_of log.now }
 {
     Header {
-        big: number(log, 0) == BIG,
-        page_size: number(log, 8),
-        salt: number(log, 16),
-        second_salt: number(log, 20),
+        big: number_at(log, 0) == BIG,
+        page_size: number_at(log, 8),
+        salt: number_at(log, 16),
+        second_salt: number_at(log, 20),
     }
 }
 
@@ -85,7 +85,7 @@ impl Header {
     pub(crate) fn count(&self, log: &[u8]) -> usize
         ensures { result ≡ frame_count self.now log.now }
     {
-        log.len().saturating_sub(HEAD) / (FRAME_HEAD + self.page_size as usize)
+        log.len().saturating_sub(HEAD_SIZE) / (FRAME_HEAD_SIZE + self.page_size as usize)
     }
 
     /// Where frame `i` begins, from 0.
@@ -94,7 +94,7 @@ impl Header {
         ensures at { result ≡ frame_at self.now i }
         ensures whole { result + 24 + self.now.page_size ≤ length log.now }
     {
-        HEAD + i * (FRAME_HEAD + self.page_size as usize)
+        HEAD_SIZE + i * (FRAME_HEAD_SIZE + self.page_size as usize)
     }
 
     /// The numbers at the head of frame `i`, from 0.
@@ -105,11 +105,11 @@ impl Header {
     {
         let at = self.place(log, i);
         Frame {
-            page: number(log, at),
-            size: number(log, at + 4),
-            salt: number(log, at + 8),
-            second_salt: number(log, at + 12),
-            sum: (number(log, at + 16), number(log, at + 20)),
+            page: number_at(log, at),
+            size: number_at(log, at + 4),
+            salt: number_at(log, at + 8),
+            second_salt: number_at(log, at + 12),
+            sum: (number_at(log, at + 16), number_at(log, at + 20)),
         }
     }
 
@@ -132,7 +132,7 @@ impl Header {
         ensures { result ≡ sum_before self.now log.now i }
     {
         if i == 0 {
-            (number(log, 24), number(log, 28))
+            (number_at(log, 24), number_at(log, 28))
         } else {
             self.frame(log, i - 1).sum
         }
@@ -145,7 +145,7 @@ impl Header {
         ensures { result ≡ sum_after self.now log.now i }
     {
         let at = self.place(log, i);
-        let page = at + FRAME_HEAD;
+        let page = at + FRAME_HEAD_SIZE;
         let numbers = checksum_of(self.big, self.sum_before(log, i), &log[at..at + 8]);
         checksum_of(
             self.big,

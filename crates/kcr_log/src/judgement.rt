@@ -5,7 +5,7 @@ ghost use Rattle.kcr_log.specs.Damage.{IsJudged};
 ghost use Rattle.kcr_log.specs.Pages.{told_header};
 ghost use Rattle.kcr_log.specs.Stop.{IsCutShort, IsEmptied, IsLeftByStop};
 
-use crate::frames::{Header, is_signed, number, read_header};
+use crate::frames::{Header, is_signed, number_at, read_header};
 use crate::later::was_safe;
 use crate::pages::{lost_ends, page_size, told_header};
 
@@ -69,7 +69,7 @@ fn judge_head(file: &[u8], log: &[u8]) -> Log
     let size = page_size(file, log);
     let told = told_header(false, size, log);
     let ended = told.commits_from(log, 0);
-    if number(log, 0) >= 0x100_0000 && agree(size, log) && ended > 0 {
+    if number_at(log, 0) >= 0x100_0000 && agree(size, log) && ended > 0 {
         return Log::WrongHead { ended };
     }
     match lost_ends(&told, file, log) {

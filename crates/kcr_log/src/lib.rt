@@ -13,12 +13,17 @@
 //! - Once the file has all pages of the log, a new head with other salts is written over the old one. The older frames
 //!   stay where they are. They have other salts than the head, so they never count. While the head is written, its first
 //!   byte is 0: if the frames then hold a page that the file does not have, the head was lost otherwise.
+//!
+//! A log that was seen before may have been begun anew since: `is_begun_anew` tells this from another log.
 #![tactic(auto)]
 
+mod begun_anew;
 mod frames;
 mod judgement;
 mod later;
 pub mod laws;
 mod pages;
 
+pub use begun_anew::is_begun_anew;
+pub use frames::{FRAME_HEAD_SIZE, HEAD_SIZE, number_at};
 pub use judgement::{Log, judge};

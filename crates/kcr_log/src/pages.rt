@@ -3,7 +3,7 @@ ghost use Rattle.std.specs.Prelude.{◌≡◌, ◌≢◌, ◌+◌, ◌<◌, ◌�
 ghost use Rattle.kcr_log.specs.Frames.{frame_count, frame_of, checks};
 ghost use Rattle.kcr_log.specs.Pages.{page_size_of, told_header, by_second, turned, IsRun, IsNewest, HasPage, IsLost, HasLost};
 
-use crate::frames::{FRAME_HEAD, Header, number};
+use crate::frames::{FRAME_HEAD_SIZE, Header, number_at};
 
 /// The size of a page by the head of the file, or by the log's if the file is too short.
 pub(crate) fn page_size(file: &[u8], log: &[u8]) -> u32
@@ -11,7 +11,7 @@ pub(crate) fn page_size(file: &[u8], log: &[u8]) -> u32
     ensures { result ≡ page_size_of file.now log.now }
 {
     if file.len() < 18 {
-        return number(log, 8);
+        return number_at(log, 8);
     }
     let named = file[16] as u32 * 256 + file[17] as u32;
     if named == 1 { 65536 } else { named }
@@ -25,8 +25,8 @@ pub(crate) fn told_header(big: bool, page_size: u32, log: &[u8]) -> Header
     Header {
         big,
         page_size,
-        salt: number(log, 40),
-        second_salt: number(log, 44),
+        salt: number_at(log, 40),
+        second_salt: number_at(log, 44),
     }
 }
 
@@ -95,7 +95,7 @@ fn has_page(header: &Header, file: &[u8], log: &[u8], i: usize) -> bool
 {
     let size = header.page_size as usize;
     let at = (header.frame(log, i).page as usize - 1) * size;
-    let from = header.place(log, i) + FRAME_HEAD;
+    let from = header.place(log, i) + FRAME_HEAD_SIZE;
     at + size <= file.len() && same_bytes(file, at, log, from, size)
 }
 

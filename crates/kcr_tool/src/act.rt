@@ -8,7 +8,7 @@ ghost use Rattle.kcr_fault.specs.Faults.{HasCause, MayMeet, StopsOpening, StopsR
 ghost use Rattle.kcr_fault.specs.Notes.{IsMissing, IsNoted, IsNotedOf, MayNote};
 ghost use Rattle.kcr_tool.specs.Runs.{Completes, CompletesInPart, CompletesUnknown, CompletesUnknownInPart, EndsReport};
 ghost use Rattle.kcr_tool.specs.Runs.{EndsReportBy, EndsTask, EndsTaskBy, OfTask, WritesProblem};
-ghost use Rattle.kcr_copy.specs.Image.{image};
+ghost use Rattle.kcr_edges.specs.Image.{image};
 ghost use Rattle.kcr_history.specs.History.{History};
 ghost use Rattle.kcr_store.specs.Calls.{OfHistory};
 ghost use Rattle.kcr_store.specs.Opening.{FilesHoldHistory};
@@ -23,7 +23,7 @@ use crate::pack::{pack, read_packed};
 use crate::tasks::{attendance, custody_report, export, journal, print, run, run_file};
 use crate::verify::{rebuild, rows_of, verify_copied};
 use kcr_base::Counted;
-use kcr_copy::Copied;
+use kcr_edges::Copied;
 use kcr_fault::{Fault, Missing, name_of, write_fault, write_line, write_missing};
 use kcr_store::{OpenFault, Register};
 use kcr_words::{Order, Report, Task, WordsFault, read_words};

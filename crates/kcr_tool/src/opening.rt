@@ -1,8 +1,8 @@
 //! The register in a file: opened to be written, or read into memory.
 ghost use Rattle.std.specs.Prelude.{◌≡◌, false, IsTrue, IfOk, IfErr, IfSome};
 ghost use Rattle.sqlite_std_file.specs.File.{file_is_usable};
-ghost use Rattle.kcr_copy.specs.Image.{image};
-ghost use Rattle.kcr_copy.specs.Unread.{IsCause};
+ghost use Rattle.kcr_edges.specs.Image.{image};
+ghost use Rattle.kcr_edges.specs.Unread.{IsCause};
 ghost use Rattle.kcr_fault.specs.Faults.{StopsOpening};
 ghost use Rattle.kcr_fault.specs.Notes.{IsUnfilled};
 ghost use Rattle.sqlite.specs.Files.{file_state, over_files, IsOpened as IsNewlyOpened};
@@ -14,10 +14,9 @@ ghost use Rattle.kcr_history.specs.History.{History};
 ghost use Rattle.kcr_store.specs.Opening.{FilesHoldHistory, IsGenuine};
 ghost use Rattle.kcr_store.specs.Register.{StandsAt, whole};
 
-use kcr_copy::{Copied, CopyConnection, CopyFile, Unread, connect, copy_of, has_run_out};
+use kcr_edges::{Copied, CopyConnection, CopyFile, Unread, Watch, connect, copy_of, has_run_out};
 use kcr_fault::{Fault, Missing, Step};
 use kcr_store::{FileRegister, OpenFault, Register};
-use kcr_watch::Watch;
 use sqlite::{Alter, Connection, Error, ErrorCode, FileFrom, FileStore, Files, Start};
 use sqlite_std_file::OpenError;
 use std::alloc::Global;

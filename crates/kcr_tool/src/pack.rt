@@ -10,7 +10,7 @@ use crate::opening::{copy_named, fault_of_reading, files_at, take_copied};
 use crate::place::{place_at, remove_log, take_back};
 use crate::verify::write_verification;
 use kcr_base::Counted;
-use kcr_copy::{Copied, Unmade, connect, fill, play_in};
+use kcr_edges::{Copied, Unmade, connect, fill, play_in};
 use kcr_fault::{Fault, Missing, Step};
 use kcr_store::OpenFault;
 use kcr_verify::{CreateFault, Verification};

@@ -3,7 +3,7 @@ ghost use Rattle.std.specs.Prelude.{◌≡◌, ◌⊎◌, length, IfOk, IfErr, O
 ghost use Rattle.sqlite.specs.Files.{over_files};
 ghost use Rattle.sqlite.specs.Held.{state};
 ghost use Rattle.sqlite.specs.State.{HasCleanDisk};
-ghost use Rattle.kcr_copy.specs.Image.{image};
+ghost use Rattle.kcr_edges.specs.Image.{image};
 ghost use Rattle.kcr_desk.specs.Streams.{HasFailed, WritesNothing, WritesPart, WritesText, writing};
 ghost use Rattle.kcr_history.specs.History.{History};
 ghost use Rattle.kcr_history.specs.Machine.{IsOfMachine};
@@ -23,7 +23,7 @@ use crate::opening::{connect_to, fault_of_reading, fault_of_taking};
 use crate::place::{place_at, take_back};
 use itoa::Buffer;
 use kcr_base::{Counted, Refusal};
-use kcr_copy::{Copied, CopyConnection, Unread, connect, copy_of, has_run_out};
+use kcr_edges::{Copied, CopyConnection, Unread, connect, copy_of, has_run_out};
 use kcr_fault::{Fault, Missing, Step, around};
 use kcr_history::FullView;
 use kcr_print::write_whole;

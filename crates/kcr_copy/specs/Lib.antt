@@ -1,4 +1,0 @@
-pub mod Unread
-pub mod Image
-pub mod Packed
-pub mod Noted

@@ -1,0 +1,204 @@
+//! The files of an open register, as the system shows them.
+ghost use Rattle.std.specs.Prelude.{◌≡◌, IfOk, string_bytes};
+
+use crate::watched::Files;
+use kcr_log::{FRAME_HEAD_SIZE, HEAD_SIZE, is_begun_anew, number_at};
+use std::cell::Cell;
+use std::fs::{self, File, Metadata};
+use std::io::{self, ErrorKind};
+use std::os::unix::fs::{FileExt, MetadataExt};
+
+/// Which file it is: the numbers of its device and of its inode (`st_dev` and `st_ino` of POSIX).
+#[derive(Clone, Copy, PartialEq, Eq, Drop)]
+struct Identity {
+    device: u64,
+    inode: u64,
+}
+
+fn identity_of(found: &Metadata) -> Identity {
+    Identity {
+        device: found.dev(),
+        inode: found.ino(),
+    }
+}
+
+/// What was seen of a log: its head, and its last frame before the end of the last transaction.
+#[derive(Clone, Copy, Drop)]
+struct Seen {
+    head: [u8; HEAD_SIZE],
+    /// Where the frame begins, 0 if there is none.
+    place: u64,
+    frame: [u8; FRAME_HEAD_SIZE],
+}
+
+impl Seen {
+    /// Where the next frame begins.
+    fn next_place(&self) -> u64 {
+        if self.place == 0 {
+            return HEAD_SIZE as u64;
+        }
+        let page_size = number_at(&self.head, 8) as u64;
+        self.place
+            .saturating_add(FRAME_HEAD_SIZE as u64 + page_size)
+    }
+
+    /// Whether a frame has the salts of the head. One of an earlier log has others, and so has one of a transaction
+    /// that has not ended.
+    fn has_salts(&self, frame: &[u8; FRAME_HEAD_SIZE]) -> bool {
+        frame[8..16] == self.head[16..24]
+    }
+}
+
+/// The bytes at a place of a file, or `None` if the file ends before them.
+fn bytes_at<const SIZE: usize>(file: &File, place: u64) -> io::Result<Option<[u8; SIZE]>> {
+    let mut bytes = [0u8; SIZE];
+    match file.read_exact_at(&mut bytes, place) {
+        Ok(()) => Ok(Some(bytes)),
+        Err(error) if error.kind() == ErrorKind::UnexpectedEof => Ok(None),
+        Err(error) => Err(error),
+    }
+}
+
+/// What is seen of a log whose head and first frames were seen already.
+fn look_on(log: &File, seen: Seen) -> io::Result<Seen> {
+    let mut last = seen;
+    for _ in 0..u32::MAX {
+        let place = last.next_place();
+        match bytes_at::<FRAME_HEAD_SIZE>(log, place)? {
+            Some(frame) if last.has_salts(&frame) => {
+                last = Seen {
+                    head: last.head,
+                    place,
+                    frame,
+                }
+            }
+            _ => break,
+        }
+    }
+    Ok(last)
+}
+
+/// What is seen of a log that begins with a head.
+fn look_anew(log: &File, head: [u8; HEAD_SIZE]) -> io::Result<Seen> {
+    let first = Seen {
+        head,
+        place: 0,
+        frame: [0; FRAME_HEAD_SIZE],
+    };
+    look_on(log, first)
+}
+
+/// What is seen of a log now, or `None` if it is not the one that was seen: the head has changed as no checkpoint of
+/// the register changes it, or the last frame that was seen is another one.
+fn look_again(log: &File, seen: &Seen) -> io::Result<Option<Seen>> {
+    let Some(head) = bytes_at::<HEAD_SIZE>(log, 0)? else {
+        return Ok(None);
+    };
+    if head != seen.head {
+        if is_begun_anew(&seen.head, &head) {
+            return Ok(Some(look_anew(log, head)?));
+        }
+        return Ok(None);
+    }
+    if seen.place > 0 && bytes_at::<FRAME_HEAD_SIZE>(log, seen.place)? != Some(seen.frame) {
+        return Ok(None);
+    }
+    Ok(Some(look_on(log, *seen)?))
+}
+
+/// The file of an open register and the log beside it.
+#[derive(Drop)]
+pub struct Watch<'a> {
+    rt: &'a HostRuntime,
+    /// The path of the file, as it was named.
+    file: String,
+    /// The path of the log. It is beside the file to which links lead.
+    log: String,
+    file_identity: Identity,
+    log_identity: Identity,
+    /// The log itself.
+    opened: File,
+    /// The length of the file in bytes when it was last looked at. An open register never makes it shorter.
+    file_size: Cell<u64>,
+    /// The length of the log in bytes when it was last looked at. An open register never makes it shorter.
+    log_size: Cell<u64>,
+    /// What was seen of the log when it was last looked at.
+    seen: Cell<Seen>,
+    is_lost: Cell<bool>,
+}
+
+impl<'a> Watch<'a> {
+    /// Watches the files of the register that was just opened at this path. Errors: those of the system, and out of
+    /// memory.
+    pub fn over(rt: &'a HostRuntime, path: &str) -> io::Result<Watch<'a>>
+        ensures { IfOk result (λ watch. string_bytes watch.file ≡ path.now) }
+    {
+        let file = String::from_str(rt.alloc(), path)?;
+        let mut log = fs::canonicalize(rt, path)?.into_string();
+        log.push_str("-wal")?;
+        let found = fs::metadata(rt, path)?;
+        let opened = File::open(rt, log.as_str())?;
+        let beside = opened.metadata()?;
+        let Some(head) = bytes_at::<HEAD_SIZE>(&opened, 0)? else {
+            return Err(ErrorKind::UnexpectedEof.into());
+        };
+        let seen = look_anew(&opened, head)?;
+        Ok(Watch {
+            rt,
+            file,
+            log,
+            file_identity: identity_of(&found),
+            log_identity: identity_of(&beside),
+            opened,
+            file_size: Cell::new(found.len()),
+            log_size: Cell::new(beside.len()),
+            seen: Cell::new(seen),
+            is_lost: Cell::new(false),
+        })
+    }
+
+    /// Whether both paths still lead to the files that were opened, and neither is shorter.
+    fn has_files(&self) -> io::Result<bool> {
+        let file = fs::metadata(self.rt, self.file.as_str())?;
+        let log = fs::metadata(self.rt, self.log.as_str())?;
+        let is_whole = file.len() >= self.file_size.get() && log.len() >= self.log_size.get();
+        self.file_size.set(file.len());
+        self.log_size.set(log.len());
+        Ok(
+            is_whole
+                && identity_of(&file) == self.file_identity
+                && identity_of(&log) == self.log_identity,
+        )
+    }
+
+    /// Whether the log has all transactions that it had, or was begun anew by the register since.
+    fn has_log(&self) -> io::Result<bool> {
+        match look_again(&self.opened, &self.seen.get())? {
+            Some(seen) => {
+                self.seen.set(seen);
+                Ok(true)
+            }
+            None => Ok(false),
+        }
+    }
+
+    /// Whether both files are there as the register left them.
+    fn is_there(&self) -> io::Result<bool> {
+        Ok(self.has_files()? && self.has_log()?)
+    }
+
+    /// Whether a file was missing, shorter or another one when an answer was to be written.
+    pub fn is_lost(&self) -> bool {
+        self.is_lost.get()
+    }
+}
+
+impl Files for &Watch<'_> {
+    fn are_there(&mut self) -> bool {
+        let is_there = self.is_there().unwrap_or(false);
+        if !is_there {
+            self.is_lost.set(true);
+        }
+        is_there
+    }
+}
