@@ -23,9 +23,9 @@ use Rattle.kcr_wire.specs.Commands.{command_of}
 use Rattle.kcr_wire.specs.Methods.{method_of}
 use Rattle.kcr_wire.specs.declared.method.Method.{Method}
 use Rattle.kcr_wire.specs.declared.method.Method.TheVariants.{Post}
-use Rattle.kcr_export.specs.Bodies.{body_text}
-use Rattle.kcr_export.specs.Requests.{head_text, request_text}
-use Rattle.kcr_export.proofs.Again.{told_again}
+use Rattle.kcr_wire.specs.Bodies.{body_text}
+use Rattle.kcr_wire.specs.Requests.{head_text, request_text}
+use Rattle.kcr_wire.proofs.RequestsAgain.{told_again}
 use Rattle.kcr_wire.proofs.Paths.{IsPathByte, path-utf8}
 use Rattle.kcr_wire.proofs.Targets.{act-path}
 use Rattle.kcr_desk.specs.Answers.{RegisterHistory, AnswersBy, IsAnswer, TakesCommand, RespondsUnread, AppliesAsMachine, refusal_response, reply_response, json_response}

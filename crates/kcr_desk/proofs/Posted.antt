@@ -18,7 +18,7 @@ use Rattle.httparse.proofs.TrimLemmas.{trim_ows_space, AllPass-reverse}
 use Rattle.kcr_desk.specs.Framing.{planned, is_number}
 use Rattle.kcr_desk.specs.Stream.{IsMessage, framing_of}
 use Rattle.kcr_desk.specs.Export.{posted_head, posted_message}
-use Rattle.kcr_export.specs.Requests.{crlf, head_text}
+use Rattle.kcr_wire.specs.Requests.{crlf, head_text}
 
 regroup : (p v c h l n : List ℕ) → ((p ++ v) ++ c) ++ ((h ++ (((l ++ n) ++ c) ++ [])) ++ c) ≡ ((p ++ (v ++ (c ++ (h ++ l)))) ++ n) ++ (c ++ c)
 regroup p v c h l n = simp (append_assoc, append-nil)

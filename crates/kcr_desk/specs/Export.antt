@@ -10,8 +10,8 @@ use Rattle.kcr_history.specs.History.{History}
 use Rattle.kcr_history.specs.Texts.{path_text, reply_text}
 use Rattle.kcr_history.specs.declared.commands.Command.{Command}
 use Rattle.kcr_history.specs.declared.commands.Entry.{Entry}
-use Rattle.kcr_export.specs.Bodies.{body_text}
-use Rattle.kcr_export.specs.Requests.{request_text}
+use Rattle.kcr_wire.specs.Bodies.{body_text}
+use Rattle.kcr_wire.specs.Requests.{request_text}
 use Rattle.kcr_desk.specs.Answers.{RegisterHistory, json_response, refusal_response}
 use Rattle.kcr_desk.specs.Run.{Exchange}
 use Rattle.kcr_desk.specs.Stream.{Message}

@@ -7,7 +7,7 @@ ghost use Rattle.kcr_history.specs.Machine.{IsOfMachine};
 ghost use Rattle.kcr_history.specs.declared.commands.Command.{Command};
 ghost use Rattle.kcr_history.specs.declared.commands.Entry.{Entry};
 ghost use Rattle.kcr_wire.specs.Commands.{command_of};
-ghost use Rattle.kcr_export.specs.Requests.{request_text};
+ghost use Rattle.kcr_wire.specs.Requests.{request_text};
 ghost use Rattle.kcr_desk.specs.Answers.{RegisterHistory, IsAnswer};
 ghost use Rattle.kcr_desk.specs.Export.{message_of, IsSendable, requests_text, whole, HadNoFault, kept_reply};
 ghost use Rattle.kcr_desk.specs.Export.{commands_of, AreSendable};

@@ -21,7 +21,7 @@ use Rattle.sqlite.specs.Tree.{Trees}
 use Rattle.sqlite_trees.proofs.ListLemmas.{all_weaker, all-permutation, filter_none}
 use Rattle.kcr_base.specs.Counted.{inner_of}
 use Rattle.kcr_base.specs.declared.counted.Counted.{Counted}
-use Rattle.kcr_export.specs.Requests.{request_text}
+use Rattle.kcr_wire.specs.Requests.{request_text}
 use Rattle.kcr_forms.specs.Acts.{IsAct}
 use Rattle.kcr_forms.specs.Values.{AreValues}
 use Rattle.kcr_history.specs.History.{History}

@@ -5,7 +5,7 @@ use Rattle.std.specs.Option.{option_map_or}
 use Rattle.sqlite.specs.Store.{Ghosts}
 use Rattle.kcr_base.specs.Counted.{inner_of}
 use Rattle.kcr_base.specs.declared.counted.Counted.{Counted}
-use Rattle.kcr_export.specs.Requests.{request_text}
+use Rattle.kcr_wire.specs.Requests.{request_text}
 use Rattle.kcr_wire.specs.ActTexts.{act_of}
 use Rattle.kcr_forms.specs.Values.{AreValues}
 use Rattle.kcr_history.specs.History.{History}

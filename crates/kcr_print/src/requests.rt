@@ -8,11 +8,10 @@ ghost use Rattle.kcr_print.specs.Requests.{row_request};
 
 use crate::print_lines::PrintLines;
 use kcr_base::{Refusal, Text};
-use kcr_export::write_request;
 use kcr_history::{Command, KeyRow};
 use kcr_journal::kept_act;
 use kcr_reading::{CommandCursor, Cursor};
-use kcr_wire::RouteTable;
+use kcr_wire::{RouteTable, write_request};
 use sqlite::{Alter, Transaction};
 use std::alloc::Global;
 

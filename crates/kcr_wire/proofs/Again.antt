@@ -56,6 +56,7 @@ told-again does is =
     ∙ ap (λ r. option_and_then (told_at values) (result_ok r)) (act-target does is)
     ∙ ap result_ok (lines-told does is)
 
+-- the text of an act is read as this act
 pub act-again : (does : Act) → IsAct does → act_of (command_text does) ≡ Some does
 unfolding act_of
 act-again does is =
@@ -67,11 +68,13 @@ if-told a b text e =
     let both = cond_some (same_text (command_text a) text) a b e in
     ap command_text (sym both.1) ∙ equal_texts (command_text a) text (sym both.0)
 
+-- an act that is read from a text has this text
 pub found-is : (text : List ℕ) (found : Option Act) → found ≡ act_of text → IfSome found (λ does. command_text does ≡ text)
 unfolding act_of
 found-is text None e = tt
 found-is text (Some does) e = option_and_then_some (λ a. if_told a text) (act_told text) does (sym e) (λ a told h. if-told a does text h)
 
+-- acts with one text are one act
 pub texts-tell : (a b : Act) → IsAct a → IsAct b → command_text a ≡ command_text b → a ≡ b
 texts-tell a b is_a is_b e =
     let same : Some a ≡ Some b = sym (act-again a is_a) ∙ ap act_of e ∙ act-again b is_b in

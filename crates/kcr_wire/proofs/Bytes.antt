@@ -37,6 +37,7 @@ key_byte b h = grind (arith, nat_tests)
 pub literal : (text : List ℕ) → list_all is_key_byte text ≡ true → All IsKeyByte text
 literal text test = All-weaker (λ b. is_key_byte b ≡ true) IsKeyByte key_byte text (AllPass-from_list_all is_key_byte text test)
 
+-- initials are a word
 pub initials-word : (text : List ℕ) → IsInitials text → IsWord text
 initials-word text is = record {
   some = omega (arith, is.at_least_two);
@@ -48,6 +49,7 @@ serial_byte : (b : ℕ) → IsCapital b ⊎ IsDigit b → IsKeyByte b
 serial_byte b (inl h) = inl h
 serial_byte b (inr h) = inr (inr (inl h))
 
+-- a serial is a word
 pub serial-word : (text : List ℕ) → IsSerial text → IsWord text
 serial-word text is = record {
   some = omega (arith, is.at_least_four);
@@ -62,6 +64,7 @@ digits-bytes (c ∷ cs) h =
     let digit : IsDigit c = (omega (arith, here), omega (arith, here)) in
     All-cons IsKeyByte c cs (inr (inr (inl digit))) (digits-bytes cs h.1)
 
+-- the decimal text of a number of at most four digits is a word
 pub number-word : (limit n : ℕ) → limit < 10000 → IsNumber limit n → IsWord (decimal n)
 number-word limit n few is =
     let numeral = (decimal_is_IsNumeral n (omega (arith, few, is.until))).0 in
@@ -95,21 +98,26 @@ place-short (Co East n) = omega arith
 place-short (Co West n) = omega arith
 place-short (Rksh n) = omega arith
 
+-- the text of a place is a word
 pub place-word : (place : Place) → IsPlace place → IsWord (place_text place)
 place-word place is = record { some = place-some place; short = place-short place; bytes = place-bytes place is }
 
 -- ---- what they are not
 
+-- a word has no slash
 pub word-slash : (text : List ℕ) → All IsKeyByte text → Lacks 47 text
 word-slash text each = lacks-by IsKeyByte 47 (λ h. grind arith) text each
 
+-- the byte of a word is ASCII
 pub word-below : (b : ℕ) → IsKeyByte b → b < 128
 word-below b h = grind arith
 
 -- ---- ASCII is UTF-8
 
+-- ASCII is UTF-8
 pub ascii-utf8 : (text : List ℕ) → All (λ b. b < 128) text → IsUtf8 text
 ascii-utf8 text each = IsUtf8-from_ascii text (IsAscii-from_all text each)
 
+-- a word is UTF-8
 pub word-utf8 : (text : List ℕ) → All IsKeyByte text → IsUtf8 text
 word-utf8 text each = ascii-utf8 text (All-weaker IsKeyByte (λ b. b < 128) word-below text each)

@@ -6,14 +6,17 @@ use Rattle.serde_json.specs.Data.{Data}
 use Rattle.serde_json.specs.Read.{read}
 use Rattle.kcr_wire.specs.Members.{json_of, text_in}
 
+-- bytes that are UTF-8 are a text
 pub text_in-some : (bytes : List ℕ) → IsUtf8 bytes → text_in bytes ≡ Some bytes
 unfolding text_in
 text_in-some bytes h = rw (is_utf8-from_IsUtf8 bytes h) refl
 
+-- other bytes are none
 pub text_in-none : (bytes : List ℕ) → (IsUtf8 bytes → ⊥) → text_in bytes ≡ None
 unfolding text_in
 text_in-none bytes h = let is = IsUtf8-from_is_utf8 bytes in grind (arith, is, h)
 
+-- a body that is UTF-8 and is read as a value is this value
 pub json-some : (body : List ℕ) (d : Data) → IsUtf8 body × (read body ≡ Some d) → json_of body ≡ Some d
 unfolding json_of
 json-some body d h = ap (option_and_then read) (text_in-some body h.0) ∙ h.1
@@ -22,6 +25,7 @@ none_at : (body : List ℕ) (v : Bool) → is_utf8 body ≡ v → (IsUtf8 body �
 none_at body true e h = let text = IsUtf8-from_is_utf8 body e in ap (option_and_then read) (text_in-some body text) ∙ h text
 none_at body false e h = ap (option_and_then read) (text_in-none body (λ text. let bad = is_utf8-from_IsUtf8 body text in cc))
 
+-- a body that is not UTF-8, or is not read, is no value
 pub json-none : (body : List ℕ) → (IsUtf8 body → read body ≡ None) → json_of body ≡ None
 unfolding json_of
 json-none body h = none_at body (is_utf8 body) refl h

@@ -9,4 +9,9 @@ pub mod Walking
 pub mod Paths
 pub mod Targets
 pub mod Again
+pub mod Sent
+pub mod SentValues
+pub mod BodiesRead
+pub mod RequestsAgain
+pub mod BodyPieces
 mod AfterLemmas

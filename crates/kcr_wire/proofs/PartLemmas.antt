@@ -26,10 +26,12 @@ tested bytes each = list_all-from_AllPass is_ascii bytes (All-weaker (λ b. b < 
 below : (bytes : List ℕ) → list_all is_ascii bytes ≡ true → All (λ b. b < 128) bytes
 below bytes test = All-weaker (λ b. is_ascii b ≡ true) (λ b. b < 128) (λ b h. grind (arith, nat_tests, h)) bytes (AllPass-from_list_all is_ascii bytes test)
 
+-- ASCII bytes are a text
 pub ascii_in-some : (bytes : List ℕ) → All (λ b. b < 128) bytes → ascii_in bytes ≡ Some bytes
 unfolding ascii_in
 ascii_in-some bytes each = rw (tested bytes each) refl
 
+-- other bytes are none
 pub ascii_in-none : (bytes : List ℕ) → (IsAscii bytes → ⊥) → ascii_in bytes ≡ None
 unfolding ascii_in
 ascii_in-none bytes never = by (list_all is_ascii bytes) refl
@@ -108,6 +110,7 @@ part-text bytes start end each = IsUtf8-from_ascii (part_of bytes start end) (Is
     by true = All-take (λ b. b < 128) (end - start) (drop start bytes) (All-drop (λ b. b < 128) start bytes each)
     by false = All-nil (λ b. b < 128)
 
+-- the parts of an ASCII path are texts
 pub walk-text : (pattern text path : List ℕ) (names : List (ℕ × ℕ)) (token at : ℕ) → All (λ b. b < 128) text → All (λ b. b < 128) path
     → AllText (walk pattern text path names token at)
 walk-text pattern text path [] token at names_are path_is = tt
@@ -126,6 +129,7 @@ ascii-rows = refl
 ascii-route : (path : List ℕ) → IfSome (first table path) (λ r. list_all is_ascii r.text ≡ true)
 ascii-route path = seek-key (λ (r : RouteOf Route). list_all is_ascii r.text ≡ true) 0 table path (AllPass-from_list_all is_ascii_row table ascii-rows)
 
+-- the parts of a path that is found are texts
 pub parts-text : (bytes path : List ℕ) (r : RouteOf Route) → ascii_in bytes ≡ Some path → first table path ≡ Some r → AllText (parts_in r path)
 parts-text bytes path r is found =
     let named : list_all is_ascii r.text ≡ true = rw found at (ascii-route path) in

@@ -25,10 +25,12 @@ IsPathByte b = IsKeyByte b ⊎ (b ≡ 47)
 path_byte : (b : ℕ) → (is_key_byte b || eqb b 47) ≡ true → IsPathByte b
 path_byte b h = grind (arith, nat_tests)
 
+-- a literal has the bytes of a path, if the test says so
 pub path-literal : (text : List ℕ) → list_all (λ b. is_key_byte b || eqb b 47) text ≡ true → All IsPathByte text
 path-literal text test = All-weaker (λ b. (is_key_byte b || eqb b 47) ≡ true) IsPathByte path_byte text
     (AllPass-from_list_all (λ b. is_key_byte b || eqb b 47) text test)
 
+-- a word and a slash within a path
 pub with-piece : (front w rest : List ℕ) → All IsPathByte front → All IsKeyByte w → All IsPathByte rest → All IsPathByte (front ++ (w ++ 47 ∷ rest))
 with-piece front w rest h g f =
     All-append IsPathByte front (w ++ 47 ∷ rest) h
@@ -42,10 +44,12 @@ not-path byte never other (inr e) = other e
 pub path-feed : (path : List ℕ) → All IsPathByte path → Lacks 10 path
 path-feed path each = lacks-by IsPathByte 10 (not-path 10 (λ h. grind arith) (λ e. omega (arith, e))) path each
 
+-- the byte of a path is ASCII
 pub path-below : (b : ℕ) → IsPathByte b → b < 128
 path-below b (inl h) = word-below b h
 path-below b (inr h) = omega (arith, h)
 
+-- a path is UTF-8
 pub path-utf8 : (path : List ℕ) → All IsPathByte path → IsUtf8 path
 path-utf8 path each = ascii-utf8 path (All-weaker IsPathByte (λ b. b < 128) path-below path each)
 
@@ -78,5 +82,6 @@ with-word front w rest f is r = record {
   bytes = subst (λ path. All IsPathByte path) (sym (piece front w rest)) (with-piece front w rest f.bytes is.bytes r.bytes);
 }
 
+-- a path of at most N bytes has at most any greater number
 pub wider : {few most : ℕ} {path : List ℕ} → few ≤ most → IsPath few path → IsPath most path
 wider le is = record { some = is.some; short = omega (arith, le, is.short); bytes = is.bytes }

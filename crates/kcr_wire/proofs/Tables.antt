@@ -15,6 +15,7 @@ added-inserted : (p : Result Scan InsertError) (route : Route) (old new : Router
 added-inserted (Ok s) route old new h = h.1
 added-inserted (Err e) route old new h = h.0
 
+-- an insert of a route that answers `Ok` adds this route
 pub add-inserted : (route : Route) (old new : RouterState) (text : List ℕ) → text ≡ route_text route → InsertsRead (parse_route text) route old new (Ok tt)
     → new ≡ add old route
 unfolding add
@@ -44,6 +45,7 @@ fitting-fails : (p : Result Scan InsertError) (route : Route) (old new : RouterS
     → InsertsRead p route old new (Err error) → error ≡ OutOfMemory
 fitting-fails p route old new error fit h = grind (arith, fit, h)
 
+-- an insert of a route that can be added fails only when out of memory
 pub only-memory : (route : Route) (old new : RouterState) (text : List ℕ) (error : InsertError) → text ≡ route_text route → can_add old route ≡ true
     → InsertsRead (parse_route text) route old new (Err error) → error ≡ OutOfMemory
 unfolding can_add
@@ -57,6 +59,7 @@ can_add_all-next : (held : RouterState) (route : Route) (rest : List Route)
 unfolding can_add_all
 can_add_all-next held route rest = refl
 
+-- one turn of the loop: the next route can be added, and then each behind it
 pub can_add_all-turn : (held : RouterState) (routes : List Route) (i : ℕ) (d : Route) → i < length routes → can_add_all held (drop i routes) ≡ true
     → (can_add held (get_or routes i d) ≡ true) × (can_add_all (add held (get_or routes i d)) (drop (i + 1) routes) ≡ true)
 can_add_all-turn held routes i d lt can =

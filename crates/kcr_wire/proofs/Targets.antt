@@ -273,6 +273,7 @@ act-read (Cut n serial at) is = bag n is.0 serial is.1 post.Cut route.Cut (λ n 
 pub act-path : (act : Act) → IsAct act → IsPath 200 (path_text act)
 act-path act is = (act-read act is).is
 
+-- the path of an act is a target that takes this kind of act
 pub act-target : (act : Act) → IsAct act → target_of (path_text act) ≡ Ok (target.Post (post_of act))
 unfolding target_of
 act-target act is =

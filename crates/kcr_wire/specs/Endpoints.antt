@@ -40,6 +40,7 @@ ascii_in bytes = if list_all is_ascii bytes then Some bytes else None
 abbrev pub Parts : Type 0
 Parts = List (List ℕ × List ℕ)
 
+-- the parts that a search found
 abbrev pub parts_of : Params → Parts
 parts_of found = walk found.pattern.now found.text.now found.path.now found.names.now 0 0
 
@@ -51,10 +52,11 @@ parts_in found path = walk found.pattern found.text path found.names 0 0
 abbrev pub part_as : {V : Type 0} → (List ℕ → Option V) → List ℕ → Parts → Option V
 part_as read name parts = option_and_then read (named name parts)
 
--- the ceremony and the bag of a path
+-- the ceremony of a path
 abbrev pub ceremony_in : Parts → Option ℕ
 ceremony_in parts = part_as ceremony_of (codes "ceremony") parts
 
+-- the bag of a path
 abbrev pub serial_in : Parts → Option (List ℕ)
 serial_in parts = part_as serial_of (codes "serial") parts
 
@@ -66,16 +68,19 @@ after_of text = number_by_text decimal 0 4000000000 text
 abbrev pub with_parts : {A B : Type 0} → (A → B → Endpoint) → Option A → Option B → Option Endpoint
 with_parts make part other = option_and_then (λ a. option_map (make a) other) part
 
--- a path on a person, on a place, on a ceremony, and on something in a ceremony
+-- a path on a person
 abbrev pub on_person : (List ℕ → Post) → Parts → Option Endpoint
 on_person make parts = option_map (λ who. target.Post (make who)) (part_as initials_of (codes "who") parts)
 
+-- a path on a place
 abbrev pub on_place : (Place → Post) → Parts → Option Endpoint
 on_place make parts = option_map (λ place. target.Post (make place)) (part_as place_of (codes "place") parts)
 
+-- a path on a ceremony
 abbrev pub on_ceremony : (ℕ → Post) → Parts → Option Endpoint
 on_ceremony make parts = option_map (λ n. target.Post (make n)) (ceremony_in parts)
 
+-- a path on something in a ceremony
 abbrev pub in_ceremony : {V : Type 0} → (ℕ → V → Post) → Option V → Parts → Option Endpoint
 in_ceremony make other parts = with_parts (λ n v. target.Post (make n v)) (ceremony_in parts) other
 

@@ -6,3 +6,5 @@ pub mod ActTexts
 pub mod Questions
 pub mod Methods
 pub mod ShownJson
+pub mod Bodies
+pub mod Requests

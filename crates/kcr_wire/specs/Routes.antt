@@ -52,6 +52,7 @@ all_routes =
 abbrev pub RouterState : Type 0
 RouterState = RowsOf (RouteOf Route)
 
+-- what a router holds after a route whose text was read
 abbrev pub added : Result Scan InsertError → Route → RouterState → RouterState
 added (Ok s) route held = placed ((route_from s route).pattern, route_from s route) held
 added (Err e) route held = held
@@ -60,6 +61,7 @@ added (Err e) route held = held
 unfoldable pub add : RouterState → Route → RouterState
 add held route = added (parse_route (route_text route)) route held
 
+-- several routes, one after the other
 unfoldable pub add_all : RouterState → List Route → RouterState
 add_all held [] = held
 add_all held (r ∷ rest) = add_all (add held r) rest
@@ -74,6 +76,7 @@ abbrev pub fits : Result Scan InsertError → RouterState → Bool
 fits (Ok s) held = is_free (nearest s.pattern held)
 fits (Err e) held = false
 
+-- a route can be added
 unfoldable pub can_add : RouterState → Route → Bool
 can_add held route = fits (parse_route (route_text route)) held
 

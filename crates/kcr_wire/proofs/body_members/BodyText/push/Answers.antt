@@ -1,7 +1,7 @@
 use Rattle.std.proofs.Common.{string_bytes}
 use Rattle.serde_json.specs.View.{view}
-use Rattle.kcr_export.proofs.Told.{value_told}
-use Rattle.kcr_export.proofs.members.BodyText.push.Goals as goal
+use Rattle.kcr_wire.proofs.BodyPieces.{value_told}
+use Rattle.kcr_wire.proofs.body_members.BodyText.push.Goals as goal
 
 pub returns : goal.returns
 returns c =

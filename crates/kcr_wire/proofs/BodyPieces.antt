@@ -10,7 +10,7 @@ use Rattle.kcr_base.specs.declared.refusal.Member.TheVariants as name
 use Rattle.kcr_history.specs.declared.commands.Command.{Command}
 use Rattle.std.specs.List.{fold}
 use Rattle.kcr_history.specs.Texts.{MemberValue, members_of}
-use Rattle.kcr_export.specs.Bodies.{json_of, json_members, body_text, next_member}
+use Rattle.kcr_wire.specs.Bodies.{json_of, json_members, body_text, next_member}
 
 -- no name needs an escape
 name-escape : (m : Member) → escape (member_text m) ≡ member_text m
@@ -41,6 +41,7 @@ name-escape name.To = refl
 pieces : (t a n b v : List ℕ) → (((t ++ a) ++ n) ++ b) ++ v ≡ t ++ (a ++ (n ++ (b ++ v)))
 pieces t a n b v = simp append_assoc
 
+-- the pieces of a member are the member behind others
 pub value_told : (text : List ℕ) (m : Member) (value : Data)
     → text ++ codes ",\"" ++ member_text m ++ codes "\":" ++ compact_text value ≡ text ++ next_member (member_text m) value
 value_told text m value =
@@ -63,6 +64,7 @@ members_told text (m ∷ ms) =
     members_told (text ++ next) ms ∙ append_assoc text next rest
     ∙ ap (λ (s : List ℕ). text ++ 44 ∷ s) (append_assoc (quoted (member_text m.0)) (58 ∷ compact_text (json_of m.1)) rest)
 
+-- the key, the members one after the other, and the last bracket are the body
 pub body_told : (x : Command) → with_members (codes "{\"key\":" ++ compact_text (string x.key)) (members_of x.act) ++ codes "}" ≡ body_text x
 unfolding body_text escape_byte
 body_told x =

@@ -23,10 +23,10 @@ use Rattle.kcr_wire.specs.Commands.{posted_command}
 use Rattle.kcr_wire.specs.Members.{json_of, each_in}
 use Rattle.kcr_wire.proofs.Json.{json-some}
 use Rattle.kcr_history.specs.Texts.{members_of}
-use Rattle.kcr_export.specs.Bodies.{json_members, body_text}
+use Rattle.kcr_wire.specs.Bodies.{json_members, body_text}
 use Rattle.kcr_wire.proofs.Bytes.{word-utf8, literal}
-use Rattle.kcr_export.proofs.Sent.{AreSent, kept, object-read, object-utf8}
-use Rattle.kcr_export.proofs.Values.{act-sent}
+use Rattle.kcr_wire.proofs.Sent.{AreSent, kept, object-read, object-utf8}
+use Rattle.kcr_wire.proofs.SentValues.{act-sent}
 
 -- the members as a reader keeps them
 abbrev pub data_of : List ℕ → Act → Data
@@ -48,6 +48,7 @@ each-again IsValue form reads (text ∷ list) each =
 listed-again : (limit : ℕ) (list : List (List ℕ)) → IsListed limit list → listed_of limit (λ texts. texts) list ≡ Some list
 listed-again limit list is = sym (listed_new limit (λ texts. texts) list (Some list) (is, refl))
 
+-- the members of a command are read as the command
 pub command-again : (key : List ℕ) (act : Act) → IsKey key → IsAct act → posted_command (post_of act) (data_of key act) ≡ Ok (record { key = key; act = act })
 command-again key (Enter who name) is_key is = rw (key-again key is_key, initials.again who is.0, names name is.1) refl
 command-again key (Train who role since until) is_key is =

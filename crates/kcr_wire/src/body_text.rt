@@ -2,9 +2,9 @@
 ghost use Rattle.std.specs.Prelude.{◌≡◌, ◌++◌, IfOk, codes, string_bytes};
 ghost use Rattle.serde_json.specs.Data.{string};
 ghost use Rattle.serde_json.specs.Written.{compact_text};
-ghost use Rattle.kcr_export.specs.Bodies.{body_text};
+ghost use Rattle.kcr_wire.specs.Bodies.{body_text};
 
-use crate::members::BodyText;
+use crate::body_members::BodyText;
 use kcr_history::{Command, tell};
 use serde_json::json;
 use std::alloc::{AllocError, Global};

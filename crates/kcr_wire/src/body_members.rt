@@ -4,7 +4,7 @@ ghost use Rattle.serde_json.specs.Data.{string, array};
 ghost use Rattle.serde_json.specs.View.{view, items_of};
 ghost use Rattle.serde_json.specs.Written.{has_float};
 ghost use Rattle.kcr_base.specs.Refusal.{member_text};
-ghost use Rattle.kcr_export.specs.Bodies.{next_member};
+ghost use Rattle.kcr_wire.specs.Bodies.{next_member};
 
 use kcr_base::Member;
 use kcr_base::lists::{DistinctList, ListElement};
@@ -65,7 +65,7 @@ fn array_value(alloc: Global, values: Vec<Value>) -> Result<Value, AllocError>
 impl Teller for BodyText {
     ghost use Rattle.std.specs.Prelude.{ℕ, List, ◌++◌, string_bytes};
     ghost use Rattle.kcr_base.specs.Refusal.{member_text};
-    ghost use Rattle.kcr_export.specs.Bodies.{json_of, next_member};
+    ghost use Rattle.kcr_wire.specs.Bodies.{json_of, next_member};
 
     ghost Seen = { List ℕ };
 

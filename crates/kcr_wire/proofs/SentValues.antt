@@ -33,9 +33,9 @@ use Rattle.kcr_history.specs.declared.commands.Act.{Act}
 use Rattle.kcr_history.specs.declared.commands.Act.TheVariants.{Enter, Train, Withdraw, Appoint, Replace, Release, AddBox, AddItem, Plan, Open, Close, RecordSheet}
 use Rattle.kcr_history.specs.declared.commands.Act.TheVariants.{Sign, RecordException, SetSafe, Seal, Take, Put, Cut}
 use Rattle.kcr_forms.specs.Acts.{IsAct}
-use Rattle.kcr_export.specs.Bodies.{json_members}
+use Rattle.kcr_wire.specs.Bodies.{json_members}
 use Rattle.kcr_wire.proofs.Bytes.{initials-word, serial-word, number-word, place-word, word-utf8, ascii-utf8}
-use Rattle.kcr_export.proofs.Sent.{AreSent, are-texts}
+use Rattle.kcr_wire.proofs.Sent.{AreSent, are-texts}
 
 named : (m : Member) → IsUtf8 (member_text m)
 named name.Key = IsUtf8-are_ascii (codes "key") refl
@@ -103,6 +103,7 @@ fits n is = omega (arith, is.until)
 at : (t : ℕ) → IsMoment t → AreSent (member (codes "at") (string (moment_text t)) no_members)
 at t is = (named name.At, moment t is, tt)
 
+-- the members of an act are those of a body
 pub act-sent : (act : Act) → IsAct act → AreSent (json_members (members_of act))
 act-sent (Enter who text) is = (named name.Who, initials who is.0, (named name.Name, is.1.text, tt))
 act-sent (Train who r since until) is = (named name.Role, role r, (named name.From, day since is.1, (named name.Until, day until is.2, tt)))

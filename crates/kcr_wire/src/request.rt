@@ -1,8 +1,8 @@
 //! A command's whole request.
 ghost use Rattle.std.specs.Prelude.{◌≡◌, IfOk, string_bytes};
-ghost use Rattle.kcr_export.specs.Requests.{head_text, request_text};
+ghost use Rattle.kcr_wire.specs.Requests.{head_text, request_text};
 
-use crate::body::write_body;
+use crate::body_text::write_body;
 use itoa::Buffer;
 use kcr_history::{Command, path_text};
 use std::alloc::{AllocError, Global};

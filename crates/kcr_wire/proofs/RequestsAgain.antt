@@ -4,11 +4,12 @@ use Rattle.kcr_base.specs.Key.{IsKey}
 use Rattle.kcr_history.specs.declared.commands.Command.{Command}
 use Rattle.kcr_forms.specs.Acts.{IsAct}
 use Rattle.kcr_wire.specs.Commands.{command_of}
-use Rattle.kcr_export.specs.Bodies.{body_text}
+use Rattle.kcr_wire.specs.Bodies.{body_text}
 use Rattle.kcr_history.specs.Texts.{path_text}
-use Rattle.kcr_export.proofs.Reading.{body-read, command-again}
+use Rattle.kcr_wire.proofs.BodiesRead.{body-read, command-again}
 use Rattle.kcr_wire.proofs.Targets.{act-target}
 
+-- the path and the body of a command are read as this command
 pub told_again : (c : Command) → IsKey c.key → IsAct c.act → command_of (path_text c.act) (body_text c) ≡ Ok c
 unfolding command_of
 told_again c is_key is = rw (act-target c.act is, body-read c is_key is) (command-again c.key c.act is_key is)

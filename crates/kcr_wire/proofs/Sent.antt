@@ -31,6 +31,7 @@ IsText (string s) = IsUtf8 s
 IsText (array ds) = ⊥
 IsText (object ms) = ⊥
 
+-- an array of texts
 abbrev pub AreTexts : Items → Type 0
 AreTexts no_items = ⊤
 AreTexts (item d ds) = IsText d × AreTexts ds
@@ -49,6 +50,7 @@ IsSent (string s) = IsUtf8 s
 IsSent (array ds) = AreTexts ds
 IsSent (object ms) = ⊥
 
+-- the members of a body
 abbrev pub AreSent : Members → Type 0
 AreSent no_members = ⊤
 AreSent (member k d ms) = IsUtf8 k × IsSent d × AreSent ms
@@ -197,11 +199,13 @@ members-utf8 later (member k d ms) h =
     IsUtf8-append (comma_if later) _ (comma-utf8 later)
     (IsUtf8-append (quoted k) _ (IsUtf8-quoted k h.0) (IsUtf8-append (58 ∷ []) _ (IsUtf8-are_ascii (58 ∷ []) refl) value))
 
+-- the JSON of a body is UTF-8
 pub object-utf8 : (ms : Members) → AreSent ms → IsUtf8 (compact_text (object ms))
 object-utf8 ms h = IsUtf8-append (123 ∷ []) (members_text false ms) (IsUtf8-are_ascii (123 ∷ []) refl) (members-utf8 false ms h)
 
 -- ---- a list of texts
 
+-- texts make an array of texts
 pub are-texts : (list : List (List ℕ)) → All IsUtf8 list → AreTexts (items_of (map string list))
 are-texts [] each = tt
 are-texts (text ∷ list) each = (All-head IsUtf8 text list each, are-texts list (All-tail IsUtf8 text list each))
