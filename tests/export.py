@@ -19,12 +19,10 @@ import random
 
 import kcr
 from feed import feed, filled, kept, told_again
-from kcr import call, expect
+from kcr import MOST_COMMANDS, call, expect
 from printed import files as filled_files
 from printed import printed, tests_of
 from program import made_older
-
-GREATEST = 4_000_000_000
 
 
 def exported(program, file, *words):
@@ -66,8 +64,8 @@ def its_parts(program, room):
     chance = random.Random(59)
     for name, file, wanted, _ in files(program, room):
         count = len(wanted)
-        pairs = [(0, 0), (0, 1), (0, count), (0, GREATEST), (count, GREATEST), (count + 1, GREATEST), (GREATEST, 0),
-                 (count - 1, count), (1, 0), (GREATEST, GREATEST)]
+        pairs = [(0, 0), (0, 1), (0, count), (0, MOST_COMMANDS), (count, MOST_COMMANDS), (count + 1, MOST_COMMANDS),
+                 (MOST_COMMANDS, 0), (count - 1, count), (1, 0), (MOST_COMMANDS, MOST_COMMANDS)]
         pairs += [(chance.randrange(count + 2), chance.randrange(count + 2)) for _ in range(5)]
         for after, until in pairs:
             expect(f"{name}, after {after} until {until}", b"".join(wanted[after:until]),

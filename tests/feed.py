@@ -23,10 +23,9 @@ import subprocess
 import threading
 
 import kcr
-from kcr import Wrong, call, expect
+from kcr import MOST_COMMANDS, Wrong, call, expect
 
 AT_MOST, LONGEST = 1000, 1_048_576  # commands, and their bytes, in one answer of the feed
-GREATEST = 4_000_000_000
 KILLS = 50
 
 # The members of each command behind its key, by the last part of its path that is no name or number, as in docs/API.md.
@@ -168,14 +167,14 @@ def its_bounds(program, room):
     file = room / "register.db"
     filled(program, file, b"".join(kcr.short_ceremony()))
     expect("the feed behind the last command", [b""], asked(program, file, 10))
-    for number in (11, GREATEST):
+    for number in (11, MOST_COMMANDS):
         unknown = b'{"number":12,"refusal":"unknown","thing":"command %d"}' % number
         output = filled(program, file, kcr.request(b"GET", b"/commands/%d" % number))
         expect(f"the feed behind command {number}, which was never accepted", kcr.answer(b"404 Not Found", unknown), output)
     text, = asked(program, file, 9)
     expect("the last command", told_again(kcr.short_ceremony()[-1]), text)
     lost = kcr.answer(b"404 Not Found", b'{"number":7,"refusal":"path"}')
-    for part in (b"", b"01", b"-1", b"+1", b"1.0", b"x", b"%d" % (GREATEST + 1), b"18446744073709551617", b"1/2"):
+    for part in (b"", b"01", b"-1", b"+1", b"1.0", b"x", b"%d" % (MOST_COMMANDS + 1), b"18446744073709551617", b"1/2"):
         output = filled(program, file, kcr.request(b"GET", b"/commands/" + part))
         expect(f"/commands/{part.decode()}", lost, output)
     output = filled(program, file, kcr.request(b"HEAD", b"/commands/9"))

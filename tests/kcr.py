@@ -23,6 +23,7 @@ import threading
 HERE = pathlib.Path(__file__).resolve().parent
 SECONDS = 300  # nothing that is started lives longer
 SHOWN_BYTES = 200
+MOST_COMMANDS = 4_000_000_000  # of a register
 sys.path.append(str(HERE.parent / "tools"))
 from table_list import TABLES as LISTED  # noqa: E402
 

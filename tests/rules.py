@@ -110,7 +110,7 @@ def request_of(path, key, members):
 
 
 check.PARTS |= {"day": check.is_day, "at": check.is_moment,
-                "after": lambda part: part == "0" or check.below(4_000_000_000)(part)}
+                "after": lambda part: part == "0" or check.below(kcr.MOST_COMMANDS)(part)}
 
 
 # To play a stream to both

@@ -317,7 +317,7 @@ def beyond_the_end(program, room):
     for file in (None, room / "register"):
         with Server(program, 13, file) as server:
             for count in (0, 1):
-                for after in (count + 1, 4_000_000_000):
+                for after in (count + 1, kcr.MOST_COMMANDS):
                     unknown = answer(b"404 Not Found",
                                      b'{"number":12,"refusal":"unknown","thing":"command %d"}' % after)
                     expect(f"after {after} of {count}", unknown, feed(b"GET", after))

@@ -32,7 +32,7 @@ import sys
 ROLES = ["CA", "IW", "SA", "SSC1", "SSC2", "RKOS", "SW"]
 FACILITIES = ["EAST", "WEST"]
 PLACES = [f"{kind}-{n}" for kind in ("CO-EAST", "CO-WEST", "RKSH") for n in range(1, 8)]
-MOST_IN_A_ROOM, MOST_ROWS_IN, MOST_EXCEPTIONS = 128, 1_000, 200
+MOST_IN_A_ROOM, MOST_ROWS_IN, MOST_EXCEPTIONS, MOST_STEPS, LAST_NUMBER = 128, 1_000, 200, 400, 9_999
 WORDS = {  # of the refusals by number; the status is 409 but of those below
     7: "path", 8: "method", 9: "json", 10: "form", 11: "key", 12: "unknown", 13: "taken", 14: "range", 15: "apart",
     16: "held", 17: "vacant", 18: "settled", 19: "script", 20: "state", 21: "busy", 22: "late", 23: "order", 24: "turn",
@@ -98,7 +98,7 @@ def is_moment(value):
 
 def is_number(value):
     """The number of a ceremony or of a box."""
-    return type(value) is int and 1 <= value <= 9_999
+    return type(value) is int and 1 <= value <= LAST_NUMBER
 
 
 def is_truth(value):
@@ -125,7 +125,7 @@ is_role, is_facility, is_place = ROLES.__contains__, FACILITIES.__contains__, PL
 is_store = text_like("safe1|[1-9][0-9]{0,3}")
 is_way, is_text = ["in", "out"].__contains__, text_like("(?s:.*)")
 PARTS = {  # what stands for a part of a path
-    "who": is_initials, "place": is_place, "ceremony": below(9_999), "step": below(400), "safe": below(2),
+    "who": is_initials, "place": is_place, "ceremony": below(LAST_NUMBER), "step": below(MOST_STEPS), "safe": below(2),
     "serial": is_code}
 AT = {"at": is_moment}
 IN = "/ceremonies/{ceremony}"
@@ -236,7 +236,7 @@ def steps_of(text):
     refuse_if(len(rows) == 1, 19, row=2)
     steps = []
     for number, row in enumerate(rows[1:], 1):
-        refuse_if(number > 400 or len(row) != 3 or row[0] != str(number) or not is_activity(row[1])
+        refuse_if(number > MOST_STEPS or len(row) != 3 or row[0] != str(number) or not is_activity(row[1])
                   or seats_of(row[2]) is None, 19, row=number + 1)
         steps.append((row[1], seats_of(row[2])))
     return steps
