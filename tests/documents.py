@@ -338,7 +338,7 @@ def lined(_):
                          ("the pages", re.findall(rf"`({kinds}: [^`]+)`", pages))):
         heads = {" ".join(line.split(" ")[:2]) for line in shown}
         agree(f"the lines of {where}", sorted(lines), sorted(heads))
-    for second in re.findall(r"\\n(broken: [^\\]+)", code):
+    for second in re.findall(r'"(broken: [^\\]+)', code):
         expect(f"the line {second!r} in docs/kcr.1", True, f".Ql {second}" in text_of("docs/kcr.1"))
         expect(f"the line {second!r} in the pages", True, f"`{second}`" in pages)
     for note in ("no file is named", "register.db is not there", "register.db has no command"):

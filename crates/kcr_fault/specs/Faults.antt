@@ -1,6 +1,6 @@
 -- Why a task was not done to its end, and what is told of it.
 use Rattle.std.specs.Fmt.{decimal}
-use Rattle.std.specs.Prelude.{◌≡◌, ◌≢◌, ◌⊎◌, ℕ, Bool, List, ◌++◌, codes, Option, Some, None, IsSome, IsTrue}
+use Rattle.std.specs.Prelude.{◌≡◌, ◌≢◌, ◌⊎◌, ℕ, Bool, List, [], ◌++◌, codes, Option, Some, None, IsSome, IsTrue}
 use Rattle.std.specs.Prelude.{if◌then◌else◌}
 use Rattle.kcr_base.specs.declared.counted.Counted.{Counted}
 use Rattle.kcr_base.specs.Refusal.{number_of, word_of, thing_text}
@@ -17,8 +17,7 @@ use Rattle.kcr_store.specs.declared.«open».OpenFault.TheVariants as opening
 use Rattle.kcr_log.specs.declared.judgement.Log.TheVariants as logs
 use Rattle.kcr_tables.specs.Refusals.{IsFault}
 use Rattle.kcr_verify.specs.declared.new_register.CreateFault.TheVariants as fresh
-use Rattle.kcr_fault.specs.Lines.{ended, found_line, into_head, missing_line, name_of, net_head, numbered, open_head}
-use Rattle.kcr_fault.specs.Lines.{broken_lines, damage_lines}
+use Rattle.kcr_fault.specs.Lines.{broken_line, call_head, found_line, log_line, missing_line, name_of, numbered, step_head}
 use Rattle.kcr_fault.specs.Notes.{IsMissing, IsNoted, IsUnfilled, WritesLines}
 use Rattle.kcr_fault.specs.declared.fault.Fault.{Fault}
 use Rattle.kcr_fault.specs.declared.fault.Fault.TheVariants.{Open, File, Log, Nothing, Into, IntoFile, Stream, Refused}
@@ -41,50 +40,47 @@ refusal_line r = codes "refused: " ++ (numbered (number_of r) (word_of r) ++ nam
 -- the line of a fault for which no memory is needed: of a refusal, and of a register with no command, it says that there
 -- was none
 abbrev pub reason_of : Fault → List ℕ
-reason_of (Open opening.Memory) = ended (codes "open: memory")
-reason_of (Open opening.Disk) = ended (codes "open: disk")
-reason_of (Open opening.Foreign) = ended (codes "open: foreign")
-reason_of (Open opening.Version) = ended (codes "open: version")
-reason_of (File step) = ended (codes "open: disk")
-reason_of (Log log) = ended (codes "open: disk")
-reason_of (Nothing missing) = ended (codes "fault: memory")
-reason_of (Into fresh.Memory) = ended (codes "into: memory")
-reason_of (Into fresh.Disk) = ended (codes "into: disk")
-reason_of (Into fresh.Filled) = ended (codes "into: filled")
-reason_of (IntoFile step) = ended (codes "into: disk")
-reason_of (Stream stream.Read) = ended (codes "fault: read")
-reason_of (Stream stream.Write) = ended (codes "fault: write")
-reason_of (Stream stream.Memory) = ended (codes "fault: memory")
-reason_of (Refused r) = ended (codes "fault: memory")
-reason_of (Broken why) = ended (codes "refused: 35 broken")
-reason_of Unwritten = ended (codes "fault: write")
-reason_of (Net call) = ended (codes "fault: net")
-reason_of Lost = ended (codes "fault: file")
-reason_of Words = ended (codes "fault: memory")
+reason_of (Open opening.Memory) = codes "open: memory\n"
+reason_of (Open opening.Disk) = codes "open: disk\n"
+reason_of (Open opening.Foreign) = codes "open: foreign\n"
+reason_of (Open opening.Version) = codes "open: version\n"
+reason_of (File step) = codes "open: disk\n"
+reason_of (Log log) = codes "open: disk\n"
+reason_of (Into fresh.Memory) = codes "into: memory\n"
+reason_of (Into fresh.Disk) = codes "into: disk\n"
+reason_of (Into fresh.Filled) = codes "into: filled\n"
+reason_of (IntoFile step) = codes "into: disk\n"
+reason_of (Stream stream.Read) = codes "fault: read\n"
+reason_of (Stream stream.Write) = codes "fault: write\n"
+reason_of Unwritten = codes "fault: write\n"
+reason_of (Net call) = codes "fault: net\n"
+reason_of Lost = codes "fault: file\n"
+reason_of (Broken why) = codes "refused: 35 broken\n"
+reason_of other = codes "fault: memory\n"
 
 -- the port that a task names, 0 if it has none
 abbrev pub port_of : Option Task → ℕ
 port_of (Some (Serve serving)) = serving.port
 port_of other = 0
 
--- the line of a fault and a second one that names what failed, with what the words name: the task, the file of the
--- register and that of a new one. Of some faults there is no more to tell
-abbrev pub explained_lines : Option Task → Option (List ℕ) → Option (List ℕ) → Fault → List ℕ
-explained_lines task file into (Log log) = damage_lines log
-explained_lines task file into (File step) = found_line (open_head step) (name_of file)
-explained_lines task file into (IntoFile step) = found_line (into_head step) (name_of into)
-explained_lines task file into (Net call) = found_line (net_head call) (decimal (port_of task))
-explained_lines task file into Lost = found_line (codes "fault: file\nlost: ") (name_of file)
-explained_lines task file into (Broken why) = broken_lines why
-explained_lines task file into other = reason_of other
+-- what failed, with what the words name: the task, the file of the register and that of a new one. Of some faults there
+-- is no more to tell
+abbrev pub second_line : Option Task → Option (List ℕ) → Option (List ℕ) → Fault → List ℕ
+second_line task file into (Log log) = log_line log
+second_line task file into (File step) = found_line (step_head step) (name_of file)
+second_line task file into (IntoFile step) = found_line (step_head step) (name_of into)
+second_line task file into (Net call) = found_line (call_head call) (decimal (port_of task))
+second_line task file into Lost = found_line (codes "lost: ") (name_of file)
+second_line task file into (Broken why) = broken_line why
+second_line task file into other = []
 
--- the line that tells a fault, or if it is explained its lines; of a refusal, and of a register without commands, the line
--- says all
+-- the line that tells a fault, and a second one if it is explained; of a refusal, and of a register without commands, the
+-- line says all
 abbrev pub lines_of : Bool → Option Task → Option (List ℕ) → Option (List ℕ) → Fault → List ℕ
 lines_of is_explained task file into (Refused r) = refusal_line r
 lines_of is_explained task file into (Nothing missing) = missing_line file missing
 lines_of is_explained task file into other =
-    if is_explained then explained_lines task file into other else reason_of other
+    reason_of other ++ (if is_explained then second_line task file into other else [])
 
 -- the lines of a fault, or the one for which no memory is needed
 abbrev pub AreLinesOf : Bool → Option Task → Option (List ℕ) → Option (List ℕ) → Fault → List ℕ → Type 0

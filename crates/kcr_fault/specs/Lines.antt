@@ -1,5 +1,5 @@
 -- The lines that the program writes beside reports.
-use Rattle.std.specs.Prelude.{ℕ, List, [], ◌∷◌, ◌++◌, codes, Option, unwrap_or}
+use Rattle.std.specs.Prelude.{ℕ, List, [], ◌++◌, codes, Option, unwrap_or}
 use Rattle.std.specs.Fmt.{decimal}
 use Rattle.kcr_base.specs.Moment.{moment_text}
 use Rattle.kcr_history.specs.declared.views.Finding.{Finding}
@@ -19,9 +19,6 @@ use Rattle.kcr_fault.specs.declared.fault.Missing.TheVariants.{Unnamed, Absent, 
 use Rattle.kcr_fault.specs.declared.fault.Step.{Step}
 use Rattle.kcr_fault.specs.declared.fault.Step.TheVariants.{Missing as NotThere, Opening, Locking, Reading}
 
-abbrev pub ended : List ℕ → List ℕ
-ended text = text ++ 10 ∷ []
-
 -- a number, and a text behind a space
 abbrev pub numbered : ℕ → List ℕ → List ℕ
 numbered number text = decimal number ++ (codes " " ++ text)
@@ -32,7 +29,7 @@ listening_line port = codes "listening 127.0.0.1:" ++ (decimal port ++ codes "\n
 
 -- an audit found nothing
 abbrev pub clean_line : List ℕ
-clean_line = ended (codes "audit: nothing found")
+clean_line = codes "audit: nothing found\n"
 
 -- the line of a kind of finding and what it is about
 abbrev pub found_line : List ℕ → List ℕ → List ℕ
@@ -50,13 +47,15 @@ finding_line (Findings.Lone ceremony moment) =
 finding_line (Findings.Crowd ceremony moment) =
     found_line (codes "finding: crowd ") (numbered ceremony (moment_text moment))
 
--- how the line begins if a register was verified, rebuilt or packed
+-- how the line of a register begins that was verified
 abbrev pub verified_head : List ℕ
 verified_head = codes "verified: "
 
+-- the same for a register that was rebuilt
 abbrev pub rebuilt_head : List ℕ
 rebuilt_head = codes "rebuilt: "
 
+-- the same for one that was packed
 abbrev pub packed_head : List ℕ
 packed_head = codes "packed: "
 
@@ -75,14 +74,10 @@ difference_line (Differences.Rows table row) = found_line (codes "finding: table
 -- what is wrong with a log, and how many transactions end in the damage or behind it
 abbrev pub log_line : Log → List ℕ
 log_line Logs.Sound = []
-log_line (Logs.WrongHead count) = codes "log: wrong head, commits " ++ (decimal count ++ codes "\n")
+log_line (Logs.WrongHead count) = found_line (codes "log: wrong head, commits ") (decimal count)
 log_line (Logs.WrongFrame first count) =
-    (codes "log: wrong from frame " ++ (decimal first ++ codes ", commits ")) ++ (decimal count ++ codes "\n")
-log_line (Logs.NoFile count) = codes "log: no file, commits " ++ (decimal count ++ codes "\n")
-
--- a file is not opened, for its log is damaged
-abbrev pub damage_lines : Log → List ℕ
-damage_lines log = ended (codes "open: disk") ++ log_line log
+    found_line (codes "log: wrong from frame " ++ (decimal first ++ codes ", commits ")) (decimal count)
+log_line (Logs.NoFile count) = found_line (codes "log: no file, commits ") (decimal count)
 
 -- the name of a file, or nothing if none is named
 abbrev pub name_of : Option (List ℕ) → List ℕ
@@ -94,28 +89,21 @@ missing_line file Unnamed = codes "note: no file is named\n"
 missing_line file Absent = codes "note: " ++ (name_of file ++ codes " is not there\n")
 missing_line file Empty = codes "note: " ++ (name_of file ++ codes " has no command\n")
 
--- how the two lines begin of a register's file that failed; its name and an end of line follow
-abbrev pub open_head : Step → List ℕ
-open_head NotThere = codes "open: disk\nmissing: "
-open_head Opening = codes "open: disk\nopening: "
-open_head Locking = codes "open: disk\nlocking: "
-open_head Reading = codes "open: disk\nreading: "
+-- at what a file failed; its name follows
+abbrev pub step_head : Step → List ℕ
+step_head NotThere = codes "missing: "
+step_head Opening = codes "opening: "
+step_head Locking = codes "locking: "
+step_head Reading = codes "reading: "
 
--- the same for a new register's file
-abbrev pub into_head : Step → List ℕ
-into_head NotThere = codes "into: disk\nmissing: "
-into_head Opening = codes "into: disk\nopening: "
-into_head Locking = codes "into: disk\nlocking: "
-into_head Reading = codes "into: disk\nreading: "
+-- at what a port failed; its number follows
+abbrev pub call_head : Call → List ℕ
+call_head Binding = codes "binding: "
+call_head Accepting = codes "accepting: "
 
--- the same for a port
-abbrev pub net_head : Call → List ℕ
-net_head Binding = codes "fault: net\nbinding: "
-net_head Accepting = codes "fault: net\naccepting: "
-
--- the two lines of a broken register, by what broke it
-abbrev pub broken_lines : Breakage → List ℕ
-broken_lines Breakages.NoRoom = codes "refused: 35 broken\nbroken: no room\n"
-broken_lines Breakages.Writing = codes "refused: 35 broken\nbroken: writing\n"
-broken_lines Breakages.Reading = codes "refused: 35 broken\nbroken: reading\n"
-broken_lines Breakages.Memory = codes "refused: 35 broken\nbroken: memory\n"
+-- what broke a register
+abbrev pub broken_line : Breakage → List ℕ
+broken_line Breakages.NoRoom = codes "broken: no room\n"
+broken_line Breakages.Writing = codes "broken: writing\n"
+broken_line Breakages.Reading = codes "broken: reading\n"
+broken_line Breakages.Memory = codes "broken: memory\n"

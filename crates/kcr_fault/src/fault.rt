@@ -1,10 +1,10 @@
 //! Why a task was not done to its end, and the line that tells it.
 ghost use Rattle.std.specs.Prelude.{◌≡◌, ℕ, List, Some, IfOk, option_map, string_bytes};
 ghost use Rattle.kcr_desk.specs.Streams.{writing};
-ghost use Rattle.kcr_fault.specs.Faults.{AreLinesOf, refusal_line, reason_of, explained_lines, lines_of, port_of};
+ghost use Rattle.kcr_fault.specs.Faults.{AreLinesOf, refusal_line, reason_of, second_line, lines_of, port_of};
 ghost use Rattle.kcr_fault.specs.Notes.{IsTold, WritesLines};
 ghost use Rattle.kcr_words.specs.Tasks.{file_in, into_in};
-ghost use Rattle.kcr_fault.specs.Lines.{broken_lines, damage_lines, log_line, name_of, missing_line, open_head, into_head, net_head};
+ghost use Rattle.kcr_fault.specs.Lines.{broken_line, call_head, log_line, name_of, missing_line, step_head};
 
 use crate::lines::{around, numbered};
 use itoa::Buffer;
@@ -177,14 +177,6 @@ fn wrong(alloc: Global, log: &Log) -> Result<String, AllocError>
     }
 }
 
-/// The two lines of a damaged log: that the file is not opened, and what is wrong. The error is out of memory.
-fn damaged(alloc: Global, log: &Log) -> Result<String, AllocError>
-    ensures { IfOk result (λ lines. string_bytes lines ≡ damage_lines log.now) }
-{
-    let line = wrong(alloc, log)?;
-    around(alloc, "", "open: disk\n", line.as_str())
-}
-
 /// A name that was given, or nothing.
 pub fn name_of(name: Option<&str>) -> &str
     ensures { result.now ≡ name_of (option_map (λ n. n.now) name.entry) }
@@ -206,49 +198,37 @@ fn missing_text(alloc: Global, kind: Missing, file: Option<&str>) -> Result<Stri
     }
 }
 
-/// How the two lines of a register's file begin that failed.
-fn open_head(step: Step) -> &'static str
-    ensures { result.now ≡ open_head step }
+/// At what a file failed, as the second line begins.
+fn step_head(step: Step) -> &'static str
+    ensures { result.now ≡ step_head step }
 {
     match step {
-        Step::Missing => "open: disk\nmissing: ",
-        Step::Opening => "open: disk\nopening: ",
-        Step::Locking => "open: disk\nlocking: ",
-        Step::Reading => "open: disk\nreading: ",
+        Step::Missing => "missing: ",
+        Step::Opening => "opening: ",
+        Step::Locking => "locking: ",
+        Step::Reading => "reading: ",
     }
 }
 
-/// How the two lines of a new register's file begin that failed.
-fn into_head(step: Step) -> &'static str
-    ensures { result.now ≡ into_head step }
-{
-    match step {
-        Step::Missing => "into: disk\nmissing: ",
-        Step::Opening => "into: disk\nopening: ",
-        Step::Locking => "into: disk\nlocking: ",
-        Step::Reading => "into: disk\nreading: ",
-    }
-}
-
-/// How the two lines of a port begin that failed.
-fn net_head(call: Call) -> &'static str
-    ensures { result.now ≡ net_head call }
+/// At what a port failed, as the second line begins.
+fn call_head(call: Call) -> &'static str
+    ensures { result.now ≡ call_head call }
 {
     match call {
-        Call::Binding => "fault: net\nbinding: ",
-        Call::Accepting => "fault: net\naccepting: ",
+        Call::Binding => "binding: ",
+        Call::Accepting => "accepting: ",
     }
 }
 
-/// The two lines of a broken register: that it refuses whatever is asked, and what broke it.
-fn broken_lines(why: Breakage) -> &'static str
-    ensures { result.now ≡ broken_lines why }
+/// The second line of a broken register: what broke it.
+fn broken_line(why: Breakage) -> &'static str
+    ensures { result.now ≡ broken_line why }
 {
     match why {
-        Breakage::NoRoom => "refused: 35 broken\nbroken: no room\n",
-        Breakage::Writing => "refused: 35 broken\nbroken: writing\n",
-        Breakage::Reading => "refused: 35 broken\nbroken: reading\n",
-        Breakage::Memory => "refused: 35 broken\nbroken: memory\n",
+        Breakage::NoRoom => "broken: no room\n",
+        Breakage::Writing => "broken: writing\n",
+        Breakage::Reading => "broken: reading\n",
+        Breakage::Memory => "broken: memory\n",
     }
 }
 
@@ -262,31 +242,32 @@ fn port_of(task: Task) -> u16
     }
 }
 
-/// The line of a fault and a second one that names what failed, with what the words name. The error is out of memory.
-fn explained_lines(alloc: Global, order: &Order<'_>, fault: &Fault) -> Result<String, AllocError>
-    ensures { IfOk result (λ lines. string_bytes lines ≡ explained_lines (Some order.now.task)
+/// The line that names what failed, with what the words name; nothing if there is no more to tell. The error is out of
+/// memory.
+fn second_line(alloc: Global, order: &Order<'_>, fault: &Fault) -> Result<String, AllocError>
+    ensures { IfOk result (λ line. string_bytes line ≡ second_line (Some order.now.task)
         (file_in order.now) (into_in order.now) fault.now) }
 {
     match fault {
-        Fault::Log(log) => damaged(alloc, log),
-        Fault::File(step) => around(alloc, open_head(*step), name_of(order.file), "\n"),
-        Fault::IntoFile(step) => around(alloc, into_head(*step), name_of(order.into), "\n"),
+        Fault::Log(log) => wrong(alloc, log),
+        Fault::File(step) => around(alloc, step_head(*step), name_of(order.file), "\n"),
+        Fault::IntoFile(step) => around(alloc, step_head(*step), name_of(order.into), "\n"),
         Fault::Net(call) => {
             let mut buffer = Buffer::new();
             around(
                 alloc,
-                net_head(*call),
+                call_head(*call),
                 buffer.format(port_of(order.task)),
                 "\n",
             )
         }
-        Fault::Lost => around(alloc, "fault: file\nlost: ", name_of(order.file), "\n"),
-        Fault::Broken(why) => String::from_str(alloc, broken_lines(*why)),
-        other => String::from_str(alloc, reason(*other)),
+        Fault::Lost => around(alloc, "lost: ", name_of(order.file), "\n"),
+        Fault::Broken(why) => String::from_str(alloc, broken_line(*why)),
+        _ => Ok(String::new(alloc)),
     }
 }
 
-/// The line of a fault, or its lines if the order asks to explain. The error is out of memory.
+/// The line of a fault, and a second one if the order asks to explain. The error is out of memory.
 fn lines(alloc: Global, order: &Order<'_>, fault: &Fault) -> Result<String, AllocError>
     ensures { IfOk result (λ lines. string_bytes lines ≡ lines_of order.now.is_explained (Some order.now.task)
         (file_in order.now) (into_in order.now) fault.now) }
@@ -295,11 +276,12 @@ fn lines(alloc: Global, order: &Order<'_>, fault: &Fault) -> Result<String, Allo
         Fault::Refused(refusal) => refused(alloc, refusal),
         Fault::Nothing(kind) => missing_text(alloc, *kind, order.file),
         other => {
-            if order.is_explained {
-                explained_lines(alloc, order, other)
+            let second = if order.is_explained {
+                second_line(alloc, order, other)?
             } else {
-                String::from_str(alloc, reason(*other))
-            }
+                String::new(alloc)
+            };
+            around(alloc, "", reason(*other), second.as_str())
         }
     }
 }
