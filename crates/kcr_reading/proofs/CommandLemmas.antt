@@ -16,7 +16,7 @@ use Rattle.kcr_history.specs.declared.row_types.KeyRow.{KeyRow}
 use Rattle.kcr_tables.specs.StoredTables.{keys_place}
 use Rattle.kcr_tables.specs.KeysLaws as laws
 use Rattle.kcr_tables.specs.Statements.{is_given}
-use Rattle.kcr_tables.proofs.Unordered.{SelectsUnordered}
+use Rattle.kcr_tables.specs.Unordered.{SelectsUnordered}
 use Rattle.kcr_reading.specs.Commands.{only, numbered, commands_past, commands_within}
 use Rattle.kcr_reading.specs.Remaining.{IsNextOf}
 

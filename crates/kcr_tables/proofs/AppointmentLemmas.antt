@@ -6,7 +6,7 @@ use Rattle.std.proofs.lemmas.Bool.{and_from, le-leb}
 use Rattle.std.proofs.lemmas.List.Elements.{All-from_recursion}
 use Rattle.std.proofs.lemmas.List.Sorted.{All-permutation, IsPermutation-sym, IsPermutation-trans}
 use Rattle.sqlite_rules.specs.Lists.{Has}
-use Rattle.sqlite_rules.proofs.ListLemmas.{all_has, all_from}
+use Rattle.sqlite_rules.proofs.ListLemmas.{all_from}
 use Rattle.kcr_base.proofs.RowsLemmas.{filter-order}
 use Rattle.kcr_base.proofs.Members.{IsIn, in-any, in-append, in-front, in-behind, in-filter, in-order}
 use Rattle.kcr_people.specs.declared.Appointment.{Appointment}
@@ -18,7 +18,8 @@ use Rattle.kcr_history.specs.declared.views.Selection.TheVariants.{Nothing, Matc
 use Rattle.kcr_history.specs.Views.{ShowsLastOf, ShowsAppointmentsOf, IncludesAppointments, is_appointment_to, is_appointment_of}
 use Rattle.kcr_base.specs.declared.place.Place.{Place}
 use Rattle.kcr_rows.specs.Greatest.{IsGreatest}
-use Rattle.kcr_tables.proofs.HasLemmas.{has_in, filter_from, filter_to, filter_is}
+use Rattle.kcr_tables.proofs.HasLemmas.{has_in, in_has, filter_from, filter_to, filter_is}
+use Rattle.kcr_tables.proofs.MostLemmas.{shown_has, shown_over}
 use Rattle.kcr_tables.proofs.NamedLemmas.{passing}
 
 -- if the row passes, one that is shown passes too and begins no earlier
@@ -29,39 +30,25 @@ abbrev pub IsLast : (Appointment → Bool) → List Appointment → List Appoint
 IsLast test table shown = IsGreatest (λ (x : Appointment). x.since) (filter test table) shown
 
 module _ (test : Appointment → Bool) (table shown : List Appointment) (last : IsLast test table shown) where
+  there : (x : Appointment) → Has shown x → Has (filter test table) x
+  there = shown_has (λ (x : Appointment). x.since) (filter test table) shown last
+
   -- what is shown is the table's
   pub from_table : (x : Appointment) → IsIn x shown → IsIn x table
-  from_table x i = elim last [
-    | inl none ↦ absurd (subst (IsIn x) none.1 i)
-    | inr some ↦ has_in x table
-        (filter_from test table x (elim (subst (IsIn x) some.1 i) [ inl same ↦ subst (Has (filter test table)) (sym same) some.2 | inr none ↦ absurd none ]))
-  ]
+  from_table x i = has_in x table (filter_from test table x (there x (in_has x shown i)))
 
   -- and no other that passes began later, also if more is shown
   pub none_later : (rows : List Appointment) → ((x : Appointment) → IsIn x shown → IsIn x rows) → ShowsLastOf test table rows
   none_later rows among =
-      All-from_recursion (Reached test rows) table (all_from (Reached test rows) table (λ x there passes. elim last [
-        | inl none ↦ absurd (subst (λ l. Has l x) none.0 (filter_to test table x there passes))
-        | inr some ↦ (
-            let low = all_has (λ (y : Appointment). y.since ≤ some.0.since) (filter test table) x some.3 (filter_to test table x there passes) in
-            in-any (λ (y : Appointment). test y && nat_le x.since y.since) some.0 rows (among some.0 (subst (IsIn some.0) (sym some.1) (inl refl)))
-            (and_from _ _ (filter_passes some.0 some.2) (le-leb x.since some.0.since low)))
-      ]))
-    where
-      filter_passes : (x : Appointment) → Has (filter test table) x → test x ≡ true
-      filter_passes x h = filter_is test table x h
+      All-from_recursion (Reached test rows) table (all_from (Reached test rows) table (λ x h passes.
+      let over = shown_over (λ (x : Appointment). x.since) (filter test table) shown last x (filter_to test table x h passes) in
+      in-any (λ (y : Appointment). test y && nat_le x.since y.since) over.0 rows (among over.0 (has_in over.0 shown over.1))
+      (and_from _ _ (filter_is test table over.0 (there over.0 over.1)) (le-leb x.since over.0.since over.2))))
 
--- the last to a place, that of a person, and both
-pub to_shown : (place : Place) (table shown : List Appointment) → IsLast (is_appointment_to place) table shown
-    → IncludesAppointments (Matching (Wanted.Place place)) table shown
-to_shown place table shown last =
-    (from_table (is_appointment_to place) table shown last, none_later (is_appointment_to place) table shown last shown (λ x i. i))
+  pub last_shown : ((x : Appointment) → IsIn x shown → IsIn x table) × ShowsLastOf test table shown
+  last_shown = (from_table, none_later shown (λ x i. i))
 
-pub of_shown : (who : List ℕ) (table shown : List Appointment) → IsLast (is_appointment_of who) table shown
-    → IncludesAppointments (Matching (Wanted.Person who)) table shown
-of_shown who table shown last =
-    (from_table (is_appointment_of who) table shown last, none_later (is_appointment_of who) table shown last shown (λ x i. i))
-
+-- the last to a place and that of a person
 pub both_shown : (place : Place) (who : List ℕ) (table front behind : List Appointment) → IsLast (is_appointment_to place) table front
     → IsLast (is_appointment_of who) table behind → IncludesAppointments (Matching (Wanted.LastToPlaceAndOfPerson place who)) table (front ++ behind)
 both_shown place who table front behind to of = (

@@ -1,5 +1,4 @@
 pub mod AppointmentLemmas
-pub mod BeyondLemmas
 pub mod CountLemmas
 pub mod ExactLemmas
 pub mod FirstLemmas
@@ -7,17 +6,16 @@ pub mod FrameLemmas
 pub mod HasLemmas
 pub mod HoldLemmas
 pub mod JointLemmas
-pub mod LastLemmas
 pub mod MakeLemmas
+pub mod MostLemmas
 pub mod NamedLemmas
 pub mod OneLemmas
 pub mod OpenLemmas
-pub mod RoomLemmas
+pub mod Queries
+pub mod QueryLemmas
 pub mod SafeLemmas
 pub mod ScriptLemmas
 pub mod StatementLemmas
 pub mod StayLemmas
-pub mod TrainingLemmas
 pub mod ViewLemmas
 pub mod FrontLemmas
-pub mod Unordered

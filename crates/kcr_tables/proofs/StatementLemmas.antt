@@ -29,7 +29,7 @@ use Rattle.kcr_tables.specs.Exact.{rows_at}
 use Rattle.kcr_tables.specs.StoredTables.{StoredTables, TreesHold, Holds}
 use Rattle.kcr_tables.specs.Statements.{SelectsRows, InsertsRow, UpdatesRow}
 use Rattle.kcr_tables.specs.Table.{TableSpec, IsTable, with_put}
-use Rattle.kcr_tables.proofs.Unordered.{SelectsUnordered}
+use Rattle.kcr_tables.specs.Unordered.{SelectsUnordered}
 
 module _ {X : Type 0} (sql : List ℕ) (place : TableLayout) (params : Row) (passes : Row → Bool) (s : SelectsRows sql place params passes) (row_of : X → Row) where
   pub rows_shown : (IsRead IsStored : X → Type 0) → ((x y : X) → IsRead x → IsStored y → row_of x ≡ row_of y → x ≡ y) → (test : X → Bool)
@@ -71,7 +71,7 @@ in_row_order {X} row_of ys rows p =
 -- a text whose order is of no account
 module _ {place : TableLayout} {sql : List ℕ} {params : Row} {passes : Row → Bool} (s : SelectsUnordered sql place params passes) where
   -- whatever the tree has, its rows that pass are shown
-  passing_rows : (old new : State) (rows : List Row) → old.now.schema ≡ register_schema → Shown sql params old new rows
+  pub passing_rows : (old new : State) (rows : List Row) → old.now.schema ≡ register_schema → Shown sql params old new rows
       → IsPermutation (filter passes (rows_at place old.now.trees)) rows
   passing_rows old new rows has h =
       let query = asking place.tree s.test s.project s.order (negsuc 0) in
@@ -87,7 +87,7 @@ module _ {place : TableLayout} {sql : List ℕ} {params : Row} {passes : Row →
       subst₂ IsPermutation shown (sym a.shown) (IsPermutation-map second _ _ a.same)
 
   -- if no two values stand for one row, the values are those whose rows pass
-  passing_values : {X : Type 0} (row_of : X → Row) → ((x y : X) → ⊤ → ⊤ → row_of x ≡ row_of y → x ≡ y) → (old new : State) (xs ys : List X)
+  pub passing_values : {X : Type 0} (row_of : X → Row) → ((x y : X) → ⊤ → ⊤ → row_of x ≡ row_of y → x ≡ y) → (old new : State) (xs ys : List X)
       → old.now.schema ≡ register_schema → Shown sql params old new (map row_of xs) → TreeHolds place old.now.trees (map row_of ys)
       → IsPermutation (filter (λ y. passes (row_of y)) ys) xs
   passing_values row_of one old new xs ys has h keeps =
@@ -108,13 +108,6 @@ module _ {place : TableLayout} {sql : List ℕ} {params : Row} {passes : Row →
     passing_told rows_in keeps test is clean t held = if_ok _ _ (λ all h.
         subst (λ l. IsPermutation l all.items) (filter_as (λ x. passes (row_of x)) test is (rows_in t))
         (passing_values row_of one old new all.items (rows_in t) held.schema h (keeps t held.kept))) result (shown clean)
-
-    pub passing_exact : (test : Row → Bool) → ((row : Row) → passes row ≡ test row)
-        → HasCleanDisk new → old.now.schema ≡ register_schema
-        → IfOk result (λ all. IsPermutation (filter test (rows_at place old.now.trees)) (map row_of all.items))
-    passing_exact test is clean has = if_ok _ _ (λ all h.
-        subst (λ l. IsPermutation l (map row_of all.items)) (filter_as passes test is (rows_at place old.now.trees))
-        (passing_rows old new (map row_of all.items) has h)) result (shown clean)
 
 -- one row is put
 module _ {X : Type 0} (sql : List ℕ) (place : TableLayout) (row_of : X → Row) (x : X) (old new : State) (count : ℕ)

@@ -25,6 +25,7 @@ use Rattle.kcr_rows.proofs.PutLemmas.{has_same}
 use Rattle.kcr_rows.specs.Rows.{stay_row}
 use Rattle.kcr_tables.proofs.JointLemmas.{key_of_stays}
 use Rattle.kcr_tables.proofs.HasLemmas.{has_in, in_has, has_append, has_left, has_right, filter_from, filter_to, filter_is, one_key_of}
+use Rattle.kcr_tables.proofs.MostLemmas.{shown_has}
 use Rattle.kcr_tables.proofs.NamedLemmas.{twice}
 
 -- ---- the stay of a list that began last
@@ -180,12 +181,6 @@ none_both p (x ∷ xs) = by_test (p x) refl (none_both p xs)
     by_test true e more = more
     by_test false e more = rw e more
 
-greatest_there : (xs last : List Stay) → IsGreatest (λ x. x.since) xs last → (x : Stay) → Has last x → Has xs x
-greatest_there xs last greatest x h = elim greatest [
-  | inl none ↦ absurd (subst (λ l. Has l x) none.1 h)
-  | inr some ↦ elim (subst (λ l. Has l x) some.1 h) [ inl same ↦ subst (Has xs) (sym same) some.2 | inr none ↦ absurd none ]
-]
-
 all_more : (table rows found : List Stay) (people : List (List ℕ)) → AllByRecursion (HasLast table rows) people
     → AllByRecursion (HasLast table (rows ++ found)) people
 all_more table rows found [] all = tt
@@ -194,7 +189,7 @@ all_more table rows found (who ∷ people) all = ((all.0.0, all.0.1, λ x h. has
 module _ (mine : Stay → Bool) (people : List (List ℕ)) (table rows last found : List Stay) (who : List ℕ) (had : Gathered mine people table rows)
     (greatest : IsGreatest (λ x. x.since) (filter (is_of who) table) last) (found_is : found ≡ filter (λ x. not (mine x)) last) where
   in_table : (x : Stay) → Has last x → Has table x
-  in_table x h = filter_from (is_of who) table x (greatest_there _ last greatest x h)
+  in_table x h = filter_from (is_of who) table x (shown_has (λ (x : Stay). x.since) _ last greatest x h)
 
   here : (x : Stay) → Has last x → Has (rows ++ found) x
   here x h = by_test (mine x) refl

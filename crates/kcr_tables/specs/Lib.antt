@@ -11,6 +11,8 @@ pub mod Frame
 pub mod Exact
 pub mod Statements
 pub mod Table
+pub mod Unordered
+pub mod Query
 pub mod Parts
 pub mod Still
 pub mod AppointmentsLaws

@@ -13,12 +13,11 @@ ghost use Rattle.kcr_rows.specs.Frame.{ImpliesOpen};
 ghost use Rattle.kcr_tables.specs.Frame.{OfTables, OfTrees, Reads};
 
 use crate::last::{last_appointment_of, last_appointment_to};
-use crate::table::all_rows;
+use crate::table::{all_rows, shown_rows};
 use kcr_base::{Day, Initials, Place, Refusal};
 use kcr_history::{AppointmentFilter, Selection};
 use kcr_people::Appointment;
 use kcr_rows::cells::number_cell;
-use kcr_rows::statements::query_rows;
 use sqlite::{Alter, Transaction};
 use std::alloc::Global;
 
@@ -38,12 +37,11 @@ pub fn appointments_ending_after<S: Alter>(
     ensures opened { ImpliesOpen S.Store tx.old tx.new result }
     ensures frame { Reads S.Store tx.old tx.new result }
 {
-    let c0 = number_cell(day);
-    query_rows(
+    shown_rows(
         alloc,
         tx,
         "SELECT place, since, who, until FROM appointments WHERE until IS NULL OR until > ?1 ORDER BY rowid",
-        &[c0],
+        &[number_cell(day)],
     )
 }
 

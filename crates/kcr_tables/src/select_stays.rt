@@ -15,7 +15,7 @@ ghost use Rattle.kcr_tables.specs.StoredTables.{stays_place};
 ghost use Rattle.kcr_tables.specs.Frame.{OfTables, OfTrees, Reads};
 
 use crate::last::last_stay_of;
-use crate::table::all_rows;
+use crate::table::{all_rows, shown_rows};
 use kcr_base::{Initials, Moment, Refusal};
 use kcr_history::{Selection, StayFilter};
 use kcr_room::{Stay, stay_reaches};
@@ -40,13 +40,11 @@ pub fn stays_ending_at_or_after<S: Alter>(
         (λ db all. IsPermutation (filter (is_lasting_row ceremony at) (rows_at stays_place db)) (map stay_row all.items)) }
     ensures frame { Reads S.Store tx.old tx.new result }
 {
-    let c0 = number_cell(ceremony);
-    let c1 = number_cell(at);
-    query_rows(
+    shown_rows(
         alloc,
         tx,
         "SELECT who, since, ceremony, until FROM stays WHERE ceremony = ?1 AND (until IS NULL OR until >= ?2) ORDER BY since, who",
-        &[c0, c1],
+        &[number_cell(ceremony), number_cell(at)],
     )
 }
 

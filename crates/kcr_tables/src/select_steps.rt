@@ -1,20 +1,15 @@
 //! The step of a ceremony's script that is asked for, and one row of the ceremony's last seating, which tells how many
 //! steps are done.
 
-ghost use Rattle.std.specs.Prelude.{◌≡◌, filter, map, MatchOption, ◌<◌};
-ghost use Rattle.std.specs.List.Sorted.{IsPermutation};
-ghost use Rattle.sqlite.specs.Held.{state};
-ghost use Rattle.kcr_history.specs.Views.{is_step_at, step_asked, IncludesStep, ShowsStepOf};
-ghost use Rattle.kcr_rows.specs.Rows.{step_row};
-ghost use Rattle.kcr_tables.specs.Exact.{rows_at, is_row_of_step, OneSeatingIsShown, StepIsShown, StepsAreShown};
-ghost use Rattle.kcr_tables.specs.StoredTables.{steps_place};
+ghost use Rattle.std.specs.Prelude.{◌≡◌, MatchOption, ◌<◌};
+ghost use Rattle.kcr_history.specs.Views.{step_asked, IncludesStep, ShowsStepOf};
+ghost use Rattle.kcr_tables.specs.Exact.{OneSeatingIsShown, StepIsShown, StepsAreShown};
 ghost use Rattle.kcr_tables.specs.Frame.{OfTables, OfTrees, Reads};
 
-use crate::last::last_seating_of;
+use crate::table::shown_rows;
 use kcr_base::Refusal;
 use kcr_history::{SeatingRow, StepFilter, StepRow, last_seated};
 use kcr_rows::cells::number_cell;
-use kcr_rows::statements::query_rows;
 use sqlite::{Alter, Transaction};
 use std::alloc::Global;
 
@@ -23,31 +18,6 @@ use std::alloc::Global;
 pub struct StepRows {
     pub steps: Vec<StepRow>,
     pub seatings: Vec<SeatingRow>,
-}
-
-/// The row of the ceremony's step with this number, alone, or none. Nothing is changed. The error is `Memory` when out
-/// of memory, and else `Disk`: the device failed, or the row is invalid.
-fn step_at<S: Alter>(
-    alloc: Global,
-    tx: &mut Transaction<'_, S>,
-    ceremony: u32,
-    step: u32,
-) -> Result<Vec<StepRow>, Refusal>
-    ensures rows { OfTables S.Store tx.old tx.new result
-        (λ t all. all.items ≡ filter (is_step_at ceremony step) t.rows.steps) }
-    ensures exact { OfTrees S.Store tx.old tx.new result
-        (λ db all. IsPermutation (filter (is_row_of_step ceremony step) (rows_at steps_place db))
-        (map step_row all.items)) }
-    ensures frame { Reads S.Store tx.old tx.new result }
-{
-    let c0 = number_cell(ceremony);
-    let c1 = number_cell(step);
-    query_rows(
-        alloc,
-        tx,
-        "SELECT ceremony, step, activity, seats, state, at FROM steps WHERE ceremony = ?1 AND step = ?2 ORDER BY ceremony, step",
-        &[c0, c1],
-    )
 }
 
 /// The number of the step that is asked for, if these are seatings of its ceremony; `None` if it would be past the
@@ -63,7 +33,8 @@ fn number_asked(asked: StepFilter, seatings: &[SeatingRow]) -> Option<u32>
     }
 }
 
-/// The step that is asked for. The errors are those of `select_steps`.
+/// The step that is asked for, and one row of the ceremony's last step that has a seating. The errors are those of
+/// `select_steps`.
 fn step_of<S: Alter>(
     alloc: Global,
     tx: &mut Transaction<'_, S>,
@@ -77,11 +48,21 @@ fn step_of<S: Alter>(
         (λ db all. StepIsShown asked.now all.seatings.items all.steps.items db) }
     ensures frame { Reads S.Store tx.old tx.new result }
 {
-    let seatings = last_seating_of(alloc, tx, asked.ceremony)?;
+    let seatings = shown_rows(
+        alloc,
+        tx,
+        "SELECT ceremony, step, seat, who FROM seatings WHERE ceremony = ?1 ORDER BY step DESC LIMIT 1",
+        &[number_cell(asked.ceremony)],
+    )?;
     let Some(number) = number_asked(*asked, seatings.as_slice()) else {
         return Err(Refusal::Disk);
     };
-    let steps = step_at(alloc, tx, asked.ceremony, number)?;
+    let steps = shown_rows(
+        alloc,
+        tx,
+        "SELECT ceremony, step, activity, seats, state, at FROM steps WHERE ceremony = ?1 AND step = ?2 ORDER BY ceremony, step",
+        &[number_cell(asked.ceremony), number_cell(number)],
+    )?;
     Ok(StepRows { steps, seatings })
 }
 

@@ -12,6 +12,7 @@ ghost use Rattle.kcr_rows.specs.Frame.{ImpliesOpen, StaysInTransaction};
 ghost use Rattle.kcr_tables.specs.Frame.{OfTables, OfMachineTables, OfTrees, ChangesTables, Reads};
 ghost use Rattle.kcr_tables.specs.Selected.{asked_of, asked_all};
 ghost use Rattle.kcr_tables.specs.Exact.{rows_at, AreShown};
+ghost use Rattle.kcr_tables.specs.Query.{Query, Tells};
 ghost use Rattle.kcr_tables.specs.Statements.{InsertsRow, UpdatesRow};
 ghost use Rattle.kcr_tables.specs.Table.{TableSpec, IsTable, LookupSpec, IsLookup, with_put, machine_rows};
 
@@ -121,6 +122,20 @@ pub trait PutAllocating: TableRow {
         ensures frame { StaysInTransaction S.Store IsFault tx.old tx.new result };
 }
 
+/// The rows of a table that a text shows. Nothing is changed. The error is `Memory` when out of memory, and else `Disk`:
+/// the device failed, or a row that is shown is invalid.
+pub fn shown_rows<S: Alter, T: TableRow>(
+    alloc: Global,
+    tx: &mut Transaction<'_, S>,
+    sql: &str,
+    params: &[ValueRef<'_>],
+) -> Result<Vec<T>, Refusal>
+    ensures { (q : Query T.table T.row_of) → sql.now ≡ q.sql → bound params.now ≡ q.params
+        → Tells S.Store tx.old tx.new result T.table T.row_of q.which q.test q.passes }
+{
+    query_rows(alloc, tx, sql, params)
+}
+
 /// All rows of a table, in the order of their keys. Nothing is changed. The error is `Memory` when out of memory, and
 /// else `Disk`: the device failed, or a row is invalid.
 pub fn all_rows<S: Alter, T: TableRow>(
@@ -135,7 +150,7 @@ pub fn all_rows<S: Alter, T: TableRow>(
     ensures opened { ImpliesOpen S.Store tx.old tx.new result }
     ensures frame { Reads S.Store tx.old tx.new result }
 {
-    query_rows(alloc, tx, T::select_all_sql(), &[])
+    shown_rows(alloc, tx, T::select_all_sql(), &[])
 }
 
 /// The rows with this value, in the order of their keys. Nothing is changed. The error is `Memory` when out of memory,
@@ -153,7 +168,7 @@ pub fn find_rows<S: Alter, K: AsCell, T: LookupBy<K>>(
     ensures opened { ImpliesOpen S.Store tx.old tx.new result }
     ensures frame { Reads S.Store tx.old tx.new result }
 {
-    query_rows(alloc, tx, T::lookup_sql(), &[key.cell()])
+    shown_rows(alloc, tx, T::lookup_sql(), &[key.cell()])
 }
 
 /// The rows that are asked for. Nothing is changed; the errors are those of a reading, so `Disk` also if a row that

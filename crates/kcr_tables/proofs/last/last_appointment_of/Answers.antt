@@ -1,22 +1,6 @@
-use Rattle.std.proofs.Common.{[], ◌∷◌, refl, filter, ◌∙◌, ap}
-use Rattle.kcr_history.specs.Views.{is_appointment_of}
-use Rattle.sqlite.specs.Held.{state}
-use Rattle.kcr_rows.specs.Rows.{appointment_row}
-use Rattle.kcr_tables.specs.AppointmentsLaws as laws
-use Rattle.kcr_tables.proofs.FrameLemmas.{reads_by}
-use Rattle.kcr_tables.proofs.LastLemmas.{last_of_person, tells_one, tells_last, appointments_of, of_person_sql}
-use Rattle.sqlite.specs.declared.types.Value.TheVariants.{Text}
+use Rattle.std.proofs.Common.{[], ◌∷◌, refl}
+use Rattle.kcr_tables.proofs.Queries.{last_of}
 use Rattle.kcr_tables.proofs.last.last_appointment_of.Goals as goal
 
 pub returns : goal.returns
-returns g c =
-    let old = state g.S.Store c.args.tx.now.conn.now in
-    let new = state g.S.Store c.query_rows.new.tx.conn.now in
-    let text = last_of_person c.args.who.now in record {
-      rows = tells_last text old new c.query_rows.result appointment_row (λ v. v.items) (λ i. (c.text_cell-c0.ensures ∙ ap Text c.as_str.ensures.value) i ∷ []) c.query_rows.ensures.shown
-          (λ x y. laws.one x y tt tt) (λ x. x.since) (λ x. refl) (λ t. t.rows.appointments)
-          (λ t. filter (is_appointment_of c.args.who.now) t.rows.appointments) (λ t k. k.appointments)
-          (λ t. appointments_of c.args.who.now t.rows.appointments);
-      exact = tells_one text old new c.query_rows.result appointment_row (λ v. v.items) (λ i. (c.text_cell-c0.ensures ∙ ap Text c.as_str.ensures.value) i ∷ []) c.query_rows.ensures.shown;
-      frame = reads_by of_person_sql text.bare c.query_rows.ensures.same c.query_rows.ensures.frame;
-    }
+returns g c = c.shown_rows.ensures (last_of c.args.who.now) refl (λ i. c.cell.ensures i ∷ [])

@@ -1,4 +1,4 @@
-use Rattle.std.proofs.Common.{rules, ◌≡◌, ℕ, filter, subst}
+use Rattle.std.proofs.Common.{rules, ◌≡◌, ℕ, [], ◌∷◌, refl, filter, subst}
 use Rattle.sqlite.specs.Held.{state}
 use Rattle.kcr_history.specs.Views.{step_asked}
 use Rattle.kcr_rows.specs.Rows.{step_row}
@@ -6,27 +6,42 @@ use Rattle.kcr_rows.proofs.FrameLemmas.{clean_before}
 use Rattle.kcr_tables.specs.Exact.{rows_at, is_row_of_step, AreShown}
 use Rattle.kcr_tables.specs.StoredTables.{steps_place}
 use Rattle.kcr_tables.proofs.ExactLemmas.{are_shown}
-use Rattle.kcr_tables.proofs.FrameLemmas.{read_later}
+use Rattle.kcr_tables.proofs.FrameLemmas.{fails_as, read_later, reads_on, reads_to}
+use Rattle.kcr_tables.proofs.Queries.{last_seating, row_of_step}
 use Rattle.kcr_tables.proofs.ScriptLemmas.{step_told}
 use Rattle.kcr_tables.proofs.select_steps.step_of.Goals as goal
 
-pub returns-clause-rows : goal.returns-clause-rows
-returns-clause-rows g c clean t held =
-    let asked = c.args.asked.now in
-    let seatings = c.in_ok-seatings.seatings.items in
-    let is : c.in-Some.number ≡ step_asked asked seatings = search rules in
-    let last = c.in_ok-seatings.ensures in
-    let before = clean_before c.in_ok-steps.ensures.frame.within clean in
-    step_told asked t.rows.seatings seatings t.rows.steps c.in_ok-steps.steps.items c.in-Some.number is (last.rows before t held)
-    (c.in_ok-steps.ensures.rows clean t (last.frame.holds before t held))
+pub returns-in_err-seatings-clause-frame : goal.returns-in_err-seatings-clause-frame
+returns-in_err-seatings-clause-frame g c =
+    fails_as c.from_residual.ensures.1 (c.in_err-seatings.ensures (last_seating c.args.asked.now.ceremony) refl (λ i. c.number_cell.ensures i ∷ [])).frame
 
-pub returns-clause-step : goal.returns-clause-step
-returns-clause-step g c clean has =
+pub returns-in_default-clause-frame : goal.returns-in_default-clause-frame
+returns-in_default-clause-frame g c =
+    reads_to (search rules) (c.in_ok-seatings.ensures (last_seating c.args.asked.now.ceremony) refl (λ i. c.number_cell.ensures i ∷ [])).frame
+
+pub returns-in_err-steps-clause-frame : goal.returns-in_err-steps-clause-frame
+returns-in_err-steps-clause-frame g c =
+    let ceremony = c.args.asked.now.ceremony in
+    reads_on (c.in_ok-seatings.ensures (last_seating ceremony) refl (λ i. c.number_cell.ensures i ∷ [])).frame
+    (fails_as c.from_residual-in_err-steps.ensures.1
+    (c.in_err-steps.ensures (row_of_step ceremony c.in-Some.number) refl (λ i. c.number_cell-2.ensures i ∷ c.number_cell-3.ensures i ∷ [])).frame)
+
+pub returns : goal.returns
+returns g c =
     let asked = c.args.asked.now in
     let old = state g.S.Store c.args.tx.now.conn.now in
+    let seatings = c.in_ok-seatings.seatings.items in
     let steps = c.in_ok-steps.steps.items in
-    let is : c.in-Some.number ≡ step_asked asked c.in_ok-seatings.seatings.items = search rules in
-    let before = clean_before c.in_ok-steps.ensures.frame.within clean in
-    subst (λ (n : ℕ). AreShown step_row steps (filter (is_row_of_step asked.ceremony n) (rows_at steps_place old.now.trees))) is
-    (read_later (λ db. AreShown step_row steps (filter (is_row_of_step asked.ceremony c.in-Some.number) (rows_at steps_place db)))
-    c.in_ok-seatings.ensures.frame before has (λ h. are_shown step_row _ steps (c.in_ok-steps.ensures.exact clean h)))
+    let number = c.in-Some.number in
+    let is : number ≡ step_asked asked seatings = search rules in
+    let last = c.in_ok-seatings.ensures (last_seating asked.ceremony) refl (λ i. c.number_cell.ensures i ∷ []) in
+    let found = c.in_ok-steps.ensures (row_of_step asked.ceremony number) refl (λ i. c.number_cell-2.ensures i ∷ c.number_cell-3.ensures i ∷ []) in
+    let before = clean_before found.frame.within in record {
+      rows = λ clean t held. step_told asked t.rows.seatings seatings t.rows.steps steps number is (last.rows (before clean) t held)
+          (found.rows clean t (last.frame.holds (before clean) t held));
+      seating = λ clean has. last.exact (before clean) has;
+      step = λ clean has. subst (λ (n : ℕ). AreShown step_row steps (filter (is_row_of_step asked.ceremony n) (rows_at steps_place old.now.trees))) is
+          (read_later (λ db. AreShown step_row steps (filter (is_row_of_step asked.ceremony number) (rows_at steps_place db)))
+          last.frame (before clean) has (λ h. are_shown step_row _ steps (found.exact clean h)));
+      frame = reads_to tt (reads_on last.frame found.frame);
+    }

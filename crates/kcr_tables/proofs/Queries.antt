@@ -1,0 +1,269 @@
+-- The texts that show a part of one table, beside those of the table's own module.
+use Rattle.std.proofs.Common.{◌≡◌, ℕ, pos, ◌&&◌, ◌||◌, not, ◌==◌, nat_le, nat_lt, Bool, true, false, List, [], ◌∷◌, codes, Option, Some, None}
+use Rattle.std.proofs.Common.{refl, sym, ap, subst, ◌∙◌, arith}
+use Rattle.std.specs.Ordering.{is_ge, is_gt, is_eq, int_cmp}
+use Rattle.std.proofs.lemmas.Bool.Decides.{nat_tests}
+use Rattle.std.proofs.lemmas.Cmp.{tied_itself}
+use Rattle.sqlite.specs.declared.types.Value.{Value}
+use Rattle.sqlite.specs.declared.types.Value.TheVariants.{Null, Int, Real, Text, Blob}
+use Rattle.sqlite.specs.Order.{Row, column, value_cmp}
+use Rattle.sqlite.specs.Ops.{is_null, is_true, truth, from_truth, or3, binary}
+use Rattle.sqlite.specs.Term.{Term, lit, col, op2}
+use Rattle.sqlite.specs.Collation.TheVariants.{Binary}
+use Rattle.sqlite.specs.Listing.{understood}
+use Rattle.sqlite_schema.specs.Rules.{equal}
+use Rattle.sqlite_sql.specs.declared.ops.BinaryOp.TheVariants.{Compare, Is, Or}
+use Rattle.sqlite_sql.specs.declared.ops.CompareOp.{CompareOp}
+use Rattle.sqlite_sql.specs.declared.ops.CompareOp.TheVariants.{Eq, Ge, Gt}
+use Rattle.sqlite_sql.specs.Ops as compared
+use Rattle.sqlite_value.specs.Keys.{ascending}
+use Rattle.sqlite_value.proofs.OrderLemmas.{value_cmp-Int, value_cmp_total}
+use Rattle.sqlite_tied.specs.Compute.{everything}
+use Rattle.kcr_base.specs.Same.{same_text}
+use Rattle.kcr_base.specs.Place.{place_text}
+use Rattle.kcr_base.specs.declared.place.Place.{Place as Custodian}
+use Rattle.kcr_people.specs.People.{lasts_beyond, ends_after}
+use Rattle.kcr_history.specs.Views.{is_appointment_to, is_appointment_of, is_seating_of, is_step_at, training_reaches}
+use Rattle.kcr_room.specs.Stays.{stay_reaches, ends_at_or_after}
+use Rattle.kcr_rows.specs.Rows.{appointment_row, key_row, seating_row, stay_row, step_row, training_row}
+use Rattle.kcr_rows.specs.Values.{int_or_null}
+use Rattle.kcr_rows.proofs.FilterLemmas.{value_is}
+use Rattle.kcr_rows.proofs.SameLemmas.{text_ties, place_ties, number_ties}
+use Rattle.kcr_tables.specs.Exact.{has_number, has_text, has_from, is_beyond_row, is_lasting_row, is_row_of_step}
+use Rattle.kcr_tables.specs.Query.{Ordered, Unordered, Last, SelectsLast, Query}
+use Rattle.kcr_tables.specs.Statements.{is_given, key_order, SelectsRows}
+use Rattle.kcr_tables.specs.StoredTables.{appointments_place, keys_place, seatings_place, stays_place, steps_place, trainings_place}
+use Rattle.kcr_tables.specs.AppointmentsLaws as appointments
+use Rattle.kcr_tables.specs.KeysLaws as keys
+use Rattle.kcr_tables.specs.SeatingsLaws as seatings
+use Rattle.kcr_tables.specs.StaysLaws as stays
+use Rattle.kcr_tables.specs.StepsLaws as steps
+use Rattle.kcr_tables.specs.TrainingsLaws as trainings
+use Rattle.kcr_tables.specs.Unordered.{SelectsUnordered}
+use Rattle.kcr_tables.proofs.QueryLemmas.{query}
+
+pub same_text_is : (a b : List ℕ) → (equal Binary (Text a) (Text b) && true) ≡ same_text a b
+same_text_is a b = value_is (Text a) (Text b) refl refl ∙ sym (text_ties a b)
+
+pub same_number_is : (a b : ℕ) → (equal Binary (Int (pos a)) (Int (pos b)) && true) ≡ (a == b)
+same_number_is a b = value_is (Int (pos a)) (Int (pos b)) refl refl ∙ sym (number_ties a b)
+
+-- ---- one row, with the greatest number
+
+-- the last accepted command
+abbrev key_sql : List ℕ
+key_sql = codes "SELECT \"key\", accepted, command, reply FROM keys ORDER BY accepted DESC LIMIT 1"
+
+pub selects_key : SelectsLast key_sql keys_place [] (λ _. true) 1
+unfolding understood everything
+selects_key = record { test = []; project = keys.project; names = keys.names; bare = (refl, refl); is = refl }
+
+abbrev pub last_key : Query keys.table key_row
+last_key = query key_sql [] (Last (λ x. x.accepted)) (λ _. true) (λ _. true) (λ x. refl) (λ x y. keys.one x y tt tt, (1, selects_key, λ x. refl))
+
+-- the stay of a person that began last
+abbrev stay_sql : List ℕ
+stay_sql = codes "SELECT who, since, ceremony, until FROM stays WHERE who = ?1 ORDER BY since DESC LIMIT 1"
+
+pub selects_stay : (who : List ℕ) → SelectsLast stay_sql stays_place (Text who ∷ []) (has_text 0 who) 1
+unfolding understood everything
+selects_stay who = record { test = is_given 1; project = stays.project; names = stays.names; bare = (refl, refl); is = refl }
+
+abbrev pub last_stay : List ℕ → Query stays.table stay_row
+last_stay who = query stay_sql (Text who ∷ []) (Last (λ x. x.since)) (λ x. same_text x.who who) (has_text 0 who) (λ x. same_text_is x.who who)
+    (λ x y. stays.one x y tt tt, (1, selects_stay who, λ x. refl))
+
+-- the appointment to a place that began last
+abbrev to_sql : List ℕ
+to_sql = codes "SELECT place, since, who, until FROM appointments WHERE place = ?1 ORDER BY since DESC LIMIT 1"
+
+pub selects_to : (place : List ℕ) → SelectsLast to_sql appointments_place (Text place ∷ []) (has_text 0 place) 1
+unfolding understood everything
+selects_to place = record { test = is_given 1; project = appointments.project; names = appointments.names; bare = (refl, refl); is = refl }
+
+abbrev pub last_to : Custodian → Query appointments.table appointment_row
+last_to place = query to_sql (Text (place_text place) ∷ []) (Last (λ x. x.since)) (is_appointment_to place) (has_text 0 (place_text place))
+    (λ x. value_is (Text (place_text x.place)) (Text (place_text place)) refl refl ∙ sym (place_ties x.place place))
+    (λ x y. appointments.one x y tt tt, (1, selects_to (place_text place), λ x. refl))
+
+-- the appointment of a person that began last
+abbrev of_sql : List ℕ
+of_sql = codes "SELECT place, since, who, until FROM appointments WHERE who = ?1 ORDER BY since DESC LIMIT 1"
+
+pub selects_of : (who : List ℕ) → SelectsLast of_sql appointments_place (Text who ∷ []) (has_text 2 who) 1
+unfolding understood everything
+selects_of who = record { test = is_given 3; project = appointments.project; names = appointments.names; bare = (refl, refl); is = refl }
+
+abbrev pub last_of : List ℕ → Query appointments.table appointment_row
+last_of who = query of_sql (Text who ∷ []) (Last (λ x. x.since)) (is_appointment_of who) (has_text 2 who) (λ x. same_text_is x.who who)
+    (λ x y. appointments.one x y tt tt, (1, selects_of who, λ x. refl))
+
+-- the last step of a ceremony that has a seating
+abbrev seating_sql : List ℕ
+seating_sql = codes "SELECT ceremony, step, seat, who FROM seatings WHERE ceremony = ?1 ORDER BY step DESC LIMIT 1"
+
+pub selects_seating : (ceremony : ℕ) → SelectsLast seating_sql seatings_place (Int (pos ceremony) ∷ []) (has_number 0 ceremony) 1
+unfolding understood everything
+selects_seating ceremony = record { test = is_given 1; project = seatings.project; names = seatings.names; bare = (refl, refl); is = refl }
+
+abbrev pub last_seating : ℕ → Query seatings.table seating_row
+last_seating ceremony = query seating_sql (Int (pos ceremony) ∷ []) (Last (λ x. x.step)) (is_seating_of ceremony) (has_number 0 ceremony)
+    (λ x. same_number_is x.ceremony ceremony) (λ x y. seatings.one x y tt tt, (1, selects_seating ceremony, λ x. refl))
+
+-- ---- how a text compares an end with a number
+
+pub with_true : (b : Bool) → (b && true) ≡ b
+with_true true = refl
+with_true false = refl
+
+truth_is : (b : Bool) → is_true (from_truth (Some b)) ≡ b
+truth_is true = refl
+truth_is false = refl
+
+-- NULL is not compared, and whatever else there is stands in the order of values
+pub compared_is : (op : CompareOp) (v : Value) (n : ℕ)
+    → is_true (binary (Compare op Binary) v (Int (pos n))) ≡ (not (is_null v) && compared.test op (value_cmp v (Int (pos n))))
+unfolding binary
+compared_is op Null n = refl
+compared_is op (Int m) n = truth_is _
+compared_is op (Real x) n = truth_is _
+compared_is op (Text t) n = truth_is _
+compared_is op (Blob b) n = truth_is _
+
+-- whether there is nothing, or a number that the comparison passes
+abbrev ends : CompareOp → Value → ℕ → Bool
+ends op until n = is_true (binary Or (binary (Is Binary) until Null) (binary (Compare op Binary) until (Int (pos n))))
+
+-- whether one of two tests passes, as SQL tells it
+abbrev either : Bool → Bool → Bool
+either a b = is_true (from_truth (or3 (truth (from_truth (Some a))) (truth (from_truth (Some b)))))
+
+either_is : (b : Bool) → either false b ≡ b
+either_is true = refl
+either_is false = refl
+
+nothing_is : (v : Value) → is_eq (value_cmp v Null) ≡ is_null v
+unfolding value_cmp
+nothing_is Null = ap is_eq (tied_itself value_cmp_total Null)
+nothing_is (Int m) = refl
+nothing_is (Real x) = refl
+nothing_is (Text t) = refl
+nothing_is (Blob b) = refl
+
+pub ends_is : (op : CompareOp) (v : Value) (n : ℕ) → ends op v n ≡ (is_null v || (not (is_null v) && compared.test op (value_cmp v (Int (pos n)))))
+unfolding binary
+ends_is op Null n = ap (λ a. is_true (from_truth (or3 (truth (from_truth (Some a))) None))) (nothing_is Null)
+ends_is op (Int m) n = let b = compared.test op (value_cmp (Int m) (Int (pos n))) in ap (λ a. either a b) (nothing_is (Int m)) ∙ either_is b
+ends_is op (Real x) n = let b = compared.test op (value_cmp (Real x) (Int (pos n))) in ap (λ a. either a b) (nothing_is (Real x)) ∙ either_is b
+ends_is op (Text t) n = let b = compared.test op (value_cmp (Text t) (Int (pos n))) in ap (λ a. either a b) (nothing_is (Text t)) ∙ either_is b
+ends_is op (Blob c) n = let b = compared.test op (value_cmp (Blob c) (Int (pos n))) in ap (λ a. either a b) (nothing_is (Blob c)) ∙ either_is b
+
+pub number_from : (n day : ℕ) → is_ge (value_cmp (Int (pos n)) (Int (pos day))) ≡ nat_le day n
+number_from n day = ap is_ge (value_cmp-Int (pos n) (pos day)) ∙ grind (arith, nat_tests)
+
+number_beyond : (n day : ℕ) → is_gt (value_cmp (Int (pos n)) (Int (pos day))) ≡ nat_lt day n
+number_beyond n day = ap is_gt (value_cmp-Int (pos n) (pos day)) ∙ grind (arith, nat_tests)
+
+-- ---- rows in whatever order, by their end
+
+-- the trainings that last to a day
+abbrev lasting_sql : List ℕ
+lasting_sql = codes "SELECT who, role, since, until FROM trainings WHERE until >= ?1 ORDER BY rowid"
+
+pub selects_lasting : (day : ℕ)
+    → SelectsUnordered lasting_sql trainings_place (Int (pos day) ∷ []) (λ row. is_true (binary (Compare Ge Binary) (column row 3) (Int (pos day))) && true)
+unfolding understood everything
+selects_lasting day = record {
+  test = op2 (Compare Ge Binary) (col 1 4) (col 0 0) ∷ [];
+  project = trainings.project;
+  order = (col 1 0, ascending Binary) ∷ [];
+  names = trainings.names;
+  bare = (refl, refl);
+  is = refl;
+}
+
+abbrev pub lasting : ℕ → Query trainings.table training_row
+lasting day = query lasting_sql (Int (pos day) ∷ []) Unordered (training_reaches day) (has_from 3 day) (λ x. number_from x.until day) (
+  λ x y. trainings.one x y tt tt,
+  subst (SelectsUnordered lasting_sql trainings_place _) (λ i row. (with_true _ ∙ compared_is Ge (column row 3) day) i) (selects_lasting day),
+)
+
+-- the appointments that last beyond a day
+abbrev beyond_sql : List ℕ
+beyond_sql = codes "SELECT place, since, who, until FROM appointments WHERE until IS NULL OR until > ?1 ORDER BY rowid"
+
+pub selects_beyond : (day : ℕ) → SelectsUnordered beyond_sql appointments_place (Int (pos day) ∷ []) (λ row. ends Gt (column row 3) day && true)
+unfolding understood everything
+selects_beyond day = record {
+  test = op2 Or (op2 (Is Binary) (col 1 4) (lit Null)) (op2 (Compare Gt Binary) (col 1 4) (col 0 0)) ∷ [];
+  project = appointments.project;
+  order = (col 1 0, ascending Binary) ∷ [];
+  names = appointments.names;
+  bare = (refl, refl);
+  is = refl;
+}
+
+pub beyond_is : (day : ℕ) (until : Option ℕ)
+    → (is_null (int_or_null until) || (not (is_null (int_or_null until)) && is_gt (value_cmp (int_or_null until) (Int (pos day))))) ≡ ends_after until day
+beyond_is day None = refl
+beyond_is day (Some until) = number_beyond until day
+
+abbrev pub beyond : ℕ → Query appointments.table appointment_row
+beyond day = query beyond_sql (Int (pos day) ∷ []) Unordered (lasts_beyond day) (is_beyond_row day) (λ x. beyond_is day x.until) (
+  λ x y. appointments.one x y tt tt,
+  subst (SelectsUnordered beyond_sql appointments_place _) (λ i row. (with_true _ ∙ ends_is Gt (column row 3) day) i) (selects_beyond day),
+)
+
+-- the stays of a ceremony that last to a moment
+abbrev room_sql : List ℕ
+room_sql = codes "SELECT who, since, ceremony, until FROM stays WHERE ceremony = ?1 AND (until IS NULL OR until >= ?2) ORDER BY since, who"
+
+pub selects_room : (ceremony at : ℕ) → SelectsUnordered room_sql stays_place (Int (pos ceremony) ∷ Int (pos at) ∷ [])
+    (λ row. equal Binary (column row 2) (Int (pos ceremony)) && (ends Ge (column row 3) at && true))
+unfolding understood everything
+selects_room ceremony at = record {
+  test = op2 (Compare Eq Binary) (col 1 3) (col 0 0)
+      ∷ op2 Or (op2 (Is Binary) (col 1 4) (lit Null)) (op2 (Compare Ge Binary) (col 1 4) (col 0 1))
+      ∷ [];
+  project = stays.project;
+  order = (col 1 2, ascending Binary) ∷ (col 1 1, ascending Binary) ∷ [];
+  names = stays.names;
+  bare = (refl, refl);
+  is = refl;
+}
+
+pub room_is : (at : ℕ) (until : Option ℕ)
+    → (is_null (int_or_null until) || (not (is_null (int_or_null until)) && is_ge (value_cmp (int_or_null until) (Int (pos at))))) ≡ ends_at_or_after at until
+room_is at None = refl
+room_is at (Some until) = number_from until at
+
+abbrev pub room : ℕ → ℕ → Query stays.table stay_row
+room ceremony at = query room_sql (Int (pos ceremony) ∷ Int (pos at) ∷ []) Unordered (stay_reaches ceremony at) (is_lasting_row ceremony at)
+    (λ x i. same_number_is x.ceremony ceremony i && room_is at x.until i) (
+      λ x y. stays.one x y tt tt,
+      subst (SelectsUnordered room_sql stays_place _)
+          (λ i row. sym (with_true (equal Binary (column row 2) (Int (pos ceremony)))) i && (with_true _ ∙ ends_is Ge (column row 3) at) i) (selects_room ceremony at),
+    )
+
+-- ---- the row of a step
+
+abbrev step_sql : List ℕ
+step_sql = codes "SELECT ceremony, step, activity, seats, state, at FROM steps WHERE ceremony = ?1 AND step = ?2 ORDER BY ceremony, step"
+
+pub selects_step : (ceremony step : ℕ) → SelectsRows step_sql steps_place (Int (pos ceremony) ∷ Int (pos step) ∷ [])
+    (λ row. equal Binary (column row 0) (Int (pos ceremony)) && has_number 1 step row)
+unfolding understood everything
+selects_step ceremony step = record {
+  test = op2 (Compare Eq Binary) (col 1 1) (col 0 0) ∷ op2 (Compare Eq Binary) (col 1 2) (col 0 1) ∷ [];
+  project = steps.project;
+  order = key_order steps_place;
+  names = steps.names;
+  bare = (refl, refl);
+  is = refl;
+}
+
+abbrev pub row_of_step : ℕ → ℕ → Query steps.table step_row
+row_of_step ceremony step = query step_sql (Int (pos ceremony) ∷ Int (pos step) ∷ []) Ordered (is_step_at ceremony step) (is_row_of_step ceremony step)
+    (λ x i. same_number_is x.ceremony ceremony i && same_number_is x.step step i)
+    (subst (SelectsRows step_sql steps_place _) (λ i row. sym (with_true (equal Binary (column row 0) (Int (pos ceremony)))) i && has_number 1 step row)
+    (selects_step ceremony step))
