@@ -1,5 +1,5 @@
 -- What an opening finds.
-use Rattle.std.proofs.Common.{arith, refl, false, true, ◌≡◌, ◌≢◌, ◌⊎◌, inl, inr, ℕ, ◌+◌, ℤ, pos, [], length, Option, Some, None, Result, Ok, Err, IsTrue, sym, ap, subst, ◌∙◌}
+use Rattle.std.proofs.Common.{arith, refl, false, true, ◌≡◌, ◌≢◌, ◌⊎◌, inl, inr, ℕ, ◌+◌, ℤ, pos, [], length, Option, Some, None, Result, Ok, Err, IfOk, OnOk, IsTrue, sym, ap, subst, ◌∙◌}
 use Rattle.std.specs.Prelude.{IfErr, is_some}
 use Rattle.sqlite.specs.Schema.{Schema}
 use Rattle.sqlite.specs.Table.{Table}
@@ -15,17 +15,19 @@ use Rattle.kcr_history.specs.Tables.{tables}
 use Rattle.kcr_tables.specs.Schema.{register_schema}
 use Rattle.kcr_tables.specs.Creation.{schema_prefix}
 use Rattle.kcr_tables.specs.MachineTables.{HoldsTables}
+use Rattle.kcr_tables.specs.StoredTables.{StoredTables, Holds}
 use Rattle.kcr_tables.proofs.OpenLemmas.{one_schema}
-use Rattle.kcr_older.specs.OldFiles.{AreTablesAs, HoldsHistoryAs}
+use Rattle.kcr_older.specs.OldFiles.{AreTablesAs, HoldsFirst, HoldsHistoryAs, TreesHoldFirst, numbered}
+use Rattle.kcr_older.specs.Migrated.{migrated_tables}
 use Rattle.kcr_older.specs.Versions.{number_of}
 use Rattle.kcr_older.specs.declared.migration.OldVersion.{OldVersion}
 use Rattle.kcr_older.specs.declared.migration.OldVersion.TheVariants as older
 use Rattle.kcr_older.specs.Kind.{IsForeign, IsOfOtherVersion, IsOfVersion, IsForeignSchema, IsTaken, no_schema, numbered_table, version_in}
-use Rattle.kcr_older.proofs.NumberHeld.{IsKnown, has_versions, held_version, older_version, only_version}
+use Rattle.kcr_older.proofs.NumberHeld.{IsKnown, has_versions, held_version, is_numbered, older_version, only_version}
 use Rattle.kcr_store.specs.Stored.{Stores, IsTables}
 use Rattle.kcr_store.specs.Register.{IsSynced, IsDurable}
 use Rattle.sqlite_wal.specs.Recovery.{Image}
-use Rattle.kcr_store.specs.Opening.{IsAnswer, IsAnswerBy, IsMigrated, IsGenuine, HoldsHistory, FilesHoldHistory, IsOpened, RefusesAs}
+use Rattle.kcr_store.specs.Opening.{IsAnswer, IsAnswerBy, IsMigrated, IsGenuine, HoldsHistory, HoldsRowsAs, FilesHoldHistory, FilesHoldRowsAs, IsOpened, MigratesRows, RefusesAs, ShowsRows}
 use Rattle.kcr_store.specs.declared.«open».OpenFault.{OpenFault}
 use Rattle.kcr_store.specs.declared.«open».OpenFault.TheVariants as fault
 use Rattle.kcr_store.specs.Frame.{StaysOutside}
@@ -272,19 +274,64 @@ module _ {S : Type 0} (g : Ghosts S) (old begun : Held S) (is : begun ≡ record
 
 -- ---- a register of an older version, migrated to this version
 
-brought_tables : {version : ℕ} {before : Database} (db : Database) → ((A : History) → HoldsHistoryAs version A before → HoldsTables (tables A) db)
-    → IsMigrated version before db.trees
-brought_tables db holds = record { tables = λ A s. record { register = s.tables.register; kept = (holds A s).tables } }
+brought_tables : {from : OldVersion} {before : Database} (db : Database)
+    → ((A : History) → HoldsHistoryAs (number_of from) A before → HoldsTables (tables A) db)
+    → ((t : StoredTables) → HoldsRowsAs from t before → Holds db (migrated_tables from t)) → IsMigrated from before db.trees
+brought_tables db holds rows = record {
+  tables = λ A s. record { register = s.tables.register; kept = (holds A s).tables };
+  rows = λ t held. (rows t held).kept;
+}
 
 -- and a crash leaves what was there or such tables, whether the commit came or not
 pub renewed_outside : {S : Type 0} (g : Ghosts S) (old begun : Held S) → begun ≡ record old { in_transaction = true } → (mid : State)
-    → Survives (state g begun) mid (λ _. ⊥) → (version : ℕ)
-    → (HasCleanDisk mid → (A : History) → HoldsHistoryAs version A (state g begun).now → HoldsTables (tables A) mid.now)
+    → Survives (state g begun) mid (λ _. ⊥) → (from : OldVersion)
+    → (HasCleanDisk mid → (A : History) → HoldsHistoryAs (number_of from) A (state g begun).now → HoldsTables (tables A) mid.now)
+    → (HasCleanDisk mid → (t : StoredTables) → HoldsRowsAs from t (state g begun).now → Holds mid.now (migrated_tables from t))
     → (end : Held S) → Survives mid (state g end) (λ db. db ≡ mid.now.trees) → end.in_transaction ≡ false
-    → StaysOutside g (IsMigrated version (state g old).now) old end
-renewed_outside g old begun is mid within version brought end then out =
-    made_outside g old begun is mid within end (IsMigrated version (state g old).now) then
-    (λ clean. brought_tables mid.now (λ A stored. brought clean A (begun_has g old begun (HoldsHistoryAs version A) is stored))) out
+    → StaysOutside g (IsMigrated from (state g old).now) old end
+renewed_outside g old begun is mid within from brought rows end then out =
+    made_outside g old begun is mid within end (IsMigrated from (state g old).now) then
+    (λ clean. brought_tables mid.now
+    (λ A stored. brought clean A (begun_has g old begun (HoldsHistoryAs (number_of from) A) is stored))
+    (λ t held. rows clean t (begun_has g old begun (HoldsRowsAs from t) is held))) out
+
+-- ---- the rows of an older version, whoever wrote them
+
+-- a database of another schema has none
+none_as : (from : OldVersion) (db : Database) (t : StoredTables) → (db.schema ≡ no_schema) ⊎ (db.schema ≡ schema_prefix 17)
+    → HoldsFirst (14 + number_of from) db t → ⊥
+none_as older.V1 db t (inl none) h = let e : 0 ≡ 15 = apart none h.schema in omega (arith, e)
+none_as older.V1 db t (inr third) h = let e : 17 ≡ 15 = apart third h.schema in omega (arith, e)
+none_as older.V2 db t (inl none) h = let e : 0 ≡ 16 = apart none h.schema in omega (arith, e)
+none_as older.V2 db t (inr third) h = let e : 17 ≡ 16 = apart third h.schema in omega (arith, e)
+
+pub none_older : {X : Type 0} (old new : State) (result : Result X OpenFault) → (old.now.schema ≡ no_schema) ⊎ (old.now.schema ≡ schema_prefix 17)
+    → IfOk result (λ _. (from : OldVersion) → MigratesRows from old.now new)
+none_older old new (Ok x) is = λ from t h. absurd (none_as from old.now t is h)
+none_older old new (Err e) is = tt
+
+numbered_by : (from : OldVersion) (db : Database) (t : StoredTables) → version_in db ≡ Some (pos (number_of from)) → HoldsFirst (14 + number_of from) db t
+    → t.versions ≡ numbered (number_of from)
+numbered_by from db t number h = is_numbered t.versions (number_of from) (sym (older_version (number_of from) (is_known from) db t h) ∙ number)
+
+-- rows of one older version are none of the other
+one_older : (from other : OldVersion) (before : Database) (after : State) (t : StoredTables) → before.schema ≡ schema_prefix (14 + number_of from)
+    → version_in before ≡ Some (pos (number_of from))
+    → ((t : StoredTables) → HoldsRowsAs from t before → ShowsRows (migrated_tables from t) after)
+    → HoldsFirst (14 + number_of other) before t
+    → (t.versions ≡ numbered (number_of other)) × ShowsRows (migrated_tables other t) after
+one_older older.V1 older.V1 before after t schema number shows h = let is = numbered_by older.V1 before t number h in (is, shows t (h, is))
+one_older older.V2 older.V2 before after t schema number shows h = let is = numbered_by older.V2 before t number h in (is, shows t (h, is))
+one_older older.V1 older.V2 before after t schema number shows h = absurd (let e : 15 ≡ 16 = apart schema h.schema in omega (arith, e))
+one_older older.V2 older.V1 before after t schema number shows h = absurd (let e : 16 ≡ 15 = apart schema h.schema in omega (arith, e))
+
+-- what is taken by the number of the version has it in its rows
+pub older_kept : {X : Type 0} (from : OldVersion) (old new : State) (result : Result X OpenFault) → old.now.schema ≡ schema_prefix (14 + number_of from)
+    → IsAnswerBy (pos (number_of from)) old.now result
+    → ((t : StoredTables) → HoldsRowsAs from t old.now → OnOk result (ShowsRows (migrated_tables from t) new))
+    → IfOk result (λ _. (other : OldVersion) → MigratesRows other old.now new)
+older_kept from old new (Ok x) schema number shows = λ other t h. one_older from other old.now new t schema number shows h
+older_kept from old new (Err e) schema number shows = tt
 
 -- ---- what the files held is what the connection shows
 
@@ -296,3 +343,11 @@ founded_in accepted image s (inr nothing) finds opens lives =
     let none : s.committed.schema ≡ no_schema =
     one_schema s.committed.schema no_schema s.committed.trees refl (lives opens.is_open).1 (empty_is_sound s.committed.trees bare.1) in
     inl (ap (λ (d : Database). d.schema) opens.clean ∙ none, nothing.0)
+
+-- so are the rows of an older version
+pub rows_in : (from : OldVersion) (t : StoredTables) (image : Image) (s : State) → FilesHoldRowsAs from t image → FindsIn image s → Opens s → IsLive s
+    → HoldsFirst (14 + number_of from) s.now t
+rows_in from t image s held finds opens lives =
+    let kept = subst (λ (db : Trees). TreesHoldFirst (14 + number_of from) db t) (sym (finds.holds held.0 held.1)) held.2 in
+    let schema = one_schema s.committed.schema (schema_prefix (14 + number_of from)) s.committed.trees refl (lives opens.is_open).1 kept.sound in
+    subst (λ (d : Database). HoldsFirst (14 + number_of from) d t) (sym opens.clean) (record { schema = schema; kept = kept })

@@ -8,8 +8,13 @@ use Rattle.sqlite.specs.Tree.{Trees}
 use Rattle.sqlite_wal.specs.Recovery.{Image}
 use Rattle.kcr_history.specs.History.{History}
 use Rattle.kcr_tables.specs.Creation.{schema_prefix}
-use Rattle.kcr_older.specs.OldFiles.{AreTablesAs, HoldsHistoryAs}
+use Rattle.kcr_tables.specs.StoredTables.{StoredTables, Holds, TreesHold}
+use Rattle.kcr_older.specs.OldFiles.{AreTablesAs, HoldsFirst, HoldsHistoryAs, TreesHoldFirst, numbered}
 use Rattle.kcr_older.specs.Kind.{IsForeign, IsOfOtherVersion, IsTaken, no_schema, version_in}
+use Rattle.kcr_older.specs.Migrated.{migrated_tables}
+use Rattle.kcr_older.specs.Versions.{number_of}
+use Rattle.kcr_older.specs.declared.migration.OldVersion.{OldVersion}
+use Rattle.kcr_older.specs.declared.migration.OldVersion.TheVariants.{V1, V2}
 use Rattle.kcr_store.specs.declared.«open».OpenFault.{OpenFault}
 use Rattle.kcr_store.specs.declared.«open».OpenFault.TheVariants.{Foreign, Version}
 use Rattle.kcr_store.specs.Register.{IsSynced, RegisterHistory, RegisterState, StandsAt, whole}
@@ -56,22 +61,43 @@ pub record IsOpened (accepted : History) (count : ℕ) (s : State) : Type 0 wher
   pub live : IsTrue s.is_open
   pub counts : count ≡ length accepted
 
--- if a register of the older version held the tables of a history, these are that history's tables
-pub record IsMigrated (version : ℕ) (before : Database) (db : Trees) : Type 0 where
-  pub tables : (A : History) → HoldsHistoryAs version A before → IsTables A db
+-- the database has the schema and the number of the older version, and these rows, whoever wrote them
+abbrev pub HoldsRowsAs : OldVersion → StoredTables → Database → Type 0
+HoldsRowsAs from t db = HoldsFirst (14 + number_of from) db t × (t.versions ≡ numbered (number_of from))
+
+-- the connection shows these rows, and nothing waits
+pub record ShowsRows (t : StoredTables) (s : State) : Type 0 where
+  pub now : Holds s.now t
+  pub committed : Holds s.committed t
+
+-- rows of the older version had its number, and became those that the migration makes of them
+abbrev pub MigratesRows : OldVersion → Database → State → Type 0
+MigratesRows from before after =
+    (t : StoredTables) → HoldsFirst (14 + number_of from) before t
+    → (t.versions ≡ numbered (number_of from)) × ShowsRows (migrated_tables from t) after
+
+-- if a register of the older version held the tables of a history, these are that history's tables; whatever rows it
+-- held, these are those that the migration makes of them
+pub record IsMigrated (from : OldVersion) (before : Database) (db : Trees) : Type 0 where
+  pub tables : (A : History) → HoldsHistoryAs (number_of from) A before → IsTables A db
+  pub rows : (t : StoredTables) → HoldsRowsAs from t before → TreesHold db (migrated_tables from t)
 
 -- what an opening makes of a database, so that a crash may leave it in place of what was there: of an empty one the
--- tables of a new register, of an older one the tables of the same history
+-- tables of a new register, of an older one the tables of the same history, or the migrated rows
 abbrev pub IsOpeningOf : Database → Trees → Type 0
 IsOpeningOf before db =
     ((before.schema ≡ no_schema) × IsTables [] db)
-    ⊎ (((before.schema ≡ schema_prefix 15) × IsMigrated 1 before db) ⊎ ((before.schema ≡ schema_prefix 16) × IsMigrated 2 before db))
+    ⊎ (((before.schema ≡ schema_prefix 15) × IsMigrated V1 before db) ⊎ ((before.schema ≡ schema_prefix 16) × IsMigrated V2 before db))
 
 -- the files held the tables of the history, or, before the first command, no entry at all
 abbrev pub FilesHoldHistory : History → Image → Type 0
 FilesHoldHistory accepted image =
     ((db : Trees) × HoldsDatabase image db × HoldsHistory accepted db)
     ⊎ ((accepted ≡ []) × ((db : Trees) → AreFoundIn image db → IsEmpty db))
+
+-- the files held these rows, as a file of the older version has them
+abbrev pub FilesHoldRowsAs : OldVersion → StoredTables → Image → Type 0
+FilesHoldRowsAs from t image = (db : Trees) × HoldsDatabase image db × TreesHoldFirst (14 + number_of from) db t
 
 -- A STOP, AND THE NEXT OPENING
 

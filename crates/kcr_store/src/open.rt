@@ -15,13 +15,15 @@ ghost use Rattle.kcr_tables.specs.MachineTables.{HoldsTables};
 ghost use Rattle.kcr_older.specs.OldFiles.{HoldsHistoryAs};
 ghost use Rattle.kcr_older.specs.Kind.{IsOfOtherVersion, IsOtherNumber, IsForeignSchema, IsOfKind, no_schema};
 ghost use Rattle.kcr_older.specs.Kind.{numbered_table};
+ghost use Rattle.kcr_older.specs.Migrated.{migrated_tables};
 ghost use Rattle.kcr_older.specs.Versions.{number_of};
 ghost use Rattle.kcr_tables.specs.Refusals.{IsFault};
+ghost use Rattle.kcr_tables.specs.StoredTables.{StoredTables, Holds};
 ghost use Rattle.kcr_store.specs.Frame.{IfCleanOver, StaysOutside};
 ghost use Rattle.kcr_store.specs.Stored.{IsTables, OfStored};
 ghost use Rattle.kcr_store.specs.Register.{IsSynced};
 ghost use Rattle.kcr_store.specs.Opening.{IsGenuine, FilesHoldHistory, IsMigrated, IsOpeningOf, IsOpened, IsAnswer, IsAnswerBy};
-ghost use Rattle.kcr_store.specs.Opening.{GoesByNumber};
+ghost use Rattle.kcr_store.specs.Opening.{GoesByNumber, HoldsRowsAs, MigratesRows, ShowsRows};
 
 use kcr_base::Refusal;
 use kcr_older::{DatabaseKind, OldVersion, database_kind, migrate, version_in};
@@ -255,6 +257,10 @@ fn brought_count<S: Alter>(
     ensures brought { IfClean S.Store tx.old tx.new (λ old new. (A : History)
         → HoldsHistoryAs (number_of from) A old.now
         → IfOk result (λ count. (count ≡ length A) × HoldsTables (tables A) new.now)) }
+
+    // Whoever wrote the rows.
+    ensures rows { IfClean S.Store tx.old tx.new (λ old new. (t : StoredTables) → HoldsRowsAs from t old.now
+        → OnOk result (Holds new.now (migrated_tables from t))) }
     ensures frame { StaysInTransaction S.Store IsFault tx.old tx.new result }
 {
     migrate(alloc, tx, from)?;
@@ -271,6 +277,10 @@ fn renewed_count<S: Alter>(
     ensures brought { IfClean S.Store tx.old tx.new (λ old new. (A : History)
         → HoldsHistoryAs (number_of from) A old.now
         → IfOk result (λ count. (count ≡ length A) × HoldsTables (tables A) new.now)) }
+
+    // Whoever wrote the rows.
+    ensures rows { IfClean S.Store tx.old tx.new (λ old new. (t : StoredTables) → HoldsRowsAs from t old.now
+        → OnOk result (Holds new.now (migrated_tables from t))) }
     ensures frame { StaysInTransaction S.Store (λ _. Unit {0}) tx.old tx.new result }
 {
     if let Err(fault) = expect_number(alloc, tx, from.number()) {
@@ -292,11 +302,15 @@ fn migrate_database<S: Alter>(
     requires autocommit { conn.old.in_transaction ≡ false }
     ensures shows { IfCleanOver S.Store conn.old conn.new (λ old new. (A : History)
         → HoldsHistoryAs (number_of from) A old.now → IfOk result (λ count. IsOpened A count new)) }
+
+    // Whoever wrote the rows.
+    ensures rows { IfCleanOver S.Store conn.old conn.new (λ old new. (t : StoredTables) → HoldsRowsAs from t old.now
+        → OnOk result (ShowsRows (migrated_tables from t) new)) }
     ensures opened { IfCleanOver S.Store conn.old conn.new (λ old _. OnOk result (IsTrue old.is_open)) }
     ensures answer { IfCleanOver S.Store conn.old conn.new (GoesByNumber (number_of from) result) }
     ensures left { IfErr result (λ e. e ≢ OpenFault.Disk
         → Survives (state S.Store conn.old) (state S.Store conn.new) (λ _. ⊥)) }
-    ensures frame { StaysOutside S.Store (IsMigrated (number_of from) (state S.Store conn.old).now) conn.old conn.new }
+    ensures frame { StaysOutside S.Store (IsMigrated from (state S.Store conn.old).now) conn.old conn.new }
 {
     let mut tx = conn.transaction();
     let count = match renewed_count(alloc, &mut tx, from) {
@@ -338,6 +352,10 @@ pub(crate) fn open_or_migrate<S: Alter>(
         → IsGenuine A old → IfOk result (λ count. IsOpened A count new)) }
     ensures taken { IfCleanOver S.Store conn.old conn.new (λ old _. IsTrue old.is_open → (A : History) → IsGenuine A old
         → IfErr result (λ e. (e ≡ OpenFault.Memory) ⊎ (e ≡ OpenFault.Disk))) }
+
+    // Whoever wrote them, the rows of an older version become those that the migration makes of them.
+    ensures older { IfCleanOver S.Store conn.old conn.new
+        (λ old new. IfOk result (λ _. (from : OldVersion) → MigratesRows from old.now new)) }
 
     // What is taken, and each refusal, is what its name says, and no database is two of these.
     ensures answer { IfCleanOver S.Store conn.old conn.new (λ old _. IsAnswer old.now result) }

@@ -57,8 +57,9 @@ impl<S: Alter + Drop> Register<S> {
     ghost use Rattle.sqlite.specs.Held.{Held};
     ghost use Rattle.sqlite.specs.State.{Survives};
     ghost use Rattle.kcr_older.specs.Kind.{IsForeignSchema, IsTaken, no_schema};
+    ghost use Rattle.kcr_older.specs.declared.migration.OldVersion.{OldVersion};
     ghost use Rattle.kcr_store.specs.Register.{IsConsistent, StandsAt, whole};
-    ghost use Rattle.kcr_store.specs.Opening.{IsGenuine, IsOpeningOf, RefusesAs};
+    ghost use Rattle.kcr_store.specs.Opening.{IsGenuine, IsOpeningOf, MigratesRows, RefusesAs};
 
     /// Takes a database that is empty or a register's. An empty one gets its tables, and a register of version 1 or 2
     /// is migrated to this version, which is 3, each in one transaction: the stays are made of the sheet, and there are
@@ -81,6 +82,11 @@ impl<S: Alter + Drop> Register<S> {
         ensures taken { IfErr result (λ e. (A : History) → IsGenuine A (state S.Store connection)
             → IsTrue (state S.Store connection).is_open → HasCleanDisk (state S.Store e.1)
             → (e.0 ≡ OpenFault.Memory) ⊎ (e.0 ≡ OpenFault.Disk)) }
+
+        // Whoever wrote them: the valid rows of a register of version 1 or 2 become those that the migration makes of
+        // them.
+        ensures older { IfOk result (λ r. HasCleanDisk (state S.Store r.conn) → (from : OldVersion)
+            → MigratesRows from (state S.Store connection).now (state S.Store r.conn)) }
 
         // What is taken is empty or a register's, and each refusal is what its name says: no database is two of these.
         ensures answer { MatchResult result
@@ -149,7 +155,11 @@ impl Register<MemStore> {
 impl<F: Start> Register<FileStore<FileFrom<F>>> {
     ghost use Rattle.sqlite.specs.Files.{over_files};
     ghost use Rattle.sqlite.specs.WalFiles.{image_at};
-    ghost use Rattle.kcr_store.specs.Opening.{FilesHoldHistory};
+    ghost use Rattle.sqlite.specs.Held.{state};
+    ghost use Rattle.kcr_older.specs.Migrated.{migrated_tables};
+    ghost use Rattle.kcr_older.specs.declared.migration.OldVersion.{OldVersion};
+    ghost use Rattle.kcr_tables.specs.StoredTables.{StoredTables};
+    ghost use Rattle.kcr_store.specs.Opening.{FilesHoldHistory, FilesHoldRowsAs, ShowsRows};
     ghost use Rattle.kcr_store.specs.Register.{IsConsistent, StandsAt, whole};
 
     /// Opens the register in the file at the path and its log beside it, as `adopt` takes a database; a file that is
@@ -160,6 +170,11 @@ impl<F: Start> Register<FileStore<FileFrom<F>>> {
         ensures unbroken { IfOk result (λ r. r.is_broken ≡ false) }
         ensures stands { IfOk result (λ r. (A : History) → FilesHoldHistory A (image_at F.Start)
             → StandsAt over_files (whole A) r) }
+
+        // Valid rows of version 1 or 2, whoever wrote them, become those that the migration makes of them.
+        ensures older { IfOk result (λ r. HasCleanDisk (state over_files r.conn) → (from : OldVersion)
+            → (t : StoredTables) → FilesHoldRowsAs from t (image_at F.Start)
+            → ShowsRows (migrated_tables from t) (state over_files r.conn)) }
         ensures kept { IfOk result (IsConsistent over_files) }
     {
         let connection = connect(rt, path, start)?;

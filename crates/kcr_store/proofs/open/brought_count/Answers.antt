@@ -9,3 +9,8 @@ returns-clause-brought g c clean A s =
     let held = c.in_ok-migrate.ensures.brought (clean_before c.last_number.ensures.frame.within clean) A s in
     both_ok _ _ c.last_number.result (c.last_number.ensures.count clean A (λ _. brought_stores A _ s.tables.register held))
     (c.last_number.ensures.frame.tables clean (tables A) held)
+
+pub returns-clause-rows : goal.returns-clause-rows
+returns-clause-rows g c clean t held =
+    let before = clean_before c.last_number.ensures.frame.within clean in
+    c.last_number.ensures.frame.holds clean _ (c.in_ok-migrate.ensures.rows before t held.0 held.1)

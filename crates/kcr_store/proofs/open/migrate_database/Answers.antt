@@ -7,7 +7,10 @@ use Rattle.kcr_older.specs.Versions.{number_of}
 use Rattle.kcr_rows.proofs.InsideLemmas.{was_clean}
 use Rattle.kcr_tables.specs.Creation.{schema_prefix}
 use Rattle.kcr_store.specs.Frame.{StaysOutside}
-use Rattle.kcr_store.specs.Opening.{IsMigrated, IsOpened, RefusesBy}
+use Rattle.kcr_older.specs.Migrated.{migrated_tables}
+use Rattle.kcr_tables.specs.StoredTables.{Holds}
+use Rattle.sqlite.specs.Effect.{Database}
+use Rattle.kcr_store.specs.Opening.{HoldsRowsAs, IsMigrated, IsOpened, RefusesBy, ShowsRows}
 use Rattle.kcr_store.specs.Stored.{Stores}
 use Rattle.kcr_store.proofs.OpenLemmas.{begun_says, renewed_outside}
 use Rattle.kcr_store.proofs.StoreLemmas.{brought_stores}
@@ -35,11 +38,25 @@ returns-in-Ok-commit-clause-shows g c clean A s =
     } in
     search rules
 
+pub returns-in-Ok-commit-clause-rows : goal.returns-in-Ok-commit-clause-rows
+returns-in-Ok-commit-clause-rows g c clean t held =
+    let at : HasCleanDisk (state g.S.Store c.commit.new.self.0) = search rules in
+    let before = was_clean _ _ _ c.commit.ensures.survives at in
+    let was = begun_has g.S.Store c.args.conn.now _ (HoldsRowsAs c.args.from t) c.transaction-tx.ensures.begun held in
+    let made = c.in-Ok.ensures.rows before t was in
+    let done = (c.in-Ok-commit.ensures.ok at).1 in
+    let now = migrated_tables c.args.from t in
+    let shown : ShowsRows now (state g.S.Store c.commit.new.self.0) = record {
+      now = subst (λ (db : Database). Holds db now) (sym done.now_is) made;
+      committed = subst (λ (db : Database). Holds db now) (sym done.committed_is) made;
+    } in
+    search rules
+
 pub returns-in-Ok-commit-clause-frame : goal.returns-in-Ok-commit-clause-frame
 returns-in-Ok-commit-clause-frame g c =
     let left =
-    renewed_outside g.S.Store c.args.conn.now _ c.transaction-tx.ensures.begun _ c.renewed_count.ensures.frame.survives (number_of c.args.from)
-    (λ clean A s. (c.in-Ok.ensures.brought clean A s).1) c.commit.new.self.0 c.commit.ensures.survives c.commit.ensures.ended in
+    renewed_outside g.S.Store c.args.conn.now _ c.transaction-tx.ensures.begun _ c.renewed_count.ensures.frame.survives c.args.from
+    (λ clean A s. (c.in-Ok.ensures.brought clean A s).1) c.in-Ok.ensures.rows c.commit.new.self.0 c.commit.ensures.survives c.commit.ensures.ended in
     search rules
 
 -- ---- out of memory at the commit: the store is asked whether it is still open
@@ -58,10 +75,10 @@ returns-in-Err-SqliteFailure-OutOfMemory-clause-left g c other =
 pub returns-in-Err-SqliteFailure-OutOfMemory-clause-frame : goal.returns-in-Err-SqliteFailure-OutOfMemory-clause-frame
 returns-in-Err-SqliteFailure-OutOfMemory-clause-frame g c =
     let left =
-    renewed_outside g.S.Store c.args.conn.now _ c.transaction-tx.ensures.begun _ c.renewed_count.ensures.frame.survives (number_of c.args.from)
-    (λ clean A s. (c.in-Ok.ensures.brought clean A s).1) c.commit.new.self.0 c.commit.ensures.survives c.commit.ensures.ended in
+    renewed_outside g.S.Store c.args.conn.now _ c.transaction-tx.ensures.begun _ c.renewed_count.ensures.frame.survives c.args.from
+    (λ clean A s. (c.in-Ok.ensures.brought clean A s).1) c.in-Ok.ensures.rows c.commit.new.self.0 c.commit.ensures.survives c.commit.ensures.ended in
     let told : StaysOutside g.S.Store (λ _. ⊥) c.commit.new.self.0 c.commit_fault.new.conn = search rules in
-    outside_then g.S.Store (IsMigrated (number_of c.args.from) (state g.S.Store c.args.conn.now).now) c.args.conn.now c.commit.new.self.0
+    outside_then g.S.Store (IsMigrated c.args.from (state g.S.Store c.args.conn.now).now) c.args.conn.now c.commit.new.self.0
     c.commit_fault.new.conn left told
 
 -- ---- the device failed at the commit, which may have been made
@@ -69,10 +86,11 @@ returns-in-Err-SqliteFailure-OutOfMemory-clause-frame g c =
 pub returns-in-Err-commit : goal.returns-in-Err-commit
 returns-in-Err-commit g c =
     let left =
-    renewed_outside g.S.Store c.args.conn.now _ c.transaction-tx.ensures.begun _ c.renewed_count.ensures.frame.survives (number_of c.args.from)
-    (λ clean A s. (c.in-Ok.ensures.brought clean A s).1) c.commit.new.self.0 c.commit.ensures.survives c.commit.ensures.ended in
+    renewed_outside g.S.Store c.args.conn.now _ c.transaction-tx.ensures.begun _ c.renewed_count.ensures.frame.survives c.args.from
+    (λ clean A s. (c.in-Ok.ensures.brought clean A s).1) c.in-Ok.ensures.rows c.commit.new.self.0 c.commit.ensures.survives c.commit.ensures.ended in
     record {
       shows = λ clean A s. tt;
+      rows = λ clean t held. tt;
       opened = λ clean. tt;
       answer = λ clean live is. tt;
       left = λ other. absurd (other refl);

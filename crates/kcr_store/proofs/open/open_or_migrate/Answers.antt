@@ -1,10 +1,12 @@
-use Rattle.std.proofs.Common.{rules, ap, length, sym}
+use Rattle.std.proofs.Common.{rules, ap, inl, inr, length, sym, ℕ}
 use Rattle.sqlite.specs.Held.{state}
 use Rattle.kcr_history.specs.History.{History}
 use Rattle.kcr_rows.proofs.InsideLemmas.{was_clean}
 use Rattle.kcr_store.proofs.WholeLemmas.{if_ok}
 use Rattle.kcr_store.proofs.OpenLemmas.{is_taken, nothing_accepted, number_answer, of_empty, of_ours, of_first_version, of_second_version, of_strange}
-use Rattle.kcr_store.proofs.OpenLemmas.{known_1, known_2, known_3}
+use Rattle.kcr_store.proofs.OpenLemmas.{known_1, known_2, known_3, none_older, older_kept}
+use Rattle.kcr_older.specs.declared.migration.OldVersion.TheVariants as older
+use Rattle.std.specs.Prelude.{Ok}
 use Rattle.kcr_store.proofs.open.open_or_migrate.Goals as goal
 
 pub returns-in-Ok-clause-found : goal.returns-in-Ok-clause-found
@@ -68,3 +70,21 @@ returns-in-Versioned-clause-taken g c clean live accepted founded =
 pub returns-in-Foreign-clause-taken : goal.returns-in-Foreign-clause-taken
 returns-in-Foreign-clause-taken g c clean live accepted founded =
     absurd (of_strange accepted (state g.S.Store c.args.conn.now) (search rules) c.inspect.ensures.live clean live founded (search rules))
+
+-- ---- the rows of an older version
+
+pub returns-in-Ok-clause-older : goal.returns-in-Ok-clause-older
+returns-in-Ok-clause-older g c clean = none_older {X = ℕ} (state g.S.Store c.args.conn.now) _ (Ok 0) (inl (search rules))
+
+pub returns-in-Current-clause-older : goal.returns-in-Current-clause-older
+returns-in-Current-clause-older g c clean = none_older (state g.S.Store c.args.conn.now) _ c.open_current.result (inr (search rules))
+
+pub returns-in-Version2-clause-older : goal.returns-in-Version2-clause-older
+returns-in-Version2-clause-older g c clean =
+    older_kept older.V2 (state g.S.Store c.args.conn.now) _ c.migrate_database.result (search rules)
+    (c.migrate_database.ensures.answer clean c.inspect.ensures.live (search rules)) (c.migrate_database.ensures.rows clean)
+
+pub returns-in-Version1-clause-older : goal.returns-in-Version1-clause-older
+returns-in-Version1-clause-older g c clean =
+    older_kept older.V1 (state g.S.Store c.args.conn.now) _ c.migrate_database-in-Version1.result (search rules)
+    (c.migrate_database-in-Version1.ensures.answer clean c.inspect.ensures.live (search rules)) (c.migrate_database-in-Version1.ensures.rows clean)

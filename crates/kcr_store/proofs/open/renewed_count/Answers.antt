@@ -4,7 +4,7 @@ use Rattle.kcr_rows.proofs.FrameLemmas.{clean_before}
 use Rattle.kcr_older.specs.OldFiles.{HoldsHistoryAs}
 use Rattle.kcr_older.specs.Kind.{version_in}
 use Rattle.kcr_older.specs.Versions.{number_of}
-use Rattle.kcr_store.specs.Opening.{RefusesBy}
+use Rattle.kcr_store.specs.Opening.{HoldsRowsAs, RefusesBy}
 use Rattle.kcr_store.proofs.OpenLemmas.{is_known, still_has, there}
 use Rattle.kcr_store.proofs.open.renewed_count.Goals as goal
 
@@ -25,3 +25,10 @@ returns-in-Ok-clause-brought g c clean A s =
     let same = c.in_default.ensures.same before (there (number_of c.args.from) (is_known c.args.from) _ s.schema) in
     c.in-Ok.ensures.brought clean A
     (still_has (HoldsHistoryAs (number_of c.args.from) A) (state g.S.Store c.args.tx.now.conn.now) (state g.S.Store c.expect_number.new.tx.conn.now) same s)
+
+pub returns-in-Ok-clause-rows : goal.returns-in-Ok-clause-rows
+returns-in-Ok-clause-rows g c clean t held =
+    let before = clean_before c.brought_count.ensures.frame clean in
+    let same = c.in_default.ensures.same before (there (number_of c.args.from) (is_known c.args.from) _ held.0.schema) in
+    c.in-Ok.ensures.rows clean t
+    (still_has (HoldsRowsAs c.args.from t) (state g.S.Store c.args.tx.now.conn.now) (state g.S.Store c.expect_number.new.tx.conn.now) same held)
