@@ -1,3 +1,4 @@
 pub mod Audits
 pub mod Verifications
 pub mod Runs
+pub mod Places

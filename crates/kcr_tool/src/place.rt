@@ -1,4 +1,6 @@
 //! The place of a file that a task makes.
+ghost use Rattle.std.specs.Prelude.{◌≡◌, ◌≢◌, false};
+ghost use Rattle.kcr_tool.specs.Places.{removal_after};
 
 use kcr_fault::{Fault, Step};
 use std::alloc::AllocError;
@@ -57,20 +59,55 @@ pub fn remove_log(rt: &HostRuntime, path: &str) -> io::Result<()> {
     Ok(())
 }
 
+/// What is taken away once a task that was to make a file has ended.
+#[derive(Clone, Copy)]
+enum Removal {
+    Nothing,
+    File,
+    FileAndLog,
+}
+
+/// What is taken away, by what was there before, whether the file has a byte, and how the task ended.
+fn removal_after(before: Place, has_bytes: bool, ended: &Result<u8, Fault>) -> Removal
+    ensures value { result ≡ removal_after before has_bytes ended.now }
+
+    // What was there before stays.
+    ensures file { result ≢ Removal.Nothing → before.has_file ≡ false }
+    ensures log { result ≡ Removal.FileAndLog → before.has_log ≡ false }
+{
+    match ended {
+        Ok(_) | Err(Fault::IntoFile(Step::Locking)) => Removal::Nothing,
+        Err(_) if has_bytes || before.has_file => Removal::Nothing,
+        Err(_) if before.has_log => Removal::File,
+        Err(_) => Removal::FileAndLog,
+    }
+}
+
+/// Takes away a file that was not there before.
+fn remove_new_file(rt: &HostRuntime, path: &str, before: Place)
+    requires { before.has_file ≡ false }
+{
+    let _ = fs::remove_file(rt, path);
+}
+
+/// Takes away the log beside a file, which was not there before.
+fn remove_new_log(rt: &HostRuntime, path: &str, before: Place)
+    requires { before.has_log ≡ false }
+{
+    if let Ok(log) = log_of(rt, path) {
+        let _ = fs::remove_file(rt, log.as_str());
+    }
+}
+
 /// Takes away the file that a task has made, and the log that it made beside it, if the task failed before the file had a
 /// byte. What was there before stays, as does a file that another process has open.
 pub fn take_back(rt: &HostRuntime, path: &str, before: Place, ended: &Result<u8, Fault>) {
-    let is_kept = match ended {
-        Ok(_) | Err(Fault::IntoFile(Step::Locking)) => true,
-        Err(_) => before.has_file,
-    };
-    if is_kept || has_bytes(rt, path) {
-        return;
-    }
-    if !before.has_log {
-        if let Ok(log) = log_of(rt, path) {
-            let _ = fs::remove_file(rt, log.as_str());
+    match removal_after(before, has_bytes(rt, path), ended) {
+        Removal::Nothing => {}
+        Removal::File => remove_new_file(rt, path, before),
+        Removal::FileAndLog => {
+            remove_new_log(rt, path, before);
+            remove_new_file(rt, path, before);
         }
     }
-    let _ = fs::remove_file(rt, path);
 }
