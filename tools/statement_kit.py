@@ -34,6 +34,7 @@ KIT = [
     ("std", "min max", "The lesser and the greater of two numbers."),
     ("std", "Ordering Less nat_cmp is_lt",
      "What a comparison answers, that of two numbers, and the test for `Less`."),
+    ("std", "match_ordering", "Of three values the first for `Less`, the second for `Equal`, the third for `Greater`."),
     ("std", "slice_cmp",
      "The order of two lists by their first elements that differ; a prefix is before the longer list."),
     ("std", "pointwise", "Two lists have one length, and the test holds at each place."),
