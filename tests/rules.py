@@ -256,12 +256,12 @@ def wrong_replies(program, room):
     lines = replies.read_text().splitlines()
     place = next(number for number, line in enumerate(lines) if "seating" in line)
     told = json.loads(lines[place])
-    other = check.compact({**told, "seating": told["seating"][::-1] if len(set(told["seating"])) > 1 else ["ZZ"]})
+    other = check.compact({**told, "seating": ["ZZ", *told["seating"][1:]]})
     request = list(check.requests_of(export.read_bytes()))[place]
     last = list(check.requests_of(export.read_bytes()))[-1]
     for changed, line in [
             ([*lines[:place], other, *lines[place + 1:]],
-             f"{place + 1} POST {request[1]}: expected 200 {lines[place]}; found 200 {other}"),
+             f"{place + 1} POST {request[1]}: expected 200 {lines[place]}; found 200 {other}; no seating"),
             (lines[:-1], f"{len(lines)} POST {last[1]}: expected 200 {lines[-1]}; found 0 nothing"),
             ([*lines, lines[-1]], f"{len(lines)} requests have {len(lines) + 1} answers")]:
         replies.write_text("".join(f"{text}\n" for text in changed))
@@ -289,7 +289,7 @@ def least_shortages(_program, _room):
     for seats in ([1], [0, 1], [1, 2], [0, 1, 2], [0], [2], [0, 2]):
         expect(f"{seats}", seats == [1], check.is_least_shortage(eligible, seats))
     both_empty = Asked()
-    both_empty.lacking = [[], [], ["EA"]]
+    both_empty.asked = [[], [], ["EA"]]
     wanted = (409, '{"number":32,"refusal":"short","seats":[1]}')
     for seats, is_right in ((b"1", True), (b"2", True), (b"3", False), (b"1,2", False), (b"2,1", False), (b"4", False),
                             (b"", False)):

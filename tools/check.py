@@ -324,7 +324,7 @@ class Register:
         self.is_open = {(facility, safe): False for facility in FACILITIES for safe in (1, 2)}
         self.bags = {}  # serial -> its spot
         self.items = {}  # code -> ("loose", facility) or ("bag", serial)
-        self.lacking = []  # at the last shortage, the people eligible for each seat
+        self.asked = []  # of the seats that were asked for last, the people eligible for each
 
     def answer(self, method, target, body):
         """The answer to a command: the status and the text of its body."""
@@ -426,9 +426,8 @@ class Register:
 
     def seating(self, ceremony, seats, at):
         """The first seating, or 32 with a least shortage."""
-        eligible = self.eligible(ceremony, seats, at)
+        eligible = self.asked = self.eligible(ceremony, seats, at)
         if not can_be_filled(eligible):
-            self.lacking = eligible
             raise Refused(32, seats=[seat + 1 for seat in least_shortage(eligible)])
         return first_seating(eligible)
 
@@ -710,8 +709,20 @@ def is_right(register, wanted, got):
         return False
     named = re.fullmatch(rb'\{"number":32,"refusal":"short","seats":\[([1-9][0-9]?(?:,[1-9][0-9]?)*)\]\}', got[1])
     seats = [int(seat) - 1 for seat in named[1].split(b",")] if named and got[0] == 409 else []
-    return (seats != [] and seats == sorted(set(seats)) and seats[-1] < len(register.lacking)
-            and is_least_shortage(register.lacking, seats))
+    return (seats != [] and seats == sorted(set(seats)) and seats[-1] < len(register.asked)
+            and is_least_shortage(register.asked, seats))
+
+
+def seating_word(register, wanted, found):
+    """Of a reply that differs in its people alone: whether they fill the seats."""
+    try:
+        told, people = json.loads(wanted), json.loads(found)["seating"]
+    except (ValueError, KeyError, TypeError):
+        return ""
+    if not list_of(is_initials, 16)(people) or compact({**told, "seating": people}) != found or "seating" not in told:
+        return ""
+    fills = len(people) == len(register.asked) and all(map(list.__contains__, register.asked, people))
+    return "; a seating, but not the first" if fills else "; no seating"
 
 
 def play(register, stream, answers=None):
@@ -727,7 +738,8 @@ def play(register, stream, answers=None):
         got = wanted if given is None else given[number - 1] if number <= len(given) else (0, b"nothing")
         if given is not None and not is_right(register, wanted, got):
             found = got[1].decode(errors="replace")
-            wrong.append(f"{what}: expected {wanted[0]} {wanted[1]}; found {got[0]} {found}")
+            wrong.append(f"{what}: expected {wanted[0]} {wanted[1]}; found {got[0]} {found}"
+                         + seating_word(register, wanted[1], found))
     if given is not None and len(given) > len(requests):
         wrong.append(f"{len(requests)} requests have {len(given)} answers")
     return played, wrong
