@@ -1,5 +1,5 @@
 #!/usr/bin/env python3
-"""What an auditor finds: 69 things that somebody with sqlite3 can do to a register's file, and what is said of each.
+"""What an auditor finds: 71 things that somebody with sqlite3 can do to a register's file, and what is said of each.
 
     tests/audit.py PROGRAM [NAME ..]
 
@@ -12,6 +12,9 @@ with, and each of four is asked, with the answer that the rules give:
 - the comparison of docs/AUDIT.md with the copy: the numbers of the commands that are gone or changed, and how many
   commands there are, with the greatest number
 - the anchor: whether the export up to 74 still has the digest
+
+If the file can be opened, `tools/differences.py` lists the rows that differ from those of a new file which got its
+commands: as many as SQL finds. `tools/check.py` says of a stored seating that is not the first whether it is one.
 
 With names only the tests with these names run. The last line is `N passed, M failed`, and the status is 0 where none
 failed.
@@ -30,6 +33,7 @@ import os
 import pathlib
 import re
 import sqlite3
+import subprocess
 import tempfile
 
 import kcr
@@ -119,6 +123,8 @@ STREAM = r"""
 """
 ALL = set(range(1, LAST + 1))
 EPOCH = datetime.datetime(1970, 1, 1)
+VERIFIED = ("keys people trainings withdrawals appointments boxes safes bags items ceremonies marks steps seatings "
+            "sheet stays exceptions").split()
 
 
 def day(text):
@@ -200,6 +206,12 @@ def finding(text):
     return f"finding: {text}\n".encode(), b"", 1
 
 
+def reply(number, *seating):
+    """The reply to a command, with the people of step 1 if there are any."""
+    people = ",".join(f'"{who}"' for who in seating)
+    return f'{{"accepted":{number},"seating":[{people}],"step":1}}' if seating else f'{{"accepted":{number}}}'
+
+
 def row(table, expected, found):
     """The first row of a table that differs. A row is written as sqlite3 does in its mode `quote`."""
     return finding(f"table {table}\nrow: expected {quoted(expected)}; found {quoted(found)}")
@@ -213,13 +225,14 @@ def quoted(values):
                     for value in values)
 
 
-Tampering = collections.namedtuple("Tampering", "name what audit verify compare anchor make")
+Tampering = collections.namedtuple("Tampering", "name what audit verify compare anchor seated lists make")
 TAMPERINGS = []
 
 
-def tampering(name, what, *, audit=NOTHING, verify, compare=EVERY_ROW, anchor=SAME, make):
-    """Adds something that is done to a file: SQL statements, or a call that makes the file."""
-    TAMPERINGS.append(Tampering(name, what, audit, verify, compare, anchor, make))
+def tampering(name, what, *, audit=NOTHING, verify, compare=EVERY_ROW, anchor=SAME, seated=None, lists=None, make):
+    """Adds something that is done to a file: SQL statements, or a call that makes the file. `seated` is what is said of
+    a stored seating, and `lists` what `tools/differences.py` prints, if a test gives it."""
+    TAMPERINGS.append(Tampering(name, what, audit, verify, compare, anchor, seated, lists, make))
 
 
 def judged(kept, done):
@@ -239,6 +252,53 @@ def asked(kept, done, file):
         expect(word, wanted, (output, faults.replace(bytes(file), b"FILE"), status))
     expect("the comparison", done.compare, compared(kept, file))
     expect("the anchor", done.anchor, SAME if digest(kept.program, file) == kept.digest else OTHER)
+    if done.verify not in (FOREIGN, VERSION):
+        export, made = (file.with_name(name) for name in ("export", "made"))
+        export.write_bytes(call(kept.program, "export", "--file", file)[0])
+        call(kept.program, "run", "--file", made, stream=export.read_bytes())
+        listed(file, made, done.lists)
+    if done.seated is not None:
+        replies = file.with_name("replies")
+        with kcr.opened(file) as database:
+            kept_ones = database.execute("SELECT reply FROM keys ORDER BY accepted").fetchall()
+        replies.write_text("".join(f"{text}\n" for text, in kept_ones))
+        output, _ = tool("check", export, "--answers", replies)
+        expect("the seating", [done.seated], re.findall(r"(?m)found .*; ([a-z, ]*)$", output))
+
+
+def tool(name, *words):
+    """What a tool prints, and its status."""
+    run = subprocess.run([sys.executable, HERE.parent / "tools" / f"{name}.py", *map(str, words)], capture_output=True,
+                         timeout=kcr.SECONDS)
+    expect(f"standard error of {name}", b"", run.stderr)
+    return run.stdout.decode(), run.returncode
+
+
+def differing(file, made):
+    """The tables in which two files differ, each with the number of keys whose rows differ, as SQL counts them."""
+    with kcr.opened(file) as database:
+        database.execute("ATTACH ? AS made", (str(made),))
+        for table in VERIFIED:
+            columns = database.execute(f"PRAGMA table_info({table})").fetchall()
+            key = ", ".join(f'"{name}"' for _, name, _, _, _, place in columns if place)
+            sides = [f"SELECT {key} FROM (SELECT * FROM {one}.{table} EXCEPT SELECT * FROM {other}.{table})"
+                     for one, other in (("main", "made"), ("made", "main"))]
+            count, = database.execute(f"SELECT count(*) FROM ({' UNION '.join(sides)})").fetchone()
+            if count:
+                yield f"{table} {count}"
+
+
+def listed(file, made, lists):
+    """The rows that differ from those of a new file are listed by table, each table with as many as SQL counts."""
+    wanted, counts, table = list(differing(file, made)), collections.Counter(), None
+    output, status = tool("differences", file, made)
+    *lines, last = output.splitlines()
+    expect("the counts", (f"differences: {', '.join(wanted) or 'none'}", int(wanted != [])), (last, status))
+    for line in lines:
+        table = line.removeprefix("table ") if line.startswith("table ") else table
+        counts[table] += line.startswith("row: expected ")
+    expect("the lines", wanted, [f"{table} {count}" for table, count in counts.items()])
+    expect("the rows", lines if lists is None else lists, lines)
 
 
 # Rows alone: `verify` finds each, since the commands give other rows
@@ -261,6 +321,8 @@ tampering("step_moment", "a step is signed a minute later", verify=row("steps", 
           make=["UPDATE steps SET at = at + 60 WHERE ceremony = 1 AND step = 1"])
 tampering("seating_swapped", "two people who both fit both seats change places",
           verify=row("seatings", (1, 1, 1, "AA"), (1, 1, 1, "BB")),
+          lists=["table seatings", "row: expected 1,1,1,'AA'; found 1,1,1,'BB'",
+                 "row: expected 1,1,2,'BB'; found 1,1,2,'AA'"],
           make=["UPDATE seatings SET who = CASE who WHEN 'AA' THEN 'BB' ELSE 'AA' END WHERE ceremony = 1 AND step = 1"])
 tampering("exception_deleted", "an exception is gone",
           verify=row("exceptions", RANG, (2, 1, "The printer is broken", PASSED, 3)),
@@ -343,20 +405,27 @@ tampering("one_alone", "by sheet and stays all but one go out a second early",
 
 # Replies: an export has none, so the anchor cannot tell
 
-tampering("seating_and_reply", "two people of a seating change places, in the reply too", verify=finding("reply 26"),
-          compare=({26}, (LAST, LAST)),
+tampering("seating_and_reply", "two people of a seating change places, in the reply too", compare=({26}, (LAST, LAST)),
+          verify=finding("reply 26"), seated="a seating, but not the first",
           make=["UPDATE seatings SET who = CASE who WHEN 'AA' THEN 'BB' ELSE 'AA' END WHERE ceremony = 1 AND step = 1",
-                """UPDATE keys SET reply = '{"accepted":26,"seating":["BB","AA"],"step":1}' WHERE accepted = 26"""])
-tampering("another_seated", "another person who fits has the seat, in the reply too", verify=finding("reply 26"),
-          compare=({26}, (LAST, LAST)),
+                f"UPDATE keys SET reply = '{reply(26, 'BB', 'AA')}' WHERE accepted = 26"])
+tampering("another_seated", "another person who fits has the seat, in the reply too", compare=({26}, (LAST, LAST)),
+          verify=finding("reply 26"), seated="a seating, but not the first",
           make=["UPDATE seatings SET who = 'DD' WHERE ceremony = 1 AND step = 1 AND seat = 1",
-                """UPDATE keys SET reply = '{"accepted":26,"seating":["DD","BB"],"step":1}' WHERE accepted = 26"""])
-tampering("reply", "a reply has another number", verify=finding("reply 50"), compare=({50}, (LAST, LAST)),
-          make=["""UPDATE keys SET reply = '{"accepted":51}' WHERE accepted = 50"""])
-tampering("reply_blank", "a reply has a blank more", verify=finding("reply 50"), compare=({50}, (LAST, LAST)),
+                f"UPDATE keys SET reply = '{reply(26, 'DD', 'BB')}' WHERE accepted = 26"])
+tampering("visitor_and_reply", "a visitor sits in a seat, in the reply too", audit=finding("seating 1 1"),
+          compare=({26}, (LAST, LAST)), verify=finding("reply 26"),
+          seated="no seating",
+          make=["UPDATE seatings SET who = 'VV' WHERE ceremony = 1 AND step = 1 AND seat = 1",
+                f"UPDATE keys SET reply = '{reply(26, 'VV', 'BB')}' WHERE accepted = 26"])
+tampering("reply", "a reply has another number", compare=({50}, (LAST, LAST)),
+          verify=finding("reply 50"),
+          make=[f"UPDATE keys SET reply = '{reply(51)}' WHERE accepted = 50"])
+tampering("reply_blank", "a reply has a blank more", compare=({50}, (LAST, LAST)),
+          verify=finding("reply 50"),
           make=["""UPDATE keys SET reply = '{"accepted": 50}' WHERE accepted = 50"""])
-tampering("numbers_swapped", "two commands change their numbers and keep their replies", verify=finding("reply 1"),
-          compare=({1, 2}, (LAST, LAST)), anchor=OTHER,
+tampering("numbers_swapped", "two commands change their numbers and keep their replies", compare=({1, 2}, (LAST, LAST)),
+          verify=finding("reply 1"), anchor=OTHER,
           make=["UPDATE keys SET accepted = 1000 WHERE accepted = 1", "UPDATE keys SET accepted = 1 WHERE accepted = 2",
                 "UPDATE keys SET accepted = 2 WHERE accepted = 1000"])
 
@@ -369,8 +438,12 @@ tampering("last_number", "the last command has the next number", verify=finding(
           compare=({74}, (LAST, LAST + 1)), anchor=OTHER, make=["UPDATE keys SET accepted = 75 WHERE accepted = 74"])
 tampering("number", "a command has a number far from its own", verify=finding("number 5"),
           compare=({5}, (LAST, 500)), anchor=OTHER, make=["UPDATE keys SET accepted = 500 WHERE accepted = 5"])
-tampering("no_command", "a command's text is none", verify=finding("command 50"), compare=({50}, (LAST, LAST)),
-          anchor=OTHER, make=["UPDATE keys SET command = 'x' WHERE accepted = 50"])
+tampering("no_command", "a command's text is none", compare=({50}, (LAST, LAST)), anchor=OTHER,
+          verify=finding("command 50"),
+          make=["UPDATE keys SET command = 'x' || char(10) || 'y' WHERE accepted = 50"])
+tampering("refused_command", "a command signs another step", compare=({26}, (LAST, LAST)), anchor=OTHER,
+          verify=finding("refused 26"),
+          make=["UPDATE keys SET command = replace(command, 'steps/1', 'steps/2') WHERE accepted = 26"])
 tampering("command_name", "a command enters another name", compare=({2}, (LAST, LAST)), anchor=OTHER,
           verify=row("people", ("BB", "Bob Burg"), ("BB", "Bob Berg")),
           make=["UPDATE keys SET command = replace(command, 'Berg', 'Burg') WHERE accepted = 2"])
@@ -387,10 +460,16 @@ tampering("emptied", "the register is empty", audit=(NOTHING[0], b"note: FILE ha
 # Invalid rows, and databases that are no register
 
 tampering("seats_spelled", "the seats of a step have another spelling", audit=DISK, verify=DISK,
+          lists=["table steps", "row: expected 1,2,'Use keys','CA;IW;CO*2',1,1739478000 (2025-02-13T20:20:00Z); "
+                 "found 1,2,'Use keys','CA;IW;CO;CO',1,1739478000 (2025-02-13T20:20:00Z)"],
           make=["UPDATE steps SET seats = 'CA;IW;CO;CO' WHERE ceremony = 1 AND step = 2"])
 tampering("line_break", "a name has a line break", audit=DISK, verify=DISK,
+          lists=["table people", "row: expected 'BB','Bob Berg'; found 'BB','Bob'||char(10)||'Berg'"],
           make=["UPDATE people SET name = 'Bob' || char(10) || 'Berg' WHERE who = 'BB'"])
 tampering("no_such_day", "a ceremony is on a day after 2099", audit=DISK, verify=DISK,
+          lists=["table ceremonies", "row: expected 1,'EAST',20132 (2025-02-13),2,1739476800 (2025-02-13T20:00:00Z),"
+                 "1739478660 (2025-02-13T20:31:00Z); found 1,'EAST',99999 (2243-10-16),2,"
+                 "1739476800 (2025-02-13T20:00:00Z),1739478660 (2025-02-13T20:31:00Z)"],
           make=["UPDATE ceremonies SET day = 99999 WHERE number = 1"])
 tampering("older_version", "a file of version 3 says that it is of version 2", audit=FOREIGN, verify=FOREIGN,
           anchor=OTHER, make=["UPDATE versions SET number = 2"])
@@ -532,7 +611,7 @@ def main():
     if len(sys.argv) < 2:
         sys.exit(__doc__)
     program, names = str(pathlib.Path(sys.argv[1]).resolve()), sys.argv[2:]
-    expect("how many things are done", (69, 69), (len(TAMPERINGS), len({done.name for done in TAMPERINGS})))
+    expect("how many things are done", (71, 71), (len(TAMPERINGS), len({done.name for done in TAMPERINGS})))
     lanes = max(1, len(os.sched_getaffinity(0)) // 2)
     with tempfile.TemporaryDirectory() as room, concurrent.futures.ThreadPoolExecutor(lanes) as pool:
         kept = Kept(program, pathlib.Path(room))
