@@ -206,6 +206,11 @@ def finding(text):
     return f"finding: {text}\n".encode(), b"", 1
 
 
+def told(kind, number, expected, found):
+    """A finding of `verify` about an accepted command: what the rules give, and what is stored."""
+    return finding(f"{kind} {number}\n{kind}: expected {expected}; found {found}")
+
+
 def reply(number, *seating):
     """The reply to a command, with the people of step 1 if there are any."""
     people = ",".join(f'"{who}"' for who in seating)
@@ -406,43 +411,43 @@ tampering("one_alone", "by sheet and stays all but one go out a second early",
 # Replies: an export has none, so the anchor cannot tell
 
 tampering("seating_and_reply", "two people of a seating change places, in the reply too", compare=({26}, (LAST, LAST)),
-          verify=finding("reply 26"), seated="a seating, but not the first",
+          verify=told("reply", 26, reply(26, "AA", "BB"), reply(26, "BB", "AA")), seated="a seating, but not the first",
           make=["UPDATE seatings SET who = CASE who WHEN 'AA' THEN 'BB' ELSE 'AA' END WHERE ceremony = 1 AND step = 1",
                 f"UPDATE keys SET reply = '{reply(26, 'BB', 'AA')}' WHERE accepted = 26"])
 tampering("another_seated", "another person who fits has the seat, in the reply too", compare=({26}, (LAST, LAST)),
-          verify=finding("reply 26"), seated="a seating, but not the first",
+          verify=told("reply", 26, reply(26, "AA", "BB"), reply(26, "DD", "BB")), seated="a seating, but not the first",
           make=["UPDATE seatings SET who = 'DD' WHERE ceremony = 1 AND step = 1 AND seat = 1",
                 f"UPDATE keys SET reply = '{reply(26, 'DD', 'BB')}' WHERE accepted = 26"])
 tampering("visitor_and_reply", "a visitor sits in a seat, in the reply too", audit=finding("seating 1 1"),
-          compare=({26}, (LAST, LAST)), verify=finding("reply 26"),
+          compare=({26}, (LAST, LAST)), verify=told("reply", 26, reply(26, "AA", "BB"), reply(26, "VV", "BB")),
           seated="no seating",
           make=["UPDATE seatings SET who = 'VV' WHERE ceremony = 1 AND step = 1 AND seat = 1",
                 f"UPDATE keys SET reply = '{reply(26, 'VV', 'BB')}' WHERE accepted = 26"])
 tampering("reply", "a reply has another number", compare=({50}, (LAST, LAST)),
-          verify=finding("reply 50"),
+          verify=told("reply", 50, reply(50), reply(51)),
           make=[f"UPDATE keys SET reply = '{reply(51)}' WHERE accepted = 50"])
 tampering("reply_blank", "a reply has a blank more", compare=({50}, (LAST, LAST)),
-          verify=finding("reply 50"),
+          verify=told("reply", 50, reply(50), '{"accepted": 50}'),
           make=["""UPDATE keys SET reply = '{"accepted": 50}' WHERE accepted = 50"""])
 tampering("numbers_swapped", "two commands change their numbers and keep their replies", compare=({1, 2}, (LAST, LAST)),
-          verify=finding("reply 1"), anchor=OTHER,
+          verify=told("reply", 1, reply(1), reply(2)), anchor=OTHER,
           make=["UPDATE keys SET accepted = 1000 WHERE accepted = 1", "UPDATE keys SET accepted = 1 WHERE accepted = 2",
                 "UPDATE keys SET accepted = 2 WHERE accepted = 1000"])
 
 # Commands: what is among the accepted ones alone
 
-tampering("exception_and_command", "an exception is gone with its command", verify=finding("number 35"),
+tampering("exception_and_command", "an exception is gone with its command", verify=told("number", 35, 35, 36),
           compare=({35}, (LAST - 1, LAST)), anchor=OTHER,
           make=["DELETE FROM exceptions WHERE ceremony = 1", "DELETE FROM keys WHERE accepted = 35"])
-tampering("last_number", "the last command has the next number", verify=finding("number 74"),
+tampering("last_number", "the last command has the next number", verify=told("number", 74, 74, 75),
           compare=({74}, (LAST, LAST + 1)), anchor=OTHER, make=["UPDATE keys SET accepted = 75 WHERE accepted = 74"])
-tampering("number", "a command has a number far from its own", verify=finding("number 5"),
+tampering("number", "a command has a number far from its own", verify=told("number", 5, 5, 6),
           compare=({5}, (LAST, 500)), anchor=OTHER, make=["UPDATE keys SET accepted = 500 WHERE accepted = 5"])
 tampering("no_command", "a command's text is none", compare=({50}, (LAST, LAST)), anchor=OTHER,
-          verify=finding("command 50"),
+          verify=told("command", 50, "a command", "x y"),
           make=["UPDATE keys SET command = 'x' || char(10) || 'y' WHERE accepted = 50"])
 tampering("refused_command", "a command signs another step", compare=({26}, (LAST, LAST)), anchor=OTHER,
-          verify=finding("refused 26"),
+          verify=told("refused", 26, '{"next":1,"number":23,"refusal":"order"}', reply(26, "AA", "BB")),
           make=["UPDATE keys SET command = replace(command, 'steps/1', 'steps/2') WHERE accepted = 26"])
 tampering("command_name", "a command enters another name", compare=({2}, (LAST, LAST)), anchor=OTHER,
           verify=row("people", ("BB", "Bob Burg"), ("BB", "Bob Berg")),

@@ -15,6 +15,7 @@ import sys
 sys.dont_write_bytecode = True  # no files beside these
 
 import itertools
+import re
 
 import kcr
 from kcr import HERE, NOTHING_FOUND, call, change, copy, expect, opened
@@ -130,6 +131,17 @@ def differences(program, room):
             differed(program, changed, f"table {table}{row_line(table, file, changed)}")
 
 
+def command_line(file, finding, expected=None):
+    """The second line of a finding about an accepted command: what is expected, and what the file has, in one line."""
+    kind, number = finding.split()
+    with opened(file) as database:
+        rows = database.execute("SELECT accepted, command, reply FROM keys ORDER BY accepted").fetchall()
+    found, expected = {"number": lambda: (rows[int(number) - 1][0], number),
+                       "command": lambda: (dict(row[:2] for row in rows)[int(number)], "a command"),
+                       }.get(kind, lambda: (dict(row[::2] for row in rows)[int(number)], expected))()
+    return f"\n{kind}: expected {expected}; found {re.sub('[^ -~]', ' ', str(found))}"
+
+
 def kept_commands(finding, last):
     """How many commands a rebuilt register has after a finding: those before the named one, and this one too if its
     reply differs."""
@@ -143,7 +155,8 @@ def changed_commands(program, room):
     """What sqlite3 changes among the accepted commands is found, and the command named."""
     file = filled(program, room, "072")
     last = len(kcr.kept_tables(stream("072"))["keys"])
-    for number, (statement, finding) in enumerate([
+    taken = '{"number":13,"refusal":"taken"}'
+    for number, (statement, finding, *expected) in enumerate([
             ("DELETE FROM keys WHERE accepted = 7", "number 7"),
             ("UPDATE keys SET accepted = 1000 WHERE accepted = 7", "number 7"),
             ("UPDATE keys SET accepted = 4000000000 WHERE accepted = 7", "number 7"),
@@ -153,11 +166,11 @@ def changed_commands(program, room):
             ("UPDATE keys SET command = '' WHERE accepted = 13", "command 13"),
             ("UPDATE keys SET command = command || char(10) WHERE accepted = 13", "command 13"),
             ("UPDATE keys SET command = replace(command, '/ceremonies/', '/rooms/') WHERE accepted = 16", "command 16"),
-            ("UPDATE keys SET reply = '{\"accepted\":14}' WHERE accepted = 13", "reply 13"),
+            ("UPDATE keys SET reply = '{\"accepted\":14}' WHERE accepted = 13", "reply 13", '{"accepted":13}'),
             ("UPDATE keys SET command = '/people' || char(10) || 'AA' || char(10) || 'Ann Abel' WHERE accepted = 13",
-             "refused 13"),
+             "refused 13", taken),
             ("UPDATE keys SET command = '/people' || char(10) || 'AC' || char(10) || 'Ann Abel' WHERE accepted = 13",
-             "refused 27"),
+             "refused 27", taken),
             (f"INSERT INTO keys VALUES ('another', {last + 1}, 'x', '{{}}')", f"command {last + 1}"),
             (f"DELETE FROM keys WHERE accepted = {last}", "table sheet"),
     ]):
@@ -165,7 +178,8 @@ def changed_commands(program, room):
         change(changed, statement)
         fresh = room / f"fresh-{number}"
         output, *end = call(program, "rebuild", "--file", changed, "--into", fresh)
-        line = row_line(finding.split()[1], fresh, changed) if finding.startswith("table") else ""
+        line = (row_line(finding.split()[1], fresh, changed) if finding.startswith("table")
+                else command_line(changed, finding, *expected))
         expect("rebuild", (f"finding: {finding}{line}\n".encode(), b"", 1), (output, *end))
         differed(program, changed, finding + line)
         verified(program, fresh, kept_commands(finding, last))

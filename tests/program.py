@@ -253,9 +253,12 @@ def other_seatings(program, room):
                "UPDATE keys SET reply = replace(reply, '\"AA\",\"BB\"', '\"BB\",\"AA\"') WHERE accepted = 17")
         if version < 3:
             made_older(older, version)
-        differed(program, older, "reply 16")
+        told = 'reply 16\nreply: expected {"accepted":16,"seating":["EA"],"step":1}; found ' \
+               '{"accepted":16,"seating":["EE"],"step":1}'
+        differed(program, older, told)
         fresh = room / f"rebuilt-{version}"
-        expect("rebuild", (b"finding: reply 16\n", b"", 1), call(program, "rebuild", "--file", older, "--into", fresh))
+        expect("rebuild", (f"finding: {told}\n".encode(), b"", 1),
+               call(program, "rebuild", "--file", older, "--into", fresh))
         verified(program, fresh, 16)
         output, *ended = call(program, "print", "--ceremony", "61", "--file", older)
         expect("print", (printed, [b"", 0]), (output[:len(printed)], ended))

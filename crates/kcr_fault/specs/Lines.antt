@@ -1,7 +1,8 @@
 -- The lines that the program writes beside reports.
-use Rattle.std.specs.Prelude.{ℕ, List, [], ◌++◌, codes, Option, unwrap_or}
+use Rattle.std.specs.Prelude.{if◌then◌else◌, ◌||◌, ℕ, List, [], ◌∷◌, ◌++◌, codes, map, nat_eq, nat_lt, Option, unwrap_or}
 use Rattle.std.specs.Fmt.{decimal}
 use Rattle.kcr_base.specs.Moment.{moment_text}
+use Rattle.kcr_history.specs.Refusals.{refusal_text}
 use Rattle.kcr_history.specs.declared.views.Finding.{Finding}
 use Rattle.kcr_history.specs.declared.views.Finding.TheVariants as Findings
 use Rattle.kcr_log.specs.declared.judgement.Log.{Log}
@@ -63,12 +64,27 @@ packed_head = codes "packed: "
 abbrev pub whole_line : List ℕ → ℕ → List ℕ
 whole_line head count = head ++ (decimal count ++ codes " commands\n")
 
--- what differs, as a verification found it; of a table also its first row that does
+-- a text in one line: each line break and other control character as a blank
+abbrev pub in_a_line : List ℕ → List ℕ
+in_a_line text = map (λ byte. if nat_lt byte 32 || nat_eq byte 127 then 32 else byte) text
+
+-- what was expected and what was found
+abbrev pub expected_line : List ℕ → List ℕ → List ℕ → List ℕ
+expected_line head expected found = head ++ (expected ++ (codes "; found " ++ (in_a_line found ++ codes "\n")))
+
+-- what differs, as a verification found it: what the rules give and what is stored; of a table its first row that differs
 abbrev pub difference_line : Difference → List ℕ
-difference_line (Differences.Number place) = found_line (codes "finding: number ") (decimal place)
-difference_line (Differences.Command number) = found_line (codes "finding: command ") (decimal number)
-difference_line (Differences.Refused number) = found_line (codes "finding: refused ") (decimal number)
-difference_line (Differences.Reply number) = found_line (codes "finding: reply ") (decimal number)
+difference_line (Differences.Number place found) =
+    found_line (codes "finding: number ") (decimal place)
+    ++ expected_line (codes "number: expected ") (decimal place) (decimal found)
+difference_line (Differences.Command number found) =
+    found_line (codes "finding: command ") (decimal number)
+    ++ expected_line (codes "command: expected ") (codes "a command") found
+difference_line (Differences.Refused number refusal found) =
+    found_line (codes "finding: refused ") (decimal number)
+    ++ expected_line (codes "refused: expected ") (refusal_text refusal) found
+difference_line (Differences.Reply number expected found) =
+    found_line (codes "finding: reply ") (decimal number) ++ expected_line (codes "reply: expected ") expected found
 difference_line (Differences.Rows table row) = found_line (codes "finding: table ") (table_name table) ++ row_line row
 
 -- what is wrong with a log, and how many transactions end in the damage or behind it

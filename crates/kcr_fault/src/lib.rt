@@ -5,4 +5,4 @@ mod fault;
 mod lines;
 
 pub use fault::{Call, Fault, Missing, Step, name_of, write_fault, write_line, write_missing};
-pub use lines::{around, numbered};
+pub use lines::{around, numbered, push_expected};

@@ -1,5 +1,6 @@
 //! The verification of a register and its rebuilding, as lines.
-ghost use Rattle.std.specs.Prelude.{◌≡◌, ◌⊎◌, length, IfOk, IfErr, OnErr, string_bytes};
+ghost use Rattle.std.specs.Fmt.{decimal};
+ghost use Rattle.std.specs.Prelude.{◌≡◌, ◌⊎◌, ◌++◌, length, IfOk, IfErr, OnErr};
 ghost use Rattle.sqlite.specs.Files.{over_files};
 ghost use Rattle.sqlite.specs.Held.{state};
 ghost use Rattle.sqlite.specs.State.{HasCleanDisk};
@@ -11,7 +12,8 @@ ghost use Rattle.kcr_history.specs.Tables.{tables};
 ghost use Rattle.kcr_store.specs.FullView.{IsListed};
 ghost use Rattle.kcr_store.specs.Opening.{FilesHoldHistory};
 ghost use Rattle.kcr_fault.specs.Faults.{StopsMaking, StopsReading, StopsReplay, StopsRebuild};
-ghost use Rattle.kcr_fault.specs.Lines.{difference_line, rebuilt_head, verified_head, whole_line};
+ghost use Rattle.kcr_fault.specs.Lines.{difference_line, expected_line, found_line, rebuilt_head, verified_head};
+ghost use Rattle.kcr_fault.specs.Lines.{whole_line};
 ghost use Rattle.kcr_tool.specs.Runs.{StopsVerification};
 ghost use Rattle.kcr_tool.specs.Verifications.{EndsVerification, WritesVerification, verified_line};
 ghost use Rattle.kcr_forms.specs.Values.{AreValues};
@@ -24,71 +26,134 @@ use crate::place::{place_at, take_back};
 use itoa::Buffer;
 use kcr_base::{Counted, Refusal};
 use kcr_edges::{Copied, CopyConnection, Unread, connect, copy_of, has_run_out};
-use kcr_fault::{Fault, Missing, Step, around};
-use kcr_history::FullView;
+use kcr_fault::{Fault, Missing, Step, around, push_expected};
+use kcr_history::{FullView, refusal_text};
 use kcr_print::write_whole;
 use kcr_store::{FileRegister, OpenFault, Register, read_tables};
-use kcr_verify::{CreateFault, Difference, Verification, init};
+use kcr_verify::{CreateFault, Difference, RowDifference, TableName, Verification, init};
 use sqlite::{Alter, Start, Unknown};
 use std::alloc::{AllocError, Global};
 use std::io::Write;
 
-/// The line of a difference; two of a table. The error is out of memory.
-fn line_of(alloc: Global, difference: &Difference) -> Result<String, AllocError>
-    ensures { IfOk result (λ line. string_bytes line ≡ difference_line difference.now) }
+/// The two lines of a finding about an accepted command. `what` begins the first, which ends with its number, and `head`
+/// the second, with what was expected and what was found. The error is out of memory.
+fn lines_of_command(
+    alloc: Global,
+    what: &str,
+    number: &str,
+    head: &str,
+    expected: &str,
+    found: &str,
+) -> Result<Vec<u8>, AllocError>
+    ensures { IfOk result (λ lines. lines.items ≡ found_line what.now number.now
+        ++ expected_line head.now expected.now found.now) }
+{
+    let mut lines = around(alloc, what, number, "\n")?.into_bytes();
+    push_expected(alloc, &mut lines, head, expected, found)?;
+    Ok(lines)
+}
+
+/// The two lines of a number that is not the next. The error is out of memory.
+fn lines_of_number(alloc: Global, place: usize, found: u32) -> Result<Vec<u8>, AllocError>
+    ensures { IfOk result (λ lines. lines.items ≡ difference_line (Difference.Number place found)) }
 {
     let mut digits = Buffer::new();
+    let place = digits.format(place);
+    lines_of_command(
+        alloc,
+        "finding: number ",
+        place,
+        "number: expected ",
+        place,
+        Buffer::new().format(found),
+    )
+}
+
+/// The two lines of a table and its first row that differs. The error is out of memory.
+fn lines_of_row(alloc: Global, table: TableName, row: &RowDifference) -> Result<Vec<u8>, AllocError>
+    ensures { IfOk result (λ lines. lines.items ≡ difference_line (Difference.Rows table row.now)) }
+{
+    let mut lines = around(alloc, "finding: table ", table.name(), "\n")?;
+    lines.push_str(row.line(alloc)?.as_str())?;
+    Ok(lines.into_bytes())
+}
+
+/// The two lines of a difference. The error is out of memory.
+fn lines_of(alloc: Global, difference: &Difference) -> Result<Vec<u8>, AllocError>
+    ensures { IfOk result (λ lines. lines.items ≡ difference_line difference.now) }
+{
     match difference {
-        Difference::Number(place) => {
-            around(alloc, "finding: number ", digits.format(*place), "\n")
+        Difference::Number { place, found } => lines_of_number(alloc, *place, *found),
+        Difference::Command { number, found } => lines_of_command(
+            alloc,
+            "finding: command ",
+            Buffer::new().format(*number),
+            "command: expected ",
+            "a command",
+            found.as_str(),
+        ),
+        Difference::Refused {
+            number,
+            refusal,
+            found,
+        } => {
+            let expected = refusal_text(alloc, refusal)?;
+            lines_of_command(
+                alloc,
+                "finding: refused ",
+                Buffer::new().format(*number),
+                "refused: expected ",
+                expected.as_str(),
+                found.as_str(),
+            )
         }
-        Difference::Command(number) => {
-            around(alloc, "finding: command ", digits.format(*number), "\n")
-        }
-        Difference::Refused(number) => {
-            around(alloc, "finding: refused ", digits.format(*number), "\n")
-        }
-        Difference::Reply(number) => {
-            around(alloc, "finding: reply ", digits.format(*number), "\n")
-        }
-        Difference::Rows(table, row) => {
-            let mut lines = around(alloc, "finding: table ", table.name(), "\n")?;
-            lines.push_str(row.line(alloc)?.as_str())?;
-            Ok(lines)
-        }
+        Difference::Reply {
+            number,
+            expected,
+            found,
+        } => lines_of_command(
+            alloc,
+            "finding: reply ",
+            Buffer::new().format(*number),
+            "reply: expected ",
+            expected.as_str(),
+            found.as_str(),
+        ),
+        Difference::Rows(table, row) => lines_of_row(alloc, *table, row),
     }
 }
 
-/// The line of what a verification came to; `head` begins that of a good end. The error is out of memory.
-fn line_of_verified(
+/// The lines of what a verification came to; `head` begins that of a good end. The error is out of memory.
+fn lines_of_verified(
     alloc: Global,
     head: &str,
     verified: &Verification,
-) -> Result<String, AllocError>
-    ensures { IfOk result (λ line. string_bytes line ≡ verified_line head.now verified.now) }
+) -> Result<Vec<u8>, AllocError>
+    ensures { IfOk result (λ lines. lines.items ≡ verified_line head.now verified.now) }
 {
     match verified {
         Verification::Verified(count) => {
-            around(alloc, head, Buffer::new().format(*count), " commands\n")
+            let line = around(alloc, head, Buffer::new().format(*count), " commands\n")?;
+            Ok(line.into_bytes())
         }
-        Verification::Differs(difference) => line_of(alloc, difference),
+        Verification::Differs(difference) => lines_of(alloc, difference),
     }
 }
 
-/// Writes a line, and answers this status.
-fn write_status<W: Write>(output: &mut Counted<W>, line: &str, status: u8) -> Result<u8, Fault>
+/// Writes lines, and answers this status.
+fn write_status<W: Write>(output: &mut Counted<W>, line: &[u8], status: u8) -> Result<u8, Fault>
     ensures told { IfOk result (λ s. (s ≡ status) × WritesText (writing W.contents output.old output.new) line.now) }
     ensures part { OnErr result (WritesPart (writing W.contents output.old output.new) line.now) }
     ensures cause { IfErr result (λ why. (why ≡ Fault.Unwritten)
         × HasFailed (writing W.contents output.old output.new)) }
 {
-    match write_whole(output, line.as_bytes()) {
+    match write_whole(output, line) {
         Ok(()) => Ok(status),
         Err(_) => Err(Fault::Unwritten),
     }
 }
 
-/// Writes the line of what a verification came to, and returns the exit status: 0 if nothing differs, else 1. Of no
+/// Writes the lines of what a verification came to, and returns the exit status: 0 if nothing differs, else 1. Of no
 /// command there is nothing to verify.
 pub fn write_verification<W: Write>(
     alloc: Global,
@@ -102,7 +167,7 @@ pub fn write_verification<W: Write>(
         ⊎ WritesPart (writing W.contents output.old output.new) (verified_line head.now verified.now)) }
     ensures cause { IfErr result (StopsReplay (writing W.contents output.old output.new)) }
 {
-    let Ok(line) = line_of_verified(alloc, head, verified) else {
+    let Ok(lines) = lines_of_verified(alloc, head, verified) else {
         return Err(Fault::Refused(Refusal::Memory));
     };
     match verified {
@@ -110,9 +175,9 @@ pub fn write_verification<W: Write>(
             if *count == 0 {
                 return Err(Fault::Nothing(Missing::Empty));
             }
-            write_status(output, line.as_str(), 0)
+            write_status(output, &lines, 0)
         }
-        Verification::Differs(_) => write_status(output, line.as_str(), 1),
+        Verification::Differs(_) => write_status(output, &lines, 1),
     }
 }
 

@@ -138,10 +138,10 @@ module _ (count : NumbersCount) (rows : List KeyRow) (index : ℕ) (A : History)
 
 not_next : (difference : Difference) (row : KeyRow) (A B : History) → row.accepted ≡ length A + 1 → Declines difference row A B
     → IsNotNext difference row A B
-not_next (Differences.Number place) row A B n h = absurd h
-not_next (Differences.Command number) row A B n h = (n, h)
-not_next (Differences.Refused number) row A B n h = (n, h)
-not_next (Differences.Reply number) row A B n h = (n, h)
+not_next (Differences.Number place found) row A B n h = absurd h
+not_next (Differences.Command number found) row A B n h = (n, h)
+not_next (Differences.Refused number refusal found) row A B n h = (n, h)
+not_next (Differences.Reply number expected found) row A B n h = (n, h)
 not_next (Differences.Rows table other) row A B n h = absurd h
 
 -- at a row whose command is not taken
@@ -161,15 +161,15 @@ stops_for difference rows index A row B had low at number h = by difference h
         }
 
     by : (d : Difference) → Declines d row A B → StopsFor d rows B
-    by (Differences.Number place) h = stops (Differences.Number place) h
-    by (Differences.Command number) h = stops (Differences.Command number) h
-    by (Differences.Refused number) h = stops (Differences.Refused number) h
-    by (Differences.Reply number) h = stops (Differences.Reply number) h
+    by (Differences.Number place found) h = stops (Differences.Number place found) h
+    by (Differences.Command number found) h = stops (Differences.Command number found) h
+    by (Differences.Refused number refusal found) h = stops (Differences.Refused number refusal found) h
+    by (Differences.Reply number expected found) h = stops (Differences.Reply number expected found) h
     by (Differences.Rows table row) h = absurd h
 
 -- at a row whose number is not the next
 pub stops_number : (rows : List KeyRow) (index : ℕ) (A : History) (row : KeyRow) → (HaveOwnKeys rows → HasTaken rows index A) → index < length rows
-    → get_or rows index row ≡ row → row.accepted ≢ index + 1 → StopsFor (Differences.Number (index + 1)) rows A
+    → get_or rows index row ≡ row → row.accepted ≢ index + 1 → StopsFor (Differences.Number (index + 1) row.accepted) rows A
 stops_number rows index A row had low at number own =
     let taken = had own in
     record {
@@ -177,7 +177,7 @@ stops_number rows index A row had low at number own =
       row = row;
       later = drop (index + 1) rows;
       rows = row_behind rows index A row taken low at;
-      why = (ap (λ n. n + 1) (sym taken.count), number, refl);
+      why = (ap (λ n. n + 1) (sym taken.count), refl, number, refl);
     }
 
 -- at the end

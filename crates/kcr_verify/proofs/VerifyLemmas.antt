@@ -146,10 +146,10 @@ stopped_of view sorted A difference order stops = by difference stops
     given d stops own = (sorted, order, stops (own_along view.keys.items sorted order.same own))
 
     by : (d : Difference) → StopsFor d sorted A → IsDifference view A d
-    by (Differences.Number place) h = given (Differences.Number place) h
-    by (Differences.Command number) h = given (Differences.Command number) h
-    by (Differences.Refused number) h = given (Differences.Refused number) h
-    by (Differences.Reply number) h = given (Differences.Reply number) h
+    by (Differences.Number place found) h = given (Differences.Number place found) h
+    by (Differences.Command number found) h = given (Differences.Command number found) h
+    by (Differences.Refused number refusal found) h = given (Differences.Refused number refusal found) h
+    by (Differences.Reply number expected found) h = given (Differences.Reply number expected found) h
     by (Differences.Rows table row) h = absurd h
 
 in_view : {X : Type 0} (table : held.TableSpec X) (m : Tables) (view : FullView) (v : IsListed m view) (rows : List X)

@@ -158,30 +158,34 @@ pub record TakesWith (Is : List ℕ → Type 0) (row : KeyRow) (A B : History) :
   pub step : machine A command (Accepts reply) B
   pub text : Is (reply_text reply)
 
--- and answers as the row says, or otherwise
+-- and answers as the row says, or this in its place
 abbrev pub Takes : KeyRow → History → History → Type 0
 Takes row A B = TakesWith (λ text. text ≡ row.reply) row A B
 
-abbrev pub AnswersElse : KeyRow → History → History → Type 0
-AnswersElse row A B = TakesWith (λ text. text ≢ row.reply) row A B
+abbrev pub AnswersElse : KeyRow → List ℕ → History → History → Type 0
+AnswersElse row expected A B = TakesWith (λ text. (text ≡ expected) × (text ≢ row.reply)) row A B
 
--- the machine refuses the row's command
-pub record RefusesRow (row : KeyRow) (A : History) : Type 0 where
+-- the machine refuses the row's command so
+pub record RefusesRow (row : KeyRow) (refusal : Refusal) (A : History) : Type 0 where
   pub command : Command
   pub told : IsToldBy row command
-  pub refusal : Refusal
   pub step : machine A command (Refuses refusal) A
 
--- the row's command is not taken as the row says, for this reason; the history was A and is B
+-- the row's command is not taken as the row says, for this reason, and this is what the row says; the history was A and
+-- is B
 abbrev pub Declines : Difference → KeyRow → History → History → Type 0
-Declines (Differences.Command number) row A B = (number ≡ row.accepted) × TellsNothing row × (B ≡ A)
-Declines (Differences.Refused number) row A B = (number ≡ row.accepted) × RefusesRow row A × (B ≡ A)
-Declines (Differences.Reply number) row A B = (number ≡ row.accepted) × AnswersElse row A B
+Declines (Differences.Command number found) row A B =
+    (number ≡ row.accepted) × (found ≡ row.command) × TellsNothing row × (B ≡ A)
+Declines (Differences.Refused number refusal found) row A B =
+    (number ≡ row.accepted) × (found ≡ row.reply) × RefusesRow row refusal A × (B ≡ A)
+Declines (Differences.Reply number expected found) row A B =
+    (number ≡ row.accepted) × (found ≡ row.reply) × AnswersElse row expected A B
 Declines difference row A B = ⊥
 
 -- after A the row is not the next: its number is not, or it is and the row's command is not taken as the row says
 abbrev pub IsNotNext : Difference → KeyRow → History → History → Type 0
-IsNotNext (Differences.Number place) row A B = (place ≡ length A + 1) × (row.accepted ≢ place) × (B ≡ A)
+IsNotNext (Differences.Number place found) row A B =
+    (place ≡ length A + 1) × (found ≡ row.accepted) × (found ≢ place) × (B ≡ A)
 IsNotNext difference row A B = (row.accepted ≡ length A + 1) × Declines difference row A B
 
 -- rows in the order of their numbers: first those of the commands that were taken, then one that is not the next, and
@@ -293,23 +297,29 @@ pub record IsFirstOther (A : History) (number : ℕ) : Type 0 where
   pub first : HasFirstSeatings before
   pub other : IsOther before entry
 
+-- the reply to the command with this number differs
+abbrev pub IsReply : Difference → ℕ → Type 0
+IsReply (Differences.Reply number expected found) of = number ≡ of
+IsReply other of = ⊥
+
 -- the entry's command was given to a register of A: it has the entry now, or the reply differs, since another seating
 -- comes before the recorded one
 abbrev pub HasNext : History → Entry → History → Option Difference → Type 0
 HasNext A entry A' None = A' ≡ entry ∷ A
-HasNext A entry A' (Some difference) = (difference ≡ Differences.Reply entry.reply.accepted) × IsOther A entry
+HasNext A entry A' (Some difference) = IsReply difference entry.reply.accepted × IsOther A entry
 
 -- so with all commands of A, which were given to an empty register
 abbrev pub HasAll : History → History → Option Difference → Type 0
 HasAll A A' None = A' ≡ A
-HasAll A A' (Some difference) = (number : ℕ) × (difference ≡ Differences.Reply number) × IsFirstOther A number
+HasAll A A' (Some difference) = (number : ℕ) × IsReply difference number × IsFirstOther A number
 
 -- what is said of a register's tables: that they are those of its own commands, which is so if the machine leads to
 -- its history; or that the reply of the first command with another seating differs
 abbrev pub IsToldOf : History → Verification → Type 0
 IsToldOf A told =
     ((told ≡ Verified (length A)) × IsOfMachine A)
-    ⊎ ((number : ℕ) × (told ≡ Differs (Differences.Reply number)) × IsFirstOther A number)
+    ⊎ ((number : ℕ) × (difference : Difference) × (told ≡ Differs difference) × IsReply difference number
+    × IsFirstOther A number)
 
 -- WHAT A FRESH REGISTER IS LED TO
 

@@ -10,7 +10,7 @@ use kcr_wire::RouteTable;
 use sqlite::Alter;
 use std::alloc::Global;
 
-/// Gives the command of a row to the register, and answers what is not as the row says.
+/// Gives the command of a row to the register, and answers what is not as the row says, with what the row says.
 fn replay_one<S: Alter>(
     alloc: Global,
     paths: &RouteTable,
@@ -23,20 +23,35 @@ fn replay_one<S: Alter>(
         (λ s after. GivesRow row.now s.accepted after.accepted result) }
 {
     let Some(act) = paths.read_act(alloc, row.command.as_bytes())? else {
-        return Ok(Some(Difference::Command(row.accepted)));
+        let found = row.command.clone()?;
+        return Ok(Some(Difference::Command {
+            number: row.accepted,
+            found,
+        }));
     };
+    let number = row.accepted;
+    let found = row.reply.clone()?;
     let command = Command { key: row.key, act };
     match register.apply(&command) {
         Ok(reply) => {
             if reply.text == row.reply {
                 Ok(None)
             } else {
-                Ok(Some(Difference::Reply(row.accepted)))
+                let expected = reply.text;
+                Ok(Some(Difference::Reply {
+                    number,
+                    expected,
+                    found,
+                }))
             }
         }
         Err(Refusal::Memory) => Err(Refusal::Memory),
         Err(Refusal::Disk) => Err(Refusal::Disk),
-        Err(_) => Ok(Some(Difference::Refused(row.accepted))),
+        Err(refusal) => Ok(Some(Difference::Refused {
+            number,
+            refusal,
+            found,
+        })),
     }
 }
 
@@ -55,7 +70,10 @@ pub(crate) fn replay<S: Alter>(
     let paths = RouteTable::new(alloc)?;
     for (index, row) in rows.iter().enumerate() {
         if row.accepted as usize != index + 1 {
-            return Ok(Some(Difference::Number(index + 1)));
+            return Ok(Some(Difference::Number {
+                place: index + 1,
+                found: row.accepted,
+            }));
         }
         match replay_one(alloc, &paths, row, register) {
             Ok(None) => {}

@@ -13,23 +13,38 @@ ghost use Rattle.kcr_verify.specs.Verification.{Rebuilds, StaysIntact};
 use crate::compare::{RowDifference, TableName, first_difference};
 use crate::replay::replay;
 use crate::sort::sort_by_number;
-use kcr_base::Refusal;
+use kcr_base::{Refusal, Text};
 use kcr_history::{FullView, numbers_count_commands};
 use kcr_store::{OpenFault, Register};
 use sqlite::{Alter, MemStore};
 use std::alloc::Global;
 
-/// What is not as the commands say.
+/// What is not as the commands say: `found` is stored.
 #[derive(Drop)]
 pub enum Difference {
-    /// No accepted command has this number, counted from 1, or several have the one before it.
-    Number(usize),
-    /// The text of the command with this number is no command's.
-    Command(u32),
-    /// The command with this number is refused after those before it.
-    Refused(u32),
-    /// The command with this number gets another reply.
-    Reply(u32),
+    /// No accepted command has the number `place`, counted from 1, or several have the one before it. The command in this
+    /// place has the other number.
+    Number {
+        place: usize,
+        found: u32,
+    },
+    /// This text of the command with this number is no command's.
+    Command {
+        number: u32,
+        found: Text,
+    },
+    /// The command with this number is refused so after those before it. It is stored with this reply.
+    Refused {
+        number: u32,
+        refusal: Refusal,
+        found: Text,
+    },
+    /// The command with this number gets the reply `expected`, and is stored with another.
+    Reply {
+        number: u32,
+        expected: Text,
+        found: Text,
+    },
     /// The rows of a table are not those that the commands lead to, and this is the first one that differs.
     Rows(TableName, RowDifference),
 }

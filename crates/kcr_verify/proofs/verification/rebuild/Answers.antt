@@ -44,7 +44,7 @@ returns-in-Some-clause-led g c clean =
               (subst (λ (rows : List KeyRow). StopsFor c.in-Some.difference rows B) c.deref.ensures.value stops);
         };
         own = λ A h values listed. (let other = all A (of_machine A h) values listed in absurd (never_other A h other.0 other.2));
-        register = λ A h values listed. (let other = all A h values listed in inr (other.0, ap Differs other.1, other.2));
+        register = λ A h values listed. (let other = all A h values listed in inr (other.0, c.in-Some.difference, refl, other.1, other.2));
       },
     )
 
