@@ -31,8 +31,8 @@ returns-then-eq-clause-led g c clean s at =
       },
     )
 
-pub returns-in-Ok-clause-led : goal.returns-in-Ok-clause-led
-returns-in-Ok-clause-led g c clean s at =
+pub returns-else-eq-clause-led : goal.returns-else-eq-clause-led
+returns-else-eq-clause-led g c clean s at =
     let end = c.in-Ok.ensures.step clean s at in
     let step = end.2.step (none_in_doubt c.requires.unbroken at) in
     let found = rw c.in-Some.is at c.in_ok-act.ensures.found in
@@ -61,8 +61,8 @@ returns-in-Ok-clause-led g c clean s at =
       },
     )
 
-pub returns-clause-led : goal.returns-clause-led
-returns-clause-led g c clean s at =
+pub returns-in-Err-clause-led : goal.returns-in-Err-clause-led
+returns-in-Err-clause-led g c clean s at =
     let memory : c.in-Err.refusal ≢ Memory = search rules in
     let disk : c.in-Err.refusal ≢ Disk = search rules in
     let end = c.in-Err.ensures.step clean s at in
