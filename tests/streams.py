@@ -8,7 +8,7 @@ cut into reads and no slow reader changes a byte; what each front of a stream is
 before more is asked for, and `100 Continue` before the body; that answers which were asked for together go out
 together; that a stream without end is answered up to the bound on reads; and what the program says and leaves where a
 read or a write fails, each write of a stream in turn. Where it fails within an answer is a matter of the proved tests of
-kcr_trials.
+kcr_tests.
 
 The last line is `N passed, M failed`, and the status is 0 where none failed.
 """

@@ -25,7 +25,7 @@ text = f"//! The requests of a case.\n\npub(crate) const STREAM: &[u8] = &[{requ
 pathlib.Path(sys.argv[1]).write_text(text)
 PYTHON
 cp HANDLES "$work/HANDLES"
-libraries="kcr_base kcr_seats kcr_people kcr_custody kcr_script kcr_room kcr_history kcr_audit kcr_machine kcr_tables kcr_store kcr_print kcr_wire kcr_desk kcr_verify kcr_log kcr_words kcr_fault itoa sqlite"
+libraries="kcr_base kcr_seats kcr_people kcr_custody kcr_script kcr_room kcr_history kcr_audit kcr_machine kcr_tables kcr_store kcr_print kcr_wire kcr_desk kcr_verify kcr_log kcr_arguments kcr_fault itoa sqlite"
 { cat crates.txt; printf '\nkcr_unproved: %s\nseats_alone: kcr_seats\n' "$libraries"; } > "$work/crates.txt"
 cd "$work/crates/kcr_unproved"
 rt try --test --seconds 300 > "$work/told" 2>&1 || true

@@ -4,7 +4,7 @@
     tools/package.py PROGRAM [FOLDER]
 
 PROGRAM is the built program, such as crates/kcr_tool/out/kcr_tool. FOLDER (default: the current one) gets
-`kcr_VERSION_amd64.deb`. The version is the one line `const VERSION` of crates/kcr_words/src/commands.rt, and the program
+`kcr_VERSION_amd64.deb`. The version is the one line `const VERSION` of crates/kcr_arguments/src/commands.rt, and the program
 has to print it. All times in the package are that of the last commit (or SOURCE_DATE_EPOCH, if it is set), all owners
 are root: the same commit and program give the same bytes. Beside python3 it takes dpkg-deb, git, and strip and objdump
 of binutils.
@@ -42,7 +42,7 @@ def ran(*words):
 
 def version():
     """The version, from its one line in the sources."""
-    text = (TOP / "crates/kcr_words/src/commands.rt").read_text()
+    text = (TOP / "crates/kcr_arguments/src/commands.rt").read_text()
     return re.search(r'const VERSION: &str = "([0-9.]+) ', text)[1]
 
 

@@ -83,8 +83,8 @@ CASES = {
     "kcr_verify/Verification": "changed.py:differences changed.py:changed_commands",
     "kcr_verify/FirstRow": "changed.py:differences",
     "kcr_verify/Quoted": "changed.py:differences",
-    "kcr_words/Commands": "words/help words/serve-idle-301 words/export-after-4000000001",
-    "kcr_words/Tasks": "words/serve-longest-0 words/print-ceremony-0 words/pack-into-a-wal words/run-explained",
+    "kcr_arguments/Commands": "words/help words/serve-idle-301 words/export-after-4000000001",
+    "kcr_arguments/Tasks": "words/serve-longest-0 words/print-ceremony-0 words/pack-into-a-wal words/run-explained",
     "kcr_fault/Lines": "changed.py:findings changed.py:differences damage.py:frames_are_changed server.py:taken_port",
     "kcr_fault/Faults": "program.py:no_database server.py:taken_port server.py:lost_files words/run-explained",
 }
@@ -213,8 +213,8 @@ PARTS = [
      kcr_verify/src/verification kcr_verify/Verification"""),
     ("The program",
      "Which arguments are which task, and what each task writes.",
-     """kcr_verify/src/new_register kcr_log/src/judgement kcr_store/src/breakage kcr_words/src/words kcr_fault/src/fault
-     kcr_words/Commands kcr_words/Tasks kcr_fault/Lines kcr_fault/Notes kcr_fault/Faults kcr_tool/Audits
+     """kcr_verify/src/new_register kcr_log/src/judgement kcr_store/src/breakage kcr_arguments/src/words kcr_fault/src/fault
+     kcr_arguments/Commands kcr_arguments/Tasks kcr_fault/Lines kcr_fault/Notes kcr_fault/Faults kcr_tool/Audits
      kcr_tool/Verifications kcr_tool/Runs"""),
 ]
 

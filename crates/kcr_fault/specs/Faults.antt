@@ -23,10 +23,10 @@ use Rattle.kcr_fault.specs.declared.fault.Fault.{Fault}
 use Rattle.kcr_fault.specs.declared.fault.Fault.TheVariants.{Open, File, Log, Nothing, Into, IntoFile, Stream, Refused}
 use Rattle.kcr_fault.specs.declared.fault.Fault.TheVariants.{Broken, Unwritten, Net, Lost, Words}
 use Rattle.kcr_fault.specs.declared.fault.Call.TheVariants as call
-use Rattle.kcr_words.specs.declared.words.Serving.{Serving}
-use Rattle.kcr_words.specs.declared.words.Task.{Task}
-use Rattle.kcr_words.specs.declared.words.Report.TheVariants.{Print, Attendance}
-use Rattle.kcr_words.specs.declared.words.Task.TheVariants.{Run, Serve, Write, Verify, Rebuild, Pack}
+use Rattle.kcr_arguments.specs.declared.words.Serving.{Serving}
+use Rattle.kcr_arguments.specs.declared.words.Task.{Task}
+use Rattle.kcr_arguments.specs.declared.words.Report.TheVariants.{Print, Attendance}
+use Rattle.kcr_arguments.specs.declared.words.Task.TheVariants.{Run, Serve, Write, Verify, Rebuild, Pack}
 
 -- what a refusal names, and the end of its line
 abbrev pub named : Refusal → List ℕ

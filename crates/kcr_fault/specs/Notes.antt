@@ -4,9 +4,9 @@ use Rattle.kcr_desk.specs.Streams.{Writing, HasFailed, WritesNothing, WritesPart
 use Rattle.kcr_fault.specs.Lines.{missing_line}
 use Rattle.kcr_fault.specs.declared.fault.Missing.{Missing}
 use Rattle.kcr_fault.specs.declared.fault.Missing.TheVariants.{Unnamed, Absent, Empty}
-use Rattle.kcr_words.specs.declared.words.Report.{Report}
-use Rattle.kcr_words.specs.declared.words.Task.{Task}
-use Rattle.kcr_words.specs.declared.words.Task.TheVariants.{Write}
+use Rattle.kcr_arguments.specs.declared.words.Report.{Report}
+use Rattle.kcr_arguments.specs.declared.words.Task.{Task}
+use Rattle.kcr_arguments.specs.declared.words.Task.TheVariants.{Write}
 
 -- the words name no file, or one that is not there or has no command
 abbrev pub IsMissing : Option (List ℕ) → Missing → Type 0

@@ -3,18 +3,18 @@ ghost use Rattle.std.specs.Prelude.{◌≡◌, ℕ, List, Some, IfOk, option_map
 ghost use Rattle.kcr_desk.specs.Streams.{writing};
 ghost use Rattle.kcr_fault.specs.Faults.{AreLinesOf, refusal_line, reason_of, second_line, lines_of, port_of};
 ghost use Rattle.kcr_fault.specs.Notes.{IsTold, WritesLines};
-ghost use Rattle.kcr_words.specs.Tasks.{file_in, into_in};
+ghost use Rattle.kcr_arguments.specs.Tasks.{file_in, into_in};
 ghost use Rattle.kcr_fault.specs.Lines.{broken_line, call_head, log_line, name_of, missing_line, step_head};
 
 use crate::lines::{around, numbered};
 use itoa::Buffer;
+use kcr_arguments::{Order, Task};
 use kcr_base::{Counted, Refusal};
 use kcr_desk::DeskFault;
 use kcr_log::Log;
 use kcr_print::{PrintFault, WriteFailed, write_whole};
 use kcr_store::{Breakage, OpenFault};
 use kcr_verify::CreateFault;
-use kcr_words::{Order, Task};
 use std::alloc::{AllocError, Global};
 use std::io::Write;
 

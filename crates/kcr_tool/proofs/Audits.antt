@@ -8,7 +8,7 @@ use Rattle.kcr_tool.specs.Audits.{EndsAudit, WritesAudit, WritesFinding}
 use Rattle.kcr_tool.specs.Runs.{EndsReport, EndsReportBy}
 use Rattle.kcr_fault.specs.Lines.{clean_line}
 use Rattle.kcr_fault.specs.declared.fault.Fault.{Fault}
-use Rattle.kcr_words.specs.declared.words.Report.TheVariants.{Audit}
+use Rattle.kcr_arguments.specs.declared.words.Report.TheVariants.{Audit}
 
 -- nothing was found, or a finding
 audit_told : {W : Type 0} (found : Option Finding) (w : Writing W) (status : ℕ) → WritesAudit found w status

@@ -18,10 +18,10 @@ use Rattle.kcr_fault.specs.declared.fault.Missing.TheVariants.{Unnamed, Absent, 
 use Rattle.kcr_fault.specs.declared.fault.Fault.{Fault}
 use Rattle.kcr_fault.specs.declared.fault.Fault.TheVariants.{Open, File, Log, Nothing, Into, IntoFile, Stream, Refused, Broken, Unwritten, Net, Lost, Words}
 use Rattle.kcr_tool.specs.Runs.{StopsCopied, StopsVerification}
-use Rattle.kcr_words.specs.declared.words.Report.{Report}
-use Rattle.kcr_words.specs.declared.words.Serving.{Serving}
-use Rattle.kcr_words.specs.declared.words.Task.{Task}
-use Rattle.kcr_words.specs.declared.words.Task.TheVariants.{Serve, Write, Verify}
+use Rattle.kcr_arguments.specs.declared.words.Report.{Report}
+use Rattle.kcr_arguments.specs.declared.words.Serving.{Serving}
+use Rattle.kcr_arguments.specs.declared.words.Task.{Task}
+use Rattle.kcr_arguments.specs.declared.words.Task.TheVariants.{Serve, Write, Verify}
 
 -- A REGISTER THAT WAS BROKEN BEFORE
 

@@ -6,7 +6,7 @@ use Rattle.kcr_desk.specs.Streams.{Streams, Writing, writing}
 use Rattle.kcr_fault.specs.Faults.{AreLinesOf, HasCause, TellsFault}
 use Rattle.kcr_fault.specs.Notes.{IsNoted, MayNote, WritesLines}
 use Rattle.kcr_fault.specs.declared.fault.Fault.{Fault}
-use Rattle.kcr_words.specs.declared.words.Task.{Task}
+use Rattle.kcr_arguments.specs.declared.words.Task.{Task}
 use Rattle.kcr_tool.proofs.Notes.{asked_of_fault, task_noted}
 
 -- the lines and the cause of a fault are those of the words that name this task and these files

@@ -21,11 +21,11 @@ use Rattle.kcr_fault.specs.Lines.{clean_line, listening_line, verified_head, reb
 use Rattle.kcr_tool.specs.Audits.{WritesFinding, WritesAuditPrefix}
 use Rattle.kcr_tool.specs.Verifications.{WritesVerified, TellsWholeFront, WritesDifference, WritesVerificationPrefix}
 use Rattle.kcr_fault.specs.declared.fault.Fault.{Fault}
-use Rattle.kcr_words.specs.Tasks.{said, task_of}
-use Rattle.kcr_words.specs.declared.words.Report.{Report}
-use Rattle.kcr_words.specs.declared.words.Report.TheVariants.{Print, Attendance, Custody, Export, Journal, Audit}
-use Rattle.kcr_words.specs.declared.words.Task.{Task}
-use Rattle.kcr_words.specs.declared.words.Task.TheVariants.{Run, Serve, Write, Verify, Rebuild, Pack}
+use Rattle.kcr_arguments.specs.Tasks.{said, task_of}
+use Rattle.kcr_arguments.specs.declared.words.Report.{Report}
+use Rattle.kcr_arguments.specs.declared.words.Report.TheVariants.{Print, Attendance, Custody, Export, Journal, Audit}
+use Rattle.kcr_arguments.specs.declared.words.Task.{Task}
+use Rattle.kcr_arguments.specs.declared.words.Task.TheVariants.{Run, Serve, Write, Verify, Rebuild, Pack}
 
 -- all of the input was answered by such steps: from a register that was like this before
 abbrev pub ServesAll : {Stand R W : Type 0} → (Stand → Request → ResponseValue → Stand → Type 0) → Stand → Streams R W

@@ -15,13 +15,13 @@ ghost use Rattle.kcr_tool.specs.Runs.{ConnectsUpTo, ServesTo};
 
 use crate::opening::{open_file, watch_over};
 use itoa::Buffer;
+use kcr_arguments::Serving;
 use kcr_base::{Counted, Refusal};
 use kcr_desk::one;
 use kcr_edges::{Accepted, Patience, TimedReader, TimedWriter, Watch, Watched};
 use kcr_fault::{Call, Fault, around};
 use kcr_print::write_whole;
 use kcr_store::{FileRegister, Register};
-use kcr_words::Serving;
 use sqlite::{Alter, Start};
 use std::io::Write;
 use std::net::{Ipv4Addr, TcpListener, TcpStream};

@@ -11,8 +11,8 @@ ghost use Rattle.kcr_store.specs.Calls.{Leads, OfHistory};
 ghost use Rattle.kcr_store.specs.Opening.{FilesHoldHistory};
 ghost use Rattle.kcr_store.specs.Register.{RegisterHistory, StandsAt, whole};
 ghost use Rattle.kcr_tool.specs.Runs.{EndsTask, EndsTaskBy, Reports, RunsTo};
-ghost use Rattle.kcr_words.specs.declared.words.Report.TheVariants as report;
-ghost use Rattle.kcr_words.specs.declared.words.Task.TheVariants as task;
+ghost use Rattle.kcr_arguments.specs.declared.words.Report.TheVariants as report;
+ghost use Rattle.kcr_arguments.specs.declared.words.Task.TheVariants as task;
 
 use crate::opening::open_file;
 use kcr_base::{CeremonyNumber, Counted};

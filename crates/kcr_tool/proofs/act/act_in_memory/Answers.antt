@@ -1,7 +1,7 @@
 use Rattle.std.proofs.Common.{None}
 use Rattle.kcr_desk.specs.Streams.{streams, writing}
 use Rattle.kcr_history.specs.History.{History}
-use Rattle.kcr_words.specs.declared.words.Task.TheVariants.{Run}
+use Rattle.kcr_arguments.specs.declared.words.Task.TheVariants.{Run}
 use Rattle.kcr_tool.specs.Runs.{EndsReportBy, EndsTaskBy}
 use Rattle.kcr_tool.proofs.Empty.{of_fresh}
 use Rattle.kcr_tool.proofs.Notes.{noted_of}

@@ -3,7 +3,7 @@ use Rattle.std.proofs.lemmas.Result.{IfErr-weaker, err_from_is_err_and}
 use Rattle.kcr_desk.specs.Streams.{streams}
 use Rattle.kcr_fault.specs.Faults.{StopsServing}
 use Rattle.kcr_fault.specs.declared.fault.Fault.{Fault}
-use Rattle.kcr_words.specs.declared.words.Task.TheVariants.{Run}
+use Rattle.kcr_arguments.specs.declared.words.Task.TheVariants.{Run}
 use Rattle.kcr_tool.proofs.Causes.{serving_cause, task_cause}
 use Rattle.kcr_tool.proofs.act.act_on_file.Goals as goal
 

@@ -19,13 +19,13 @@ use Rattle.std.specs.Option.{option_map_or}
 use Rattle.clap.specs.Faults.{check_fault, defaults_fault, settle_fault, entered_fault, built_fault, level_fault, walk_fault, turn_fault, word_fault}
 use Rattle.clap.specs.Faults.{step_fault}
 use Rattle.clap.specs.Simple.{App, built, built_leaf, names_of, label_of, entered, rows_at, argument_words, new_shape, filled, help_rule}
-use Rattle.kcr_words.specs.Commands.{tool_app, file_rule, flag_rule, choice_rule, number_rule, of_ceremony, into_file, explained}
-use Rattle.kcr_words.specs.Tasks.{task_at, met_in, faults_of, number_at, ceremony_at, into_at}
-use Rattle.kcr_words.specs.declared.words.Serving.{Serving}
-use Rattle.kcr_words.specs.declared.words.Task.{Task}
-use Rattle.kcr_words.specs.declared.words.Report.TheVariants.{Print, Attendance}
-use Rattle.kcr_words.specs.declared.words.Task.TheVariants.{Serve, Write, Rebuild, Pack}
-use Rattle.kcr_words.proofs.Options.{both_empty, is_number, is_text, required_number, required_text, number_keeps, text_keeps, other_keeps, help_keeps}
+use Rattle.kcr_arguments.specs.Commands.{tool_app, file_rule, flag_rule, choice_rule, number_rule, of_ceremony, into_file, explained}
+use Rattle.kcr_arguments.specs.Tasks.{task_at, met_in, faults_of, number_at, ceremony_at, into_at}
+use Rattle.kcr_arguments.specs.declared.words.Serving.{Serving}
+use Rattle.kcr_arguments.specs.declared.words.Task.{Task}
+use Rattle.kcr_arguments.specs.declared.words.Report.TheVariants.{Print, Attendance}
+use Rattle.kcr_arguments.specs.declared.words.Task.TheVariants.{Serve, Write, Rebuild, Pack}
+use Rattle.kcr_arguments.proofs.Options.{both_empty, is_number, is_text, required_number, required_text, number_keeps, text_keeps, other_keeps, help_keeps}
 
 -- if a walk has stopped, it is not at `help`
 abbrev PastHelp : Option (Text × List Text) → Type 0

@@ -10,9 +10,9 @@ use Rattle.clap.specs.declared.parser.matches.ArgMatches.{ArgMatches}
 use Rattle.clap.specs.declared.parser.matches.SubCommand.{SubCommand}
 use Rattle.clap.specs.declared.parser.matches.ArgMatches.TheViews.{out-SubCommand}
 use Rattle.clap.proofs.OnLiterals.{clap_on_literals}
-use Rattle.kcr_words.specs.Commands.{tool_app}
-use Rattle.kcr_words.specs.Tasks.{met_in, faults_of, task_of, task_at, file_of, file_at, into_of, into_at, flag_at, is_existing, is_explained}
-use Rattle.kcr_words.specs.declared.words.Task.{Task}
+use Rattle.kcr_arguments.specs.Commands.{tool_app}
+use Rattle.kcr_arguments.specs.Tasks.{met_in, faults_of, task_of, task_at, file_of, file_at, into_of, into_at, flag_at, is_existing, is_explained}
+use Rattle.kcr_arguments.specs.declared.words.Task.{Task}
 use Rattle.clap.specs.declared.parser.matches.ArgMatches.TheViews.{out-ArgMatches}
 
 pub tool-simple : is_simple tool_app ≡ true

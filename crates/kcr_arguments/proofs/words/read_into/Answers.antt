@@ -1,7 +1,7 @@
 use Rattle.std.proofs.Common.{codes, ◌∙◌}
 use Rattle.clap.specs.Words.{found_of}
 use Rattle.clap.proofs.WalkLemmas.{first_value-rows}
-use Rattle.kcr_words.proofs.words.read_file.Goals as goal
+use Rattle.kcr_arguments.proofs.words.read_into.Goals as goal
 
 pub returns : goal.returns
-returns c = c.get_str.ensures ∙ first_value-rows (found_of c.args.matches.now) (codes "file")
+returns c = c.get_str.ensures ∙ first_value-rows (found_of c.args.matches.now) (codes "into")

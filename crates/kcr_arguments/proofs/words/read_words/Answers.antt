@@ -1,9 +1,9 @@
 use Rattle.std.proofs.Common.{sym, ap, ◌∙◌}
-use Rattle.kcr_words.specs.Tasks.{names_companion}
+use Rattle.kcr_arguments.specs.Tasks.{names_companion}
 use Rattle.clap.specs.Words.{rows_of, found_of}
-use Rattle.kcr_words.proofs.Parses.{met_is, task_is, file_is, into_is, existing_is, explained_is}
-use Rattle.kcr_words.proofs.Taken.{never_none, never_other}
-use Rattle.kcr_words.proofs.words.read_words.Goals as goal
+use Rattle.kcr_arguments.proofs.Parses.{met_is, task_is, file_is, into_is, existing_is, explained_is}
+use Rattle.kcr_arguments.proofs.Taken.{never_none, never_other}
+use Rattle.kcr_arguments.proofs.words.read_words.Goals as goal
 
 pub unreachable-requires : goal.unreachable-requires
 unreachable-requires c = never_none _ c.in_ok-matches.matches c.in_ok-matches.ensures.taken c.in_ok-matches.ensures.found c.in_default.ensures.rows

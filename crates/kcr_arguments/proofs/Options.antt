@@ -27,8 +27,8 @@ use Rattle.clap.specs.declared.builder.value_parser.ValueParser.{ValueParser}
 use Rattle.clap.specs.declared.builder.value_parser.ValueParser.TheVariants.{Unsigned}
 use Rattle.clap.specs.declared.parser.matches.ValueSource.{ValueSource}
 use Rattle.clap.specs.declared.builder.value_parser.Reading.{Reading}
-use Rattle.kcr_words.specs.Commands.{number_rule, text_rule}
-use Rattle.kcr_words.specs.Tasks.{number_between, number_at}
+use Rattle.kcr_arguments.specs.Commands.{number_rule, text_rule}
+use Rattle.kcr_arguments.specs.Tasks.{number_between, number_at}
 
 pub both_empty : (a b : Kinds) → or_else a b ≡ [] → (a ≡ []) × (b ≡ [])
 both_empty [] b e = (refl, e)

@@ -2,9 +2,9 @@
 ghost use Rattle.std.specs.Prelude.{◌≡◌, codes, false, IfOk};
 ghost use Rattle.clap.specs.Words.{App, app_of, rule_of, with_rule, with_subcommand};
 ghost use Rattle.clap.specs.declared.builder.command.Command.TheViews.{out-Command};
-ghost use Rattle.kcr_words.specs.Commands.{choice_rule, file_rule, flag_rule, number_rule, text_rule, root_app};
-ghost use Rattle.kcr_words.specs.Commands.{of_file, of_own_file, of_ceremony, explained, serve_app, export_app};
-ghost use Rattle.kcr_words.specs.Commands.{journal_app, into_file, tool_app};
+ghost use Rattle.kcr_arguments.specs.Commands.{choice_rule, file_rule, flag_rule, number_rule, text_rule, root_app};
+ghost use Rattle.kcr_arguments.specs.Commands.{of_file, of_own_file, of_ceremony, explained, serve_app, export_app};
+ghost use Rattle.kcr_arguments.specs.Commands.{journal_app, into_file, tool_app};
 
 use clap::builder::ValueParser;
 use clap::{Arg, ArgAction, Command};

@@ -10,7 +10,7 @@ use Rattle.clap.specs.Words.{Text, rows_of}
 use Rattle.clap.proofs.ValueTestLemmas.{accepts-Accepts, Accepts-accepts}
 use Rattle.clap.proofs.WalkLemmas.{one_text-rows}
 use Rattle.clap.specs.declared.parser.matches.Found.{Found}
-use Rattle.kcr_words.specs.Tasks.{number_between, number_at}
+use Rattle.kcr_arguments.specs.Tasks.{number_between, number_at}
 
 -- the text is the numeral of a number from the least to the most
 pub number_in : (least most : ℕ) (text : Text) → IsUnsignedIn least most text → number_between least most text ≡ Some (digits_value 10 (without_leading_plus text))

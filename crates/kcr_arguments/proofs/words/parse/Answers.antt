@@ -1,6 +1,6 @@
 use Rattle.std.proofs.Common.{◌∙◌}
-use Rattle.kcr_words.proofs.Parses.{found_in, taken_in, refused_in}
-use Rattle.kcr_words.proofs.words.parse.Goals as goal
+use Rattle.kcr_arguments.proofs.Parses.{found_in, taken_in, refused_in}
+use Rattle.kcr_arguments.proofs.words.parse.Goals as goal
 
 pub returns-in-Ok-try_get_matches_from-clause-found : goal.returns-in-Ok-try_get_matches_from-clause-found
 returns-in-Ok-try_get_matches_from-clause-found c =

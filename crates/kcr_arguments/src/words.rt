@@ -2,10 +2,10 @@
 ghost use Rattle.std.specs.Prelude.{◌≡◌, ◌≢◌, ◌≤◌, [], true, false, Some, IfOk, IfErr, IfSome};
 ghost use Rattle.std.specs.Prelude.{option_map};
 ghost use Rattle.clap.specs.Words.{rows_of, found_of, subcommand_rows_of};
-ghost use Rattle.kcr_words.specs.Tasks.{IsLine, task_of, task_at, file_of, file_at, into_of, into_at, number_at};
-ghost use Rattle.kcr_words.specs.Tasks.{ceremony_at, command_at, export_at, report_at, serve_at, met_in, flag_at};
-ghost use Rattle.kcr_words.specs.Tasks.{idle_at, longest_at, is_existing, is_explained};
-ghost use Rattle.kcr_words.specs.Tasks.{IsCompanion, faults_of, file_in, into_in, is_companion, names_companion, said};
+ghost use Rattle.kcr_arguments.specs.Tasks.{IsLine, task_of, task_at, file_of, file_at, into_of, into_at, number_at};
+ghost use Rattle.kcr_arguments.specs.Tasks.{ceremony_at, command_at, export_at, report_at, serve_at, met_in, flag_at};
+ghost use Rattle.kcr_arguments.specs.Tasks.{idle_at, longest_at, is_existing, is_explained};
+ghost use Rattle.kcr_arguments.specs.Tasks.{IsCompanion, faults_of, file_in, into_in, is_companion, names_companion, said};
 
 use crate::commands::tool;
 use clap::ArgMatches;

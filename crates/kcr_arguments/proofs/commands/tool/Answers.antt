@@ -1,8 +1,8 @@
 use Rattle.std.proofs.Common.{ap₂, ◌∙◌}
 use Rattle.std.proofs.lemmas.Result.{IfOk-weaker}
 use Rattle.clap.specs.Words.{App, with_subcommand}
-use Rattle.kcr_words.specs.Commands.{tool_app, explained}
-use Rattle.kcr_words.proofs.commands.tool.Goals as goal
+use Rattle.kcr_arguments.specs.Commands.{tool_app, explained}
+use Rattle.kcr_arguments.proofs.commands.tool.Goals as goal
 
 add : App → App → App
 add a b = with_subcommand a (explained b).top

@@ -1,8 +1,8 @@
 use Rattle.std.proofs.Common.{rules, ◌∙◌, ◌≤◌, arith, inl, inr}
 use Rattle.clap.specs.Words.{found_of}
 use Rattle.std.specs.Str.Parse.{ParsesUnsigned, ExplainsUnsignedError, HasUnsignedDigitsIfOk}
-use Rattle.kcr_words.proofs.Numbers.{number_read, number_outside, number_none}
-use Rattle.kcr_words.proofs.words.read_number.Goals as goal
+use Rattle.kcr_arguments.proofs.Numbers.{number_read, number_outside, number_none}
+use Rattle.kcr_arguments.proofs.words.read_number.Goals as goal
 
 pub returns-in_err-number-clause-number : goal.returns-in_err-number-clause-number
 returns-in_err-number-clause-number c =

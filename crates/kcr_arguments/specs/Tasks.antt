@@ -7,15 +7,15 @@ use Rattle.std.specs.Str.{bytes_eq}
 use Rattle.std.specs.Str.Parse.{digits_value, without_leading_plus}
 use Rattle.clap.specs.ValueTests.{is_unsigned_in}
 use Rattle.clap.specs.Words.{Kinds, Row, Text, fault_of, first_of, one_of, subcommand_of}
-use Rattle.kcr_words.specs.Commands.{tool_app}
-use Rattle.kcr_words.specs.declared.words.WordsFault.{WordsFault}
-use Rattle.kcr_words.specs.declared.words.WordsFault.TheVariants as WordsFaults
-use Rattle.kcr_words.specs.declared.words.Order.{Order}
-use Rattle.kcr_words.specs.declared.words.Serving.{Serving}
-use Rattle.kcr_words.specs.declared.words.Report.{Report}
-use Rattle.kcr_words.specs.declared.words.Report.TheVariants.{Print, Attendance, Custody, Export, Journal, Audit}
-use Rattle.kcr_words.specs.declared.words.Task.{Task}
-use Rattle.kcr_words.specs.declared.words.Task.TheVariants.{Run, Serve, Write, Verify, Rebuild, Pack}
+use Rattle.kcr_arguments.specs.Commands.{tool_app}
+use Rattle.kcr_arguments.specs.declared.words.WordsFault.{WordsFault}
+use Rattle.kcr_arguments.specs.declared.words.WordsFault.TheVariants as WordsFaults
+use Rattle.kcr_arguments.specs.declared.words.Order.{Order}
+use Rattle.kcr_arguments.specs.declared.words.Serving.{Serving}
+use Rattle.kcr_arguments.specs.declared.words.Report.{Report}
+use Rattle.kcr_arguments.specs.declared.words.Report.TheVariants.{Print, Attendance, Custody, Export, Journal, Audit}
+use Rattle.kcr_arguments.specs.declared.words.Task.{Task}
+use Rattle.kcr_arguments.specs.declared.words.Task.TheVariants.{Run, Serve, Write, Verify, Rebuild, Pack}
 
 -- the words as texts
 abbrev pub said : {Z : Type 0} → List (String Z) → List Text
