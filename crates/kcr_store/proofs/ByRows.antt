@@ -1,11 +1,14 @@
 -- A command by the rows that the tables hold, and by the tables of a history.
-use Rattle.std.proofs.Common.{◌≡◌, ◌∙◌, ◌⊎◌, inl, inr, false, true, ℕ, length, List, Option, Some, None, Result, Ok, Err, IsTrue, refl, sym, subst}
-use Rattle.std.specs.Prelude.{⊤, IfOk, IfErr, IsErrAnd, MatchOption, MatchResult}
+use Rattle.std.proofs.Common.{◌≡◌, ◌∙◌, ◌⊎◌, inl, inr, Bool, false, true, ℕ, length, List, Option, Some, None, Result, Ok, Err, IsTrue, refl, sym, ap, subst}
+use Rattle.std.proofs.lemmas.Bool.{true≢false}
+use Rattle.std.specs.Prelude.{◌↔◌, ⊤, IfOk, IfErr, IsErrAnd, MatchOption, MatchResult}
+use Rattle.sqlite.specs.declared.error.Error.{Error}
 use Rattle.sqlite.specs.Effect.{Database}
 use Rattle.sqlite.specs.Held.{Held, state}
-use Rattle.sqlite.specs.State.{State, Shows}
+use Rattle.sqlite.specs.State.{State, HasCleanDisk, Shows}
 use Rattle.sqlite.specs.Store.{Ghosts}
 use Rattle.kcr_base.specs.declared.refusal.Refusal.{Refusal}
+use Rattle.kcr_base.specs.declared.refusal.Refusal.TheVariants.{Broken, Disk}
 use Rattle.kcr_history.specs.AsksByKind.{asks_of}
 use Rattle.kcr_history.specs.Changes.{all_changed}
 use Rattle.kcr_history.specs.Early.{early_asks}
@@ -14,6 +17,7 @@ use Rattle.kcr_history.specs.Machine.{IsDecision, IsRegister}
 use Rattle.kcr_history.specs.Tables.{Tables, tables}
 use Rattle.kcr_history.specs.Views.{IsViewOf, row_of_key}
 use Rattle.kcr_history.specs.declared.commands.Command.{Command}
+use Rattle.kcr_history.specs.declared.commands.Reply.{Reply}
 use Rattle.kcr_history.specs.declared.row_types.KeyRow.{KeyRow}
 use Rattle.kcr_history.specs.declared.views.Change.{Change}
 use Rattle.kcr_history.specs.declared.views.Verdict.{Verdict}
@@ -25,7 +29,12 @@ use Rattle.kcr_machine.specs.RowDecision.{IsRowRepeat, is_full_by}
 use Rattle.kcr_machine.proofs.Decided.{decision, refused-early, repetition}
 use Rattle.kcr_tables.specs.MachineTables.{HoldsTables}
 use Rattle.kcr_tables.specs.Refusals.{IsFault}
-use Rattle.kcr_store.specs.ByRows.{DecidesBy, IsDecidedBy, IsDecidedLate, IsRefusedEarly, RepliesBy}
+use Rattle.kcr_store.specs.ByRows.{DecidesBy, EndsByRows, IsDecidedBy, IsDecidedLate, IsRefusedEarly, RepliesBy, TakesStepByRows, number_by, rows_after}
+use Rattle.kcr_store.specs.Calls.{RowsLead}
+use Rattle.kcr_store.specs.Register.{HasRows, RegisterState}
+use Rattle.kcr_store.specs.TransactionResult.{is_in_doubt, last_number_after, result_of}
+use Rattle.kcr_store.specs.declared.transaction.TransactionResult.{TransactionResult}
+use Rattle.kcr_store.specs.declared.transaction.TransactionResult.TheVariants.{Accepted, Refused, InDoubt}
 use Rattle.kcr_store.specs.Commands.{AppliesCommand, with_reply}
 use Rattle.kcr_store.specs.Stored.{Stores}
 use Rattle.kcr_store.proofs.StoreLemmas.{fault_steps, next_stores, steps}
@@ -118,3 +127,76 @@ module _ {m : Tables} {last : ℕ} {x : Command} {end : State} where
   -- it was refused
   pub refused_by : {e : Refusal} → IsDecidedBy m last x (Err e) → RepliesBy m last x (Err e) end
   refused_by {e} decided = record { decision = Err e; told = refl; by = record { decided = decided; holds = tt } }
+
+-- ---- the rows after it
+
+-- what a database that has these rows holds, if it is open
+pub now_held : {m : Tables} {s : State} → HasRows m s → HasCleanDisk s → IsTrue s.is_open → HoldsTables m s.now
+now_held had clean live = (had clean live).now
+
+module _ {m : Tables} {last : ℕ} {x : Command} {end : State} where
+  -- the commit stands
+  pub accepted_rows : {v : Verdict} {mid : State} → DecidesBy m last x (Ok v) mid.now → Shows mid end mid.now mid.now false
+      → EndsByRows m last x (Accepted v) end
+  accepted_rows {v} by shown = record {
+    decision = Ok v;
+    told = refl;
+    decided = by.decided;
+    number = refl;
+    shows = λ _ clean live. record {
+      now = subst (HoldsTables (all_changed v.changes.items m)) (sym shown.now_is) by.holds;
+      committed = subst (HoldsTables (all_changed v.changes.items m)) (sym shown.committed_is) by.holds;
+    };
+  }
+
+  -- it was refused
+  pub refused_rows : {e : Refusal} → IsDecidedBy m last x (Err e) → HasRows m end → EndsByRows m last x (Refused e) end
+  refused_rows {e} decided had = record { decision = Err e; told = refl; decided = decided; number = refl; shows = λ _. had }
+
+  -- the commit may stand
+  pub doubtful_rows : (error : Error) → EndsByRows m last x (InDoubt error) end
+  doubtful_rows error = record {
+    decision = Err Disk;
+    told = refl;
+    decided = inl (inr refl);
+    number = refl;
+    shows = λ is. absurd (true≢false is);
+  }
+
+-- what is in doubt is told as a fault of the device
+certain : (ended : TransactionResult) → (result_of ended ≡ Err Disk → ⊥) → is_in_doubt ended ≡ false
+certain (Accepted v) never = refl
+certain (Refused e) never = refl
+certain (InDoubt error) never = absurd (never refl)
+
+module _ {S : Type 0} (g : Ghosts S) (old new : RegisterState S) (x : Command) where
+  -- a command over a register that is not broken
+  pub rows_led : old.is_broken ≡ false → (ended : TransactionResult) → new.last_number ≡ last_number_after old.last_number ended
+      → (IsTrue new.is_broken ↔ (result_of ended ≡ Err Disk))
+      → (HasCleanDisk (state g new.conn) → (m : Tables) → HasRows m (state g old.conn) → EndsByRows m old.last_number x ended (state g new.conn))
+      → RowsLead g old new (λ t after. TakesStepByRows t x (result_of ended) after)
+  rows_led unbroken ended number breaks ends clean t at =
+      let whole : t.is_broken ≡ false = sym at.broken ∙ unbroken in
+      let e : EndsByRows t.rows t.last_number x ended (state g new.conn) =
+      subst (λ (n : ℕ). EndsByRows t.rows n x ended (state g new.conn)) at.number (ends clean t.rows (at.shows whole)) in (
+        record { rows = rows_after t.rows e.decision; last_number = number_by t.last_number e.decision; is_broken = new.is_broken },
+        record {
+          broken = refl;
+          number = number ∙ ap (λ (n : ℕ). last_number_after n ended) at.number ∙ e.number;
+          shows = λ calm. e.shows (certain ended (λ disk. true≢false (sym (breaks.1 disk) ∙ calm)));
+        },
+        record {
+          broken = λ yes. absurd (true≢false (sym yes ∙ whole));
+          decides = λ _. record { decision = e.decision; told = e.told; decided = e.decided; rows = refl; number = refl; breaks = breaks };
+        },
+      )
+
+-- one that stays whole, and is told no fault of the device
+pub calm_breaks : {is_broken : Bool} {r : Result Reply Refusal} → is_broken ≡ false → (r ≡ Err Disk → ⊥) → IsTrue is_broken ↔ (r ≡ Err Disk)
+calm_breaks still other = (λ yes. absurd (true≢false (sym yes ∙ still)), λ disk. absurd (other disk))
+
+-- a broken register stays as it was
+pub broken_rows_lead : {S : Type 0} (g : Ghosts S) (old : RegisterState S) (x : Command) → IsTrue old.is_broken
+    → RowsLead g old old (λ t after. TakesStepByRows t x (Err Broken) after)
+broken_rows_lead g old x is clean t at =
+    (t, at, record { broken = λ _. (refl, refl); decides = λ whole. absurd (true≢false (sym is ∙ at.broken ∙ whole)) })

@@ -1,3 +1,4 @@
+pub mod RowLemmas
 pub mod WholeLemmas
 pub mod StoreLemmas
 pub mod KeyLemmas

@@ -20,6 +20,7 @@ use Rattle.kcr_store.specs.TransactionResult.{EndsCommand, result_of}
 use Rattle.kcr_store.specs.declared.transaction.TransactionResult.{TransactionResult}
 use Rattle.kcr_store.specs.declared.transaction.TransactionResult.TheVariants.{Accepted, Refused, InDoubt}
 use Rattle.kcr_history.specs.declared.views.Verdict.{Verdict}
+use Rattle.kcr_store.proofs.RowLemmas.{begins_with, rows_undone}
 use Rattle.kcr_store.proofs.StoreLemmas.{counts_after}
 use Rattle.kcr_store.specs.Stored.{IsTables, Stores}
 use Rattle.kcr_history.specs.History.{History}
@@ -209,6 +210,8 @@ read_back g old end {begun = begun} {mid = mid} left is then back out = record {
   survives = (undone_outside g old begun.conn.now is (state_in g mid) left.survives end then out).survives;
   clean = λ clean. begun_clean g old begun.conn.now is (clean_before left (was_clean (state_in g mid) (state g end) _ then clean));
   whole = λ A was. whole_undone A (state_in g begun) (state_in g mid) (begins g A old begun.conn.now is was) left.survives left.kept (state g end) then back;
+  rows = λ m had.
+      rows_undone m (state_in g begun) (state_in g mid) (begins_with g old begun.conn.now is m had) left.survives left.kept (state g end) then back;
   cause = left.cause;
 }
 
@@ -386,19 +389,31 @@ module _ {S A E : Type 0} {g : Ghosts S} {MayFail : E → Type 0} {r : Result A 
 -- what is not touched commits nothing, and neither do two calls that do not
 pub commits_nothing : {S : Type 0} (g : Ghosts S) (a : RegisterState S) → CommitsNothing g a a
 commits_nothing g a = record {
-  clean = omega arith;
-  shield = λ shielded. shielded;
-  counts = omega arith;
-  limit = refl;
-  closes = λ clean live. inl live;
-  crash = λ clean db may. inl may;
+  survives = record {
+    clean = omega arith;
+    shield = λ shielded. shielded;
+    counts = omega arith;
+    limit = refl;
+    closes = λ clean live. inl live;
+    crash = λ clean db may. inl may;
+  };
+  number = refl;
+  rows = λ m had. had;
 }
 
 pub commits_still_nothing : {S : Type 0} (g : Ghosts S) (a b c : RegisterState S) → CommitsNothing g a b → CommitsNothing g b c
     → CommitsNothing g a c
-commits_still_nothing g a b c one two =
-    survives_then (state g a.conn) (state g b.conn) (state g c.conn) (λ _. ⊥) (λ _. ⊥) (λ _. ⊥) (λ _ db none. none) (λ _ db none. none)
-    one two
+commits_still_nothing g a b c one two = record {
+  survives = survives_then (state g a.conn) (state g b.conn) (state g c.conn) (λ _. ⊥) (λ _. ⊥) (λ _. ⊥) (λ _ db none. none) (λ _ db none. none)
+      one.survives two.survives;
+  number = two.number ∙ one.number;
+  rows = λ m had. two.rows m (one.rows m had);
+}
+
+-- a call that only reads commits nothing
+only_commits_nothing : {S A E : Type 0} {g : Ghosts S} {MayFail : E → Type 0} {r : Result A E} (old new : RegisterState S)
+    → new.last_number ≡ old.last_number → OnlyReads g MayFail old.conn new.conn r → CommitsNothing g old new
+only_commits_nothing old new number left = record { survives = left.survives; number = number; rows = left.rows }
 
 -- over the connection of a register that is not broken
 pub peeked : {S A : Type 0} {g : Ghosts S} {MayFail : Refusal → Type 0} {r : Result A Refusal} {old new : RegisterState S} → old.is_broken ≡ false
@@ -408,7 +423,7 @@ peeked {old = old} unbroken is left =
     record {
       broken = λ yes. absurd (true≢false (sym yes ∙ unbroken));
       cause = λ _. left.cause;
-      same = record { unbroken = same; nothing = left.survives; stands = still_stands unbroken (same ∙ unbroken) (ap (λ s. s.last_number) is) left };
+      same = record { unbroken = same; nothing = only_commits_nothing old _ (ap (λ s. s.last_number) is) left; stands = still_stands unbroken (same ∙ unbroken) (ap (λ s. s.last_number) is) left };
       clean = left.clean;
       kept = record { autocommit = left.autocommit };
     }
@@ -427,7 +442,7 @@ module _ {S A : Type 0} {r : Result A Refusal} {g : Ghosts S} {MayFail : Refusal
     broken = λ yes. absurd (true≢false (sym yes ∙ unbroken));
     cause = λ _. left.cause;
     breaks = λ _. (λ _. disk, λ _. refl);
-    nothing = left.survives;
+    nothing = only_commits_nothing old (after_fault mid) (ap (λ s. s.last_number) is) left;
     stands = λ s at. stands_broken refl (mid_stands s at).crash;
     clean = left.clean;
     kept = record { autocommit = left.autocommit };
@@ -438,7 +453,7 @@ module _ {S A : Type 0} {r : Result A Refusal} {g : Ghosts S} {MayFail : Refusal
     broken = λ yes. absurd (true≢false (sym yes ∙ unbroken));
     cause = λ _. left.cause;
     breaks = λ _. (λ yes. absurd (true≢false (sym yes ∙ mid_unbroken)), λ disk. absurd (other disk));
-    nothing = left.survives;
+    nothing = only_commits_nothing old mid (ap (λ s. s.last_number) is) left;
     stands = λ s at. subst (λ b. StandsAt g (left_at b s) mid) (sym mid_unbroken) (mid_stands s at);
     clean = left.clean;
     kept = record { autocommit = left.autocommit };

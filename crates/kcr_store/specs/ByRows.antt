@@ -1,8 +1,9 @@
 -- What a command comes to by the rows that the tables hold, whoever wrote them.
-use Rattle.std.specs.Prelude.{◌≡◌, ◌⊎◌, ⊤, ℕ, Result, Ok, Err, MatchOption, IfOk}
+use Rattle.std.specs.Prelude.{◌≡◌, ◌⊎◌, ◌↔◌, ⊤, ℕ, false, Result, Ok, Err, MatchOption, IfOk, IsTrue}
 use Rattle.sqlite.specs.Effect.{Database}
 use Rattle.sqlite.specs.State.{State}
 use Rattle.kcr_base.specs.declared.refusal.Refusal.{Refusal}
+use Rattle.kcr_base.specs.declared.refusal.Refusal.TheVariants.{Broken, Disk}
 use Rattle.kcr_history.specs.AsksByKind.{asks_of}
 use Rattle.kcr_history.specs.Changes.{all_changed}
 use Rattle.kcr_history.specs.Early.{early_asks}
@@ -17,7 +18,10 @@ use Rattle.kcr_machine.specs.NewDecision.{IsRowDecision}
 use Rattle.kcr_machine.specs.RowDecision.{IsRowRepeat, RepeatsRow, is_full_by}
 use Rattle.kcr_tables.specs.MachineTables.{HoldsTables}
 use Rattle.kcr_tables.specs.Refusals.{IsFault}
-use Rattle.kcr_store.specs.TransactionResult.{ends_with}
+use Rattle.kcr_store.specs.Commands.{number_after}
+use Rattle.kcr_store.specs.Register.{HasRows, RegisterRows}
+use Rattle.kcr_store.specs.TransactionResult.{ends_with, is_in_doubt, last_number_after, result_of}
+use Rattle.kcr_store.specs.declared.transaction.TransactionResult.{TransactionResult}
 
 -- a command whose key is new comes to this by the rows that it asks for, if the part of them that is read first clears
 -- it; `last` is the number of the last command
@@ -53,3 +57,40 @@ pub record RepliesBy (m : Tables) (last : ℕ) (x : Command) (result : Result Re
   pub decision : Result Verdict Refusal
   pub told : ends_with decision ≡ result
   pub by : DecidesBy m last x decision after.now
+
+-- A RUN OVER ROWS
+
+-- the rows after a decision: with its changes, or the same after a refusal
+abbrev pub rows_after : Tables → Result Verdict Refusal → Tables
+rows_after m (Ok verdict) = all_changed verdict.changes.items m
+rows_after m (Err refusal) = m
+
+-- the number of the last command after it
+abbrev pub number_by : ℕ → Result Verdict Refusal → ℕ
+number_by last (Ok verdict) = number_after last verdict.new_reply
+number_by last (Err refusal) = last
+
+-- a command over a connection that had these rows ended so: it has the rows after the decision, unless it is in doubt
+pub record EndsByRows (m : Tables) (last : ℕ) (x : Command) (ended : TransactionResult) (new : State) : Type 0 where
+  pub decision : Result Verdict Refusal
+  pub told : ends_with decision ≡ result_of ended
+  pub decided : IsDecidedBy m last x decision
+  pub number : last_number_after last ended ≡ number_by last decision
+  pub shows : is_in_doubt ended ≡ false → HasRows (rows_after m decision) new
+
+-- a command takes a register that is not broken from these rows to those after its decision, and a fault of the device
+-- alone breaks it
+pub record DecidesRows (before : RegisterRows) (x : Command) (result : Result Reply Refusal) (after : RegisterRows)
+    : Type 0 where
+  pub decision : Result Verdict Refusal
+  pub told : ends_with decision ≡ result
+  pub decided : IsDecidedBy before.rows before.last_number x decision
+  pub rows : after.rows ≡ rows_after before.rows decision
+  pub number : after.last_number ≡ number_by before.last_number decision
+  pub breaks : IsTrue after.is_broken ↔ (result ≡ Err Disk)
+
+-- a broken register says so, and stays as it is
+pub record TakesStepByRows (before : RegisterRows) (x : Command) (result : Result Reply Refusal) (after : RegisterRows)
+    : Type 0 where
+  pub broken : IsTrue before.is_broken → (result ≡ Err Broken) × (after ≡ before)
+  pub decides : before.is_broken ≡ false → DecidesRows before x result after

@@ -7,11 +7,15 @@ use Rattle.sqlite.specs.Held.{state}
 use Rattle.kcr_base.specs.declared.refusal.Refusal.{Refusal}
 use Rattle.kcr_base.specs.declared.refusal.Refusal.TheVariants.{Broken, Disk}
 use Rattle.kcr_history.specs.History.{History}
-use Rattle.kcr_store.specs.Register.{RegisterState, RegisterHistory, IsConsistent, StandsAt, whole}
+use Rattle.kcr_history.specs.Tables.{Tables}
+use Rattle.kcr_store.specs.Register.{HasRows, RegisterRows, RegisterState, RegisterHistory, IsConsistent, ShowsAt, StandsAt, whole}
 
--- whatever its database holds, nothing was committed: a crash leaves nothing that it would not have left before
-abbrev pub CommitsNothing : {S : Type 0} → Ghosts S → RegisterState S → RegisterState S → Type 0
-CommitsNothing g old new = Survives (state g old.conn) (state g new.conn) (λ _. ⊥)
+-- whatever its database holds, nothing was committed: a crash leaves nothing that it would not have left before, and
+-- whatever rows it had it has
+pub record CommitsNothing {S : Type 0} (g : Ghosts S) (old new : RegisterState S) : Type 0 where
+  pub survives : Survives (state g old.conn) (state g new.conn) (λ _. ⊥)
+  pub number : new.last_number ≡ old.last_number
+  pub rows : (m : Tables) → HasRows m (state g old.conn) → HasRows m (state g new.conn)
 
 -- the register stands where it stood, broken or not as it was
 pub record KeepsStand {S : Type 0} (g : Ghosts S) (old new : RegisterState S) : Type 0 where
@@ -27,9 +31,21 @@ Leads g old new Says =
     HasCleanDisk (state g new.conn) → (s : RegisterHistory) → StandsAt g s old
     → (after : RegisterHistory) × StandsAt g after new × Says s after
 
+-- the same of whatever rows the register showed: it shows others, and this is said of the two
+abbrev pub RowsLead : {S : Type 0} → Ghosts S → RegisterState S → RegisterState S → (RegisterRows → RegisterRows → Type 0)
+    → Type 0
+RowsLead g old new Says =
+    HasCleanDisk (state g new.conn) → (t : RegisterRows) → ShowsAt g t old
+    → (after : RegisterRows) × ShowsAt g after new × Says t after
+
 -- said of each history of a register that is not broken, by a call that leaves the disk clean
 abbrev pub OfHistory : {S : Type 0} → Ghosts S → RegisterState S → RegisterState S → (History → Type 0) → Type 0
 OfHistory g old new Says = HasCleanDisk (state g new.conn) → (A : History) → StandsAt g (whole A) old → Says A
+
+-- said of whatever rows a register that is not broken shows, by a call that leaves the disk clean
+abbrev pub OfRows : {S : Type 0} → Ghosts S → RegisterState S → RegisterState S → (Tables → Type 0) → Type 0
+OfRows g old new Says =
+    HasCleanDisk (state g new.conn) → old.is_broken ≡ false → (m : Tables) → HasRows m (state g old.conn) → Says m
 
 -- once a fault has broken it, a crash may leave the history that it had
 abbrev pub left_at : Bool → RegisterHistory → RegisterHistory

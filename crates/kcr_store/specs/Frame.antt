@@ -6,8 +6,9 @@ use Rattle.sqlite.specs.State.{State, HasCleanDisk, Survives}
 use Rattle.sqlite.specs.Held.{Held, state}
 use Rattle.sqlite.specs.declared.transaction.Transaction.{Transaction}
 use Rattle.kcr_history.specs.History.{History}
+use Rattle.kcr_history.specs.Tables.{Tables}
 use Rattle.kcr_rows.specs.Frame.{IfClean}
-use Rattle.kcr_store.specs.Register.{IsDurable}
+use Rattle.kcr_store.specs.Register.{HasRows, IsDurable}
 
 -- what a call over a connection says of the states before and after it, if the disk is clean after it
 abbrev pub IfCleanOver : {S : Type 0} → Ghosts S → Held S → Held S → (State → State → Type 0) → Type 0
@@ -22,14 +23,15 @@ pub record StaysOutside {S : Type 0} (g : Ghosts S) (MayLeave : Trees → Type 0
   pub autocommit : new.in_transaction ≡ false
   pub survives : Survives (state g old) (state g new) MayLeave
 
--- it ends outside of a transaction, having committed nothing, and leaves a register that was whole so, on a disk that was
--- clean where it is; an error is one of those that it may give
+-- it ends outside of a transaction, having committed nothing, and leaves a register that was whole so, and whatever rows
+-- it had, on a disk that was clean where it is; an error is one of those that it may give
 pub record OnlyReads {A E : Type 0} {S : Type 0} (g : Ghosts S) (MayFail : E → Type 0) (old new : Held S)
     (result : Result A E) : Type 0 where
   pub autocommit : new.in_transaction ≡ false
   pub survives : Survives (state g old) (state g new) (λ _. ⊥)
   pub clean : HasCleanDisk (state g new) → HasCleanDisk (state g old)
   pub whole : (A : History) → IsDurable A (state g old) → IsDurable A (state g new)
+  pub rows : (m : Tables) → HasRows m (state g old) → HasRows m (state g new)
   pub cause : IfErr result MayFail
 
 -- within a transaction it answers only if the store was open

@@ -6,6 +6,8 @@ use Rattle.sqlite.specs.Tree.{Trees}
 use Rattle.sqlite.specs.State.{State, HasCleanDisk}
 use Rattle.sqlite.specs.Held.{Held, held_code, state}
 use Rattle.kcr_history.specs.History.{History}
+use Rattle.kcr_history.specs.Tables.{Tables}
+use Rattle.kcr_tables.specs.MachineTables.{HoldsTables}
 use Rattle.kcr_store.specs.Stored.{IsTables, Stores}
 
 -- the connection shows the tables of the history, and nothing waits
@@ -69,3 +71,26 @@ pub record StandsAt {S : Type 0} (g : Ghosts S) (s : RegisterHistory) (r : Regis
   pub shows : s.in_doubt ≡ None → IsDurableWith r.last_number s.accepted (state g r.conn)
   -- broken or not, a crash leaves the tables of the one history or of the other
   pub crash : AfterCrash s.accepted (unwrap_or s.in_doubt s.accepted) (state g r.conn)
+
+-- WHAT IT SHOWS
+
+-- the connection shows these rows, whoever wrote them, and nothing waits
+pub record ShowsRows (m : Tables) (s : State) : Type 0 where
+  pub now : HoldsTables m s.now
+  pub committed : HoldsTables m s.committed
+
+-- so it does as long as it is open and its disk returns what was written
+abbrev pub HasRows : Tables → State → Type 0
+HasRows m s = HasCleanDisk s → IsTrue s.is_open → ShowsRows m s
+
+-- rows, the number of the last command, and whether the register with them is broken
+pub record RegisterRows : Type 0 where
+  pub rows : Tables
+  pub last_number : ℕ
+  pub is_broken : Bool
+
+-- the register shows these rows, whoever wrote them; of a broken one nothing is said of them
+pub record ShowsAt {S : Type 0} (g : Ghosts S) (t : RegisterRows) (r : RegisterState S) : Type 0 where
+  pub broken : r.is_broken ≡ t.is_broken
+  pub number : r.last_number ≡ t.last_number
+  pub shows : t.is_broken ≡ false → HasRows t.rows (state g r.conn)

@@ -3,7 +3,7 @@ ghost use Rattle.std.specs.Prelude.{[], false, true, ◌≡◌, ◌↔◌, IsTru
 ghost use Rattle.sqlite.specs.State.{HasCleanDisk};
 ghost use Rattle.sqlite.specs.Held.{state};
 ghost use Rattle.kcr_history.specs.History.{History};
-ghost use Rattle.kcr_store.specs.ByRows.{RepliesBy};
+ghost use Rattle.kcr_store.specs.ByRows.{RepliesBy, TakesStepByRows};
 ghost use Rattle.kcr_store.specs.Commands.{GoesByRow, IsQuestionResult, MayBeReplied, MayRefuseQuestion, TakesStep};
 
 use crate::breakage::{Breakage, breakage_of};
@@ -217,7 +217,7 @@ impl<S: Alter> Register<S> {
     ghost use Rattle.kcr_tables.specs.MachineTables.{HoldsTables};
     ghost use Rattle.kcr_tables.specs.Refusals.{IsFault};
     ghost use Rattle.kcr_store.specs.Register.{IsConsistent};
-    ghost use Rattle.kcr_store.specs.Calls.{Leads, OfHistory, ReadsHistory, BreaksOnFault, after_fault};
+    ghost use Rattle.kcr_store.specs.Calls.{Leads, OfHistory, ReadsHistory, RowsLead, BreaksOnFault, after_fault};
     ghost use Rattle.kcr_store.specs.Shown.{IsShownByRows};
 
     /// Decides a command as one transaction. Where the machine accepts it, its reply comes only once it is durable.
@@ -237,6 +237,9 @@ impl<S: Alter> Register<S> {
         ensures by_rows { self.old.is_broken ≡ false → HasCleanDisk (state S.Store self.new.conn) → (m : Tables)
             → (IsTrue (state S.Store self.old.conn).is_open → HoldsTables m (state S.Store self.old.conn).now)
             → RepliesBy m self.old.last_number command.now result (state S.Store self.new.conn) }
+
+        // So from whatever rows the register showed, it shows those after the decision, and the same after a refusal.
+        ensures rows { RowsLead S.Store self.old self.new (λ t after. TakesStepByRows t command.now result after) }
 
         // Whatever the database holds, the reply is one to a command of this kind, or what a row keeps for this very
         // command, and a refusal is one that this kind may get.

@@ -15,9 +15,9 @@ ghost use Rattle.kcr_history.specs.Questions.{ArePeopleShown, AreCustodiansShown
 ghost use Rattle.kcr_store.specs.Commands as steps;
 ghost use Rattle.kcr_store.specs.Commands.{AppliesCommand, with_reply, IsQuestionResult, IsQuestionRefusal, MayBeReplied, MayRefuseQuestion};
 ghost use Rattle.kcr_store.specs.Commands.{GoesByRow};
-ghost use Rattle.kcr_store.specs.ByRows.{DecidesBy, RepliesBy};
+ghost use Rattle.kcr_store.specs.ByRows.{DecidesBy, EndsByRows, RepliesBy};
 ghost use Rattle.kcr_store.specs.TransactionResult.{ends_with};
-ghost use Rattle.kcr_store.specs.Register.{IsDurableWith};
+ghost use Rattle.kcr_store.specs.Register.{HasRows, IsDurableWith};
 ghost use Rattle.kcr_store.specs.Rows.{GivesNext, IsRowOf, HasNoRow, MayHaveNoRow};
 ghost use Rattle.kcr_store.specs.TransactionResult.{EndsCommand, RefusesAsMachine, result_of};
 ghost use Rattle.kcr_store.specs.Shown.{IsShownByRows, IsShownOf};
@@ -116,6 +116,8 @@ pub(crate) fn run_command<S: Alter>(
         → EndsCommand count A command.now result new) }
     ensures by_rows { IfCleanOver S.Store conn.old conn.new (λ old new. (m : Tables)
         → (IsTrue old.is_open → HoldsTables m old.now) → RepliesBy m count command.now (result_of result) new) }
+    ensures rows { IfCleanOver S.Store conn.old conn.new (λ old new. (m : Tables) → HasRows m old
+        → EndsByRows m count command.now result new) }
     ensures kind { MayBeReplied command.now (result_of result) }
     ensures by_row { GoesByRow (state S.Store conn.old) (state S.Store conn.new) command.now (result_of result) }
     ensures served { IfCleanOver S.Store conn.old conn.new (λ _ new. OnOk (result_of result) (IsTrue new.is_open)) }

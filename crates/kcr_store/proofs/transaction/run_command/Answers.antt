@@ -8,14 +8,15 @@ use Rattle.kcr_rows.proofs.FrameLemmas.{clean_before}
 use Rattle.kcr_store.proofs.KeyLemmas.{fault_goes, refused_goes, replied_goes}
 use Rattle.kcr_history.specs.History.{History}
 use Rattle.kcr_history.specs.declared.commands.Command.{Command}
-use Rattle.kcr_store.specs.ByRows.{RepliesBy}
-use Rattle.kcr_store.proofs.ByRows.{begun_had, committed_by, refused_by}
+use Rattle.kcr_store.specs.ByRows.{EndsByRows, RepliesBy}
+use Rattle.kcr_store.proofs.ByRows.{accepted_rows, begun_had, committed_by, doubtful_rows, now_held, refused_by, refused_rows}
+use Rattle.kcr_store.proofs.RowLemmas.{begins_with, rows_stand}
 use Rattle.kcr_store.proofs.WholeLemmas.{accepted_ends, begins, begun_clean, counted_as, doubtful_ends, either, either_last, made_by, read_back, read_stores}
 use Rattle.kcr_store.proofs.WholeLemmas.{refused_ends, still_counted, whole_done, whole_stands}
 use Rattle.kcr_base.specs.declared.refusal.Refusal.TheVariants.{Memory, Disk}
 use Rattle.kcr_machine.proofs.Decided.{fault-refused}
 use Rattle.kcr_store.specs.TransactionResult.{EndsCommand}
-use Rattle.kcr_store.specs.declared.transaction.TransactionResult.TheVariants.{Accepted, InDoubt}
+use Rattle.kcr_store.specs.declared.transaction.TransactionResult.TheVariants.{Accepted, InDoubt, Refused}
 use Rattle.kcr_store.proofs.transaction.run_command.Goals as goal
 
 -- ---- what the command may get, whatever the tables hold
@@ -84,6 +85,46 @@ returns-in-Err-SqliteFailure-OutOfMemory-clause-by_rows g c clean m had = refuse
 
 pub returns-in-Ok-prepare-clause-by_rows : goal.returns-in-Ok-prepare-clause-by_rows
 returns-in-Ok-prepare-clause-by_rows g c clean m had = refused_by (inl (inl refl))
+
+-- ---- the rows after it
+
+pub returns-in-Err-clause-rows : goal.returns-in-Err-clause-rows
+returns-in-Err-clause-rows g c clean m had =
+    let end : HasCleanDisk (state g.S.Store c.drop-tx.new.self.0) = search rules in
+    let back = c.drop-tx.ensures in
+    let mid = was_clean _ _ _ back.survives end in
+    let before = begun_clean g.S.Store c.args.conn.now _ c.transaction-tx.ensures.begun (clean_before c.decide_and_write.ensures.frame mid) in
+    let by = c.in-Err.ensures.by_rows mid m (begun_had g.S.Store c.args.conn.now _ c.transaction-tx.ensures.begun m (now_held had before)) in
+    let left =
+    read_back g.S.Store c.args.conn.now c.drop-tx.new.self.0 c.decide_and_write.ensures.frame c.transaction-tx.ensures.begun back.survives back.undone back.ended in
+    let ended : EndsByRows m c.args.count c.args.command.now (Refused c.in-Err.refusal) (state g.S.Store c.drop-tx.new.self.0) =
+    refused_rows by.decided (left.rows m had) in
+    search rules
+
+pub returns-in-Ok-commit-clause-rows : goal.returns-in-Ok-commit-clause-rows
+returns-in-Ok-commit-clause-rows g c clean m had =
+    let end : HasCleanDisk (state g.S.Store c.commit.new.self.0) = search rules in
+    let mid = was_clean _ _ _ c.commit.ensures.survives end in
+    let before = begun_clean g.S.Store c.args.conn.now _ c.transaction-tx.ensures.begun (clean_before c.decide_and_write.ensures.frame mid) in
+    let by = c.in-Ok.ensures.by_rows mid m (begun_had g.S.Store c.args.conn.now _ c.transaction-tx.ensures.begun m (now_held had before)) in
+    let ended : EndsByRows m c.args.count c.args.command.now (Accepted c.in-Ok.verdict) (state g.S.Store c.commit.new.self.0) =
+    accepted_rows {mid = state g.S.Store c.decide_and_write.new.tx.conn.now} by (c.in-Ok-commit.ensures.ok end).1 in
+    search rules
+
+pub returns-clause-rows : goal.returns-clause-rows
+returns-clause-rows g c clean m had = doubtful_rows _
+
+pub returns-in-Err-SqliteFailure-OutOfMemory-clause-rows : goal.returns-in-Err-SqliteFailure-OutOfMemory-clause-rows
+returns-in-Err-SqliteFailure-OutOfMemory-clause-rows g c clean m had = doubtful_rows _
+
+pub returns-in-Ok-prepare-clause-rows : goal.returns-in-Ok-prepare-clause-rows
+returns-in-Ok-prepare-clause-rows g c clean m had =
+    let last = c.prepare.new.self in
+    let probed : Survives (state g.S.Store c.commit.new.self.0) (state g.S.Store last) (λ _. ⊥) = search rules in
+    let began = begins_with g.S.Store c.args.conn.now _ c.transaction-tx.ensures.begun m had in
+    refused_rows (inl (inl refl)) (rows_stand m _ _ began c.decide_and_write.ensures.frame.survives c.decide_and_write.ensures.frame.kept _
+    (state g.S.Store last) c.commit.ensures.survives probed c.in-Err-SqliteFailure-OutOfMemory.field-0 (search rules)
+    (λ clean. c.in-Err-SqliteFailure-OutOfMemory.ensures.err clean) (λ clean. search rules))
 
 -- ---- refused: the transaction is dropped
 
