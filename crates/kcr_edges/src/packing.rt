@@ -15,7 +15,7 @@ use std::alloc::Global;
 use std::io;
 
 /// Why a new file did not get its bytes.
-#[derive(Clone, Copy, PartialEq, Eq)]
+#[derive(Clone, Copy)]
 pub enum Unmade {
     /// It holds something, or the log beside it does. Both are as they were.
     Filled,

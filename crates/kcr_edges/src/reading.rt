@@ -14,7 +14,7 @@ use std::io::{self, ErrorKind};
 const TIMES: u32 = 10;
 
 /// Why a register's file is not read.
-#[derive(Clone, Copy, PartialEq, Eq)]
+#[derive(Clone, Copy)]
 pub enum Unread {
     /// Memory ran out.
     Memory,
