@@ -61,3 +61,12 @@ returns-in_default-clause-written g c clean A at =
     goes_end g.P.PrintLines.lines _ _ _ _ (c.loop.invariant.goes (c.next.ensures.peeks.clean clean) A at)
     (none_given g.S.Store g.R.Cursor.to_come c.args.rows.now.register.now c.loop.rows.register.now c.next.new.self.register.now
     c.next.new.self.reading c.loop.invariant.keeps c.in_ok-row.ensures.gives c.in_default.is clean A at)
+
+pub returns-in_err-row-clause-same : goal.returns-in_err-row-clause-same
+returns-in_err-row-clause-same g c = keeps_both _ _ _ c.loop.invariant.keeps c.next.ensures.peeks.same
+
+pub returns-in_default-clause-same : goal.returns-in_default-clause-same
+returns-in_default-clause-same g c = keeps_both _ _ _ c.loop.invariant.keeps c.next.ensures.peeks.same
+
+pub returns-in_err-write_row-clause-same : goal.returns-in_err-write_row-clause-same
+returns-in_err-write_row-clause-same g c = keeps_both _ _ _ c.loop.invariant.keeps c.next.ensures.peeks.same
