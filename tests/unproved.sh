@@ -16,7 +16,7 @@ for file in tests/unproved/*.txt; do
   cp "$file" "$work/crates/kcr_unproved/src/$(basename "$file" .txt).rt"
 done
 # the requests of a case, as bytes of the crate
-python3 - "$work/crates/kcr_unproved/src/stream.rt" tests/cases/bag-into-a-box << 'PYTHON'
+python3 - "$work/crates/kcr_unproved/src/stream.rt" tests/cases/custody/bag-into-a-box << 'PYTHON'
 import pathlib
 import sys
 
