@@ -8,7 +8,8 @@ ghost use Rattle.sqlite.specs.Order.{column};
 ghost use Rattle.sqlite.specs.Values.{bound_value};
 ghost use Rattle.sqlite.specs.Value.{owned};
 ghost use Rattle.kcr_base.specs.Number.{IsNumber};
-ghost use Rattle.kcr_base.specs.Place.{place_text};
+ghost use Rattle.kcr_base.specs.Place.{IsPlace, place_text};
+ghost use Rattle.kcr_base.specs.declared.place.Place.{Place as Custodian};
 ghost use Rattle.kcr_custody.specs.Custody.{is_co_place_of};
 ghost use Rattle.kcr_custody.specs.Spots.{spot_text};
 ghost use Rattle.kcr_script.specs.Seats.{StandsFor, written};
@@ -92,6 +93,8 @@ pub fn counted_or_null_at<K: Numbered>(row: &Row, at: usize) -> Result<Option<u3
 pub fn officer_at(alloc: Global, row: &Row, at: usize, facility: Facility) -> Result<Place, Refusal>
     ensures value { IfOk result (λ found. column row.now at ≡ Chars (place_text found)) }
     ensures own { IfOk result (λ found. IsTrue (is_co_place_of facility found)) }
+    ensures none { result ≡ Err Refusal.Disk → (place : Custodian) → IsTrue (is_co_place_of facility place)
+        → IsPlace place → column row.now at ≢ Chars (place_text place) }
     ensures cause { IfErr result IsFault }
 {
     let found = text_at(alloc, row, at)?;

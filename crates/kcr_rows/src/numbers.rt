@@ -197,7 +197,6 @@ impl AsNumber for StepState {
 }
 
 /// That a number is a seat's position among those of its step.
-#[derive(Clone, Copy, PartialEq, Eq)]
 pub struct OfSeat;
 
 impl Numbered for OfSeat {
@@ -211,7 +210,6 @@ impl Numbered for OfSeat {
 }
 
 /// That a number is an exception's, of 200 in a ceremony at most.
-#[derive(Clone, Copy, PartialEq, Eq)]
 pub struct OfException;
 
 impl Numbered for OfException {
@@ -225,7 +223,6 @@ impl Numbered for OfException {
 }
 
 /// That a number is an accepted command's.
-#[derive(Clone, Copy, PartialEq, Eq)]
 pub struct OfCommand;
 
 impl Numbered for OfCommand {

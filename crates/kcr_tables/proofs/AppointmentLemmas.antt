@@ -1,5 +1,5 @@
 -- What is shown of appointments: of a place and of a person the one that began last, or those that last beyond a day.
-use Rattle.std.proofs.Common.{◌≡◌, inl, inr, ◌≤◌, ◌&&◌, nat_le, Bool, true, ℕ, List, ◌++◌, filter, refl, sym, subst}
+use Rattle.std.proofs.Common.{◌≡◌, inl, inr, ◌&&◌, nat_le, Bool, true, ℕ, List, ◌++◌, filter}
 use Rattle.std.specs.List.{list_any}
 use Rattle.std.specs.List.Sorted.{IsPermutation}
 use Rattle.std.proofs.lemmas.Bool.{and_from, le-leb}

@@ -1,14 +1,14 @@
 -- The texts that show a part of one table, beside those of the table's own module.
 use Rattle.std.proofs.Common.{◌≡◌, ℕ, pos, ◌&&◌, ◌||◌, not, ◌==◌, nat_le, nat_lt, Bool, true, false, List, [], ◌∷◌, codes, Option, Some, None}
 use Rattle.std.proofs.Common.{refl, sym, ap, subst, ◌∙◌, arith}
-use Rattle.std.specs.Ordering.{is_ge, is_gt, is_eq, int_cmp}
+use Rattle.std.specs.Ordering.{is_ge, is_gt, is_eq}
 use Rattle.std.proofs.lemmas.Bool.Decides.{nat_tests}
 use Rattle.std.proofs.lemmas.Cmp.{tied_itself}
 use Rattle.sqlite.specs.declared.types.Value.{Value}
 use Rattle.sqlite.specs.declared.types.Value.TheVariants.{Null, Int, Real, Text, Blob}
-use Rattle.sqlite.specs.Order.{Row, column, value_cmp}
+use Rattle.sqlite.specs.Order.{column, value_cmp}
 use Rattle.sqlite.specs.Ops.{is_null, is_true, truth, from_truth, or3, binary}
-use Rattle.sqlite.specs.Term.{Term, lit, col, op2}
+use Rattle.sqlite.specs.Term.{lit, col, op2}
 use Rattle.sqlite.specs.Collation.TheVariants.{Binary}
 use Rattle.sqlite.specs.Listing.{understood}
 use Rattle.sqlite_schema.specs.Rules.{equal}

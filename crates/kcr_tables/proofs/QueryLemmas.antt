@@ -1,5 +1,5 @@
 -- What a text shows of a table, from what is computed of the text.
-use Rattle.std.proofs.Common.{◌≡◌, ℕ, pos, Bool, List, [], ◌∷◌, map, filter, sym, ap, subst, ◌∙◌, IsPermutation, IfOk, Result}
+use Rattle.std.proofs.Common.{◌≡◌, ℕ, pos, Bool, List, [], map, filter, sym, ap, subst, ◌∙◌, IsPermutation, IfOk, Result}
 use Rattle.std.specs.List.{AllByRecursion}
 use Rattle.std.proofs.lemmas.List.{map-id}
 use Rattle.std.proofs.lemmas.List.Sorted.{IsPermutation-map}

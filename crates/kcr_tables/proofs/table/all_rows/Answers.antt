@@ -1,4 +1,4 @@
-use Rattle.std.proofs.Common.{◌≡◌, ◌∙◌, true, List, [], map, refl, IfOk, IsPermutation, sym, subst}
+use Rattle.std.proofs.Common.{◌∙◌, true, [], map, refl, IsPermutation, sym, subst}
 use Rattle.sqlite.specs.Held.{state}
 use Rattle.kcr_rows.proofs.FailLemmas.{if_ok}
 use Rattle.kcr_rows.proofs.TableLemmas.{filter_every}

@@ -1,6 +1,6 @@
 use Rattle.std.proofs.Common.{◌≡◌, ◌∙◌, ap, sym, slice_get}
 use Rattle.std.proofs.lemmas.Option.{MatchOption-at_none}
-use Rattle.kcr_tables.proofs.FrameLemmas.{fails_as, reads_to}
+use Rattle.kcr_tables.proofs.FrameLemmas.{reads_to}
 use Rattle.kcr_tables.proofs.HoldLemmas.{held_of}
 use Rattle.kcr_tables.proofs.OneLemmas.{first_is, given_first}
 use Rattle.kcr_tables.proofs.unique.find_row.Goals as goal
