@@ -10,8 +10,8 @@ use clap::builder::ValueParser;
 use clap::{Arg, ArgAction, Command};
 use std::alloc::{AllocError, Global};
 
-/// The program's version, and the kit that it is proved with.
-const VERSION: &str = "1.0.0 (rattle-kit-13f logic dac8208d650f15bf)";
+/// The version of the program, and the logic that it is proved by.
+const VERSION: &str = "1.0.0 (rattle logic dac8208d650f15bf)";
 
 /// The option of the register's file.
 fn file_option<'a>(alloc: Global) -> Arg<'a>
