@@ -1,11 +1,11 @@
 -- What is shown of custodians, of a bag, of a ceremony and of a room, out of the rows of the tables.
-use Rattle.std.proofs.Common.{◌≡◌, ℕ, ◌==◌, Bool, true, false, not, ◌||◌, cond, List, [], ◌∷◌, map, filter, reverse, length, Option, Some, refl}
+use Rattle.std.proofs.Common.{◌≡◌, ℕ, Bool, true, false, List, [], ◌∷◌, map, filter, Option, Some, None, refl}
 use Rattle.std.proofs.Common.{◌⊎◌, inl, inr, sym, ap, ◌∙◌, subst, arith}
-use Rattle.std.specs.Prelude.{AllPairs, IsTrue, MatchResult, Result, Ok, Err, IfOk, IfErr}
+use Rattle.std.specs.Prelude.{AllPairs, IsSome, IsTrue, MatchResult, Result, Ok, Err, IfOk, IfErr, is_some}
 use Rattle.std.specs.Option.{ok_or}
-use Rattle.std.specs.List.{list_any, find}
+use Rattle.std.specs.List.{list_any}
 use Rattle.std.specs.List.Sorted.{IsPermutation}
-use Rattle.std.proofs.lemmas.List.Sorted.{IsPermutation-map, IsPermutation-refl, IsPermutation-reverse, IsPermutation-trans, list_any-IsPermutation}
+use Rattle.std.proofs.lemmas.List.Sorted.{IsPermutation-map, IsPermutation-refl, IsPermutation-reverse, IsPermutation-trans}
 use Rattle.sqlite.specs.Tree.{Trees}
 use Rattle.sqlite_trees.proofs.ListLemmas.{ascending-filter, ascending-map}
 use Rattle.kcr_base.specs.Same.{is_before}
@@ -14,35 +14,42 @@ use Rattle.kcr_base.specs.declared.refusal.Refusal.TheVariants.{Unknown}
 use Rattle.kcr_base.specs.declared.refusal.Thing.TheVariants as Things
 use Rattle.kcr_base.proofs.RowsLemmas.{filter-order}
 use Rattle.kcr_base.proofs.SameLemmas.{same-itself}
-use Rattle.kcr_base.proofs.ListLemmas.{any-map, some_if}
+use Rattle.kcr_base.proofs.ListLemmas.{some_if}
 use Rattle.kcr_people.specs.declared.Appointment.{Appointment}
 use Rattle.kcr_people.specs.People.{holder_by, lasts_beyond}
 use Rattle.kcr_custody.specs.Custody.{spot_by, lies_in, sealed_items}
 use Rattle.kcr_room.specs.declared.Stay.{Stay}
-use Rattle.kcr_room.specs.Stays.{attendance_in_by, present_in_by, stays_by}
+use Rattle.kcr_room.specs.Room.{ascending}
+use Rattle.kcr_room.specs.Stays.{attendance_in_by, present_in_by, stay_covers, stay_reaches, stays_by}
+use Rattle.kcr_room.proofs.Lists.{filter-kept}
+use Rattle.kcr_room.proofs.Orders.{present-order}
 use Rattle.kcr_history.specs.declared.row_types.CeremonyRow.{CeremonyRow}
-use Rattle.kcr_history.specs.History.{History, values_of_acts}
+use Rattle.kcr_history.specs.declared.report_rows.StayWithName.{StayWithName}
+use Rattle.kcr_history.specs.declared.questions.BagShown.{BagShown}
+use Rattle.kcr_history.specs.declared.questions.CustodiansShown.{CustodiansShown}
+use Rattle.kcr_history.specs.declared.questions.CustodyShown.{CustodyShown}
+use Rattle.kcr_history.specs.declared.questions.RoomShown.{RoomShown}
+use Rattle.kcr_history.specs.declared.questions.StepsShown.{StepsShown}
+use Rattle.kcr_history.specs.History.{History}
 use Rattle.kcr_history.specs.Ceremonies.{is_ceremony}
 use Rattle.kcr_history.specs.Custody.{spot}
 use Rattle.kcr_history.specs.Machine.{IsRegister}
-use Rattle.kcr_history.specs.Room.{sheet, present}
-use Rattle.kcr_history.specs.Tables.{Tables, SameTables, tables, people, appointments, items, bags, ceremonies, ceremony_row, planned_number}
+use Rattle.kcr_history.specs.Questions.{AreCustodiansShown, AreStepsShown, IsBagShown, IsCustodyShown, IsRoomShown, IsSheetShown, holders_from, with_name}
+use Rattle.kcr_history.specs.Room.{sheet}
+use Rattle.kcr_history.specs.Tables.{Tables, SameTables, tables, people, appointments, bags, ceremonies, ceremony_row}
 use Rattle.kcr_history.specs.Views.{is_of_serial, is_of_number}
-use Rattle.kcr_room.specs.Stays.{stay_reaches}
+use Rattle.kcr_rules.specs.CeremonyStatus.{ceremony_by}
 use Rattle.kcr_machine.proofs.BagsWords.{spot-shown}
 use Rattle.kcr_machine.proofs.InRoom.{present-shown, holder-lasting}
-use Rattle.kcr_machine.proofs.Keyed.{Shown}
 use Rattle.kcr_machine.proofs.Scenes.{ceremony-shown}
 use Rattle.kcr_tables.proofs.JointLemmas.{Rises}
 use Rattle.kcr_tables.proofs.NamedLemmas.{passing}
-use Rattle.kcr_history.specs.declared.questions.BagShown.{BagShown}
-use Rattle.kcr_history.specs.Questions.{holders_from, holders_on, IsBagShown, with_name}
-use Rattle.kcr_history.proofs.Words.{planned-number}
 use Rattle.kcr_reading.specs.Remaining.{named_stays}
 use Rattle.kcr_reading.proofs.StayLemmas.{one_attendance}
 use Rattle.kcr_tables.specs.MachineTables.{TreesHoldTables}
 use Rattle.kcr_tables.specs.Refusals.{IsFault}
 use Rattle.kcr_store.specs.Rows.{IsRowOf, HasNoRow}
+use Rattle.kcr_store.specs.ShownBy.{AreCustodiansShownBy, AreStepsShownBy, HasNoRowBy, IsBagShownBy, IsCustodyShownBy, IsNotPlannedBy, IsRoomShownBy, IsRowBy, IsSheetShownBy}
 use Rattle.kcr_store.proofs.StoreLemmas.{all_pairs, by_code}
 
 -- ---- what some rows show
@@ -67,62 +74,134 @@ shown_or_fault IsRead IsShown IsMissing (Ok x) shows read fault = shows x read
 shown_or_fault IsRead IsShown IsMissing (Err e) shows read fault = inl fault
 
 -- the stays of a file give the attendance of the sheet, in whatever order the history has them
-pub sheet_shown : (A : History) {db : Trees} → TreesHoldTables (tables A) db → (ceremony : ℕ)
+sheet_shown : (A : History) {db : Trees} → TreesHoldTables (tables A) db → (ceremony : ℕ)
     → named_stays ceremony (tables A) ≡ map (with_name (people A)) (attendance_in_by (stays_by (sheet A)) ceremony)
 sheet_shown A k ceremony =
     let sheets = IsPermutation-trans _ _ _ (IsPermutation-reverse (stays_by (sheet A))) k.stands.rows.stays in
     ap (map (with_name (people A))) (one_attendance ceremony sheets k.stands.rows.stays k.kept.stays.rising)
 
--- ---- what the rows of a register's tables show
+-- ---- what rows show, in whatever order they are
 
--- rows that are those of a table that pass, in some order, pass; so they show those of the table in another order
-passing_shown : {X : Type 0} (of : X → Bool) (xs ys rows : List X) → IsPermutation xs ys → IsPermutation (filter of ys) rows → Shown of xs rows
-passing_shown of xs ys rows same are =
-    IsPermutation-trans _ _ _ (filter-order of xs ys same) (passing of ys rows are)
-
--- where the bag lies
-pub spot_shown : (A : History) → IsRegister A → (serial : List ℕ) → spot_by (bags A) serial ≡ spot A serial
-spot_shown A register serial = spot-shown A register serial (bags A) (IsPermutation-refl (filter (is_of_serial serial) (bags A)))
-
--- the row of the ceremony, and if there is none it was never planned
-pub row_shown : (A : History) (ceremony : ℕ)
-    → MatchResult (ok_or (find (is_of_number ceremony) (ceremonies A)) (Unknown (Things.Ceremony ceremony))) (IsRowOf A ceremony) (HasNoRow A ceremony)
-row_shown A ceremony = says (is_ceremony A ceremony) refl
+-- the row of the ceremony, or that there is none
+pub row_by : (m : Tables) (ceremony : ℕ)
+    → MatchResult (ok_or (ceremony_by m.ceremonies ceremony) (Unknown (Things.Ceremony ceremony))) (IsRowBy m ceremony) (HasNoRowBy m ceremony)
+row_by m ceremony = says (ceremony_by m.ceremonies ceremony) refl
   where
-    Says : Option CeremonyRow → Type 0
-    Says row = MatchResult (ok_or row (Unknown (Things.Ceremony ceremony))) (IsRowOf A ceremony) (HasNoRow A ceremony)
+    says : (row : Option CeremonyRow) → ceremony_by m.ceremonies ceremony ≡ row
+        → MatchResult (ok_or row (Unknown (Things.Ceremony ceremony))) (IsRowBy m ceremony) (HasNoRowBy m ceremony)
+    says (Some row) is = is
+    says None is = inr (is, refl)
 
-    found : find (is_of_number ceremony) (ceremonies A) ≡ some_if (is_ceremony A ceremony) (ceremony_row A ceremony)
-    found = ceremony-shown A ceremony (ceremonies A) (IsPermutation-refl (filter (is_of_number ceremony) (ceremonies A)))
+-- a stay by which somebody is in the room at the moment lasts to it
+covers_reaches : (ceremony at : ℕ) (stay : Stay) → stay_covers ceremony at stay ≡ true → stay_reaches ceremony at stay ≡ true
+covers_reaches ceremony at stay h = grind arith
 
-    says : (b : Bool) → is_ceremony A ceremony ≡ b → Says (find (is_of_number ceremony) (ceremonies A))
-    says true e = subst Says (sym (rw e at found)) (record { planned = e; row_is = refl })
-    says false e = subst Says (sym (rw e at found)) (inr (e, refl))
+-- who is in the room, by the stays that last to the moment
+pub present_rows : (ceremony at : ℕ) (ms ts rows : List Stay) → IsPermutation ms ts → IsPermutation (filter (stay_reaches ceremony at) ts) rows
+    → present_in_by rows ceremony at ≡ present_in_by ms ceremony at
+present_rows ceremony at ms ts rows same are =
+    present-order (filter (stay_reaches ceremony at) ts) rows are ceremony at
+    ∙ ap (λ some. ascending (map (λ stay. stay.who) some)) (filter-kept (stay_covers ceremony at) (stay_reaches ceremony at) ts (covers_reaches ceremony at))
+    ∙ present-order ms ts same ceremony at
 
-module _ (A : History) (register : IsRegister A) (t : Tables) (same : SameTables (tables A) t) where
+module _ (m t : Tables) (same : SameTables m t) where
   -- who holds which place on a day
-  pub holders_shown : (day : ℕ) (rows : List Appointment) → IsPermutation (filter (lasts_beyond day) t.appointments) rows
-      → holders_from (λ place. holder_by rows place day) ≡ holders_on A day
-  holders_shown day rows are =
-      let shown = passing_shown (lasts_beyond day) (appointments A) t.appointments rows same.appointments are in
-      λ i. holders_from (λ place. holder-lasting A register rows day shown place i)
+  pub holders_by : (day : ℕ) (shown : CustodiansShown) (rows : List Appointment) → IsPermutation (filter (lasts_beyond day) t.appointments) rows
+      → shown.day ≡ day → shown.holders.items ≡ holders_from (λ place. holder_by rows place day) → AreCustodiansShownBy m day shown
+  holders_by day shown rows are asked holders = record {
+    day = asked;
+    rows = rows;
+    lasting = IsPermutation-trans _ _ _ (filter-order (lasts_beyond day) m.appointments t.appointments same.appointments) are;
+    holders = holders;
+  }
 
   -- the bag with its items
-  pub bag_shown : (rises : Rises t) (serial : List ℕ) (bag : BagShown) → bag.serial ≡ serial → spot A serial ≡ Some bag.spot
-      → bag.items.items ≡ map (λ item. item.code) (filter (lies_in serial) t.items) → IsBagShown A serial bag
-  bag_shown rises serial bag named lies codes = record {
+  pub bag_by : (rises : Rises t) (serial : List ℕ) (bag : BagShown) → bag.serial ≡ serial → spot_by m.bags serial ≡ Some bag.spot
+      → bag.items.items ≡ map (λ item. item.code) (filter (lies_in serial) t.items) → IsBagShownBy m serial bag
+  bag_by rises serial bag named lies codes = record {
     serial = named;
     spot = lies;
-    items = subst (IsPermutation (map (λ item. item.code) (filter (lies_in serial) (items A)))) (sym codes)
-        (IsPermutation-map (λ item. item.code) (filter (lies_in serial) (items A)) (filter (lies_in serial) t.items)
-        (filter-order (lies_in serial) (items A) t.items same.items));
+    items = subst (IsPermutation (map (λ item. item.code) (filter (lies_in serial) m.items))) (sym codes)
+        (IsPermutation-map (λ item. item.code) (filter (lies_in serial) m.items) (filter (lies_in serial) t.items)
+        (filter-order (lies_in serial) m.items t.items same.items));
     order = subst (AllPairs (λ a b. IsTrue (is_before a b))) (sym codes)
         (all_pairs _ _ (ascending-map _ (λ item. item.code) (filter (lies_in serial) t.items)
         (ascending-filter _ (lies_in serial) t.items (by_code t.items rises.items))));
   }
 
-  -- who is in the room
-  pub present_shown : (ceremony at : ℕ) (rows : List Stay) → IsPermutation (filter (stay_reaches ceremony at) t.stays) rows
-      → present_in_by rows ceremony at ≡ present A ceremony at
-  present_shown ceremony at rows are =
-      present-shown A ceremony at rows (passing_shown (stay_reaches ceremony at) (reverse (stays_by (sheet A))) t.stays rows same.stays are)
+-- ---- over the tables of a history it is what the history shows
+
+-- the row of the ceremony, and if there is none it was never planned
+module _ (A : History) (ceremony : ℕ) where
+  found : ceremony_by (ceremonies A) ceremony ≡ some_if (is_ceremony A ceremony) (ceremony_row A ceremony)
+  found = ceremony-shown A ceremony (ceremonies A) (IsPermutation-refl (filter (is_of_number ceremony) (ceremonies A)))
+
+  pub row_of_history : (row : CeremonyRow) → IsRowBy (tables A) ceremony row → IsRowOf A ceremony row
+  row_of_history row is = says (is_ceremony A ceremony) refl (sym found ∙ is)
+    where
+      says : (b : Bool) → is_ceremony A ceremony ≡ b → some_if (is_ceremony A ceremony) (ceremony_row A ceremony) ≡ Some row → IsRowOf A ceremony row
+      says true e some = record { planned = e; row_is = let p = rw e at some in cc }
+      says false e some = absurd (let p = rw e at some in cc)
+
+  pub none_of_history : ceremony_by (ceremonies A) ceremony ≡ None → is_ceremony A ceremony ≡ false
+  none_of_history is = says (is_ceremony A ceremony) refl (sym found ∙ is)
+    where
+      says : (b : Bool) → is_ceremony A ceremony ≡ b → some_if (is_ceremony A ceremony) (ceremony_row A ceremony) ≡ None → is_ceremony A ceremony ≡ false
+      says true e none = absurd (let p = rw e at none in cc)
+      says false e none = e
+
+  pub planned_of_history : IsSome (ceremony_by (ceremonies A) ceremony) → IsTrue (is_ceremony A ceremony)
+  planned_of_history some = says (is_ceremony A ceremony) refl (ap is_some (sym found) ∙ some)
+    where
+      says : (b : Bool) → is_ceremony A ceremony ≡ b → IsSome (some_if (is_ceremony A ceremony) (ceremony_row A ceremony)) → IsTrue (is_ceremony A ceremony)
+      says true e there = e
+      says false e there = absurd (let p = rw e at there in cc)
+
+  pub unplanned_of_history : (refusal : Refusal) → IsNotPlannedBy (tables A) ceremony refusal
+      → (is_ceremony A ceremony ≡ false) × (refusal ≡ Unknown (Things.Ceremony ceremony))
+  unplanned_of_history refusal none = (none_of_history none.0, none.1)
+
+  -- the row, or why there is none
+  pub found_of_history : (result : Result CeremonyRow Refusal) → MatchResult result (IsRowBy (tables A) ceremony) (HasNoRowBy (tables A) ceremony)
+      → MatchResult result (IsRowOf A ceremony) (HasNoRow A ceremony)
+  found_of_history (Ok row) is = row_of_history row is
+  found_of_history (Err refusal) (inl fault) = inl fault
+  found_of_history (Err refusal) (inr none) = inr (unplanned_of_history refusal none)
+
+-- where the bag lies
+pub spot_shown : (A : History) → IsRegister A → (serial : List ℕ) → spot_by (bags A) serial ≡ spot A serial
+spot_shown A register serial = spot-shown A register serial (bags A) (IsPermutation-refl (filter (is_of_serial serial) (bags A)))
+
+module _ (A : History) (register : IsRegister A) where
+  pub custodians_of_history : (day : ℕ) (shown : CustodiansShown) → AreCustodiansShownBy (tables A) day shown → AreCustodiansShown A day shown
+  custodians_of_history day shown are = record {
+    day = are.day;
+    holders =
+        are.holders
+        ∙ (λ i. holders_from (λ place. holder-lasting A register are.rows day (passing (lasts_beyond day) (appointments A) are.rows are.lasting) place i));
+  }
+
+  pub bag_of_history : (serial : List ℕ) (bag : BagShown) → IsBagShownBy (tables A) serial bag → IsBagShown A serial bag
+  bag_of_history serial bag is =
+      record { serial = is.serial; spot = sym (spot_shown A register serial) ∙ is.spot; items = is.items; order = is.order }
+
+module _ (A : History) (ceremony : ℕ) where
+  pub room_of_history : (at : ℕ) (room : RoomShown) → IsRoomShownBy (tables A) ceremony at room → IsRoomShown A ceremony at room
+  room_of_history at room is = record {
+    planned = planned_of_history A ceremony is.planned;
+    at = is.at;
+    people = is.people ∙ present-shown A ceremony at (tables A).stays (IsPermutation-refl (filter (stay_reaches ceremony at) (tables A).stays));
+  }
+
+  pub steps_of_history : (steps : StepsShown) → AreStepsShownBy (tables A) ceremony steps → AreStepsShown A ceremony steps
+  steps_of_history steps are =
+      let row = row_of_history A ceremony steps.ceremony are.row in
+      record { planned = row.planned; row = row.row_is; steps = are.steps; exceptions = are.exceptions }
+
+  -- the rows of a file give the attendance of the sheet
+  pub sheet_of_history : {db : Trees} → TreesHoldTables (tables A) db → (stays : List StayWithName) → IsSheetShownBy (tables A) ceremony stays
+      → IsSheetShown A ceremony stays
+  sheet_of_history kept stays is = record { planned = planned_of_history A ceremony is.planned; stays = is.stays ∙ sheet_shown A kept ceremony }
+
+pub custody_of_history : (A : History) (custody : CustodyShown) → IsCustodyShownBy (tables A) custody → IsCustodyShown A custody
+custody_of_history A custody is = record { safes = is.safes; bags = is.bags; loose = is.loose }

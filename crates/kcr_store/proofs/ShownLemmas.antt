@@ -26,15 +26,16 @@ use Rattle.kcr_people.specs.Laws.{AtMostOne, same_withdrawn}
 use Rattle.kcr_people.proofs.Orders.{find-one}
 use Rattle.kcr_people.proofs.Withdrawn.{is_of-true}
 use Rattle.kcr_history.specs.History.{History}
-use Rattle.kcr_history.specs.Tables.{Tables, SameTables, people, trainings, withdrawals, tables}
+use Rattle.kcr_history.specs.Tables.{Tables, SameTables, tables}
 use Rattle.kcr_history.specs.Views.{is_training_of}
 use Rattle.kcr_rows.specs.Rows.{training_row, withdrawal_row}
 use Rattle.kcr_rows.specs.Keyed.{by_key}
 use Rattle.kcr_tables.proofs.JointLemmas.{Rises, key_of_trainings, key_of_withdrawals}
 use Rattle.kcr_history.specs.declared.questions.PersonShown.{PersonShown}
 use Rattle.kcr_history.specs.declared.questions.RoleShown.{RoleShown}
-use Rattle.kcr_history.specs.Questions.{role_shown, is_role_before, IsByInitials, roles_of, person_of, IsPersonShown, ArePeopleShown}
+use Rattle.kcr_history.specs.Questions.{role_shown, is_role_before, IsByInitials, roles_of, person_of, ArePeopleShown}
 use Rattle.kcr_store.specs.Shown.{AreRolesOf}
+use Rattle.kcr_store.specs.ShownBy.{ArePeopleShownBy, IsPersonShownBy}
 use Rattle.kcr_store.proofs.StoreLemmas.{all_pairs, by_initials}
 
 -- ---- people one after the other
@@ -157,19 +158,19 @@ same_shown table rows p up row =
     (λ (found : Option Withdrawal). record { since = row.since; role = row.role; until = row.until; withdrawn = option_map (λ w. w.day) found })
     (find-one (is_of row) rows table (IsPermutation-sym table rows p) one)
 
--- ---- what a register shows
+-- ---- what rows show, in whatever order they are
 
-module _ (A : History) (t : Tables) (same : SameTables (tables A) t) (rises : Rises t) where
-  roles_shown : (who : List ℕ) → IsPermutation (roles_of (trainings A) (withdrawals A) who) (roles_of t.trainings t.withdrawals who)
+module _ (m t : Tables) (same : SameTables m t) (rises : Rises t) where
+  roles_shown : (who : List ℕ) → IsPermutation (roles_of m.trainings m.withdrawals who) (roles_of t.trainings t.withdrawals who)
   roles_shown who =
-      rw (map_same (role_shown (withdrawals A)) (role_shown t.withdrawals) (same_shown (withdrawals A) t.withdrawals same.withdrawals rises.withdrawals)
-      (filter (is_training_of who) (trainings A)))
-      (IsPermutation-map (role_shown t.withdrawals) (filter (is_training_of who) (trainings A)) (filter (is_training_of who) t.trainings)
-      (filter-order (is_training_of who) (trainings A) t.trainings same.trainings))
+      rw (map_same (role_shown m.withdrawals) (role_shown t.withdrawals) (same_shown m.withdrawals t.withdrawals same.withdrawals rises.withdrawals)
+      (filter (is_training_of who) m.trainings))
+      (IsPermutation-map (role_shown t.withdrawals) (filter (is_training_of who) m.trainings) (filter (is_training_of who) t.trainings)
+      (filter-order (is_training_of who) m.trainings t.trainings same.trainings))
 
-  person_shown : (shown : PersonShown) → AreRolesOf t.trainings t.withdrawals shown.who shown.roles.items → IsPersonShown A shown
+  person_shown : (shown : PersonShown) → AreRolesOf t.trainings t.withdrawals shown.who shown.roles.items → IsPersonShownBy m shown
   person_shown shown are = record {
-    roles = IsPermutation-trans (roles_of (trainings A) (withdrawals A) shown.who) (roles_of t.trainings t.withdrawals shown.who) shown.roles.items
+    roles = IsPermutation-trans (roles_of m.trainings m.withdrawals shown.who) (roles_of t.trainings t.withdrawals shown.who) shown.roles.items
         (roles_shown shown.who) are.roles;
     order = strictly shown.roles.items
         ((reordered Differ turned (roles_of t.trainings t.withdrawals shown.who) shown.roles.items are.roles).1
@@ -179,9 +180,17 @@ module _ (A : History) (t : Tables) (same : SameTables (tables A) t) (rises : Ri
 
   -- the people with their trainings, out of the rows of the tables
   pub people_shown : (rows : List PersonShown) → map person_of rows ≡ t.people
-      → All (λ shown. AreRolesOf t.trainings t.withdrawals shown.who shown.roles.items) rows → ArePeopleShown A rows
+      → All (λ shown. AreRolesOf t.trainings t.withdrawals shown.who shown.roles.items) rows → ArePeopleShownBy m rows
   people_shown rows is each = record {
-    people = subst (IsPermutation (people A)) (sym is) same.people;
+    people = subst (IsPermutation m.people) (sym is) same.people;
     order = subst IsByInitials (sym is) (by_initials t.people rises.people);
     each = λ k d below. person_shown (get_or rows k d) (each k d below);
   }
+
+-- so does a history, by its tables
+pub people_of_history : (A : History) (rows : List PersonShown) → ArePeopleShownBy (tables A) rows → ArePeopleShown A rows
+people_of_history A rows are = record {
+  people = are.people;
+  order = are.order;
+  each = λ k d below. let e = are.each k d below in record { roles = e.roles; order = e.order };
+}

@@ -8,6 +8,7 @@ use Rattle.sqlite.specs.declared.transaction.Transaction.{Transaction}
 use Rattle.kcr_history.specs.History.{History}
 use Rattle.kcr_history.specs.Tables.{Tables}
 use Rattle.kcr_rows.specs.Frame.{IfClean}
+use Rattle.kcr_tables.specs.MachineTables.{HoldsTables}
 use Rattle.kcr_store.specs.Register.{HasRows, IsDurable}
 
 -- what a call over a connection says of the states before and after it, if the disk is clean after it
@@ -17,6 +18,11 @@ IfCleanOver g old new Says = HasCleanDisk (state g new) → Says (state g old) (
 -- said of each history whose register the connection was, by a call that leaves the disk clean
 abbrev pub OfDurable : {S : Type 0} → Ghosts S → Held S → Held S → (History → Type 0) → Type 0
 OfDurable g old new Says = (A : History) → IsDurable A (state g old) → HasCleanDisk (state g new) → Says A
+
+-- said of whatever rows its database held, if it was open, by such a call
+abbrev pub OfRowsOver : {S : Type 0} → Ghosts S → Held S → Held S → (Tables → Type 0) → Type 0
+OfRowsOver g old new Says =
+    IfCleanOver g old new (λ before _. (m : Tables) → (IsTrue before.is_open → HoldsTables m before.now) → Says m)
 
 -- it ends outside of a transaction, and a crash leaves what was there or one of these
 pub record StaysOutside {S : Type 0} (g : Ghosts S) (MayLeave : Trees → Type 0) (old new : Held S) : Type 0 where

@@ -1,5 +1,6 @@
 pub mod Commands
 pub mod Shown
+pub mod ShownBy
 pub mod Stored
 pub mod Register
 pub mod Frame

@@ -1,4 +1,4 @@
--- What rows show, whoever wrote them.
+-- What some rows could show, whatever the disk returns. What those of the tables show, exactly, is in `ShownBy`.
 use Rattle.std.specs.Prelude.{◌≡◌, false, List, All, AllPairs, IsPermutation, IsTrue, map, filter, Some, ℕ, ⊤}
 use Rattle.std.specs.List.{list_any}
 use Rattle.kcr_audit.specs.Views.{tables_of}

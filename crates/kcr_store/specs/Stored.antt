@@ -5,11 +5,11 @@ use Rattle.sqlite.specs.Effect.{Database}
 use Rattle.sqlite.specs.Store.{Ghosts}
 use Rattle.sqlite.specs.declared.transaction.Transaction.{Transaction}
 use Rattle.kcr_history.specs.History.{History}
-use Rattle.kcr_history.specs.Tables.{tables}
+use Rattle.kcr_history.specs.Tables.{Tables, tables}
 use Rattle.kcr_history.specs.Machine.{IsRegister}
 use Rattle.kcr_rows.specs.Frame.{IfClean}
 use Rattle.kcr_tables.specs.Schema.{register_schema}
-use Rattle.kcr_tables.specs.MachineTables.{TreesHoldTables}
+use Rattle.kcr_tables.specs.MachineTables.{HoldsTables, TreesHoldTables}
 
 -- the history is a register's, and the file holds the machine's tables of it
 pub record IsTables (accepted : History) (db : Trees) : Type 0 where
@@ -25,3 +25,8 @@ pub record Stores (accepted : History) (db : Database) : Type 0 where
 abbrev pub OfStored : {S : Type 0} → Ghosts S → Transaction S → Transaction S → (History → Type 0) → Type 0
 OfStored g old new Says =
     IfClean g old new (λ before _. (A : History) → (IsTrue before.is_open → Stores A before.now) → Says A)
+
+-- said of whatever rows the database held, if it was open, by a call that leaves the disk clean
+abbrev pub OfRows : {S : Type 0} → Ghosts S → Transaction S → Transaction S → (Tables → Type 0) → Type 0
+OfRows g old new Says =
+    IfClean g old new (λ before _. (m : Tables) → (IsTrue before.is_open → HoldsTables m before.now) → Says m)

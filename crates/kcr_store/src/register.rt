@@ -218,7 +218,9 @@ impl<S: Alter> Register<S> {
     ghost use Rattle.kcr_tables.specs.Refusals.{IsFault};
     ghost use Rattle.kcr_store.specs.Register.{IsConsistent};
     ghost use Rattle.kcr_store.specs.Calls.{Leads, OfHistory, ReadsHistory, RowsLead, BreaksOnFault, after_fault};
+    ghost use Rattle.kcr_store.specs.Frame.{OfRowsOver};
     ghost use Rattle.kcr_store.specs.Shown.{IsShownByRows};
+    ghost use Rattle.kcr_store.specs.ShownBy.{IsQuestionResultBy};
 
     /// Decides a command as one transaction. Where the machine accepts it, its reply comes only once it is durable.
     /// A repeat gets the reply that was kept, and changes nothing. A refusal changes nothing; out of memory (33)
@@ -286,7 +288,11 @@ impl<S: Alter> Register<S> {
     pub fn look(&mut self, question: &Question) -> Result<Shown, Refusal>
         ensures shown { OfHistory S.Store self.old self.new (λ A. IsQuestionResult A question.now result) }
 
-        // Whatever the database holds, what is shown is what some rows show to this very question.
+        // By whatever rows the tables hold: it is shown what they show, and refused only if what it asks for has no row.
+        ensures rows { self.old.is_broken ≡ false
+            → OfRowsOver S.Store self.old.conn self.new.conn (λ m. IsQuestionResultBy m question.now result) }
+
+        // Whatever the database holds and its disk returns, what is shown is what some rows show to this very question.
         ensures by_rows { IfOk result (IsShownByRows question.now) }
         ensures looks { ReadsHistory S.Store (MayRefuseQuestion question.now) self.old self.new result }
     {

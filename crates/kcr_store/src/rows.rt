@@ -1,5 +1,5 @@
 //! The rows of the register, one at a time, and the row of one ceremony.
-ghost use Rattle.std.specs.Prelude.{◌≡◌, IfOk, MatchResult};
+ghost use Rattle.std.specs.Prelude.{◌≡◌, false, IfOk, MatchResult};
 ghost use Rattle.kcr_tables.specs.Refusals.{IsFault};
 
 use crate::register::Register;
@@ -61,6 +61,8 @@ impl<S: Alter> Register<S> {
     ghost use Rattle.std.specs.Borrow.{sem};
     ghost use Rattle.kcr_store.specs.Calls.{OfHistory, ReadsWithoutBreaking};
     ghost use Rattle.kcr_store.specs.Rows.{Begins, Lent, IsRowOf, HasNoRow, MayHaveNoRow};
+    ghost use Rattle.kcr_store.specs.Frame.{OfRowsOver};
+    ghost use Rattle.kcr_store.specs.ShownBy.{HasNoRowBy, IsRowBy};
 
     /// The rows that a reading gives, one at a time. A broken register answers 35.
     pub fn rows<R: Cursor>(&mut self, reading: R) -> Result<Rows<'_, S, R>, Refusal>
@@ -80,6 +82,10 @@ impl<S: Alter> Register<S> {
     pub fn ceremony_row(&mut self, ceremony: CeremonyNumber) -> Result<CeremonyRow, Refusal>
         ensures row { OfHistory S.Store self.old self.new
             (λ A. MatchResult result (IsRowOf A ceremony) (HasNoRow A ceremony)) }
+
+        // By whatever rows the tables hold: it is that among them, and there is none only if no row has this number.
+        ensures rows { self.old.is_broken ≡ false → OfRowsOver S.Store self.old.conn self.new.conn
+            (λ m. MatchResult result (IsRowBy m ceremony) (HasNoRowBy m ceremony)) }
         ensures peeks { ReadsWithoutBreaking S.Store (MayHaveNoRow ceremony) self.old self.new result }
     {
         if self.is_broken() {

@@ -9,8 +9,8 @@ ghost use Rattle.kcr_history.specs.Views.{row_of_key};
 ghost use Rattle.kcr_tables.specs.MachineTables.{HoldsTables};
 ghost use Rattle.kcr_tables.specs.Refusals.{IsFault};
 ghost use Rattle.kcr_rows.specs.Frame.{state_in, IfClean, ImpliesOpen, StaysInTransaction};
-ghost use Rattle.kcr_store.specs.Frame.{IfCleanOver, OfDurable, OnlyReads};
-ghost use Rattle.kcr_store.specs.Stored.{Stores, OfStored};
+ghost use Rattle.kcr_store.specs.Frame.{IfCleanOver, OfDurable, OfRowsOver, OnlyReads};
+ghost use Rattle.kcr_store.specs.Stored.{Stores, OfRows, OfStored};
 ghost use Rattle.kcr_history.specs.Questions.{ArePeopleShown, AreCustodiansShown, IsBagShown, IsRoomShown};
 ghost use Rattle.kcr_store.specs.Commands as steps;
 ghost use Rattle.kcr_store.specs.Commands.{AppliesCommand, with_reply, IsQuestionResult, IsQuestionRefusal, MayBeReplied, MayRefuseQuestion};
@@ -20,8 +20,9 @@ ghost use Rattle.kcr_store.specs.TransactionResult.{ends_with};
 ghost use Rattle.kcr_store.specs.Register.{HasRows, IsDurableWith};
 ghost use Rattle.kcr_store.specs.Rows.{GivesNext, IsRowOf, HasNoRow, MayHaveNoRow};
 ghost use Rattle.kcr_store.specs.TransactionResult.{EndsCommand, RefusesAsMachine, result_of};
-ghost use Rattle.kcr_store.specs.Shown.{IsShownByRows, IsShownOf};
-ghost use Rattle.kcr_tables.specs.Frame.{OfTables};
+ghost use Rattle.kcr_store.specs.Shown.{IsShownByRows};
+ghost use Rattle.kcr_store.specs.ShownBy.{ArePeopleShownBy, AreCustodiansShownBy, IsBagShownBy, IsRoomShownBy};
+ghost use Rattle.kcr_store.specs.ShownBy.{HasNoRowBy, IsQuestionRefusalBy, IsQuestionResultBy, IsRowBy};
 
 use crate::full_view::read_full_view;
 use crate::lists::{find_ceremony, read_custody, read_sheet, read_steps};
@@ -150,6 +151,9 @@ pub(crate) trait TableQuery {
     /// What the answer is to a history.
     ghost is_answer: { Self → History → Result Self.Answer Refusal → Type 0 };
 
+    /// What the answer is by the rows of the tables.
+    ghost is_answer_by: { Self → Tables → Result Self.Answer Refusal → Type 0 };
+
     /// What the answer may be, whatever the database holds.
     ghost may_answer: { Self → Self.Answer → Type 0 };
 
@@ -163,6 +167,7 @@ pub(crate) trait TableQuery {
         tx: &mut Transaction<'_, S>,
     ) -> Result<Self::Answer, Refusal>
         ensures answer { OfStored S.Store tx.old tx.new (λ A. is_answer self.now A result) }
+        ensures rows { OfRows S.Store tx.old tx.new (λ m. is_answer_by self.now m result) }
         ensures by_rows { IfOk result (may_answer self.now) }
         ensures frame { StaysInTransaction S.Store (may_refuse self.now) tx.old tx.new result };
 }
@@ -175,6 +180,7 @@ pub(crate) fn run_query<S: Alter, Q: TableQuery>(
 ) -> Result<Q::Answer, Refusal>
     requires autocommit { conn.old.in_transaction ≡ false }
     ensures answer { OfDurable S.Store conn.old conn.new (λ A. Q.is_answer asked.now A result) }
+    ensures rows { OfRowsOver S.Store conn.old conn.new (λ m. Q.is_answer_by asked.now m result) }
     ensures by_rows { IfOk result (Q.may_answer asked.now) }
     ensures survives { Survives (state S.Store conn.old) (state S.Store conn.new) (λ _. ⊥) }
     ensures frame { OnlyReads S.Store (Q.may_refuse asked.now) conn.old conn.new result }
@@ -189,6 +195,8 @@ impl TableQuery for Question {
     type Answer = Shown;
 
     ghost is_answer = { λ question A result. IsQuestionResult A question result };
+
+    ghost is_answer_by = { λ question m result. IsQuestionResultBy m question result };
 
     ghost may_answer = { IsShownByRows };
 
@@ -214,7 +222,7 @@ fn read_people<S: Alter>(
     tx: &mut Transaction<'_, S>,
 ) -> Result<Vec<PersonShown>, Refusal>
     ensures shown { OfStored S.Store tx.old tx.new (λ A. IfOk result (λ rows. ArePeopleShown A rows.items)) }
-    ensures by_tables { OfTables S.Store tx.old tx.new result (λ t rows. IsShownOf t.rows Question.People (Shown.People rows)) }
+    ensures rows { OfRows S.Store tx.old tx.new (λ m. IfOk result (λ rows. ArePeopleShownBy m rows.items)) }
     ensures by_rows { IfOk result (λ rows. IsShownByRows Question.People (Shown.People rows)) }
     ensures frame { StaysInTransaction S.Store IsFault tx.old tx.new result }
 {
@@ -231,6 +239,7 @@ fn read_custodians<S: Alter>(
     day: Day,
 ) -> Result<CustodiansShown, Refusal>
     ensures shown { OfStored S.Store tx.old tx.new (λ A. IfOk result (AreCustodiansShown A day)) }
+    ensures rows { OfRows S.Store tx.old tx.new (λ m. IfOk result (AreCustodiansShownBy m day)) }
     ensures by_rows { IfOk result (λ shown. IsShownByRows (Question.Custodians day) (Shown.Custodians shown)) }
     ensures frame { StaysInTransaction S.Store IsFault tx.old tx.new result }
 {
@@ -246,6 +255,8 @@ fn read_bag<S: Alter>(
 ) -> Result<BagShown, Refusal>
     ensures shown { OfStored S.Store tx.old tx.new (λ A. MatchResult result (IsBagShown A serial)
         (IsQuestionRefusal A (Question.Bag serial))) }
+    ensures rows { OfRows S.Store tx.old tx.new (λ m. MatchResult result (IsBagShownBy m serial)
+        (IsQuestionRefusalBy m (Question.Bag serial))) }
     ensures by_rows { IfOk result (λ shown. IsShownByRows (Question.Bag serial) (Shown.Bag shown)) }
     ensures frame { StaysInTransaction S.Store (MayRefuseQuestion (Question.Bag serial)) tx.old tx.new result }
 {
@@ -271,6 +282,8 @@ fn read_room<S: Alter>(
 ) -> Result<RoomShown, Refusal>
     ensures shown { OfStored S.Store tx.old tx.new (λ A. MatchResult result (IsRoomShown A ceremony at)
         (IsQuestionRefusal A (Question.Room ceremony at))) }
+    ensures rows { OfRows S.Store tx.old tx.new (λ m. MatchResult result (IsRoomShownBy m ceremony at)
+        (IsQuestionRefusalBy m (Question.Room ceremony at))) }
     ensures by_rows { IfOk result (λ shown. IsShownByRows (Question.Room ceremony at) (Shown.Room shown)) }
     ensures frame { StaysInTransaction S.Store (MayRefuseQuestion (Question.Room ceremony at)) tx.old tx.new result }
 {
@@ -302,6 +315,8 @@ impl TableQuery for CeremonyNumber {
     type Answer = CeremonyRow;
 
     ghost is_answer = { λ ceremony A result. MatchResult result (IsRowOf A ceremony) (HasNoRow A ceremony) };
+
+    ghost is_answer_by = { λ ceremony m result. MatchResult result (IsRowBy m ceremony) (HasNoRowBy m ceremony) };
 
     ghost may_answer = { λ ceremony row. ⊤ };
 

@@ -4,16 +4,20 @@ use Rattle.std.specs.Option.{ok_or}
 use Rattle.kcr_base.specs.declared.refusal.Refusal.TheVariants.{Unknown}
 use Rattle.kcr_base.specs.declared.refusal.Thing.TheVariants as Things
 use Rattle.kcr_history.specs.Tables.{tables}
-use Rattle.kcr_store.specs.Rows.{IsRowOf, HasNoRow}
-use Rattle.kcr_store.proofs.QuestionLemmas.{row_shown}
+use Rattle.kcr_store.specs.ShownBy.{IsRowBy, HasNoRowBy}
+use Rattle.kcr_store.proofs.QuestionLemmas.{found_of_history, row_by}
 use Rattle.kcr_store.proofs.StoreLemmas.{held_in}
 use Rattle.kcr_store.proofs.lists.find_ceremony.Goals as goal
 
-pub returns-clause-row : goal.returns-clause-row
-returns-clause-row g c clean accepted had =
+pub returns-clause-rows : goal.returns-clause-rows
+returns-clause-rows g c clean m had =
     let read = c.in_ok-find_row.ensures in
     let number = c.get-number.result in
-    let found = read.row clean (tables accepted) (held_in accepted _ (had (read.opened clean))) in
+    let found = read.row clean m (had (read.opened clean)) in
     let is = sym (c.ok_or.ensures.value ∙ ap (λ row. ok_or row (Unknown (Things.Ceremony number))) found) in
-    subst (λ n. MatchResult c.ok_or.result (IsRowOf accepted n) (HasNoRow accepted n)) c.get-number.ensures.value
-    (subst (λ r. MatchResult r (IsRowOf accepted number) (HasNoRow accepted number)) is (row_shown accepted number))
+    subst (λ n. MatchResult c.ok_or.result (IsRowBy m n) (HasNoRowBy m n)) c.get-number.ensures.value
+    (subst (λ r. MatchResult r (IsRowBy m number) (HasNoRowBy m number)) is (row_by m number))
+
+pub returns-clause-row : goal.returns-clause-row
+returns-clause-row g c clean accepted had =
+    found_of_history accepted c.args.ceremony c.ok_or.result (returns-clause-rows g c clean (tables accepted) (λ live. held_in accepted _ (had live)))

@@ -2,20 +2,24 @@ use Rattle.std.proofs.Common.{◌∙◌, sym}
 use Rattle.kcr_reading.proofs.CustodyLemmas.{safes_stand}
 use Rattle.kcr_history.specs.Tables.{tables}
 use Rattle.kcr_rows.proofs.FrameLemmas.{clean_before}
-use Rattle.kcr_store.proofs.StoreLemmas.{held_in, holds_in}
+use Rattle.kcr_tables.proofs.HoldLemmas.{held_of}
+use Rattle.kcr_store.proofs.QuestionLemmas.{custody_of_history}
+use Rattle.kcr_store.proofs.StoreLemmas.{held_in}
 use Rattle.kcr_store.proofs.lists.read_custody.Goals as goal
 
-pub returns-clause-shown : goal.returns-clause-shown
-returns-clause-shown g c clean accepted had =
+pub returns-clause-rows : goal.returns-clause-rows
+returns-clause-rows g c clean m had =
     let clean2 = clean_before c.in_ok-loose.ensures.frame.within clean in
     let clean1 = clean_before c.in_ok-bags.ensures.frame.within clean2 in
-    let m = tables accepted in
-    let was = had (c.in_ok-safes.ensures.opened clean1) in
-    let kept = was.tables.kept in
-    let held1 = c.in_ok-safes.ensures.frame.tables clean1 m (held_in accepted _ was) in
+    let held = had (c.in_ok-safes.ensures.opened clean1) in
+    let held1 = c.in_ok-safes.ensures.frame.tables clean1 m held in
     let held2 = c.in_ok-bags.ensures.frame.tables clean2 m held1 in
     record {
-      safes = c.in_ok-safes.ensures.rows clean1 kept.t (holds_in accepted _ was) ∙ sym (safes_stand m kept);
+      safes = c.in_ok-safes.ensures.rows clean1 held.tables.t (held_of m _ held) ∙ sym (safes_stand m held.tables);
       bags = c.in_ok-bags.ensures.rows clean2 m held1 ∙ c.new.ensures m;
       loose = c.in_ok-loose.ensures.rows clean m held2 ∙ c.new-2.ensures m;
     }
+
+pub returns-clause-shown : goal.returns-clause-shown
+returns-clause-shown g c clean accepted had =
+    custody_of_history accepted _ (returns-clause-rows g c clean (tables accepted) (λ live. held_in accepted _ (had live)))

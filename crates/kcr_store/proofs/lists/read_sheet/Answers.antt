@@ -1,25 +1,48 @@
-use Rattle.std.proofs.Common.{◌∙◌, ap}
+use Rattle.std.proofs.Common.{◌∙◌, ℕ, ap, inl, inr}
+use Rattle.std.specs.Global.{Global}
+use Rattle.std.specs.Prelude.{Result, Ok, Err, MatchResult, is_some}
+use Rattle.std.specs.declared.vec.Vec.{Vec}
+use Rattle.sqlite.specs.Tree.{Trees}
+use Rattle.kcr_base.specs.declared.refusal.Refusal.{Refusal}
 use Rattle.kcr_reading.specs.Remaining.{named_stays}
-use Rattle.kcr_history.specs.Questions.{IsSheetShown, IsMissing}
+use Rattle.kcr_history.specs.History.{History}
+use Rattle.kcr_history.specs.Questions.{IsSheetShown}
 use Rattle.kcr_history.specs.Tables.{tables}
 use Rattle.kcr_history.specs.declared.questions.Question.TheVariants.{Sheet}
+use Rattle.kcr_history.specs.declared.report_rows.StayWithName.{StayWithName}
 use Rattle.kcr_rows.proofs.FrameLemmas.{clean_before}
-use Rattle.kcr_store.proofs.QuestionLemmas.{sheet_shown, shown_or_fault}
+use Rattle.kcr_tables.specs.MachineTables.{TreesHoldTables}
+use Rattle.kcr_store.specs.Commands.{IsQuestionRefusal}
+use Rattle.kcr_store.specs.ShownBy.{IsSheetShownBy, IsMissingBy, IsQuestionRefusalBy}
+use Rattle.kcr_store.proofs.QuestionLemmas.{sheet_of_history, shown_or_fault, unplanned_of_history}
 use Rattle.kcr_store.proofs.StoreLemmas.{held_in}
 use Rattle.kcr_store.proofs.lists.read_sheet.Goals as goal
+
+pub returns-clause-rows : goal.returns-clause-rows
+returns-clause-rows g c clean m had =
+    let before = clean_before c.remaining_rows.ensures.frame.within clean in
+    let found = c.in_ok-find_ceremony.ensures in
+    let held = found.tables before m (had (found.opened before)) in
+    let ceremony = c.args.ceremony in
+    shown_or_fault _ (λ stays. IsSheetShownBy m ceremony stays.items) (IsMissingBy m (Sheet ceremony))
+    c.remaining_rows.result
+    (λ stays is. record {
+      planned = ap is_some (found.rows before m had);
+      stays = is ∙ c.new.ensures m ∙ ap (λ n. named_stays n m) c.get.ensures.value;
+    })
+    (c.remaining_rows.ensures.rows clean m held) c.remaining_rows.ensures.frame.within.cause
+
+-- the sheet of a history, or a fault
+sheet_or_fault : (A : History) (ceremony : ℕ) {db : Trees} → TreesHoldTables (tables A) db → (result : Result (Vec StayWithName Global) Refusal)
+    → MatchResult result (λ stays. IsSheetShownBy (tables A) ceremony stays.items) (IsQuestionRefusalBy (tables A) (Sheet ceremony))
+    → MatchResult result (λ stays. IsSheetShown A ceremony stays.items) (IsQuestionRefusal A (Sheet ceremony))
+sheet_or_fault A ceremony kept (Ok stays) is = sheet_of_history A ceremony kept stays.items is
+sheet_or_fault A ceremony kept (Err refusal) (inl fault) = inl fault
+sheet_or_fault A ceremony kept (Err refusal) (inr none) = inr (unplanned_of_history A ceremony refusal none)
 
 pub returns-clause-shown : goal.returns-clause-shown
 returns-clause-shown g c clean accepted had =
     let before = clean_before c.remaining_rows.ensures.frame.within clean in
-    let found = c.in_ok-find_ceremony.ensures in
-    let was = had (found.opened before) in
-    let m = tables accepted in
-    let held = found.tables before m (held_in accepted _ was) in
-    let ceremony = c.args.ceremony in
-    shown_or_fault _ (λ stays. IsSheetShown accepted ceremony stays.items) (IsMissing accepted (Sheet ceremony))
-    c.remaining_rows.result
-    (λ stays is. record {
-      planned = (found.row before accepted had).planned;
-      stays = is ∙ c.new.ensures m ∙ ap (λ n. named_stays n m) c.get.ensures.value ∙ sheet_shown accepted was.tables.kept ceremony;
-    })
-    (c.remaining_rows.ensures.rows clean m held) c.remaining_rows.ensures.frame.within.cause
+    let was = had (c.in_ok-find_ceremony.ensures.opened before) in
+    sheet_or_fault accepted c.args.ceremony was.tables.kept c.remaining_rows.result
+    (returns-clause-rows g c clean (tables accepted) (λ live. held_in accepted _ (had live)))

@@ -2,21 +2,19 @@ use Rattle.std.proofs.Common.{◌∙◌, ap}
 use Rattle.kcr_reading.specs.Remaining.{seated_steps, exceptions_of}
 use Rattle.kcr_history.specs.Tables.{tables}
 use Rattle.kcr_rows.proofs.FrameLemmas.{clean_before}
+use Rattle.kcr_store.proofs.QuestionLemmas.{steps_of_history}
 use Rattle.kcr_store.proofs.StoreLemmas.{held_in}
 use Rattle.kcr_store.proofs.lists.read_steps.Goals as goal
 
-pub returns-clause-shown : goal.returns-clause-shown
-returns-clause-shown g c clean accepted had =
+pub returns-clause-rows : goal.returns-clause-rows
+returns-clause-rows g c clean m had =
     let clean2 = clean_before c.in_ok-exceptions.ensures.frame.within clean in
     let clean1 = clean_before c.in_ok-steps.ensures.frame.within clean2 in
-    let m = tables accepted in
-    let held = held_in accepted _ (had (c.in_ok-row.ensures.opened clean1)) in
+    let held = had (c.in_ok-row.ensures.opened clean1) in
     let held1 = c.in_ok-row.ensures.tables clean1 m held in
     let held2 = c.in_ok-steps.ensures.frame.tables clean2 m held1 in
-    let row = c.in_ok-row.ensures.row clean1 accepted had in
     record {
-      planned = row.planned;
-      row = row.row_is;
+      row = c.in_ok-row.ensures.rows clean1 m had;
       steps =
           c.in_ok-steps.ensures.rows clean2 m held1
           ∙ c.new.ensures m
@@ -26,3 +24,7 @@ returns-clause-shown g c clean accepted had =
           ∙ c.new-2.ensures m
           ∙ ap (λ n. exceptions_of n m) c.get-2.ensures.value;
     }
+
+pub returns-clause-shown : goal.returns-clause-shown
+returns-clause-shown g c clean accepted had =
+    steps_of_history accepted c.args.ceremony _ (returns-clause-rows g c clean (tables accepted) (λ live. held_in accepted _ (had live)))

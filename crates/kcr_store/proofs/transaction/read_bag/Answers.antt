@@ -4,10 +4,17 @@ use Rattle.kcr_custody.specs.Custody.{sealed_items}
 use Rattle.kcr_custody.specs.declared.Bag.{Bag}
 use Rattle.kcr_history.specs.Tables.{tables}
 use Rattle.kcr_rows.proofs.FrameLemmas.{clean_before}
+use Rattle.kcr_tables.proofs.HoldLemmas.{held_of}
 use Rattle.kcr_tables.proofs.JointLemmas.{kept_rises}
-use Rattle.kcr_store.proofs.QuestionLemmas.{spot_shown, bag_shown, codes_packed}
-use Rattle.kcr_store.proofs.StoreLemmas.{held_in, holds_in}
+use Rattle.kcr_store.proofs.QuestionLemmas.{bag_by, bag_of_history, codes_packed, spot_shown}
+use Rattle.kcr_store.proofs.StoreLemmas.{held_in}
 use Rattle.kcr_store.proofs.transaction.read_bag.Goals as goal
+
+pub returns-in_default-clause-rows : goal.returns-in_default-clause-rows
+returns-in_default-clause-rows g c clean m had =
+    let read = c.in_ok-bag.ensures in
+    let found = read.row clean m (had (read.opened clean)) in
+    inr (ap (option_map (λ (bag : Bag). bag.spot)) (sym found ∙ c.in_default.is), refl)
 
 pub returns-in_default-clause-shown : goal.returns-in_default-clause-shown
 returns-in_default-clause-shown g c clean accepted had =
@@ -16,17 +23,24 @@ returns-in_default-clause-shown g c clean accepted had =
     let found = read.row clean (tables accepted) (held_in accepted _ was) in
     inr (sym (spot_shown accepted was.tables.register c.args.serial) ∙ ap (option_map (λ (bag : Bag). bag.spot)) (sym found ∙ c.in_default.is), refl)
 
-pub returns-clause-shown : goal.returns-clause-shown
-returns-clause-shown g c clean accepted had =
+pub returns-clause-rows : goal.returns-clause-rows
+returns-clause-rows g c clean m had =
     let read = c.in_ok-bag.ensures in
     let clean1 = clean_before c.in_ok-items.ensures.frame.within clean in
-    let was = had (read.opened clean1) in
-    let kept = was.tables.kept in
-    let found = read.row clean1 (tables accepted) (held_in accepted _ was) in
-    let items = c.in_ok-items.ensures.rows clean kept.t (read.frame.holds clean1 kept.t (holds_in accepted _ was)) in
-    bag_shown accepted was.tables.register kept.t.rows kept.stands.rows (kept_rises _ kept.t kept.kept) c.args.serial _ refl
-    (sym (spot_shown accepted was.tables.register c.args.serial) ∙ ap (option_map (λ (bag : Bag). bag.spot)) (sym found ∙ c.in-Some.is))
+    let held = had (read.opened clean1) in
+    let t = held.tables.t in
+    let found = read.row clean1 m held in
+    let items = c.in_ok-items.ensures.rows clean t (read.frame.holds clean1 t (held_of m _ held)) in
+    bag_by m t.rows held.tables.stands.rows (kept_rises _ t held.tables.kept) c.args.serial _ refl
+    (ap (option_map (λ (bag : Bag). bag.spot)) (sym found ∙ c.in-Some.is))
     (c.in_ok-codes_of.ensures ∙ ap (map (λ item. item.code)) (c.deref.ensures.value ∙ items))
+
+pub returns-clause-shown : goal.returns-clause-shown
+returns-clause-shown g c clean accepted had =
+    let clean1 = clean_before c.in_ok-items.ensures.frame.within clean in
+    let was = had (c.in_ok-bag.ensures.opened clean1) in
+    bag_of_history accepted was.tables.register c.args.serial _
+    (returns-clause-rows g c clean (tables accepted) (λ live. held_in accepted _ (had live)))
 
 -- a row of the bag alone, with what lies in it
 pub returns-clause-by_rows : goal.returns-clause-by_rows

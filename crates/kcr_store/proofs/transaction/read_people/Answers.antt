@@ -2,32 +2,37 @@ use Rattle.std.proofs.Common.{◌∙◌, List, [], subst₂}
 use Rattle.std.specs.Prelude.{All}
 use Rattle.kcr_people.specs.declared.Training.{Training}
 use Rattle.kcr_people.specs.declared.Withdrawal.{Withdrawal}
+use Rattle.kcr_tables.proofs.HoldLemmas.{held_of}
 use Rattle.kcr_tables.proofs.JointLemmas.{kept_rises}
 use Rattle.kcr_history.specs.declared.questions.PersonShown.{PersonShown}
 use Rattle.kcr_history.specs.Tables.{tables}
 use Rattle.kcr_rows.proofs.FrameLemmas.{clean_before}
 use Rattle.kcr_store.specs.Shown.{AreRolesOf}
-use Rattle.kcr_store.proofs.ShownLemmas.{people_shown}
-use Rattle.kcr_store.proofs.StoreLemmas.{holds_in}
+use Rattle.kcr_store.proofs.ShownLemmas.{people_of_history, people_shown}
+use Rattle.kcr_store.proofs.StoreLemmas.{held_in}
 use Rattle.kcr_store.proofs.transaction.read_people.Goals as goal
 
-pub returns-clause-shown : goal.returns-clause-shown
-returns-clause-shown g c clean accepted had =
+pub returns-clause-rows : goal.returns-clause-rows
+returns-clause-rows g c clean m had =
     let clean2 = clean_before c.in_ok-withdrawals.ensures.frame.within clean in
     let clean1 = clean_before c.in_ok-trainings.ensures.frame.within clean2 in
     let was = had (c.in_ok-people.ensures.opened clean1) in
-    let kept = was.tables.kept in
-    let held = holds_in accepted _ was in
-    let held1 = c.in_ok-people.ensures.frame.holds clean1 kept.t held in
-    let held2 = c.in_ok-trainings.ensures.frame.holds clean2 kept.t held1 in
-    let trainings = c.in_ok-trainings.ensures.rows clean2 kept.t held1 in
-    let withdrawals = c.in_ok-withdrawals.ensures.rows clean kept.t held2 in
+    let t = was.tables.t in
+    let held = held_of m _ was in
+    let held1 = c.in_ok-people.ensures.frame.holds clean1 t held in
+    let held2 = c.in_ok-trainings.ensures.frame.holds clean2 t held1 in
+    let trainings = c.in_ok-trainings.ensures.rows clean2 t held1 in
+    let withdrawals = c.in_ok-withdrawals.ensures.rows clean t held2 in
     let rows : List PersonShown = c.in_ok-people_shown.field-0.items in
     let HaveRoles : List Training → List Withdrawal → Type 0 =
     λ taught withdrawn. All (λ (shown : PersonShown). AreRolesOf taught withdrawn shown.who shown.roles.items) rows in
-    people_shown accepted kept.t.rows kept.stands.rows (kept_rises _ _ kept.kept) rows
+    people_shown m t.rows was.tables.stands.rows (kept_rises _ _ was.tables.kept) rows
     (c.in_ok-people_shown.ensures.people ∙ c.in_ok-people.ensures.rows clean1 _ held)
     (subst₂ HaveRoles (c.deref.ensures.value ∙ trainings) (c.deref-2.ensures.value ∙ withdrawals) c.in_ok-people_shown.ensures.roles)
+
+pub returns-clause-shown : goal.returns-clause-shown
+returns-clause-shown g c clean accepted had =
+    people_of_history accepted _ (returns-clause-rows g c clean (tables accepted) (λ live. held_in accepted _ (had live)))
 
 pub returns-clause-by_rows : goal.returns-clause-by_rows
 returns-clause-by_rows g c =
@@ -44,18 +49,3 @@ returns-clause-by_rows g c =
         each = subst₂ HaveRoles c.deref.ensures.value c.deref-2.ensures.value c.in_ok-people_shown.ensures.roles;
       },
     )
-
-pub returns-clause-by_tables : goal.returns-clause-by_tables
-returns-clause-by_tables g c clean t held =
-    let clean2 = clean_before c.in_ok-withdrawals.ensures.frame.within clean in
-    let clean1 = clean_before c.in_ok-trainings.ensures.frame.within clean2 in
-    let held1 = c.in_ok-people.ensures.frame.holds clean1 t held in
-    let held2 = c.in_ok-trainings.ensures.frame.holds clean2 t held1 in
-    let rows : List PersonShown = c.in_ok-people_shown.field-0.items in
-    let HaveRoles : List Training → List Withdrawal → Type 0 =
-    λ taught withdrawn. All (λ (shown : PersonShown). AreRolesOf taught withdrawn shown.who shown.roles.items) rows in
-    record {
-      people = c.in_ok-people_shown.ensures.people ∙ c.in_ok-people.ensures.rows clean1 t held;
-      each = subst₂ HaveRoles (c.deref.ensures.value ∙ c.in_ok-trainings.ensures.rows clean2 t held1)
-          (c.deref-2.ensures.value ∙ c.in_ok-withdrawals.ensures.rows clean t held2) c.in_ok-people_shown.ensures.roles;
-    }

@@ -1,6 +1,7 @@
 use Rattle.std.proofs.Common.{[], refl}
 use Rattle.kcr_audit.specs.Views.{tables_of}
 use Rattle.kcr_history.specs.Tables.{tables}
+use Rattle.kcr_tables.proofs.HoldLemmas.{held_of}
 use Rattle.kcr_store.proofs.StoreLemmas.{holds_in, listed}
 use Rattle.kcr_store.proofs.transaction.QuestionTableQuery.read.Goals as goal
 
@@ -8,6 +9,11 @@ pub returns-in_ok-read_custodians-in-Custodians-clause-answer :
     goal.returns-in_ok-read_custodians-in-Custodians-clause-answer
 returns-in_ok-read_custodians-in-Custodians-clause-answer g c clean A had =
     rw c.in-Custodians.is (c.in_ok-read_custodians-in-Custodians.ensures.shown clean A had)
+
+pub returns-in_ok-read_custodians-in-Custodians-clause-rows :
+    goal.returns-in_ok-read_custodians-in-Custodians-clause-rows
+returns-in_ok-read_custodians-in-Custodians-clause-rows g c clean m had =
+    rw c.in-Custodians.is (c.in_ok-read_custodians-in-Custodians.ensures.rows clean m had)
 
 pub returns-in_ok-read_steps-in-Steps-clause-by_rows : goal.returns-in_ok-read_steps-in-Steps-clause-by_rows
 returns-in_ok-read_steps-in-Steps-clause-by_rows g c = rw c.in-Steps.is (tables [], tt)
@@ -24,6 +30,12 @@ returns-in_ok-read_full_view-in-All-clause-answer g c clean A had =
     let was = had (all.opened clean) in
     let kept = was.tables.kept in
     rw c.in-All.is (listed kept.kept kept.stands (all.rows clean kept.t (holds_in A _ was)))
+
+pub returns-in_ok-read_full_view-in-All-clause-rows : goal.returns-in_ok-read_full_view-in-All-clause-rows
+returns-in_ok-read_full_view-in-All-clause-rows g c clean m had =
+    let all = c.in_ok-read_full_view-in-All.ensures in
+    let held = had (all.opened clean) in
+    rw c.in-All.is (listed held.tables.kept held.tables.stands (all.rows clean held.tables.t (held_of m _ held)))
 
 pub returns-in_ok-read_full_view-in-All-clause-by_rows : goal.returns-in_ok-read_full_view-in-All-clause-by_rows
 returns-in_ok-read_full_view-in-All-clause-by_rows g c =
