@@ -1,7 +1,6 @@
 pub mod RowLemmas
 pub mod WholeLemmas
 pub mod StoreLemmas
-pub mod KeyLemmas
 pub mod OpenLemmas
 pub mod ShownLemmas
 pub mod QuestionLemmas

@@ -1,9 +1,8 @@
 -- What a command makes of a register, and what a question is answered.
-use Rattle.std.specs.Prelude.{◌≡◌, ◌≢◌, ◌⊎◌, ◌↔◌, unwrap_or, ℕ, true, false, Option, Some, None, Result, Ok, Err, MatchResult, IsSome, OnOk}
-use Rattle.sqlite.specs.State.{State, HasCleanDisk}
+use Rattle.std.specs.Prelude.{◌≡◌, ◌≢◌, ◌⊎◌, ◌↔◌, unwrap_or, ℕ, true, Option, Some, None, Result, Ok, Err, MatchResult, IsSome}
 use Rattle.kcr_base.specs.Same.{same_text}
 use Rattle.kcr_base.specs.declared.refusal.Refusal.{Refusal}
-use Rattle.kcr_base.specs.declared.refusal.Refusal.TheVariants.{Memory, Disk, Key, Broken}
+use Rattle.kcr_base.specs.declared.refusal.Refusal.TheVariants.{Memory, Disk, Broken}
 use Rattle.kcr_history.specs.declared.commands.ReplyData.{ReplyData}
 use Rattle.kcr_history.specs.declared.commands.Command.{Command}
 use Rattle.kcr_history.specs.declared.commands.Reply.{Reply}
@@ -11,10 +10,7 @@ use Rattle.kcr_history.specs.History.{History}
 use Rattle.kcr_history.specs.declared.row_types.KeyRow.{KeyRow}
 use Rattle.kcr_history.specs.Texts.{reply_text, command_text}
 use Rattle.kcr_history.specs.Machine.{machine, Accepts, Refuses, with_command}
-use Rattle.kcr_history.specs.Tables.{Tables}
-use Rattle.kcr_history.specs.Views.{row_of_key}
-use Rattle.kcr_machine.specs.RowDecision.{IsReplyOf, IsOwnRefusal, MayBeRefused}
-use Rattle.kcr_tables.specs.MachineTables.{HoldsTables}
+use Rattle.kcr_machine.specs.RowDecision.{IsReplyOf, MayBeRefused}
 use Rattle.kcr_tables.specs.Refusals.{IsFault}
 use Rattle.kcr_store.specs.Register.{RegisterHistory}
 use Rattle.kcr_history.specs.Questions.{IsShown, NamesAsked, IsMissing}
@@ -84,22 +80,3 @@ IsRepliedBy (Some row) command reply =
 abbrev pub MayBeReplied : Command → Result Reply Refusal → Type 0
 MayBeReplied command result =
     MatchResult result (λ reply. (row : Option KeyRow) × IsRepliedBy row command reply) (MayBeRefused command)
-
--- the refusal by the row of the command's key: out of memory, an I/O error, or that the row is another command's; or,
--- where there is no row, one that a command of this kind may get
-abbrev pub IsRefusedBy : Option KeyRow → Command → Refusal → Type 0
-IsRefusedBy None command refusal = IsOwnRefusal command refusal
-IsRefusedBy (Some row) command refusal =
-    IsFault refusal ⊎ ((same_text row.command (command_text command.act) ≡ false) × (refusal ≡ Key))
-
--- what a command gets by the row of its key, or because there is none
-abbrev pub IsResultBy : Option KeyRow → Command → Result Reply Refusal → Type 0
-IsResultBy row command result = MatchResult result (IsRepliedBy row command) (IsRefusedBy row command)
-
--- whatever rows the tables held, the row of the command's key among them tells the result; and a reply by a row leaves
--- the tables as they were
-pub record GoesByRow (old new : State) (command : Command) (result : Result Reply Refusal) : Type 0 where
-  pub told : HasCleanDisk new → (m : Tables) → HoldsTables m old.now
-      → IsResultBy (row_of_key command.key m.keys) command result
-  pub same : HasCleanDisk new → (m : Tables) → HoldsTables m old.now → IsSome (row_of_key command.key m.keys)
-      → OnOk result (HoldsTables m new.now)

@@ -4,7 +4,7 @@ ghost use Rattle.sqlite.specs.State.{HasCleanDisk};
 ghost use Rattle.sqlite.specs.Held.{state};
 ghost use Rattle.kcr_history.specs.History.{History};
 ghost use Rattle.kcr_store.specs.ByRows.{RepliesBy, TakesStepByRows};
-ghost use Rattle.kcr_store.specs.Commands.{GoesByRow, IsQuestionResult, MayBeReplied, MayRefuseQuestion, TakesStep};
+ghost use Rattle.kcr_store.specs.Commands.{IsQuestionResult, MayBeReplied, MayRefuseQuestion, TakesStep};
 
 use crate::breakage::{Breakage, breakage_of};
 use crate::full_view::{audit_database, full_view, read_table};
@@ -246,11 +246,6 @@ impl<S: Alter> Register<S> {
         // Whatever the database holds, the reply is one to a command of this kind, or what a row keeps for this very
         // command, and a refusal is one that this kind may get.
         ensures kind { self.old.is_broken ≡ false → MayBeReplied command.now result }
-
-        // Whatever rows the tables hold, a command whose key has a row gets what this row keeps, and no row changes.
-        // It is refused only for its key (11), if the row is of another command, or for a fault.
-        ensures by_row { self.old.is_broken ≡ false
-            → GoesByRow (state S.Store self.old.conn) (state S.Store self.new.conn) command.now result }
 
         // An I/O error breaks it, and nothing else does. After a reply the store serves.
         ensures breaks { self.old.is_broken ≡ false → IsTrue self.new.is_broken ↔ (result ≡ Err Refusal.Disk) }

@@ -14,7 +14,6 @@ ghost use Rattle.kcr_store.specs.Stored.{Stores, OfRows, OfStored};
 ghost use Rattle.kcr_history.specs.Questions.{ArePeopleShown, AreCustodiansShown, IsBagShown, IsRoomShown};
 ghost use Rattle.kcr_store.specs.Commands as steps;
 ghost use Rattle.kcr_store.specs.Commands.{AppliesCommand, with_reply, IsQuestionResult, IsQuestionRefusal, MayBeReplied, MayRefuseQuestion};
-ghost use Rattle.kcr_store.specs.Commands.{GoesByRow};
 ghost use Rattle.kcr_store.specs.ByRows.{DecidesBy, EndsByRows, RepliesBy};
 ghost use Rattle.kcr_store.specs.TransactionResult.{ends_with};
 ghost use Rattle.kcr_store.specs.Register.{HasRows, IsDurableWith};
@@ -65,9 +64,6 @@ fn decide_and_write<S: Alter>(
 
     // Whatever the tables hold, the reply or the refusal is one of a command of this kind.
     ensures kind { MayBeReplied command.now (ends_with result) }
-
-    // Whatever rows they hold, the row of its key decides a repeat, which leaves them as they were.
-    ensures by_row { GoesByRow (state_in S.Store tx.old) (state_in S.Store tx.new) command.now (ends_with result) }
     ensures frame { RefusesAsMachine S.Store count command.now tx.old tx.new result }
 {
     if let Some(row) = find_row::<_, Key, KeyRow>(alloc, tx, &command.key)? {
@@ -120,7 +116,6 @@ pub(crate) fn run_command<S: Alter>(
     ensures rows { IfCleanOver S.Store conn.old conn.new (λ old new. (m : Tables) → HasRows m old
         → EndsByRows m count command.now result new) }
     ensures kind { MayBeReplied command.now (result_of result) }
-    ensures by_row { GoesByRow (state S.Store conn.old) (state S.Store conn.new) command.now (result_of result) }
     ensures served { IfCleanOver S.Store conn.old conn.new (λ _ new. OnOk (result_of result) (IsTrue new.is_open)) }
 {
     let mut tx = conn.transaction();

@@ -1,4 +1,4 @@
-use Rattle.std.proofs.Common.{◌≡◌, ◌∙◌, sym, subst, None, Some, Result, Ok, Err}
+use Rattle.std.proofs.Common.{◌≡◌, ◌∙◌, sym, subst, Result, Ok, Err}
 use Rattle.std.specs.Prelude.{IsErrAnd}
 use Rattle.sqlite.specs.Held.{state}
 use Rattle.kcr_base.specs.declared.refusal.Refusal.{Refusal}
@@ -8,23 +8,12 @@ use Rattle.kcr_history.proofs.Steps.{greatest-keys}
 use Rattle.kcr_machine.specs.RowDecision.{is_full_by}
 use Rattle.kcr_machine.proofs.Completed.{still-cleared}
 use Rattle.kcr_rows.proofs.FrameLemmas.{within_then, within_to, within_fails, clean_before}
-use Rattle.kcr_store.specs.Commands.{GoesByRow}
-use Rattle.kcr_store.specs.TransactionResult.{ends_with, RefusesAsMachine}
-use Rattle.kcr_store.proofs.KeyLemmas.{HasRow, fault_goes, handed_goes, kept_goes, new_goes}
+use Rattle.kcr_store.specs.TransactionResult.{RefusesAsMachine}
 use Rattle.kcr_store.proofs.ByRows.{by_early, by_fault, by_late, by_repeat, handed_on}
 use Rattle.kcr_store.proofs.StoreLemmas.{IsDecided, held_in, next_stores, refused, fault_steps, steps}
 use Rattle.kcr_store.proofs.transaction.decide_and_write.Goals as goal
 
 -- ---- the key has a row
-
-pub returns-in-Some-clause-by_row : goal.returns-in-Some-clause-by_row
-returns-in-Some-clause-by_row g c =
-    let old = state g.S.Store c.args.tx.now.conn.now in
-    let new = state g.S.Store c.find_row.new.tx.conn.now in
-    let x = c.args.command.now in
-    let kept = c.in_ok-row.ensures in
-    let there : HasRow old new x.key (Some c.in-Some.row) = λ clean m held. sym (kept.row clean m held) ∙ c.in-Some.is in
-    kept_goes old new x c.in-Some.row c.decide_repeat.result there kept.frame.tables c.decide_repeat.ensures.by_row
 
 pub returns-in-Some-clause-frame : goal.returns-in-Some-clause-frame
 returns-in-Some-clause-frame g c =
@@ -36,21 +25,6 @@ returns-in-Some-clause-frame g c =
     within_to c.decide_repeat.result (refused old new c.args.count c.args.command.now c.decide_repeat.result decision) kept.frame.within
 
 -- ---- the key is new, and the rows cannot be read or put
-
-pub returns-in_err-front-clause-by_row : goal.returns-in_err-front-clause-by_row
-returns-in_err-front-clause-by_row g c =
-    let made = c.from_residual-in_err-front in
-    handed_goes _ _ c.args.command.now _ made.result (fault_goes _ _ c.args.command.now _ c.in_err-front.ensures.frame.within.cause) made.ensures.1
-
-pub returns-in_err-view-clause-by_row : goal.returns-in_err-view-clause-by_row
-returns-in_err-view-clause-by_row g c =
-    let made = c.from_residual-in_err-view in
-    handed_goes _ _ c.args.command.now _ made.result (fault_goes _ _ c.args.command.now _ c.in_err-view.ensures.frame.within.cause) made.ensures.1
-
-pub returns-in_err-change_all-clause-by_row : goal.returns-in_err-change_all-clause-by_row
-returns-in_err-change_all-clause-by_row g c =
-    let made = c.from_residual-in_err-change_all in
-    handed_goes _ _ c.args.command.now _ made.result (fault_goes _ _ c.args.command.now _ c.in_err-change_all.ensures.frame.cause) made.ensures.1
 
 pub returns-in_err-change_all-clause-frame : goal.returns-in_err-change_all-clause-frame
 returns-in_err-change_all-clause-frame g c =
@@ -64,17 +38,6 @@ returns-in_err-change_all-clause-frame g c =
 handed : (P : Result Verdict Refusal → Type 0) (e : Refusal) (result : Result Verdict Refusal) → IsErrAnd result (λ r. r ≡ e) → P (Err e) → P result
 handed P e (Ok verdict) is p = absurd is
 handed P e (Err r) is p = subst (λ (q : Refusal). P (Err q)) (sym is) p
-
-pub returns-in_err-check_early-clause-by_row : goal.returns-in_err-check_early-clause-by_row
-returns-in_err-check_early-clause-by_row g c =
-    let old = state g.S.Store c.args.tx.now.conn.now in
-    let new = state g.S.Store c.read_early_rows.new.tx.conn.now in
-    let x = c.args.command.now in
-    let made = c.from_residual-in_err-check_early in
-    let none : HasRow old new x.key None =
-    λ clean m held. sym (c.in_ok-row.ensures.row (clean_before c.in_ok-front.ensures.frame.within clean) m held) ∙ c.in_default.is in
-    handed (λ r. GoesByRow old new x (ends_with r)) c.in_err-check_early.field-0.0 made.result made.ensures.1
-    (new_goes old new x (Err c.in_err-check_early.field-0.0) none c.in_err-check_early.ensures.kind)
 
 pub returns-in_err-check_early-clause-frame : goal.returns-in_err-check_early-clause-frame
 returns-in_err-check_early-clause-frame g c =
@@ -102,19 +65,6 @@ decide_new-requires g c =
       cleared = still-cleared c.in_ok-front.front c.in_ok-view.view (is_full_by c.args.count) c.args.command.now.act
           c.in_ok-view.ensures.completes c.in_ok-check_early.ensures.told;
     }
-
-pub returns-in_err-verdict-clause-by_row : goal.returns-in_err-verdict-clause-by_row
-returns-in_err-verdict-clause-by_row g c =
-    let old = state g.S.Store c.args.tx.now.conn.now in
-    let new = state g.S.Store c.read_remaining_rows.new.tx.conn.now in
-    let x = c.args.command.now in
-    let made = c.from_residual-in_err-verdict in
-    let none : HasRow old new x.key None =
-    λ clean m held.
-    sym (c.in_ok-row.ensures.row (clean_before c.in_ok-front.ensures.frame.within (clean_before c.in_ok-view.ensures.frame.within clean)) m held)
-    ∙ c.in_default.is in
-    handed (λ r. GoesByRow old new x (ends_with r)) c.in_err-verdict.field-0.0 made.result made.ensures.1
-    (new_goes old new x (Err c.in_err-verdict.field-0.0) none c.in_err-verdict.ensures.kind)
 
 pub returns-in_err-verdict-clause-frame : goal.returns-in_err-verdict-clause-frame
 returns-in_err-verdict-clause-frame g c =
@@ -165,16 +115,6 @@ returns-clause-done g c clean inside A number had =
       next_stores A x verdict verdict.new_reply _ _ was decision (rw c.as_slice.ensures.value at made),
       put.frame.inside clean (within.inside last inside),
     )
-
-pub returns-clause-by_row : goal.returns-clause-by_row
-returns-clause-by_row g c =
-    let old = state g.S.Store c.args.tx.now.conn.now in
-    let new = state g.S.Store c.change_all.new.tx.conn.now in
-    let none : HasRow old new c.args.command.now.key None =
-    λ clean m held.
-    let after = clean_before c.in_ok-view.ensures.frame.within (clean_before c.in_ok-change_all.ensures.frame clean) in
-    sym (c.in_ok-row.ensures.row (clean_before c.in_ok-front.ensures.frame.within after) m held) ∙ c.in_default.is in
-    new_goes old new c.args.command.now (Ok c.in_ok-verdict.verdict) none c.in_ok-verdict.ensures.kind
 
 pub returns-clause-frame : goal.returns-clause-frame
 returns-clause-frame g c =

@@ -5,7 +5,6 @@ use Rattle.sqlite.specs.State.{HasCleanDisk, State, Survives}
 use Rattle.sqlite.specs.Held.{state}
 use Rattle.kcr_rows.proofs.InsideLemmas.{was_clean}
 use Rattle.kcr_rows.proofs.FrameLemmas.{clean_before}
-use Rattle.kcr_store.proofs.KeyLemmas.{fault_goes, refused_goes, replied_goes}
 use Rattle.kcr_history.specs.History.{History}
 use Rattle.kcr_history.specs.declared.commands.Command.{Command}
 use Rattle.kcr_store.specs.ByRows.{EndsByRows, RepliesBy}
@@ -35,31 +34,6 @@ returns-in-Err-SqliteFailure-OutOfMemory-clause-kind g c = fault-refused c.args.
 
 pub returns-in-Ok-prepare-clause-kind : goal.returns-in-Ok-prepare-clause-kind
 returns-in-Ok-prepare-clause-kind g c = fault-refused c.args.command.now Memory (inl refl)
-
--- ---- what it gets by the row of its key
-
-pub returns-in-Err-clause-by_row : goal.returns-in-Err-clause-by_row
-returns-in-Err-clause-by_row g c =
-    let goes =
-    refused_goes g.S.Store c.args.conn.now _ c.transaction-tx.ensures.begun _ (state g.S.Store c.drop-tx.new.self.0) c.args.command.now
-    c.drop-tx.ensures.survives c.in-Err.ensures.by_row in
-    search rules
-
-pub returns-in-Ok-commit-clause-by_row : goal.returns-in-Ok-commit-clause-by_row
-returns-in-Ok-commit-clause-by_row g c =
-    let goes =
-    replied_goes g.S.Store c.args.conn.now _ c.transaction-tx.ensures.begun _ (state g.S.Store c.commit.new.self.0) c.args.command.now
-    c.commit.ensures.survives (λ clean. (c.in-Ok-commit.ensures.ok clean).1) c.in-Ok.ensures.by_row in
-    search rules
-
-pub returns-clause-by_row : goal.returns-clause-by_row
-returns-clause-by_row g c = fault_goes _ _ c.args.command.now Disk (inr refl)
-
-pub returns-in-Err-SqliteFailure-OutOfMemory-clause-by_row : goal.returns-in-Err-SqliteFailure-OutOfMemory-clause-by_row
-returns-in-Err-SqliteFailure-OutOfMemory-clause-by_row g c = fault_goes _ _ c.args.command.now Disk (inr refl)
-
-pub returns-in-Ok-prepare-clause-by_row : goal.returns-in-Ok-prepare-clause-by_row
-returns-in-Ok-prepare-clause-by_row g c = fault_goes _ _ c.args.command.now Memory (inl refl)
 
 -- ---- by whatever rows the tables hold
 
