@@ -6,4 +6,5 @@ pub mod ShownLemmas
 pub mod QuestionLemmas
 pub mod ListingLemmas
 pub mod ByRows
+pub mod PlannedLemmas
 pub mod StopLemmas

@@ -21,10 +21,11 @@ use Rattle.kcr_store.specs.declared.transaction.TransactionResult.{TransactionRe
 use Rattle.kcr_store.specs.declared.transaction.TransactionResult.TheVariants.{Accepted, Refused, InDoubt}
 use Rattle.kcr_history.specs.declared.views.Verdict.{Verdict}
 use Rattle.kcr_store.proofs.RowLemmas.{begins_with, rows_undone}
-use Rattle.kcr_store.proofs.StoreLemmas.{counts_after}
+use Rattle.kcr_store.proofs.StoreLemmas.{counts_after, held_in}
 use Rattle.kcr_store.specs.Stored.{IsTables, Stores}
 use Rattle.kcr_history.specs.History.{History}
-use Rattle.kcr_store.specs.Register.{IsDurableWith, IsDurable, CrashKeeps, AfterCrash, RegisterState, RegisterHistory, StandsAt}
+use Rattle.kcr_history.specs.Tables.{Tables, tables}
+use Rattle.kcr_store.specs.Register.{HasRows, IsDurableWith, IsDurable, CrashKeeps, AfterCrash, RegisterState, RegisterHistory, StandsAt}
 use Rattle.kcr_store.specs.Register as register
 use Rattle.kcr_store.specs.Register.{whole}
 use Rattle.std.proofs.lemmas.Bool.{true≢false}
@@ -33,8 +34,8 @@ use Rattle.std.specs.Prelude.{◌↔◌, ◌≢◌, IsSome, is_some, unwrap_or}
 use Rattle.kcr_base.specs.declared.refusal.Refusal.{Refusal}
 use Rattle.kcr_base.specs.declared.refusal.Refusal.TheVariants.{Broken, Disk}
 use Rattle.kcr_history.specs.declared.commands.Reply.{Reply}
-use Rattle.kcr_store.specs.Calls.{CommitsNothing, Leads, ReadsHistory, ReadsWithoutBreaking, BreaksOnFault, after_fault, left_at}
-use Rattle.kcr_store.specs.Frame.{OnlyReads, StaysOutside}
+use Rattle.kcr_store.specs.Calls.{CommitsNothing, Leads, OfRows, ReadsHistory, ReadsWithoutBreaking, BreaksOnFault, after_fault, left_at}
+use Rattle.kcr_store.specs.Frame.{OfRowsOver, OnlyReads, StaysOutside}
 
 -- within the transaction
 pub record Began (accepted : History) (s : State) : Type 0 where
@@ -268,6 +269,17 @@ module _ {count : ℕ} {A : History} {x : Command} {new : State} where
   }
 
 -- ---- where a register stands
+
+-- it has the rows of its history
+pub stands_rows : {S : Type 0} {g : Ghosts S} {A : History} {r : RegisterState S} → StandsAt g (whole A) r → HasRows (tables A) (state g r.conn)
+stands_rows {A = A} at honest live =
+    let s = (at.shows refl).whole.shows honest live in
+    record { now = held_in A _ s.now; committed = held_in A _ s.committed }
+
+-- what one call says of whatever rows its database held is so of the rows that it had
+pub rows_over : {S : Type 0} (g : Ghosts S) (old new : RegisterState S) (Says : Tables → Type 0)
+    → (HasCleanDisk (state g new.conn) → HasCleanDisk (state g old.conn)) → (old.is_broken ≡ false → OfRowsOver g old.conn new.conn Says) → OfRows g old new Says
+rows_over g old new Says clean says now intact m has = says intact now m (λ live. (has (clean now) live).now)
 
 -- one that says that nothing has broken it
 pub seen_unbroken : {S : Type 0} {inside seen : RegisterState S} {told : Bool} → inside ≡ seen → told ≡ seen.is_broken → told ≡ false

@@ -42,6 +42,11 @@ RowsLead g old new Says =
 abbrev pub OfHistory : {S : Type 0} → Ghosts S → RegisterState S → RegisterState S → (History → Type 0) → Type 0
 OfHistory g old new Says = HasCleanDisk (state g new.conn) → (A : History) → StandsAt g (whole A) old → Says A
 
+-- said of whatever rows a register that is not broken had, by a call that leaves the disk clean
+abbrev pub OfRows : {S : Type 0} → Ghosts S → RegisterState S → RegisterState S → (Tables → Type 0) → Type 0
+OfRows g old new Says =
+    HasCleanDisk (state g new.conn) → old.is_broken ≡ false → (m : Tables) → HasRows m (state g old.conn) → Says m
+
 -- once a fault has broken it, a crash may leave the history that it had
 abbrev pub left_at : Bool → RegisterHistory → RegisterHistory
 left_at is_broken s = if is_broken then record s { in_doubt = Some (unwrap_or s.in_doubt s.accepted) } else s

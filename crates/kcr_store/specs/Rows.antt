@@ -8,7 +8,7 @@ use Rattle.kcr_base.specs.declared.refusal.Thing.TheVariants as Things
 use Rattle.kcr_history.specs.Ceremonies.{is_ceremony}
 use Rattle.kcr_history.specs.History.{History}
 use Rattle.kcr_history.specs.Tables as machine
-use Rattle.kcr_history.specs.Tables.{tables, ceremony_row}
+use Rattle.kcr_history.specs.Tables.{ceremony_row}
 use Rattle.kcr_history.specs.declared.row_types.CeremonyRow.{CeremonyRow}
 use Rattle.kcr_reading.specs.Remaining.{IsNextOf}
 use Rattle.kcr_tables.specs.Refusals.{IsFault}
@@ -32,10 +32,10 @@ Lent S g lender result =
     RestsIfErr (register.the_row S g) lender (λ rows. rows.register.ghost_name) result
     (λ last. (last ≡ lender.now) × IsConsistent g last)
 
--- the next of the rows that are to come of the history, or none past the last
+-- the next of the rows that are to come by these tables, or none past the last
 abbrev pub GivesNext : {R Row : Type 0}
-    → (R → machine.Tables → List Row) → R → R → Result (Option Row) Refusal → History → Type 0
-GivesNext to_come old new result A = IfOk result (λ row. IsNextOf (to_come old (tables A)) row (to_come new (tables A)))
+    → (R → machine.Tables → List Row) → R → R → Result (Option Row) Refusal → machine.Tables → Type 0
+GivesNext to_come old new result m = IfOk result (λ row. IsNextOf (to_come old m) row (to_come new m))
 
 -- THE ROW OF A CEREMONY
 

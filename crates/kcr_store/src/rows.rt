@@ -1,5 +1,6 @@
 //! The rows of the register, one at a time, and the row of one ceremony.
 ghost use Rattle.std.specs.Prelude.{◌≡◌, false, IfOk, MatchResult};
+ghost use Rattle.kcr_history.specs.Tables.{tables};
 ghost use Rattle.kcr_tables.specs.Refusals.{IsFault};
 
 use crate::register::Register;
@@ -30,6 +31,7 @@ impl<S: Alter, R: Cursor> Drop for Rows<'_, S, R> {
 
 impl<'a, S: Alter, R: Cursor> Rows<'a, S, R> {
     ghost use Rattle.kcr_store.specs.Calls.{OfHistory, ReadsWithoutBreaking};
+    ghost use Rattle.kcr_store.specs.Frame.{OfRowsOver};
     ghost use Rattle.kcr_store.specs.Rows.{GivesNext};
 
     fn new(register: &'a mut Register<S>, reading: R) -> Rows<'a, S, R>
@@ -46,6 +48,11 @@ impl<'a, S: Alter, R: Cursor> Rows<'a, S, R> {
     pub fn next(&mut self) -> Result<Option<R::Row>, Refusal>
         ensures same_reference { self.new.register.ghost_name ≡ self.old.register.ghost_name }
         ensures gives { OfHistory S.Store self.old.register.now self.new.register.now
+            (λ A. GivesNext R.to_come self.old.reading self.new.reading result (tables A)) }
+
+        // By whatever rows the tables hold.
+        ensures rows { self.old.register.now.is_broken ≡ false
+            → OfRowsOver S.Store self.old.register.now.conn self.new.register.now.conn
             (GivesNext R.to_come self.old.reading self.new.reading result) }
         ensures peeks { ReadsWithoutBreaking S.Store IsFault self.old.register.now self.new.register.now result }
     {

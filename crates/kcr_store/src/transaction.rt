@@ -296,7 +296,7 @@ pub(crate) fn next_row<S: Alter, R: Cursor>(
     reading: &mut R,
 ) -> Result<Option<R::Row>, Refusal>
     requires autocommit { conn.old.in_transaction ≡ false }
-    ensures gives { OfDurable S.Store conn.old conn.new (GivesNext R.to_come reading.old reading.new result) }
+    ensures rows { OfRowsOver S.Store conn.old conn.new (GivesNext R.to_come reading.old reading.new result) }
     ensures frame { OnlyReads S.Store IsFault conn.old conn.new result }
 {
     let mut tx = conn.transaction();

@@ -1,16 +1,13 @@
 use Rattle.std.proofs.Common.{rules}
-use Rattle.kcr_history.specs.Tables.{tables}
-use Rattle.kcr_store.proofs.StoreLemmas.{held_in}
 use Rattle.kcr_rows.proofs.InsideLemmas.{was_clean}
-use Rattle.kcr_store.proofs.WholeLemmas.{read_back, read_stores}
+use Rattle.kcr_store.proofs.ByRows.{begun_had}
+use Rattle.kcr_store.proofs.WholeLemmas.{read_back}
 use Rattle.kcr_store.proofs.transaction.next_row.Goals as goal
 
-pub returns-clause-gives : goal.returns-clause-gives
-returns-clause-gives g c accepted was clean =
-    let back = c.rollback.ensures.survives in
-    let had =
-    read_stores g.S.Store c.args.conn.now _ c.transaction-tx.ensures.begun _ _ c.next-row.ensures.frame.within.survives back accepted was (search rules) in
-    c.next-row.ensures.gives (was_clean _ _ _ back (search rules)) (tables accepted) (λ live. held_in accepted _ (had live))
+pub returns-clause-rows : goal.returns-clause-rows
+returns-clause-rows g c clean m had =
+    c.next-row.ensures.gives (was_clean _ _ _ c.rollback.ensures.survives (search rules)) m
+    (begun_had g.S.Store c.args.conn.now _ c.transaction-tx.ensures.begun m had)
 
 pub returns-clause-frame : goal.returns-clause-frame
 returns-clause-frame g c =
