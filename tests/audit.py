@@ -37,7 +37,7 @@ import subprocess
 import tempfile
 
 import kcr
-from kcr import HERE, NOTHING_FOUND, call, change, copy, expect
+from kcr import EPOCH, HERE, NOTHING_FOUND, call, change, copy, expect
 
 LAST = 74
 STAGES = [9, 22, 34, 43, 56, 73, LAST]  # after which commands a copy is kept
@@ -122,7 +122,6 @@ STREAM = r"""
 74 /ceremonies/4/closing {"at":"2025-11-12T20:31:00Z"}
 """
 ALL = set(range(1, LAST + 1))
-EPOCH = datetime.datetime(1970, 1, 1)
 VERIFIED = ("keys people trainings withdrawals appointments boxes safes bags items ceremonies marks steps seatings "
             "sheet stays exceptions").split()
 
@@ -218,16 +217,16 @@ def reply(number, *seating):
 
 
 def row(table, expected, found):
-    """The first row of a table that differs. A row is written as sqlite3 does in its mode `quote`."""
-    return finding(f"table {table}\nrow: expected {quoted(expected)}; found {quoted(found)}")
+    """The first row of a table that differs. A row is written as sqlite3 does in its mode `quote`, with dates."""
+    return finding(f"table {table}\nrow: expected {quoted(table, expected)}; found {quoted(table, found)}")
 
 
-def quoted(values):
-    """A row as sqlite3 writes it, or `none`."""
+def quoted(table, values):
+    """A row as sqlite3 writes it, with dates, or `none`."""
     if values is None:
         return "none"
-    return ",".join("NULL" if value is None else f"'{value}'" if isinstance(value, str) else f"{value}"
-                    for value in values)
+    return ",".join("NULL" if value is None else f"'{value}'" if isinstance(value, str)
+                    else kcr.dated(table, place, f"{value}") for place, value in enumerate(values))
 
 
 Tampering = collections.namedtuple("Tampering", "name what audit verify compare anchor seated lists make")

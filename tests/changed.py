@@ -18,7 +18,7 @@ import itertools
 import re
 
 import kcr
-from kcr import HERE, NOTHING_FOUND, call, change, copy, expect, opened
+from kcr import HERE, NOTHING_FOUND, call, change, copy, dated, expect, opened
 from program import FOREIGN, differed, filled, made_anew, refused, stream, verified
 
 MOMENTS = 1_739_476_800  # 2025-02-13T20:00:00Z
@@ -102,11 +102,12 @@ CHANGES = [
 
 def quoted_rows(file, table):
     """The rows of a table in the order of its key, which its first columns are, as sqlite3 prints them in its mode
-    `quote`."""
+    `quote`, with dates."""
     with opened(file) as database:
         names = [f'"{name}"' for _, name, *_ in database.execute(f"PRAGMA table_info({table})")]
-        shown = " || ',' || ".join(f"quote({name})" for name in names)
-        return [text for text, in database.execute(f"SELECT {shown} FROM {table} ORDER BY {', '.join(names)}")]
+        shown = ", ".join(f"quote({name})" for name in names)
+        rows = database.execute(f"SELECT {shown} FROM {table} ORDER BY {', '.join(names)}").fetchall()
+        return [",".join(dated(table, place, text) for place, text in enumerate(row)) for row in rows]
 
 
 def row_line(table, expected, found):

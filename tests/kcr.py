@@ -6,6 +6,7 @@ and `stops.py` use it, the kept streams of `files` and the cases, and `streams.p
 """
 import ast
 import contextlib
+import datetime
 import functools
 import importlib
 import os
@@ -31,6 +32,10 @@ TABLES = [table.name for table in LISTED]
 EMPTY_CUSTODY = b"safe 1 EAST shut\nsafe 2 EAST shut\nsafe 1 WEST shut\nsafe 2 WEST shut\n"
 GO_ON = b"HTTP/1.1 100 Continue\r\n\r\n"
 NOTHING_FOUND = (b"audit: nothing found\n", b"", 0)
+# which columns of a table are days and which are moments, counted from 0
+DAYS = {"trainings": (2, 3), "withdrawals": (2, 3, 4), "appointments": (1, 3), "ceremonies": (2,)}
+MOMENTS = {"ceremonies": (4, 5), "marks": (1,), "steps": (5,), "sheet": (1,), "stays": (1, 3), "exceptions": (3,)}
+EPOCH = datetime.datetime(1970, 1, 1)
 
 
 class Wrong(Exception):
@@ -49,6 +54,15 @@ def difference(wanted, got):
         return f"wanted {wanted!r:.600}, got {got!r:.600}"
     place = next((i for i, (one, other) in enumerate(zip(wanted, got)) if one != other), min(len(wanted), len(got)))
     return f"they differ at byte {place}: wanted {around(wanted, place)}, got {around(got, place)}"
+
+
+def dated(table, place, text):
+    """A value as sqlite3 prints it in its mode `quote`, with the date of a day or of a moment behind it in brackets."""
+    if text != "NULL" and place in DAYS.get(table, ()):
+        return f"{text} ({EPOCH + datetime.timedelta(days=int(text)):%Y-%m-%d})"
+    if text != "NULL" and place in MOMENTS.get(table, ()):
+        return f"{text} ({EPOCH + datetime.timedelta(seconds=int(text)):%Y-%m-%dT%H:%M:%SZ})"
+    return text
 
 
 def expect(what, wanted, got):

@@ -82,6 +82,7 @@ CASES = {
     "kcr_store/Register": "stops.py:commands_are_taken",
     "kcr_verify/Verification": "changed.py:differences changed.py:changed_commands",
     "kcr_verify/FirstRow": "changed.py:differences",
+    "kcr_verify/Columns": "changed.py:differences",
     "kcr_verify/Quoted": "changed.py:differences",
     "kcr_arguments/Commands": "words/help words/serve-idle-301 words/export-after-4000000001",
     "kcr_arguments/Tasks": "words/serve-longest-0 words/print-ceremony-0 words/pack-into-a-wal words/run-explained",

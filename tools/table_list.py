@@ -7,7 +7,7 @@ from table_writer import codes
 class Kind:
     """How a field of a value stands in one column."""
 
-    def __init__(self, sql, column, value, read, write, one=None, cast=None, ties=None, words=(), prelude=None, casts=()):
+    def __init__(self, sql, column, value, read, write, one=None, cast=None, ties=None, words=(), prelude=None, casts=(), dates=None):
         self.sql = sql  # the type in CREATE TABLE
         self.column = column  # the column of the schema
         self.value = value  # the value of a row; {x} is the field
@@ -19,6 +19,7 @@ class Kind:
         self.words = words  # definitions that the value names
         self.prelude = prelude  # what stands before the cell
         self.casts = casts  # lemmas that the cast names
+        self.dates = dates  # "Day" or "Moment" if these are its numbers
 
     def cell(self):
         return self.write.split("(")[0]
@@ -38,12 +39,12 @@ def text():
     return Kind("TEXT NOT NULL", "words", "Text {x}", TEXT_AT, "text_cell({x}.as_str())", ties="text_ties")
 
 
-def integer():
-    return Kind("INT NOT NULL", "number", "Int (pos {x})", "number_at(row, {at})?", "number_cell({x})", cast="cast_int (pos {x}) i", ties="number_ties", casts=("cast_int",))
+def integer(dates=None):
+    return Kind("INT NOT NULL", "number", "Int (pos {x})", "number_at(row, {at})?", "number_cell({x})", cast="cast_int (pos {x}) i", ties="number_ties", casts=("cast_int",), dates=dates)
 
 
-def integer_or_null():
-    return Kind("INT", "number_or_null", "int_or_null {x}", "number_or_null_at(row, {at})?", "number_or_null_cell({x})", one="one_number", cast="cast_or_null {x} i", words=("int_or_null",), casts=("cast_or_null",))
+def integer_or_null(dates=None):
+    return Kind("INT", "number_or_null", "int_or_null {x}", "number_or_null_at(row, {at})?", "number_or_null_cell({x})", one="one_number", cast="cast_or_null {x} i", words=("int_or_null",), casts=("cast_or_null",), dates=dates)
 
 
 def counted(kind):
@@ -77,10 +78,10 @@ STEP = counted("OfStep")
 SEAT = counted("OfSeat")
 EXCEPTION = counted("OfException")
 COMMAND = counted("OfCommand")
-DAY = integer()
-MOMENT = integer()
-DAY_OR_NULL = integer_or_null()
-MOMENT_OR_NULL = integer_or_null()
+DAY = integer("Day")
+MOMENT = integer("Moment")
+DAY_OR_NULL = integer_or_null("Day")
+MOMENT_OR_NULL = integer_or_null("Moment")
 STEP_OR_NULL = counted_or_null("OfStep")
 FACILITY = named("facility")
 ROLE = named("role")

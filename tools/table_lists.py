@@ -140,26 +140,41 @@ abbrev pub DiffersIn : TableName → Tables → FullView → RowDifference → T
             differs += f"DiffersIn Keys m view row = IsFirstCommand m.keys {shown} row\n"
         else:
             name += f"HasRows {variant(t)} m view = AreRows {own} m {shown}\n"
-            differs += equation(f"DiffersIn {variant(t)} m view row", f"IsFirstRow {own} stored.{t.row_of} m {shown} row")
+            differs += equation(f"DiffersIn {variant(t)} m view row", f"IsFirstRow {own} columns.{t.row}_columns stored.{t.row_of} m {shown} row")
     order = "-- the order in which tables are compared\nabbrev pub compared : List TableName\ncompared =\n    " + listed([variant(t) for t in LISTED if t.name == "keys"] + [variant(t) for t in LISTED if t.name != "keys"])
     fill("kcr_verify/specs/Verification.antt", *[laid_out(it, DEFINITIONS) for it in (name, order, differs)])
 
 
+def column(c):
+    """What the numbers of a column are."""
+    return f"{c.kind.dates}s" if c.kind.dates else "Plain"
+
+
+def columns():
+    out = "-- What the numbers of each table's columns are.\nuse Rattle.std.specs.Prelude.{List, [], ◌∷◌}\nuse Rattle.kcr_verify.specs.declared.quoted.Column.{Column}\nuse Rattle.kcr_verify.specs.declared.quoted.Column.TheVariants.{Plain, Days, Moments}\n"
+    for t in LISTED:
+        out += f"\nabbrev pub {t.row}_columns : List Column\n{t.row}_columns = {listed([column(c) for c in t.columns])}\n"
+    write("specs/Columns.antt", out, "kcr_verify")
+
+
 def quoted_rows():
-    out = "//! The rows of the tables as sqlite3 prints them: the cells of each.\n\n"
+    head = "//! The rows of the tables as sqlite3 prints them: the cells of each.\n\n"
+    for at in range(0, len(LISTED), 4):
+        head += f"ghost use Rattle.kcr_verify.specs.Columns.{{{', '.join(t.row + '_columns' for t in LISTED[at : at + 4])}}};\n"
     body = ""
     for t in LISTED:
-        body += f"\nimpl Quoted for {t.type} {{\n    fn quoted(&self, alloc: Global) -> Result<Text, Refusal> {{\n"
+        body += f"\nimpl Quoted for {t.type} {{\n    ghost columns = {{ {t.row}_columns }};\n\n    fn quoted(&self, alloc: Global) -> Result<Text, Refusal> {{\n"
         prelude, cells = put_cells(t)
-        body += f"{prelude}        text_of(alloc, self, &[{cells}])\n    }}\n}}\n"
+        kinds = ", ".join(f"Column::{column(c)}" for c in t.columns)
+        body += f"{prelude}        text_of(alloc, self, &[{kinds}], &[{cells}])\n    }}\n}}\n"
     types = {}
     for t in LISTED:
         types.setdefault(t.crate, set()).add(t.type)
     named = {c.kind.cell() for t in LISTED for c in t.columns} | {c.kind.prelude.split("= ")[1].split("(")[0] for t in LISTED for c in t.columns if "(alloc" in (c.kind.prelude or "")}
-    imports = ["use crate::quoted::{Quoted, text_of};", "use kcr_base::{Refusal, Text};"]
+    imports = ["use crate::quoted::{Column, Quoted, text_of};", "use kcr_base::{Refusal, Text};"]
     imports += [f"use {crate}::{{{', '.join(sorted(types[crate]))}}};" for crate in sorted(types)]
     imports += [f"use kcr_rows::cells::{{{', '.join(sorted(named))}}};", "use std::alloc::Global;"]
-    write("src/quoted_rows.rt", out + "\n".join(sorted(imports)) + "\n" + body, "kcr_verify")
+    write("src/quoted_rows.rt", head + "\n" + "\n".join(sorted(imports)) + "\n" + body, "kcr_verify")
 
 
 def lists():
@@ -168,4 +183,5 @@ def lists():
     all_rows()
     names()
     differences()
+    columns()
     quoted_rows()

@@ -1,10 +1,11 @@
 -- One more byte of a text in quotes, and one more value of a row.
-use Rattle.std.proofs.Common.{◌≡◌, ℕ, zero, suc, ◌+◌, ◌<◌, List, [], ◌∷◌, ◌++◌, map, take, length, get_or, nat_eq, false, refl, sym, ap, ◌∙◌, append_assoc, arith}
+use Rattle.std.proofs.Common.{◌≡◌, ℕ, zero, suc, ◌+◌, ◌<◌, List, [], ◌∷◌, ◌++◌, map, take, length, get_or, nat_eq, false, refl, sym, ap, ap₂, ◌∙◌, append_assoc, add-one, arith}
 use Rattle.std.specs.List.{flat_map, join_with_byte}
-use Rattle.std.proofs.lemmas.List.{take_more, map_more, map-append}
+use Rattle.std.proofs.lemmas.List.{take_more}
 use Rattle.std.proofs.lemmas.List.Concat.{flat_map-append}
 use Rattle.sqlite.specs.declared.types.Value.{Value}
-use Rattle.kcr_verify.specs.Quoted.{cell_text, doubled, row_text}
+use Rattle.kcr_verify.specs.Quoted.{cell_text, cell_texts, doubled, row_text}
+use Rattle.kcr_verify.specs.declared.quoted.Column.{Column}
 
 doubled_end : (text : List ℕ) (byte : ℕ) → doubled (text ++ byte ∷ []) ≡ doubled text ++ doubled (byte ∷ [])
 doubled_end text byte = flat_map-append _ text (byte ∷ [])
@@ -26,30 +27,43 @@ joined_end [] x h = absurd (omega arith)
 joined_end (y ∷ []) x h = sym (append_assoc y (44 ∷ []) x)
 joined_end (y ∷ z ∷ ys) x h = rw (joined_end (z ∷ ys) x (omega arith)) (simp append_assoc)
 
+-- of values in columns
 module _ {X : Type 0} (value : X → Value) where
-  abbrev texts : List X → List (List ℕ)
-  texts xs = map cell_text (map value xs)
+  abbrev texts : List Column → List X → List (List ℕ)
+  texts ks xs = cell_texts ks (map value xs)
 
-  texts_more : (xs : List X) (i : ℕ) (d : X) → i < length xs → texts (take (i + 1) xs) ≡ texts (take i xs) ++ cell_text (value (get_or xs i d)) ∷ []
-  texts_more xs i d h = ap (map cell_text) (map_more value xs i d h) ∙ map-append cell_text (map value (take i xs)) (value (get_or xs i d) ∷ [])
+  texts_more : (ks : List Column) (xs : List X) (i : ℕ) (d : Column) (e : X) → i < length ks → i < length xs
+      → texts (take (suc i) ks) (take (suc i) xs) ≡ texts (take i ks) (take i xs) ++ cell_text (get_or ks i d) (value (get_or xs i e)) ∷ []
+  texts_more [] xs i d e h g = absurd (omega arith)
+  texts_more (k ∷ ks) [] i d e h g = absurd (omega arith)
+  texts_more (k ∷ ks) (x ∷ xs) zero d e h g = refl
+  texts_more (k ∷ ks) (x ∷ xs) (suc i) d e h g =
+      ap (λ (t : List (List ℕ)). cell_text k (value x) ∷ t) (texts_more ks xs i d e (omega arith) (omega arith))
 
-  some_texts : (xs : List X) (i : ℕ) → 0 < i → i < length xs → 0 < length (texts (take i xs))
-  some_texts [] i p h = absurd (omega arith)
-  some_texts (x ∷ xs) zero p h = absurd (omega arith)
-  some_texts (x ∷ xs) (suc i) p h = omega arith
+  some_texts : (ks : List Column) (xs : List X) (i : ℕ) → 0 < i → i < length ks → i < length xs → 0 < length (texts (take i ks) (take i xs))
+  some_texts [] xs i p h g = absurd (omega arith)
+  some_texts (c ∷ ks) [] i p h g = absurd (omega arith)
+  some_texts (c ∷ ks) (x ∷ xs) zero p h g = absurd (omega arith)
+  some_texts (c ∷ ks) (x ∷ xs) (suc i) p h g = omega arith
 
   -- the first value
-  pub first_value : (xs : List X) (i : ℕ) (d : X) → i ≡ 0 → i < length xs
-      → row_text (map value (take (i + 1) xs)) ≡ row_text (map value (take i xs)) ++ cell_text (value (get_or xs i d))
-  first_value [] i d e h = absurd (omega arith)
-  first_value (x ∷ xs) zero d e h = refl
-  first_value (x ∷ xs) (suc i) d e h = absurd (omega arith)
+  pub first_value : (ks : List Column) (xs : List X) (i : ℕ) (d : Column) (e : X) → i < length ks → i < length xs → i ≡ 0
+      → row_text (take (i + 1) ks) (map value (take (i + 1) xs))
+      ≡ row_text (take i ks) (map value (take i xs)) ++ cell_text (get_or ks i d) (value (get_or xs i e))
+  first_value ks xs i d e h g z =
+      let more = texts_more ks xs i d e h g in
+      rw (add-one, more, z) refl
 
   -- each later one stands behind a comma
-  pub next_value : (xs : List X) (i : ℕ) (d : X) → 0 < i → i < length xs
-      → row_text (map value (take (i + 1) xs)) ≡ (row_text (map value (take i xs)) ++ 44 ∷ []) ++ cell_text (value (get_or xs i d))
-  next_value xs i d p h = ap (join_with_byte 44) (texts_more xs i d h) ∙ joined_end (texts (take i xs)) _ (some_texts xs i p h)
+  pub next_value : (ks : List Column) (xs : List X) (i : ℕ) (d : Column) (e : X) → i < length ks → i < length xs → 0 < i
+      → row_text (take (i + 1) ks) (map value (take (i + 1) xs))
+      ≡ (row_text (take i ks) (map value (take i xs)) ++ 44 ∷ []) ++ cell_text (get_or ks i d) (value (get_or xs i e))
+  next_value ks xs i d e h g p =
+      let more = texts_more ks xs i d e h g in
+      rw (add-one, more) (joined_end (texts (take i ks) (take i xs)) (cell_text (get_or ks i d) (value (get_or xs i e))) (some_texts ks xs i p h g))
 
--- a line with a text behind what it was
-pub behind : (line before said told text : List ℕ) → line ≡ before ++ text → before ≡ said → told ≡ said ++ text → line ≡ told
-behind line before said told text is was now = is ∙ ap (λ l. l ++ text) was ∙ sym now
+-- a line with two texts behind what it was
+pub behind_both : (line between before said told one two : List ℕ) → between ≡ before ++ one → line ≡ between ++ two → before ≡ said → told ≡ said ++ (one ++ two)
+    → line ≡ told
+behind_both line between before said told one two first then was now =
+    then ∙ ap (λ l. l ++ two) (first ∙ ap (λ l. l ++ one) was) ∙ append_assoc said one two ∙ sym now

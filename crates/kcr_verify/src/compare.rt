@@ -102,7 +102,8 @@ impl TableName {
 // end: written by tools/tables.py
 
 /// The first row in which a table differs from what the commands lead to, in the order of its keys; that of the accepted
-/// commands in the order of their numbers. A row is told as sqlite3 prints it in its mode `quote`; it begins with its key.
+/// commands in the order of their numbers. A row is told as sqlite3 prints it in its mode `quote`, with the dates of days
+/// and moments; it begins with its key.
 #[derive(Drop)]
 pub struct RowDifference {
     /// Its position, from 0: this many rows before it are the same.
@@ -296,7 +297,7 @@ fn first_other<T: Compared>(own: &[T], rows: &[T]) -> Option<usize>
 
 /// The text of the row at this position, or `None` if there are no more rows. The errors are those of `Quoted::quoted`.
 fn quoted_at<R: Quoted>(alloc: Global, rows: &[R], position: usize) -> Result<Option<Text>, Refusal>
-    ensures text { IfOk result (λ text. text ≡ text_at R.row_of rows.now position) }
+    ensures text { IfOk result (λ text. text ≡ text_at R.columns R.row_of rows.now position) }
     ensures cause { IfErr result IsFault }
 {
     if position < rows.len() {
@@ -313,7 +314,7 @@ fn first_row<R: Compared + Quoted>(
     rows: &[R],
 ) -> Result<Option<RowDifference>, Refusal>
     ensures row { IfOk result (λ found. MatchOption found (own.now ≡ rows.now)
-        (λ row. (own.now ≢ rows.now) × DiffersAt R.row_of own.now rows.now row)) }
+        (λ row. (own.now ≢ rows.now) × DiffersAt R.columns R.row_of own.now rows.now row)) }
     ensures cause { IfErr result IsFault }
 {
     let Some(position) = first_other(own, rows) else {
@@ -339,7 +340,7 @@ fn compare_rows<S: Alter, R: TableRow + Compared + Quoted>(
     ensures rows { OfHistory S.Store register.old register.new (λ A. IfOk result (λ found.
         MatchOption found (AreRows R.table.rows_in (machine.tables A) rows.now)
         (λ row. (¬ AreRows R.table.rows_in (machine.tables A) rows.now)
-        × IsFirstRow R.table.rows_in R.row_of (machine.tables A) rows.now row))) }
+        × IsFirstRow R.table.rows_in R.columns R.row_of (machine.tables A) rows.now row))) }
     ensures register { OfHistory S.Store register.old register.new (λ A. IfOk result (λ _. IsRegister A)) }
     ensures frame { OnlyLooks S.Store register.old register.new result }
 {

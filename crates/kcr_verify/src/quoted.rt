@@ -1,11 +1,12 @@
-//! Rows as sqlite3 prints them in its mode `quote`: the values with commas between them, a text in single quotes.
-ghost use Rattle.std.specs.Prelude.{◌≡◌, ◌++◌, List, IfOk, IfErr, OnOk, map, string_bytes};
+//! Rows as sqlite3 prints them in its mode `quote`: the values with commas between them, a text in single quotes. Behind
+//! the number of a day or of a moment stands its date, in brackets.
+ghost use Rattle.std.specs.Prelude.{◌≡◌, ◌++◌, IfOk, IfErr, OnOk, Some, length, string_bytes};
 ghost use Rattle.sqlite.specs.Values.{bound, bound_value};
 ghost use Rattle.sqlite.specs.Value.{owned};
 ghost use Rattle.kcr_tables.specs.Refusals.{IsFault};
-ghost use Rattle.kcr_verify.specs.Quoted.{cell_text, doubled, row_text};
+ghost use Rattle.kcr_verify.specs.Quoted.{behind, date_behind, day_in, doubled, moment_in, row_text, value_text};
 
-use kcr_base::{Refusal, Text};
+use kcr_base::{Day, Moment, Refusal, Text};
 use kcr_rows::from_row::FromRow;
 use sqlite::types::ValueRef;
 use std::alloc::{AllocError, Global};
@@ -23,12 +24,21 @@ fn push_doubled(line: &mut Vec<u8>, text: &[u8]) -> Result<(), AllocError>
     Ok(())
 }
 
+/// What the numbers of a column are.
+#[derive(Clone, Copy)]
+pub(crate) enum Column {
+    /// No dates.
+    Plain,
+    Days,
+    Moments,
+}
+
 /// Adds a value: a whole number, a text in single quotes, or `NULL`, which also stands for values of other types. No
 /// table of a register has these.
-fn push_cell(alloc: Global, line: &mut Vec<u8>, cell: &ValueRef<'_>) -> Result<(), AllocError>
-    ensures { OnOk result (line.new.items ≡ line.old.items ++ cell_text (bound_value (owned cell.now))) }
+fn push_value(alloc: Global, line: &mut Vec<u8>, value: &ValueRef<'_>) -> Result<(), AllocError>
+    ensures { OnOk result (line.new.items ≡ line.old.items ++ value_text (bound_value (owned value.now))) }
 {
-    match cell {
+    match value {
         ValueRef::Int(number) => line.extend_from_slice(number.to_string(alloc)?.as_bytes()),
         ValueRef::Text(text) => {
             line.push(b'\'')?;
@@ -40,33 +50,86 @@ fn push_cell(alloc: Global, line: &mut Vec<u8>, cell: &ValueRef<'_>) -> Result<(
     }
 }
 
-/// The values of a row, with commas between them. The error is out of memory.
-fn joined(alloc: Global, cells: &[ValueRef<'_>]) -> Result<Vec<u8>, AllocError>
-    ensures { IfOk result (λ line. line.items ≡ row_text (bound cells.now)) }
+/// The day with this number, or `None` if that is not of the calendar.
+fn day_in(number: i64) -> Option<Day>
+    ensures { result ≡ day_in number }
+{
+    if (10957..47482).contains(&number) {
+        Day::from_number(number as u16)
+    } else {
+        None
+    }
+}
+
+/// The moment with this number, or `None` if that is not of the calendar.
+fn moment_in(number: i64) -> Option<Moment>
+    ensures { result ≡ moment_in number }
+{
+    if (946_684_800..4_102_444_800).contains(&number) {
+        Moment::from_number(number as u64)
+    } else {
+        None
+    }
+}
+
+/// Adds a date in brackets, behind a blank.
+fn push_date(line: &mut Vec<u8>, date: &[u8]) -> Result<(), AllocError>
+    ensures { OnOk result (line.new.items ≡ line.old.items ++ behind (Some date.now)) }
+{
+    line.extend_from_slice(b" (")?;
+    line.extend_from_slice(date)?;
+    line.push(b')')?;
+    Ok(())
+}
+
+/// Adds the date of a value, if it has one.
+fn push_date_of(line: &mut Vec<u8>, column: Column, value: &ValueRef<'_>) -> Result<(), AllocError>
+    ensures { OnOk result (line.new.items ≡ line.old.items ++ date_behind column (bound_value (owned value.now))) }
+{
+    match (column, value) {
+        (Column::Days, ValueRef::Int(number)) => match day_in(*number) {
+            Some(day) => push_date(line, &day.text()),
+            None => Ok(()),
+        },
+        (Column::Moments, ValueRef::Int(number)) => match moment_in(*number) {
+            Some(moment) => push_date(line, &moment.text()),
+            None => Ok(()),
+        },
+        _ => Ok(()),
+    }
+}
+
+/// The values of a row in these columns, with commas between them. The error is out of memory.
+fn joined(alloc: Global, columns: &[Column], values: &[ValueRef<'_>]) -> Result<Vec<u8>, AllocError>
+    requires { length columns.now ≡ length values.now }
+    ensures { IfOk result (λ line. line.items ≡ row_text columns.now (bound values.now)) }
 {
     let mut line = Vec::new(alloc);
-    for index in 0..cells.len() {
+    for index in 0..values.len() {
         if index > 0 {
             line.push(b',')?;
         }
-        push_cell(alloc, &mut line, &cells[index])?;
+        push_value(alloc, &mut line, &values[index])?;
+        push_date_of(&mut line, columns[index], &values[index])?;
     }
     Ok(line)
 }
 
-/// The text of a row with these values. The error is `Memory`, or `Disk` if a text is not UTF-8, as no row of a register
-/// has one.
+/// The text of a row with these values in these columns. The error is `Memory`, or `Disk` if a text is not UTF-8, as no
+/// row of a register has one.
 pub(crate) fn text_of<R: FromRow>(
     alloc: Global,
     row: &R,
-    cells: &[ValueRef<'_>],
+    columns: &[Column],
+    values: &[ValueRef<'_>],
 ) -> Result<Text, Refusal>
-    requires { bound cells.now ≡ R.row_of row.now }
-    ensures text { IfOk result (λ text. text ≡ row_text (R.row_of row.now)) }
+    requires count { length columns.now ≡ length values.now }
+    requires values { bound values.now ≡ R.row_of row.now }
+    ensures text { IfOk result (λ text. text ≡ row_text columns.now (R.row_of row.now)) }
     ensures cause { IfErr result IsFault }
 {
     let _row = row;
-    match String::from_utf8(joined(alloc, cells)?) {
+    match String::from_utf8(joined(alloc, columns, values)?) {
         Ok(text) => Ok(Text::from_string(text)),
         Err(_) => Err(Refusal::Disk),
     }
@@ -74,9 +137,15 @@ pub(crate) fn text_of<R: FromRow>(
 
 /// A row of a table that can be shown.
 pub(crate) trait Quoted: FromRow {
-    /// The row as sqlite3 prints it in its mode `quote`. The error is `Memory`, or `Disk` if a text is not UTF-8, as no
-    /// row of a register has one.
+    ghost use Rattle.std.specs.Prelude.{List};
+    ghost use Rattle.kcr_verify.specs.declared.quoted.Column.{Column as Kind};
+
+    /// What the numbers of its columns are.
+    ghost columns: { List Kind };
+
+    /// The row as sqlite3 prints it in its mode `quote`, with dates. The error is `Memory`, or `Disk` if a text is not
+    /// UTF-8, as no row of a register has one.
     fn quoted(&self, alloc: Global) -> Result<Text, Refusal>
-        ensures text { IfOk result (λ text. text ≡ row_text (Self.FromRow.row_of self.now)) }
+        ensures text { IfOk result (λ text. text ≡ row_text columns (Self.FromRow.row_of self.now)) }
         ensures cause { IfErr result IsFault };
 }

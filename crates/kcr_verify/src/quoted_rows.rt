@@ -1,7 +1,12 @@
 // Written by tools/tables.py from tools/table_list.py: do not edit.
 //! The rows of the tables as sqlite3 prints them: the cells of each.
 
-use crate::quoted::{Quoted, text_of};
+ghost use Rattle.kcr_verify.specs.Columns.{person_columns, training_columns, withdrawal_columns, appointment_columns};
+ghost use Rattle.kcr_verify.specs.Columns.{box_columns, safe_columns, bag_columns, item_columns};
+ghost use Rattle.kcr_verify.specs.Columns.{ceremony_columns, mark_columns, step_columns, seating_columns};
+ghost use Rattle.kcr_verify.specs.Columns.{sheet_columns, stay_columns, exception_columns, key_columns};
+
+use crate::quoted::{Column, Quoted, text_of};
 use kcr_base::{Refusal, Text};
 use kcr_custody::{Bag, BoxRow, Item, SafeRow};
 use kcr_history::{CeremonyRow, ExceptionRow, KeyRow, MarkRow, SeatingRow, StepRow};
@@ -13,20 +18,26 @@ use kcr_rows::cells::{
 use std::alloc::Global;
 
 impl Quoted for Person {
+    ghost columns = { person_columns };
+
     fn quoted(&self, alloc: Global) -> Result<Text, Refusal> {
         text_of(
             alloc,
             self,
+            &[Column::Plain, Column::Plain],
             &[text_cell(self.who.as_str()), text_cell(self.name.as_str())],
         )
     }
 }
 
 impl Quoted for Training {
+    ghost columns = { training_columns };
+
     fn quoted(&self, alloc: Global) -> Result<Text, Refusal> {
         text_of(
             alloc,
             self,
+            &[Column::Plain, Column::Plain, Column::Days, Column::Days],
             &[
                 text_cell(self.who.as_str()),
                 text_cell(self.role.text()),
@@ -38,10 +49,19 @@ impl Quoted for Training {
 }
 
 impl Quoted for Withdrawal {
+    ghost columns = { withdrawal_columns };
+
     fn quoted(&self, alloc: Global) -> Result<Text, Refusal> {
         text_of(
             alloc,
             self,
+            &[
+                Column::Plain,
+                Column::Plain,
+                Column::Days,
+                Column::Days,
+                Column::Days,
+            ],
             &[
                 text_cell(self.who.as_str()),
                 text_cell(self.role.text()),
@@ -54,11 +74,14 @@ impl Quoted for Withdrawal {
 }
 
 impl Quoted for Appointment {
+    ghost columns = { appointment_columns };
+
     fn quoted(&self, alloc: Global) -> Result<Text, Refusal> {
         let place = self.place.text();
         text_of(
             alloc,
             self,
+            &[Column::Plain, Column::Days, Column::Plain, Column::Days],
             &[
                 text_cell(place.as_str()),
                 number_cell(self.since),
@@ -70,11 +93,14 @@ impl Quoted for Appointment {
 }
 
 impl Quoted for BoxRow {
+    ghost columns = { box_columns };
+
     fn quoted(&self, alloc: Global) -> Result<Text, Refusal> {
         let place = self.place.text();
         text_of(
             alloc,
             self,
+            &[Column::Plain, Column::Plain, Column::Plain],
             &[
                 text_cell(self.facility.text()),
                 number_cell(self.number),
@@ -85,10 +111,13 @@ impl Quoted for BoxRow {
 }
 
 impl Quoted for SafeRow {
+    ghost columns = { safe_columns };
+
     fn quoted(&self, alloc: Global) -> Result<Text, Refusal> {
         text_of(
             alloc,
             self,
+            &[Column::Plain, Column::Plain, Column::Plain],
             &[
                 text_cell(self.facility.text()),
                 number_cell(self.safe),
@@ -99,21 +128,27 @@ impl Quoted for SafeRow {
 }
 
 impl Quoted for Bag {
+    ghost columns = { bag_columns };
+
     fn quoted(&self, alloc: Global) -> Result<Text, Refusal> {
         let spot = spot_words(alloc, self.spot)?;
         text_of(
             alloc,
             self,
+            &[Column::Plain, Column::Plain],
             &[text_cell(self.serial.as_str()), text_cell(spot.as_str())],
         )
     }
 }
 
 impl Quoted for Item {
+    ghost columns = { item_columns };
+
     fn quoted(&self, alloc: Global) -> Result<Text, Refusal> {
         text_of(
             alloc,
             self,
+            &[Column::Plain, Column::Plain, Column::Plain],
             &[
                 text_cell(self.code.as_str()),
                 loose_cell(self.rest),
@@ -124,10 +159,20 @@ impl Quoted for Item {
 }
 
 impl Quoted for CeremonyRow {
+    ghost columns = { ceremony_columns };
+
     fn quoted(&self, alloc: Global) -> Result<Text, Refusal> {
         text_of(
             alloc,
             self,
+            &[
+                Column::Plain,
+                Column::Plain,
+                Column::Days,
+                Column::Plain,
+                Column::Moments,
+                Column::Moments,
+            ],
             &[
                 number_cell(self.number),
                 text_cell(self.facility.text()),
@@ -141,21 +186,34 @@ impl Quoted for CeremonyRow {
 }
 
 impl Quoted for MarkRow {
+    ghost columns = { mark_columns };
+
     fn quoted(&self, alloc: Global) -> Result<Text, Refusal> {
         text_of(
             alloc,
             self,
+            &[Column::Plain, Column::Moments],
             &[number_cell(self.ceremony), number_cell(self.at)],
         )
     }
 }
 
 impl Quoted for StepRow {
+    ghost columns = { step_columns };
+
     fn quoted(&self, alloc: Global) -> Result<Text, Refusal> {
         let seats = seats_words(alloc, &self.seats)?;
         text_of(
             alloc,
             self,
+            &[
+                Column::Plain,
+                Column::Plain,
+                Column::Plain,
+                Column::Plain,
+                Column::Plain,
+                Column::Moments,
+            ],
             &[
                 number_cell(self.ceremony),
                 number_cell(self.step),
@@ -169,10 +227,13 @@ impl Quoted for StepRow {
 }
 
 impl Quoted for SeatingRow {
+    ghost columns = { seating_columns };
+
     fn quoted(&self, alloc: Global) -> Result<Text, Refusal> {
         text_of(
             alloc,
             self,
+            &[Column::Plain, Column::Plain, Column::Plain, Column::Plain],
             &[
                 number_cell(self.ceremony),
                 number_cell(self.step),
@@ -184,10 +245,13 @@ impl Quoted for SeatingRow {
 }
 
 impl Quoted for SheetRow {
+    ghost columns = { sheet_columns };
+
     fn quoted(&self, alloc: Global) -> Result<Text, Refusal> {
         text_of(
             alloc,
             self,
+            &[Column::Plain, Column::Moments, Column::Plain, Column::Plain],
             &[
                 text_cell(self.who.as_str()),
                 number_cell(self.at),
@@ -199,10 +263,18 @@ impl Quoted for SheetRow {
 }
 
 impl Quoted for Stay {
+    ghost columns = { stay_columns };
+
     fn quoted(&self, alloc: Global) -> Result<Text, Refusal> {
         text_of(
             alloc,
             self,
+            &[
+                Column::Plain,
+                Column::Moments,
+                Column::Plain,
+                Column::Moments,
+            ],
             &[
                 text_cell(self.who.as_str()),
                 number_cell(self.since),
@@ -214,10 +286,19 @@ impl Quoted for Stay {
 }
 
 impl Quoted for ExceptionRow {
+    ghost columns = { exception_columns };
+
     fn quoted(&self, alloc: Global) -> Result<Text, Refusal> {
         text_of(
             alloc,
             self,
+            &[
+                Column::Plain,
+                Column::Plain,
+                Column::Plain,
+                Column::Moments,
+                Column::Plain,
+            ],
             &[
                 number_cell(self.ceremony),
                 number_cell(self.exception),
@@ -230,10 +311,13 @@ impl Quoted for ExceptionRow {
 }
 
 impl Quoted for KeyRow {
+    ghost columns = { key_columns };
+
     fn quoted(&self, alloc: Global) -> Result<Text, Refusal> {
         text_of(
             alloc,
             self,
+            &[Column::Plain, Column::Plain, Column::Plain, Column::Plain],
             &[
                 text_cell(self.key.as_str()),
                 number_cell(self.accepted),
