@@ -17,20 +17,20 @@ use Rattle.kcr_base.specs.declared.counted.Counted.{Counted}
 use Rattle.kcr_forms.specs.Values.{AreValues}
 use Rattle.kcr_history.specs.History.{History}
 use Rattle.kcr_history.specs.Machine.{IsRegister}
-use Rattle.kcr_history.specs.Tables.{key_row, people}
+use Rattle.kcr_history.specs.Tables.{key_row, people, tables}
 use Rattle.kcr_history.specs.declared.row_types.KeyRow.{KeyRow}
 use Rattle.kcr_journal.specs.Journal.{journal, row_line}
 use Rattle.kcr_journal.proofs.EntryLemmas.{IsGood, good-entries, rows-are}
 use Rattle.kcr_store.specs.Register.{RegisterState}
 use Rattle.kcr_print.specs.Journal.{PrintsJournal, row_journal}
-use Rattle.kcr_print.specs.Reports.{IsPrinted, Prints}
+use Rattle.kcr_print.specs.Reports.{IsPrinted, Prints, PrintsRows}
 use Rattle.kcr_print.specs.declared.fault.PrintFault.{PrintFault}
 use Rattle.kcr_print.proofs.RequestLemmas.{past_is, all_take, held_by}
 
 none : KeyRow
 none = record { key = []; accepted = 0; command = []; reply = [] }
 
-rows_tell : (asked : Option ℕ) (A : History) → IsRegister A → AreValues A → row_journal asked A ≡ journal asked A
+rows_tell : (asked : Option ℕ) (A : History) → IsRegister A → AreValues A → row_journal asked (tables A) ≡ journal asked A
 rows_tell asked A is values =
     let f = row_line asked (people A) in
     let good : AllByRecursion IsGood (take 4294967295 (reverse A)) =
@@ -41,9 +41,11 @@ rows_tell asked A is values =
 -- so it is with every register: its file holds the tables, whatever a crash may leave
 pub journal_lines : {S W : Type 0} (g : Ghosts S) {contents : W → Option (List ℕ)} {before now : RegisterState S} {x y : Counted W} {r : Result ⊤ PrintFault}
     (asked : Option ℕ) → (HasCleanDisk (state g before.conn) → ∥ ((db : Trees) × (state g before.conn).may_leave db) ∥₁)
-    → Prints g contents before now x y r (λ _ _. ⊥) (λ _. ⊥) (row_journal asked) → PrintsJournal g contents before now x y r asked
-journal_lines g {contents = contents} {before = before} {x = x} {y = y} {r = r} asked left prints = record {
+    → Prints g contents before now x y r (λ _ _. ⊥) (λ _. ⊥) (λ A. row_journal asked (tables A))
+    → PrintsRows g contents before now x y r (λ _ _. ⊥) (row_journal asked) → PrintsJournal g contents before now x y r asked
+journal_lines g {contents = contents} {before = before} {x = x} {y = y} {r = r} asked left prints by_rows = record {
   prints = prints;
+  by_rows = by_rows;
   lines = λ clean A at values.
       subst (λ (text : List ℕ). IsPrinted (λ _. ⊥) text r (contents (inner_of x)) (contents (inner_of y)))
       (held_by g before left A at (prints.clean clean) (λ register. rows_tell asked A register values)) (prints.printed clean A at);

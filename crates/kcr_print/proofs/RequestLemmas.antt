@@ -34,10 +34,11 @@ use Rattle.kcr_history.specs.declared.commands.Entry.{Entry}
 use Rattle.kcr_history.specs.declared.row_types.KeyRow.{KeyRow}
 use Rattle.kcr_history.proofs.Steps.{numbers}
 use Rattle.kcr_reading.specs.Commands.{only, numbered, commands_past, commands_within}
-use Rattle.kcr_store.specs.Calls.{OfHistory}
+use Rattle.kcr_store.specs.Calls.{OfRows}
+use Rattle.kcr_store.proofs.WholeLemmas.{stands_rows}
 use Rattle.kcr_store.specs.Register.{RegisterState, StandsAt, whole}
 use Rattle.kcr_wire.proofs.Again.{act-again}
-use Rattle.kcr_print.specs.Reports.{IsPrinted, Prints, RefusesBetweenRows}
+use Rattle.kcr_print.specs.Reports.{IsPrinted, Prints, PrintsRows, RefusesBetweenRows}
 use Rattle.kcr_print.specs.declared.fault.PrintFault.{PrintFault}
 use Rattle.kcr_print.specs.Requests.{Exports, commands_between, requests_between, row_request, row_requests}
 
@@ -148,7 +149,7 @@ entries_tell [] all = refl
 entries_tell (entry ∷ entries) all =
     ap (λ t. t ++ flat_map row_request (map key_row entries)) (row_is entry all.0) ∙ ap (λ t. request_text entry.command ++ t) (entries_tell entries all.1)
 
-rows_tell : (A : History) → IsRegister A → AreValues A → (d : KeyRow) (after until : ℕ) → row_requests after until A ≡ requests_between after until A
+rows_tell : (A : History) → IsRegister A → AreValues A → (d : KeyRow) (after until : ℕ) → row_requests after until (tables A) ≡ requests_between after until A
 unfolding commands_between
 rows_tell A h values d after until =
     let count = until - after in
@@ -184,16 +185,19 @@ held_by g r left A at clean then =
 -- so it is with every register
 pub export_requests : {S W : Type 0} (g : Ghosts S) {contents : W → Option (List ℕ)} {before now : RegisterState S} {x y : Counted W} {r : Result ⊤ PrintFault}
     (after until : ℕ) → (HasCleanDisk (state g before.conn) → ∥ ((db : Trees) × (state g before.conn).may_leave db) ∥₁)
-    → Prints g contents before now x y r (λ _ _. ⊥) (λ _. ⊥) (row_requests after until)
-    → OfHistory g before now (λ A. RefusesBetweenRows row_request (commands_within after until (tables A)) r (contents (inner_of x)) (contents (inner_of y)))
+    → Prints g contents before now x y r (λ _ _. ⊥) (λ _. ⊥) (λ A. row_requests after until (tables A))
+    → PrintsRows g contents before now x y r (λ _ _. ⊥) (row_requests after until)
+    → OfRows g before now (λ m. RefusesBetweenRows row_request (commands_within after until m) r (contents (inner_of x)) (contents (inner_of y)))
     → Exports g contents before now x y r after until
-export_requests g {contents = contents} {before = before} {x = x} {y = y} {r = r} after until left prints rows = record {
+export_requests g {contents = contents} {before = before} {x = x} {y = y} {r = r} after until left prints by_rows rows = record {
   prints = prints;
+  by_rows = by_rows;
+  whole_rows = rows;
   requests = λ clean A at values.
       subst (λ (text : List ℕ). IsPrinted (λ _. ⊥) text r (contents (inner_of x)) (contents (inner_of y)))
       (held_by g before left A at (prints.clean clean) (λ register. rows_tell A register values none after until)) (prints.printed clean A at);
   whole = λ clean A at values refusal is.
-      let front = rows clean A at refusal is in (
+      let front = rows clean at.broken (tables A) (stands_rows at) refusal is in (
         front.0,
         subst (λ (text : List ℕ). Appends (contents (inner_of x)) (contents (inner_of y)) text)
             (held_by g before left A at (prints.clean clean) (λ register. front_tells A register values none after until front.0)) front.1,

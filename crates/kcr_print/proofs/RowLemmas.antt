@@ -1,17 +1,19 @@
 -- Rows that are written one after the other.
 use Rattle.std.proofs.Common.{◌≡◌, ℕ, zero, suc, List, [], ◌∷◌, ◌++◌, take, drop, refl, sym, ap, ◌∙◌, subst, append_assoc, append-nil}
-use Rattle.std.specs.Prelude.{Option, Some, None, Result, Ok, Err, IsErr}
+use Rattle.std.specs.Prelude.{false, Option, Some, None, Result, Ok, Err, IsErr}
 use Rattle.std.specs.Io.KnownBytes.{Appends}
 use Rattle.std.specs.List.{flat_map}
 use Rattle.std.proofs.lemmas.Bool.{false≢true}
 use Rattle.std.proofs.lemmas.Grind.{flat_map-append}
+use Rattle.sqlite.specs.Held.{state}
+use Rattle.sqlite.specs.State.{HasCleanDisk}
 use Rattle.sqlite.specs.Store.{Ghosts}
-use Rattle.kcr_history.specs.History.{History}
 use Rattle.kcr_history.specs.Tables as machine
-use Rattle.kcr_history.specs.Tables.{tables}
 use Rattle.kcr_reading.specs.Remaining.{IsNextOf}
 use Rattle.kcr_store.specs.Register.{RegisterState}
-use Rattle.kcr_store.specs.Calls.{KeepsStand, OfHistory}
+use Rattle.kcr_store.specs.Calls.{KeepsStand, OfRows}
+use Rattle.kcr_store.specs.Frame.{OfRowsOver}
+use Rattle.kcr_store.proofs.WholeLemmas.{rows_over}
 use Rattle.kcr_print.specs.Written.{Writes, WritesPrefix}
 use Rattle.kcr_print.proofs.PartLemmas.{of_kept}
 use Rattle.kcr_print.proofs.WrittenLemmas.{appends_both, appends_nothing, front_both, front_longer}
@@ -80,24 +82,26 @@ pub writes_err : {T E : Type 0} (r : Result T E) (a b : Option (List ℕ)) (whol
 writes_err (Ok v) a b whole h p = absurd (false≢true h)
 writes_err (Err e) a b whole h p = p
 
--- the row that a call gave was the first of those to come, by the history that the calls before it kept
+-- the row that a call gave was the first of those to come, by the rows that the calls before it kept
 pub row_given : {S R Row : Type 0} (g : Ghosts S) (to_come : R → machine.Tables → List Row) (a b c : RegisterState S)
     {before after : R} {given : Option Row} {row : Row} → KeepsStand g a b
-    → OfHistory g b c (λ A. IsNextOf (to_come before (tables A)) given (to_come after (tables A))) → given ≡ Some row
-    → OfHistory g a c (λ A. to_come before (tables A) ≡ row ∷ to_come after (tables A))
-row_given {Row = Row} g to_come a b c {before} {after} {given} keeps gives is clean A at =
-    let Says : History → Type 0 = λ A. IsNextOf (to_come before (tables A)) given (to_come after (tables A)) in
-    subst (λ (o : Option Row). IsNextOf (to_come before (tables A)) o (to_come after (tables A))) is
-    (of_kept g a b c Says keeps gives clean A at)
+    → (HasCleanDisk (state g c.conn) → HasCleanDisk (state g b.conn))
+    → (b.is_broken ≡ false → OfRowsOver g b.conn c.conn (λ m. IsNextOf (to_come before m) given (to_come after m))) → given ≡ Some row
+    → OfRows g a c (λ m. to_come before m ≡ row ∷ to_come after m)
+row_given {Row = Row} g to_come a b c {before} {after} {given} keeps was gives is clean intact m has =
+    let Says : machine.Tables → Type 0 = λ m. IsNextOf (to_come before m) given (to_come after m) in
+    subst (λ (o : Option Row). IsNextOf (to_come before m) o (to_come after m)) is
+    (of_kept g a b c Says keeps (rows_over g b c Says was gives) clean intact m has)
 
 -- that a call gave none says that none was to come
 pub none_given : {S R Row : Type 0} (g : Ghosts S) (to_come : R → machine.Tables → List Row) (a b c : RegisterState S)
     {before : R} (after : R) {given : Option Row} → KeepsStand g a b
-    → OfHistory g b c (λ A. IsNextOf (to_come before (tables A)) given (to_come after (tables A))) → given ≡ None
-    → OfHistory g a c (λ A. to_come before (tables A) ≡ [])
-none_given {Row = Row} g to_come a b c {before} after {given} keeps gives is clean A at =
-    let Says : History → Type 0 = λ A. IsNextOf (to_come before (tables A)) given (to_come after (tables A)) in
-    (subst (λ (o : Option Row). IsNextOf (to_come before (tables A)) o (to_come after (tables A))) is (of_kept g a b c Says keeps gives clean A at)).0
+    → (HasCleanDisk (state g c.conn) → HasCleanDisk (state g b.conn))
+    → (b.is_broken ≡ false → OfRowsOver g b.conn c.conn (λ m. IsNextOf (to_come before m) given (to_come after m))) → given ≡ None
+    → OfRows g a c (λ m. to_come before m ≡ [])
+none_given {Row = Row} g to_come a b c {before} after {given} keeps was gives is clean intact m has =
+    let Says : machine.Tables → Type 0 = λ m. IsNextOf (to_come before m) given (to_come after m) in
+    (subst (λ (o : Option Row). IsNextOf (to_come before m) o (to_come after m)) is (of_kept g a b c Says keeps (rows_over g b c Says was gives) clean intact m has)).0
 
 -- no row is left
 pub goes_end : {X : Type 0} (f : X → List ℕ) (a b : Option (List ℕ)) (whole : List ℕ) (before : List X) → Goes a b whole (flat_map f before) → before ≡ []

@@ -1,5 +1,6 @@
 pub mod Written
 pub mod Lines
+pub mod ByRows
 pub mod Journal
 pub mod Reports
 pub mod Requests

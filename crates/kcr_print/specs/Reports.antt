@@ -1,6 +1,6 @@
 -- What a call that writes a report leaves.
 use Rattle.std.specs.Prelude.{◌≡◌, ◌≢◌, ◌<◌, ◌⊎◌, ◌↔◌, ⊤, ℕ, false, List, Option, Result, Err, IfErr, MatchResult}
-use Rattle.std.specs.Prelude.{IsTrue, OnOk, take}
+use Rattle.std.specs.Prelude.{IsSome, IsTrue, OnOk, take}
 use Rattle.std.specs.List.{flat_map}
 use Rattle.std.specs.Io.KnownBytes.{Appends}
 use Rattle.sqlite.specs.Store.{Ghosts}
@@ -12,10 +12,13 @@ use Rattle.kcr_base.specs.declared.refusal.Refusal.{Refusal}
 use Rattle.kcr_base.specs.declared.refusal.Refusal.TheVariants as Refusals
 use Rattle.kcr_history.specs.Ceremonies.{is_ceremony}
 use Rattle.kcr_history.specs.History.{History}
+use Rattle.kcr_history.specs.Tables.{Tables}
 use Rattle.kcr_tables.specs.Refusals.{IsFault}
 use Rattle.kcr_store.specs.Register.{RegisterState, RegisterHistory, IsConsistent, StandsAt}
-use Rattle.kcr_store.specs.Calls.{CommitsNothing, KeepsStand, OfHistory, left_at}
+use Rattle.kcr_store.specs.Calls.{CommitsNothing, KeepsStand, OfHistory, OfRows, left_at}
 use Rattle.kcr_store.specs.Rows.{IsNotPlanned, NamesCeremony}
+use Rattle.kcr_store.specs.ShownBy.{IsNotPlannedBy}
+use Rattle.kcr_print.specs.ByRows.{row_of_ceremony}
 use Rattle.kcr_print.specs.Written.{WritesPrefix}
 use Rattle.kcr_print.specs.declared.fault.PrintFault.{PrintFault}
 use Rattle.kcr_print.specs.declared.fault.PrintFault.TheVariants.{Refused, Write}
@@ -25,7 +28,7 @@ abbrev pub Stops : (Refusal → Type 0) → PrintFault → Type 0
 Stops Denies (Refused refusal) = IsFault refusal ⊎ Denies refusal
 Stops Denies Write = ⊤
 
--- of a register with a history: the whole report is written, or a prefix of it and then why it stops
+-- the whole report is written, or a prefix of it and then why it stops
 abbrev pub IsPrinted : (Refusal → Type 0) → List ℕ → Result ⊤ PrintFault → Option (List ℕ) → Option (List ℕ) → Type 0
 IsPrinted Denies text result old new =
     MatchResult result (λ _. Appends old new text) (λ fault. WritesPrefix old new text × Stops Denies fault)
@@ -52,21 +55,27 @@ pub record CountsWriteFaults {W : Type 0} (old new : Counted W) (result : Result
   pub calm : result ≢ Err Write → failures_of new ≡ failures_of old
   pub fault : result ≡ Err Write → failures_of old < failures_of new
 
--- a part of a report over a register that is not broken: this text of its history is printed, the history stays, and a
--- fault of the device has not broken the register yet; the part is denied only for what it is asked for
+-- by whatever rows a register has that is not broken
+abbrev pub PrintsRows : {S W : Type 0} → Ghosts S → (W → Option (List ℕ)) → RegisterState S → RegisterState S
+    → Counted W → Counted W → Result ⊤ PrintFault → (Tables → Refusal → Type 0) → (Tables → List ℕ) → Type 0
+PrintsRows g contents before after old new result Denies text =
+    OfRows g before after
+    (λ m. IsPrinted (Denies m) (text m) result (contents (inner_of old)) (contents (inner_of new)))
+
+-- a part of a report over a register that is not broken: this text of its rows is printed, the rows stay, and a fault of
+-- the device has not broken the register yet; the part is denied only for what it is asked for
 pub record PrintsPart {S W : Type 0} (g : Ghosts S) (contents : W → Option (List ℕ))
     (before after : RegisterState S) (old new : Counted W) (result : Result ⊤ PrintFault)
-    (Denies : History → Refusal → Type 0) (MayDeny : Refusal → Type 0) (text : History → List ℕ) : Type 0 where
-  pub printed : OfHistory g before after
-      (λ A. IsPrinted (Denies A) (text A) result (contents (inner_of old)) (contents (inner_of new)))
+    (Denies : Tables → Refusal → Type 0) (MayDeny : Refusal → Type 0) (text : Tables → List ℕ) : Type 0 where
+  pub printed : PrintsRows g contents before after old new result Denies text
   pub cause : IfErr result (Stops MayDeny)
   pub keeps : KeepsStand g before after
   pub clean : HasCleanDisk (state g after.conn) → HasCleanDisk (state g before.conn)
   pub kept : IsConsistent g after
   pub told : CountsWriteFaults old new result
 
--- a report over any register: as `PrintsPart` has it, and an I/O error breaks the register. A broken one answers so,
--- and nothing is written
+-- a report over any register: of one that is not broken this text of its history is printed, and an I/O error breaks
+-- it. A broken one answers so, and nothing is written
 pub record Prints {S W : Type 0} (g : Ghosts S) (contents : W → Option (List ℕ))
     (before after : RegisterState S) (old new : Counted W) (result : Result ⊤ PrintFault)
     (Denies : History → Refusal → Type 0) (MayDeny : Refusal → Type 0) (text : History → List ℕ) : Type 0 where
@@ -79,7 +88,12 @@ pub record Prints {S W : Type 0} (g : Ghosts S) (contents : W → Option (List �
   pub kept : IsConsistent g after
   pub told : CountsWriteFaults old new result
 
--- what is printed whole is of a ceremony that was planned
+-- what is printed whole is of a ceremony that has a row
+abbrev pub IsOfRow : {S : Type 0} → Ghosts S → RegisterState S → RegisterState S → Result ⊤ PrintFault → ℕ → Type 0
+IsOfRow g before after result ceremony =
+    OfRows g before after (λ m. OnOk result (IsSome (row_of_ceremony ceremony m)))
+
+-- so it is of one that was planned
 abbrev pub IsOfPlanned : {S : Type 0} → Ghosts S → RegisterState S → RegisterState S → Result ⊤ PrintFault → ℕ → Type 0
 IsOfPlanned g before after result ceremony =
     OfHistory g before after (λ A. OnOk result (IsTrue (is_ceremony A ceremony)))
@@ -89,20 +103,24 @@ abbrev pub DeniesUnwritten : {W : Type 0} → ℕ → Counted W → Counted W �
 DeniesUnwritten ceremony old new result =
     (refusal : Refusal) → NamesCeremony ceremony refusal → result ≡ Err (Refused refusal) → new ≡ old
 
--- a part of the report of a ceremony: it is denied only if the ceremony was never planned, and before it is begun
-pub record PrintsCeremonyPart {S W : Type 0} (report : History → ℕ → List ℕ) (ceremony : ℕ) (g : Ghosts S)
+-- a part of the report of a ceremony: it is denied only if the ceremony has no row, and before it is begun
+pub record PrintsCeremonyPart {S W : Type 0} (report_by : Tables → ℕ → List ℕ) (ceremony : ℕ) (g : Ghosts S)
     (contents : W → Option (List ℕ)) (before after : RegisterState S) (old new : Counted W)
     (result : Result ⊤ PrintFault) : Type 0 where
   pub puts : PrintsPart g contents before after old new result
-      (λ A. IsNotPlanned A ceremony) (NamesCeremony ceremony) (λ A. report A ceremony)
-  pub planned : IsOfPlanned g before after result ceremony
+      (λ m. IsNotPlannedBy m ceremony) (NamesCeremony ceremony) (λ m. report_by m ceremony)
+  pub row : IsOfRow g before after result ceremony
   pub unwritten : DeniesUnwritten ceremony old new result
 
 -- the report of a ceremony: it is denied only if the ceremony was never planned, and before it is begun
-pub record PrintsPlanned {S W : Type 0} (report : History → ℕ → List ℕ) (ceremony : ℕ) (g : Ghosts S)
-    (contents : W → Option (List ℕ)) (before after : RegisterState S) (old new : Counted W)
-    (result : Result ⊤ PrintFault) : Type 0 where
+pub record PrintsPlanned {S W : Type 0} (report : History → ℕ → List ℕ) (report_by : Tables → ℕ → List ℕ)
+    (ceremony : ℕ) (g : Ghosts S) (contents : W → Option (List ℕ)) (before after : RegisterState S)
+    (old new : Counted W) (result : Result ⊤ PrintFault) : Type 0 where
   pub prints : Prints g contents before after old new result
       (λ A. IsNotPlanned A ceremony) (NamesCeremony ceremony) (λ A. report A ceremony)
   pub planned : IsOfPlanned g before after result ceremony
+  -- whoever wrote the rows: the text is that of the rows, and it is denied only if there is no row of the ceremony
+  pub by_rows : PrintsRows g contents before after old new result
+      (λ m. IsNotPlannedBy m ceremony) (λ m. report_by m ceremony)
+  pub row : IsOfRow g before after result ceremony
   pub unwritten : DeniesUnwritten ceremony old new result

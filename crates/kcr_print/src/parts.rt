@@ -2,12 +2,11 @@
 
 ghost use Rattle.std.specs.Prelude.{◌≡◌, false};
 ghost use Rattle.std.specs.List.{flat_map};
-ghost use Rattle.kcr_history.specs.Prints as prints;
-ghost use Rattle.kcr_history.specs.Tables.{tables};
 ghost use Rattle.kcr_store.specs.Register.{IsConsistent};
 ghost use Rattle.kcr_base.specs.Counted.{inner_of};
 ghost use Rattle.kcr_reading.specs.Commands.{commands_within};
-ghost use Rattle.kcr_store.specs.Calls.{OfHistory};
+ghost use Rattle.kcr_store.specs.Calls.{OfRows};
+ghost use Rattle.kcr_print.specs.ByRows.{annotated_by, attendance_by, custody_by};
 ghost use Rattle.kcr_print.specs.Reports.{PrintsPart, PrintsCeremonyPart, RefusesBetweenRows};
 ghost use Rattle.kcr_print.specs.Journal.{row_journal};
 ghost use Rattle.kcr_print.specs.Requests.{row_request, row_requests};
@@ -39,9 +38,9 @@ fn write_all_rows<S: Alter, P: PrintLines, R: Cursor<Row = P>, W: Write>(
     requires kept { IsConsistent S.Store register.old }
     requires whole { register.old.is_broken ≡ false }
     ensures prints { PrintsPart S.Store W.contents register.old register.new writer.old writer.new result (λ _ _. ⊥)
-        (λ _. ⊥) (λ A. flat_map P.lines (R.to_come reading (tables A))) }
-    ensures whole { OfHistory S.Store register.old register.new (λ A. RefusesBetweenRows P.lines
-        (R.to_come reading (tables A)) result (W.contents (inner_of writer.old)) (W.contents (inner_of writer.new))) }
+        (λ _. ⊥) (λ m. flat_map P.lines (R.to_come reading m)) }
+    ensures whole { OfRows S.Store register.old register.new (λ m. RefusesBetweenRows P.lines
+        (R.to_come reading m) result (W.contents (inner_of writer.old)) (W.contents (inner_of writer.new))) }
 {
     let mut rows = register.rows(reading)?;
     write_rows(alloc, &mut rows, writer)
@@ -56,7 +55,7 @@ pub(crate) fn print_script<S: Alter, W: Write>(
 ) -> Result<(), PrintFault>
     requires kept { IsConsistent S.Store register.old }
     requires whole { register.old.is_broken ≡ false }
-    ensures { PrintsCeremonyPart prints.annotated ceremony S.Store W.contents register.old register.new writer.old
+    ensures { PrintsCeremonyPart annotated_by ceremony S.Store W.contents register.old register.new writer.old
         writer.new result }
 {
     let number = ceremony.get();
@@ -76,7 +75,7 @@ pub(crate) fn print_attendance<S: Alter, W: Write>(
 ) -> Result<(), PrintFault>
     requires kept { IsConsistent S.Store register.old }
     requires whole { register.old.is_broken ≡ false }
-    ensures { PrintsCeremonyPart prints.attendance ceremony S.Store W.contents register.old register.new writer.old
+    ensures { PrintsCeremonyPart attendance_by ceremony S.Store W.contents register.old register.new writer.old
         writer.new result }
 {
     register.ceremony_row(ceremony)?;
@@ -93,7 +92,7 @@ pub(crate) fn print_custody<S: Alter, W: Write>(
     requires kept { IsConsistent S.Store register.old }
     requires whole { register.old.is_broken ≡ false }
     ensures { PrintsPart S.Store W.contents register.old register.new writer.old writer.new result
-        (λ _ _. ⊥) (λ _. ⊥) (λ A. prints.custody A) }
+        (λ _ _. ⊥) (λ _. ⊥) custody_by }
 {
     write_all_rows(alloc, register, SafeCursor::new(), writer)?;
     write_all_rows(alloc, register, BagCursor::new(), writer)?;
@@ -112,8 +111,8 @@ pub(crate) fn print_requests<S: Alter, W: Write>(
     requires whole { register.old.is_broken ≡ false }
     ensures prints { PrintsPart S.Store W.contents register.old register.new writer.old writer.new result
         (λ _ _. ⊥) (λ _. ⊥) (row_requests after until) }
-    ensures whole { OfHistory S.Store register.old register.new (λ A. RefusesBetweenRows row_request
-        (commands_within after until (tables A)) result
+    ensures whole { OfRows S.Store register.old register.new (λ m. RefusesBetweenRows row_request
+        (commands_within after until m) result
         (W.contents (inner_of writer.old)) (W.contents (inner_of writer.new))) }
 {
     let paths = RouteTable::new(alloc)?;

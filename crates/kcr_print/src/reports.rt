@@ -7,8 +7,9 @@ ghost use Rattle.kcr_store.specs.Register.{IsConsistent};
 ghost use Rattle.kcr_base.specs.Counted.{inner_of};
 ghost use Rattle.kcr_history.specs.Tables.{tables};
 ghost use Rattle.kcr_reading.specs.Commands.{commands_within};
-ghost use Rattle.kcr_store.specs.Calls.{OfHistory};
-ghost use Rattle.kcr_print.specs.Reports.{KeepsRegister, Prints, PrintsPlanned, RefusesBetweenRows};
+ghost use Rattle.kcr_store.specs.Calls.{OfRows};
+ghost use Rattle.kcr_print.specs.ByRows.{annotated_by, attendance_by, custody_by};
+ghost use Rattle.kcr_print.specs.Reports.{KeepsRegister, Prints, PrintsPlanned, PrintsRows, RefusesBetweenRows};
 ghost use Rattle.kcr_print.specs.Journal.{PrintsJournal, row_journal};
 ghost use Rattle.kcr_print.specs.Requests.{Exports, requests_between, row_request, row_requests};
 
@@ -51,8 +52,8 @@ pub fn annotated<S: Alter, W: Write>(
     ceremony: CeremonyNumber,
     writer: &mut Counted<W>,
 ) -> Result<(), PrintFault>
-    ensures { PrintsPlanned prints.annotated ceremony S.Store W.contents register.old register.new writer.old
-        writer.new result }
+    ensures { PrintsPlanned prints.annotated annotated_by ceremony S.Store W.contents register.old register.new
+        writer.old writer.new result }
 {
     if register.is_broken() {
         return Err(PrintFault::Refused(Refusal::Broken));
@@ -70,8 +71,8 @@ pub fn attendance_csv<S: Alter, W: Write>(
     ceremony: CeremonyNumber,
     writer: &mut Counted<W>,
 ) -> Result<(), PrintFault>
-    ensures { PrintsPlanned prints.attendance ceremony S.Store W.contents register.old register.new writer.old
-        writer.new result }
+    ensures { PrintsPlanned prints.attendance attendance_by ceremony S.Store W.contents register.old register.new
+        writer.old writer.new result }
 {
     if register.is_broken() {
         return Err(PrintFault::Refused(Refusal::Broken));
@@ -87,8 +88,12 @@ pub fn custody<S: Alter, W: Write>(
     register: &mut Register<S>,
     writer: &mut Counted<W>,
 ) -> Result<(), PrintFault>
-    ensures { Prints S.Store W.contents register.old register.new writer.old writer.new result
+    ensures prints { Prints S.Store W.contents register.old register.new writer.old writer.new result
         (λ _ _. ⊥) (λ _. ⊥) (λ A. prints.custody A) }
+
+    // Whoever wrote the rows, the text is theirs.
+    ensures by_rows { PrintsRows S.Store W.contents register.old register.new writer.old writer.new result
+        (λ _ _. ⊥) custody_by }
 {
     if register.is_broken() {
         return Err(PrintFault::Refused(Refusal::Broken));
@@ -106,9 +111,11 @@ fn export_rows<S: Alter, W: Write>(
     writer: &mut Counted<W>,
 ) -> Result<(), PrintFault>
     ensures prints { Prints S.Store W.contents register.old register.new writer.old writer.new result
-        (λ _ _. ⊥) (λ _. ⊥) (row_requests after until) }
-    ensures whole { OfHistory S.Store register.old register.new (λ A. RefusesBetweenRows row_request
-        (commands_within after until (tables A)) result
+        (λ _ _. ⊥) (λ _. ⊥) (λ A. row_requests after until (tables A)) }
+    ensures by_rows { PrintsRows S.Store W.contents register.old register.new writer.old writer.new result
+        (λ _ _. ⊥) (row_requests after until) }
+    ensures whole { OfRows S.Store register.old register.new (λ m. RefusesBetweenRows row_request
+        (commands_within after until m) result
         (W.contents (inner_of writer.old)) (W.contents (inner_of writer.new))) }
 {
     if register.is_broken() {
@@ -146,8 +153,10 @@ fn journal_rows<S: Alter, W: Write>(
     asked: Option<CeremonyNumber>,
     writer: &mut Counted<W>,
 ) -> Result<(), PrintFault>
-    ensures { Prints S.Store W.contents register.old register.new writer.old writer.new result
-        (λ _ _. ⊥) (λ _. ⊥) (row_journal asked) }
+    ensures prints { Prints S.Store W.contents register.old register.new writer.old writer.new result
+        (λ _ _. ⊥) (λ _. ⊥) (λ A. row_journal asked (tables A)) }
+    ensures by_rows { PrintsRows S.Store W.contents register.old register.new writer.old writer.new result
+        (λ _ _. ⊥) (row_journal asked) }
 {
     if register.is_broken() {
         return Err(PrintFault::Refused(Refusal::Broken));

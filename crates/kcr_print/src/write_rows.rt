@@ -5,9 +5,8 @@ ghost use Rattle.std.specs.List.{flat_map};
 ghost use Rattle.sqlite.specs.Held.{state};
 ghost use Rattle.sqlite.specs.State.{HasCleanDisk};
 ghost use Rattle.kcr_base.specs.Counted.{inner_of};
-ghost use Rattle.kcr_history.specs.Tables.{tables};
 ghost use Rattle.kcr_store.specs.Register.{IsConsistent};
-ghost use Rattle.kcr_store.specs.Calls.{KeepsStand, OfHistory};
+ghost use Rattle.kcr_store.specs.Calls.{KeepsStand, OfRows};
 ghost use Rattle.kcr_print.specs.Reports.{Stops, CountsWriteFaults, RefusesUnwritten, RefusesBetweenRows};
 ghost use Rattle.kcr_print.specs.Written.{Writes};
 
@@ -48,11 +47,11 @@ pub(crate) fn write_rows<S: Alter, P: PrintLines, R: Cursor<Row = P>, W: Write>(
 ) -> Result<(), PrintFault>
     requires { IsConsistent S.Store rows.old.register.now }
     ensures same_reference { rows.new.register.ghost_name ≡ rows.old.register.ghost_name }
-    ensures written { OfHistory S.Store rows.old.register.now rows.new.register.now (λ A. Writes result
+    ensures written { OfRows S.Store rows.old.register.now rows.new.register.now (λ m. Writes result
         (W.contents (inner_of writer.old)) (W.contents (inner_of writer.new))
-        (flat_map P.lines (R.to_come rows.old.reading (tables A)))) }
-    ensures whole { OfHistory S.Store rows.old.register.now rows.new.register.now (λ A. RefusesBetweenRows P.lines
-        (R.to_come rows.old.reading (tables A)) result
+        (flat_map P.lines (R.to_come rows.old.reading m))) }
+    ensures whole { OfRows S.Store rows.old.register.now rows.new.register.now (λ m. RefusesBetweenRows P.lines
+        (R.to_come rows.old.reading m) result
         (W.contents (inner_of writer.old)) (W.contents (inner_of writer.new))) }
     ensures cause { rows.old.register.now.is_broken ≡ false → IfErr result (Stops (λ _. ⊥)) }
     ensures same { KeepsStand S.Store rows.old.register.now rows.new.register.now }

@@ -1,6 +1,5 @@
 use Rattle.std.proofs.Common.{List, ℕ, ap}
 use Rattle.std.specs.List.{flat_map}
-use Rattle.kcr_history.specs.Tables.{tables}
 use Rattle.kcr_print.specs.Journal.{row_journal}
 use Rattle.kcr_print.proofs.PartLemmas.{puts_text}
 use Rattle.kcr_print.proofs.parts.print_journal.Goals as goal
@@ -8,4 +7,4 @@ use Rattle.kcr_print.proofs.parts.print_journal.Goals as goal
 pub returns : goal.returns
 returns g c =
     puts_text (row_journal c.args.asked) c.write_all_rows.ensures.prints
-    (λ _ A _. ap (flat_map (λ (line : List ℕ). line)) (c.new-lines.ensures (tables A)))
+    (λ _ _ m _. ap (flat_map (λ (line : List ℕ). line)) (c.new-lines.ensures m))

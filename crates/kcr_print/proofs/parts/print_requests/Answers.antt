@@ -3,7 +3,6 @@ use Rattle.std.specs.Io.KnownBytes.{Appends}
 use Rattle.std.specs.List.{flat_map}
 use Rattle.std.proofs.lemmas.List.{take-map}
 use Rattle.kcr_base.specs.Counted.{inner_of}
-use Rattle.kcr_history.specs.Tables.{tables}
 use Rattle.kcr_reading.specs.Commands.{commands_within}
 use Rattle.kcr_print.specs.Requests.{row_request, row_requests}
 use Rattle.kcr_print.proofs.PartLemmas.{puts_text}
@@ -13,13 +12,12 @@ use Rattle.kcr_print.proofs.parts.print_requests.Goals as goal
 pub returns-clause-prints : goal.returns-clause-prints
 returns-clause-prints g c =
     puts_text (row_requests c.args.after c.args.until) c.write_all_rows.ensures.prints
-    (λ _ A _. let m = tables A in ap (flat_map (λ (text : List ℕ). text)) (c.new-requests.ensures m) ∙ texts_of row_request (commands_within c.args.after c.args.until m))
+    (λ _ _ m _. ap (flat_map (λ (text : List ℕ). text)) (c.new-requests.ensures m) ∙ texts_of row_request (commands_within c.args.after c.args.until m))
 
 pub returns-clause-whole : goal.returns-clause-whole
-returns-clause-whole g c clean A at refusal is =
-    let m = tables A in
+returns-clause-whole g c clean intact m has refusal is =
     let rows = commands_within c.args.after c.args.until m in
-    let front = c.write_all_rows.ensures.whole clean A at refusal is in
+    let front = c.write_all_rows.ensures.whole clean intact m has refusal is in
     let same = ap (λ texts. flat_map (λ (text : List ℕ). text) (take front.0 texts)) (c.new-requests.ensures m)
     ∙ ap (flat_map (λ (text : List ℕ). text)) (take-map row_request front.0 rows) ∙ texts_of row_request (take front.0 rows) in (
       front.0,

@@ -1,77 +1,91 @@
-use Rattle.std.proofs.Common.{◌≡◌, ℕ, List, refl, ap}
+use Rattle.std.proofs.Common.{◌≡◌, ℕ, List, [], Some, ap, sym}
 use Rattle.std.specs.List.{flat_map}
+use Rattle.std.specs.Option.{option_map_or}
 use Rattle.sqlite.specs.Held.{state}
 use Rattle.sqlite.specs.State.{HasCleanDisk}
-use Rattle.kcr_history.specs.History.{History}
-use Rattle.kcr_history.specs.Prints as report
-use Rattle.kcr_history.specs.Tables.{ceremony_row, seatings}
+use Rattle.kcr_history.specs.Prints.{exception_line}
+use Rattle.kcr_history.specs.Tables.{Tables}
+use Rattle.kcr_history.specs.declared.row_types.CeremonyRow.{CeremonyRow}
 use Rattle.kcr_reading.specs.Remaining.{seated_steps, exceptions_of}
+use Rattle.kcr_print.specs.ByRows.{annotated_by, row_of_ceremony, script_by}
 use Rattle.kcr_print.specs.Lines.{head_lines, foot_lines, seated_lines}
-use Rattle.kcr_print.proofs.PartLemmas.{of_longer, puts_last, puts_then, puts_more, puts_reading, stops_planned, denied_planned, ends_planned, no_planned, row_line}
-use Rattle.kcr_print.proofs.ReportLemmas.{steps_text}
+use Rattle.kcr_print.proofs.PartLemmas.{puts_last, puts_then, puts_more, puts_reading, puts_text, stops_planned, denied_planned, ends_planned, no_planned, row_line, row_read}
 use Rattle.kcr_print.proofs.parts.print_script.Goals as goal
 
 pub returns-in_err-row : goal.returns-in_err-row
 returns-in_err-row g c =
     let fault = c.from_residual.ensures in
     let said = c.in_err-row.ensures in
-    denied_planned _ fault.0 fault.1 (no_planned said.peeks said.row c.requires.whole)
+    denied_planned _ fault.0 fault.1 (no_planned said.peeks said.rows c.requires.whole)
 
-abbrev steps : ℕ → History → List ℕ
-steps ceremony A = flat_map (report.step_lines (seatings A)) (report.steps_in_order A ceremony)
+abbrev steps : ℕ → Tables → List ℕ
+steps ceremony m = flat_map seated_lines (seated_steps ceremony m)
 
-abbrev exceptions : ℕ → History → List ℕ
-exceptions ceremony A = flat_map report.exception_line (report.exceptions_in_order A ceremony)
+abbrev exceptions : ℕ → Tables → List ℕ
+exceptions ceremony m = flat_map exception_line (exceptions_of ceremony m)
 
-abbrev foot : ℕ → History → List ℕ
-foot ceremony A = foot_lines (ceremony_row A ceremony)
+-- the text of the row that was read
+script_of : (ceremony : ℕ) (m : Tables) (row : CeremonyRow) → row_of_ceremony ceremony m ≡ Some row → script_by ceremony m row ≡ annotated_by m ceremony
+script_of ceremony m row is = ap (λ o. option_map_or (script_by ceremony m) o []) (sym is)
 
 pub returns-in_err-write_row : goal.returns-in_err-write_row
 returns-in_err-write_row g c =
     let n = c.args.ceremony in
+    let row = c.in_ok-row.row in
     let fault = c.from_residual-in_err-write_row.ensures in
-    let row = c.in_ok-row.ensures in
+    let read = c.in_ok-row.ensures in
     let said = c.in_err-write_row.ensures in
+    let head = row_line (head_lines row) read.peeks said.written said.cause said.told in
     stops_planned _ fault.0 fault.1 said.cause
-    (puts_more (foot n) (puts_more (exceptions n) (puts_more (steps n) (row_line head_lines row.peeks row.row said.written said.cause said.told))))
+    (puts_text (λ m. annotated_by m n) (puts_more (λ _. foot_lines row) (puts_more (exceptions n) (puts_more (steps n) head)))
+    (λ clean intact m has. script_of n m row (row_read g.S.Store read.peeks read.rows clean intact m has)))
 
 pub returns-in_err-write_all_rows : goal.returns-in_err-write_all_rows
 returns-in_err-write_all_rows g c =
     let n = c.args.ceremony in
+    let row = c.in_ok-row.row in
     let fault = c.from_residual-in_err-write_all_rows.ensures in
-    let row = c.in_ok-row.ensures in
-    let head = c.in_ok-write_row.ensures in
-    stops_planned _ fault.0 fault.1 c.in_err-write_all_rows.ensures.prints.cause
-    (puts_more (foot n) (puts_more (exceptions n) (puts_then (row_line head_lines row.peeks row.row head.written head.cause head.told)
-    (puts_reading seated_lines seated_steps steps c.new.ensures c.get-number.ensures.value (λ _ A _. steps_text A c.get-number.result)
-    c.in_err-write_all_rows.ensures.prints))))
+    let read = c.in_ok-row.ensures in
+    let said = c.in_ok-write_row.ensures in
+    let head = row_line (head_lines row) read.peeks said.written said.cause said.told in
+    let done = c.in_err-write_all_rows.ensures.prints in
+    stops_planned _ fault.0 fault.1 done.cause
+    (puts_text (λ m. annotated_by m n)
+    (puts_more (λ _. foot_lines row) (puts_more (exceptions n)
+    (puts_then head (puts_reading seated_lines seated_steps c.new.ensures c.get-number.ensures.value done))))
+    (λ clean intact m has. script_of n m row (row_read g.S.Store read.peeks read.rows (done.clean clean) intact m has)))
 
 pub returns-in_err-write_all_rows-2 : goal.returns-in_err-write_all_rows-2
 returns-in_err-write_all_rows-2 g c =
+    let n = c.args.ceremony in
+    let row = c.in_ok-row.row in
     let number = c.get-number.ensures.value in
     let fault = c.from_residual-in_err-write_all_rows-2.ensures in
-    let row = c.in_ok-row.ensures in
-    let head = c.in_ok-write_row.ensures in
-    stops_planned _ fault.0 fault.1 c.in_err-write_all_rows-2.ensures.prints.cause
-    (puts_more (foot c.args.ceremony) (puts_then (puts_then (row_line head_lines row.peeks row.row head.written head.cause head.told)
-    (puts_reading seated_lines seated_steps steps c.new.ensures number (λ _ A _. steps_text A c.get-number.result) c.in_ok-write_all_rows.ensures.prints))
-    (puts_reading report.exception_line exceptions_of exceptions c.new-2.ensures number (λ _ _ _. refl) c.in_err-write_all_rows-2.ensures.prints)))
+    let read = c.in_ok-row.ensures in
+    let said = c.in_ok-write_row.ensures in
+    let head = row_line (head_lines row) read.peeks said.written said.cause said.told in
+    let done = c.in_ok-write_all_rows.ensures.prints in
+    let more = c.in_err-write_all_rows-2.ensures.prints in
+    stops_planned _ fault.0 fault.1 more.cause
+    (puts_text (λ m. annotated_by m n)
+    (puts_more (λ _. foot_lines row) (puts_then (puts_then head (puts_reading seated_lines seated_steps c.new.ensures number done))
+    (puts_reading exception_line exceptions_of c.new-2.ensures number more)))
+    (λ clean intact m has. script_of n m row (row_read g.S.Store read.peeks read.rows (done.clean (more.clean clean)) intact m has)))
 
 pub returns : goal.returns
 returns g c =
+    let n = c.args.ceremony in
+    let row = c.in_ok-row.row in
     let number = c.get-number.ensures.value in
-    let row = c.in_ok-row.ensures in
-    let head = c.in_ok-write_row.ensures in
-    let end = c.write_row-2.ensures in
-    let read = c.ceremony_row.new.self in
-    let after = c.write_all_rows-2.new.register in
+    let read = c.in_ok-row.ensures in
+    let said = c.in_ok-write_row.ensures in
+    let head = row_line (head_lines row) read.peeks said.written said.cause said.told in
     let done = c.in_ok-write_all_rows.ensures.prints in
     let more = c.in_ok-write_all_rows-2.ensures.prints in
-    let most = puts_then (puts_then (row_line head_lines row.peeks row.row head.written head.cause head.told)
-    (puts_reading seated_lines seated_steps steps c.new.ensures number (λ _ A _. steps_text A c.get-number.result) done))
-    (puts_reading report.exception_line exceptions_of exceptions c.new-2.ensures number (λ _ _ _. refl) more) in
-    let clean = λ (h : HasCleanDisk (state g.S.Store after.conn)). done.clean (more.clean h) in
-    let Says : History → Type 0 = λ A. foot_lines c.in_ok-row.row ≡ foot c.args.ceremony A in
-    let is = of_longer g.S.Store c.args.register.now read after Says clean (λ now A at. ap foot_lines (row.row now A at).row_is) in
-    ends_planned read row.row clean end.cause
-    (puts_last (foot_lines c.in_ok-row.row) most is end.written end.cause end.told)
+    let end = c.write_row-2.ensures in
+    let most = puts_then (puts_then head (puts_reading seated_lines seated_steps c.new.ensures number done))
+    (puts_reading exception_line exceptions_of c.new-2.ensures number more) in
+    let clean = λ (h : HasCleanDisk (state g.S.Store c.write_all_rows-2.new.register.conn)). done.clean (more.clean h) in
+    ends_planned c.ceremony_row.new.self (row_read g.S.Store read.peeks read.rows) clean end.cause
+    (puts_text (λ m. annotated_by m n) (puts_last (foot_lines row) most end.written end.cause end.told)
+    (λ honest intact m has. script_of n m row (row_read g.S.Store read.peeks read.rows (clean honest) intact m has)))
