@@ -15,12 +15,12 @@ module _ {V : Type 0} where
   after_codes done None = None
   after_codes done (Some rest) = Some (done ++ rest)
 
-  one_more : (done : List V) (code : V) (rest : Option (List V)) → after_codes (done ++ code ∷ []) rest ≡ after_codes done (option_map (λ r. code ∷ r) rest)
+  pub one_more : (done : List V) (code : V) (rest : Option (List V)) → after_codes (done ++ code ∷ []) rest ≡ after_codes done (option_map (λ r. code ∷ r) rest)
   one_more done code None = refl
   one_more done code (Some r) = ap Some (append_assoc done (code ∷ []) r)
 
   -- the value that a text tells, and then those that come
-  abbrev next_codes : Option (List V) → Option V → Option (List V)
+  abbrev pub next_codes : Option (List V) → Option V → Option (List V)
   next_codes rest code = option_and_then (λ c. option_map (λ r. c ∷ r) rest) code
 
   module _ (form : List ℕ → Option V) (codes : List (Bor (List ℕ))) (i : ℕ) where

@@ -15,7 +15,7 @@ use Rattle.json.proofs.Printed.Decimals.{IsNumber-decimal}
 use Rattle.json.proofs.Printed.Tokens.{tokens-print}
 use Rattle.json.proofs.Printed.Trees.{value-json_tokens, ArePrintable-json_tokens}
 use Rattle.json.proofs.Printed.Utf8.{IsUtf8-are_ascii, IsUtf8-quoted, IsUtf8-boolean}
-use Rattle.serde_json.specs.Data.{Num, unsigned, negative, float, Data, null, boolean, number, string, array, object, Items, no_items, item, Members, no_members, member, put}
+use Rattle.serde_json.specs.Data.{Num, unsigned, Data, boolean, number, string, array, object, Items, no_items, item, Members, no_members, member, put}
 use Rattle.serde_json.specs.Read.{read, max_depth, of_json, of_items, of_members}
 use Rattle.serde_json.specs.View.{items_of}
 use Rattle.serde_json.specs.Written.{outline, items_outline, members_outline, comma_if, compact_text, items_text, members_text}
@@ -24,12 +24,8 @@ use Rattle.serde_json.proofs.Texts.{print-outline}
 
 -- a text that is UTF-8
 abbrev pub IsText : Data → Type 0
-IsText null = ⊥
-IsText (boolean b) = ⊥
-IsText (number n) = ⊥
 IsText (string s) = IsUtf8 s
-IsText (array ds) = ⊥
-IsText (object ms) = ⊥
+IsText d = ⊥
 
 -- an array of texts
 abbrev pub AreTexts : Items → Type 0
@@ -38,17 +34,15 @@ AreTexts (item d ds) = IsText d × AreTexts ds
 
 abbrev IsWhole : Num → Type 0
 IsWhole (unsigned n) = n < 2 ^ 64
-IsWhole (negative z) = ⊥
-IsWhole (float x) = ⊥
+IsWhole n = ⊥
 
 -- a value of a body
 abbrev pub IsSent : Data → Type 0
-IsSent null = ⊥
 IsSent (boolean b) = ⊤
 IsSent (number n) = IsWhole n
 IsSent (string s) = IsUtf8 s
 IsSent (array ds) = AreTexts ds
-IsSent (object ms) = ⊥
+IsSent d = ⊥
 
 -- the members of a body
 abbrev pub AreSent : Members → Type 0
@@ -58,12 +52,8 @@ AreSent (member k d ms) = IsUtf8 k × IsSent d × AreSent ms
 -- ---- each is read back
 
 text-read : (d : Data) → IsText d → of_json (outline d) ≡ Some d
-text-read null h = absurd h
-text-read (boolean b) h = absurd h
-text-read (number n) h = absurd h
 text-read (string s) h = refl
-text-read (array ds) h = absurd h
-text-read (object ms) h = absurd h
+text-read d h = absurd h
 
 texts-read : (ds : Items) → AreTexts ds → of_items (items_outline ds) ≡ Some ds
 texts-read no_items h = refl
@@ -71,16 +61,14 @@ texts-read (item d ds) h = rw (text-read d h.0, texts-read ds h.1) refl
 
 number-read : (n : Num) → IsWhole n → of_json (outline (number n)) ≡ Some (number n)
 number-read (unsigned n) h = rw (number_of-decimal n h) refl
-number-read (negative z) h = absurd h
-number-read (float x) h = absurd h
+number-read n h = absurd h
 
 sent-read : (d : Data) → IsSent d → of_json (outline d) ≡ Some d
-sent-read null h = absurd h
 sent-read (boolean b) h = refl
 sent-read (number n) h = number-read n h
 sent-read (string s) h = refl
 sent-read (array ds) h = rw (texts-read ds h) refl
-sent-read (object ms) h = absurd h
+sent-read d h = absurd h
 
 -- the members of an object as its reader keeps them, each where its name belongs
 abbrev pub kept : Members → Members → Members
@@ -94,12 +82,8 @@ members-read (member k d ms) found h = rw (sent-read d h.1) (members-read ms (pu
 -- ---- the text of an object of them
 
 text-numbers : (d : Data) → IsText d → tree.HasNumbers (outline d)
-text-numbers null h = absurd h
-text-numbers (boolean b) h = absurd h
-text-numbers (number n) h = absurd h
 text-numbers (string s) h = tt
-text-numbers (array ds) h = absurd h
-text-numbers (object ms) h = absurd h
+text-numbers d h = absurd h
 
 texts-numbers : (ds : Items) → AreTexts ds → tree.ItemsHaveNumbers (items_outline ds)
 texts-numbers no_items h = tt
@@ -107,40 +91,33 @@ texts-numbers (item d ds) h = (text-numbers d h.0, texts-numbers ds h.1)
 
 number-numbers : (n : Num) → IsWhole n → tree.HasNumbers (outline (number n))
 number-numbers (unsigned n) h = IsNumber-decimal n h
-number-numbers (negative z) h = absurd h
-number-numbers (float x) h = absurd h
+number-numbers n h = absurd h
 
 sent-numbers : (d : Data) → IsSent d → tree.HasNumbers (outline d)
-sent-numbers null h = absurd h
 sent-numbers (boolean b) h = tt
 sent-numbers (number n) h = number-numbers n h
 sent-numbers (string s) h = tt
 sent-numbers (array ds) h = texts-numbers ds h
-sent-numbers (object ms) h = absurd h
+sent-numbers d h = absurd h
 
 members-numbers : (ms : Members) → AreSent ms → tree.MembersHaveNumbers (members_outline ms)
 members-numbers no_members h = tt
 members-numbers (member k d ms) h = (sent-numbers d h.1, members-numbers ms h.2)
 
 text-depth : (d : Data) → IsText d → tree.depth (outline d) ≤ 0
-text-depth null h = absurd h
-text-depth (boolean b) h = absurd h
-text-depth (number n) h = absurd h
 text-depth (string s) h = omega arith
-text-depth (array ds) h = absurd h
-text-depth (object ms) h = absurd h
+text-depth d h = absurd h
 
 texts-depth : (ds : Items) → AreTexts ds → tree.items_depth (items_outline ds) ≤ 0
 texts-depth no_items h = omega arith
 texts-depth (item d ds) h = omega (arith, text-depth d h.0, texts-depth ds h.1)
 
 sent-depth : (d : Data) → IsSent d → tree.depth (outline d) ≤ 1
-sent-depth null h = absurd h
 sent-depth (boolean b) h = omega arith
 sent-depth (number n) h = omega arith
 sent-depth (string s) h = omega arith
 sent-depth (array ds) h = omega (arith, texts-depth ds h)
-sent-depth (object ms) h = absurd h
+sent-depth d h = absurd h
 
 members-depth : (ms : Members) → AreSent ms → tree.members_depth (members_outline ms) ≤ 1
 members-depth no_members h = omega arith
@@ -162,12 +139,8 @@ object-read ms h =
 -- ---- it is UTF-8
 
 text-utf8 : (d : Data) → IsText d → IsUtf8 (compact_text d)
-text-utf8 null h = absurd h
-text-utf8 (boolean b) h = absurd h
-text-utf8 (number n) h = absurd h
 text-utf8 (string s) h = IsUtf8-quoted s h
-text-utf8 (array ds) h = absurd h
-text-utf8 (object ms) h = absurd h
+text-utf8 d h = absurd h
 
 comma-utf8 : (later : Bool) → IsUtf8 (comma_if later)
 comma-utf8 true = IsUtf8-are_ascii (44 ∷ []) refl
@@ -181,16 +154,14 @@ texts-utf8 later (item d ds) h =
 
 number-utf8 : (n : Num) → IsWhole n → IsUtf8 (compact_text (number n))
 number-utf8 (unsigned n) h = IsUtf8-from_ascii (decimal n) (IsAscii-decimal n h)
-number-utf8 (negative z) h = absurd h
-number-utf8 (float x) h = absurd h
+number-utf8 n h = absurd h
 
 sent-utf8 : (d : Data) → IsSent d → IsUtf8 (compact_text d)
-sent-utf8 null h = absurd h
 sent-utf8 (boolean b) h = IsUtf8-boolean b
 sent-utf8 (number n) h = number-utf8 n h
 sent-utf8 (string s) h = IsUtf8-quoted s h
 sent-utf8 (array ds) h = IsUtf8-append (91 ∷ []) (items_text false ds) (IsUtf8-are_ascii (91 ∷ []) refl) (texts-utf8 false ds h)
-sent-utf8 (object ms) h = absurd h
+sent-utf8 d h = absurd h
 
 members-utf8 : (later : Bool) (ms : Members) → AreSent ms → IsUtf8 (members_text later ms)
 members-utf8 later no_members h = IsUtf8-are_ascii (125 ∷ []) refl
