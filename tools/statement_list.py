@@ -47,6 +47,7 @@ CASES = {
     "kcr_forms/Forms": "values-out-of-range",
     "kcr_forms/OrMemory": "malformed-bodies memory.py:examples_over_memory",
     "kcr_forms/Reading": "bodies-of-people",
+    "kcr_forms/Shapes": "commands",
     "kcr_forms/Posts": "commands body-with-more-members",
     "kcr_wire/Routes": "targets",
     "kcr_wire/Endpoints": "targets questions method-of-another-path",
@@ -189,7 +190,7 @@ PARTS = [
      "Which path and which body are which command, question or report.",
      """kcr_wire/src/method kcr_wire/src/allow kcr_wire/src/after kcr_wire/src/route kcr_wire/src/endpoint
      kcr_wire/src/question kcr_forms/src/post kcr_base/Forms kcr_custody/Destinations kcr_room/Forms kcr_forms/Forms
-     kcr_forms/OrMemory kcr_forms/Reading kcr_forms/Posts kcr_wire/Routes kcr_wire/Endpoints kcr_wire/Members kcr_wire/Commands
+     kcr_forms/OrMemory kcr_forms/Reading kcr_forms/Shapes kcr_forms/Posts kcr_wire/Routes kcr_wire/Endpoints kcr_wire/Members kcr_wire/Commands
      kcr_wire/Questions kcr_wire/Methods"""),
     ("Answers as texts",
      "The bytes of each answer, the text of a command that is kept, and its request in a feed.",

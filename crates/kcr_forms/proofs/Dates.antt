@@ -1,6 +1,6 @@
 -- Days and moments with one text are one.
 use Rattle.std.proofs.Common.{◌≡◌, ℕ, ◌+◌, ◌/◌, ◌%◌, ◌≤◌, List, [], ◌∷◌, ◌++◌, get_or, refl, sym, ap, subst, ◌∙◌, arith, pos, rules}
-use Rattle.std.proofs.lemmas.List.Elements.{All-from_recursion}
+use Rattle.std.proofs.lemmas.List.Elements.{All-append, All-from_recursion}
 use Rattle.kcr_base.specs.Day.{IsDay, IsDayOf, date_text, day_text}
 use Rattle.kcr_base.specs.Moment.{IsMoment, clock_text, moment_text}
 use Rattle.kcr_base.proofs.DayLemmas.{date_of_number, parts_of_day, moment_parts, day_of_moment}
@@ -51,3 +51,9 @@ moment-same s t is_s is_t e =
 pub day-printing : (n : ℕ) → AtLeast 32 (day_text n)
 unfolding day_text
 day-printing n = All-from_recursion (λ b. 32 ≤ b) (day_text n) (search (rules, arith))
+
+pub moment-printing : (n : ℕ) → AtLeast 32 (moment_text n)
+unfolding moment_text day_text
+moment-printing n =
+    All-append (λ b. 32 ≤ b) (day_text (n / 86400)) (84 ∷ clock_text (n % 86400) ++ 90 ∷ []) (day-printing (n / 86400))
+    (All-from_recursion (λ b. 32 ≤ b) (84 ∷ clock_text (n % 86400) ++ 90 ∷ []) (search (rules, arith)))

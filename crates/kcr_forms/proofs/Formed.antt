@@ -1,5 +1,5 @@
 -- The readers of the forms read the texts of their values and no others.
-use Rattle.std.proofs.Common.{◌≡◌, ℕ, ◌+◌, ◌≤◌, ◌<◌, ◌⊎◌, Bool, true, false, eqb, nat_le, List, [], ◌∷◌, suc}
+use Rattle.std.proofs.Common.{◌≡◌, ℕ, ◌+◌, ◌≤◌, ◌<◌, ◌⊎◌, Bool, true, false, ◌&&◌, eqb, nat_le, List, [], ◌∷◌, suc}
 use Rattle.std.proofs.Common.{length, get_or, codes, Option, Some, refl, sym, ap, ◌∙◌, arith, All}
 use Rattle.std.specs.Bool.{⊤}
 use Rattle.std.specs.Fmt.{decimal}
@@ -7,10 +7,11 @@ use Rattle.std.specs.Int.Digits.{digits_of}
 use Rattle.std.specs.List.{find, list_all}
 use Rattle.std.specs.Str.{IsUtf8}
 use Rattle.std.specs.Cmp.Lexicographic.{same_text as equal_texts}
-use Rattle.std.proofs.lemmas.Bool.{leb-true}
-use Rattle.std.proofs.lemmas.Fmt.{decimal_injective, decimal-digits_of}
+use Rattle.std.proofs.lemmas.Bool.{leb-true, and_parts}
+use Rattle.std.proofs.lemmas.Fmt.{decimal_injective, decimal-digits_of, IsAscii-decimal}
 use Rattle.std.proofs.lemmas.List.Elements.{All-get_or, All-nil, All-weaker, All-map, All-append, All-head, All-tail, All-from_recursion}
 use Rattle.std.proofs.lemmas.List.Sums.{AllPass-from_list_all}
+use Rattle.std.proofs.lemmas.Str.{IsUtf8-from_ascii}
 use Rattle.std.proofs.lemmas.List.Splits.{slice_split_none, slice_split_at}
 use Rattle.kcr_base.specs.Same.{same_text}
 use Rattle.kcr_base.specs.Day.{IsDay, day_text}
@@ -39,6 +40,7 @@ use Rattle.kcr_room.specs.Room.{way_text}
 use Rattle.kcr_history.specs.Texts.{safe_text, truth_text, listed}
 use Rattle.kcr_base.specs.Forms.{by_text, number_by_text, initials_of, serial_of, line_of, name_of, remark_of, day_of}
 use Rattle.kcr_base.specs.Forms.{moment_of, ceremony_of, box_of, step_of, role_of, facility_of, places, place_of, script_of}
+use Rattle.kcr_base.proofs.DayLemmas.{day_ascii, moment_ascii}
 use Rattle.kcr_base.proofs.FormLemmas.{initials-read, serial-read, line-read, script-read}
 use Rattle.kcr_base.proofs.TextLemmas.{number-read}
 use Rattle.kcr_base.proofs.ValueLemmas.{day-read, moment-read, place-read}
@@ -48,14 +50,22 @@ use Rattle.kcr_room.specs.Forms.{way_of}
 use Rattle.kcr_forms.specs.Forms.{safe_of, truth_of}
 use Rattle.kcr_forms.specs.Lines.{each_of, between_commas}
 use Rattle.kcr_forms.proofs.Cutting.{Lacks}
-use Rattle.kcr_forms.proofs.Dates.{day-same, moment-same, day-printing}
-use Rattle.kcr_forms.proofs.Readers.{Reads, Value, AtLeast, lacks-below, at_least-less}
+use Rattle.kcr_forms.proofs.Dates.{day-same, moment-same, day-printing, moment-printing}
+use Rattle.kcr_forms.proofs.Readers.{Reads, Value, AtLeast, ascii-utf8, lacks-below, at_least-less}
 
 -- ---- the bytes of texts
 
-literal : (low : ℕ) (text : List ℕ) → list_all (λ b. nat_le low b) text ≡ true → AtLeast low text
-literal low text test = All-weaker (λ b. nat_le low b ≡ true) (λ b. low ≤ b) (λ b h. leb-true low b h) text
-    (AllPass-from_list_all (λ b. nat_le low b) text test)
+abbrev is_plain : ℕ → Bool
+is_plain b = nat_le 32 b && nat_le b 127
+
+-- a text that is printing ASCII by a test
+plain : (text : List ℕ) → list_all is_plain text ≡ true → AtLeast 32 text × IsUtf8 text
+plain text test =
+    let each = AllPass-from_list_all is_plain text test in
+    let bounds : (b : ℕ) → is_plain b ≡ true → (nat_le 32 b ≡ true) × (nat_le b 127 ≡ true) = λ b h. and_parts (nat_le 32 b) (nat_le b 127) h in (
+      All-weaker (λ b. is_plain b ≡ true) (λ b. 32 ≤ b) (λ b h. leb-true 32 b (bounds b h).0) text each,
+      ascii-utf8 text (All-weaker (λ b. is_plain b ≡ true) (λ b. b < 128) (λ b h. omega (arith, leb-true b 127 (bounds b h).1)) text each),
+    )
 
 initials-at_least : (text : List ℕ) → IsInitials text → AtLeast 65 text
 initials-at_least text is = All-weaker IsCapital (λ b. 65 ≤ b) (λ b h. h.0) text is.capitals
@@ -85,23 +95,36 @@ again-by : {V : Type 0} {IsValue : V → Type 0} {text_of : V → List ℕ} {rea
     → ((v w : V) → IsValue v → IsValue w → text_of v ≡ text_of w → v ≡ w) → Reads IsValue text_of read
 again-by {text_of = text_of} reads same v is = sym (reads (text_of v) (Some v) (is, refl) (λ w is_w e. ap Some (same v w is is_w (sym e))))
 
--- the texts of listed values are printing if a test of the list says so
+-- the text of a listed value passes a test that all of them pass
+text-passes : {V : Type 0} {IsValue : V → Type 0} (text_of : V → List ℕ) (values : List V) → Reads IsValue text_of (by_text text_of values)
+    → (test : List ℕ → Bool) → list_all (λ v. test (text_of v)) values ≡ true → (v : V) → IsValue v → test (text_of v) ≡ true
+text-passes text_of values again test all v is =
+    let at = (find-at (λ w. same_text (text_of w) (text_of v)) values v (again v is)) in
+    let passes = All-get_or (λ w. test (text_of w) ≡ true) values at.0 v at.1 (AllPass-from_list_all (λ w. test (text_of w)) values all) in
+    rw at.2 at passes
+
+-- listed values whose texts are printing ASCII
 texts-value : {V : Type 0} {IsValue : V → Type 0} (text_of : V → List ℕ) (values : List V) → Reads IsValue text_of (by_text text_of values)
-    → list_all (λ v. list_all (λ b. nat_le 32 b) (text_of v)) values ≡ true → Value IsValue text_of (by_text text_of values)
+    → list_all (λ v. list_all is_plain (text_of v)) values ≡ true → Value IsValue text_of (by_text text_of values)
 texts-value text_of values again all = record {
   again = again;
-  printing = λ v is.
-      let at = (find-at (λ w. same_text (text_of w) (text_of v)) values v (again v is)) in
-      let passes = All-get_or (λ w. list_all (λ b. nat_le 32 b) (text_of w) ≡ true) values at.0 v at.1
-      (AllPass-from_list_all (λ w. list_all (λ b. nat_le 32 b) (text_of w)) values all) in
-      literal 32 (text_of v) (rw at.2 at passes);
+  printing = λ v is. (plain (text_of v) (text-passes text_of values again (list_all is_plain) all v is)).0;
+  utf8 = λ v is. (plain (text_of v) (text-passes text_of values again (list_all is_plain) all v is)).1;
 }
 
 pub days : Value IsDay day_text day_of
-days = record { again = again-by day-read day-same; printing = λ v _. day-printing v }
+days = record {
+  again = again-by day-read day-same;
+  printing = λ v _. day-printing v;
+  utf8 = λ v is. ascii-utf8 (day_text v) (day_ascii v is);
+}
 
-pub moments : Reads IsMoment moment_text moment_of
-moments = again-by moment-read moment-same
+pub moments : Value IsMoment moment_text moment_of
+moments = record {
+  again = again-by moment-read moment-same;
+  printing = λ v _. moment-printing v;
+  utf8 = λ v is. ascii-utf8 (moment_text v) (moment_ascii v is);
+}
 
 decimals : (limit : ℕ) → limit < 10000 → Value (IsNumber limit) decimal (number_by_text decimal 1 limit)
 decimals limit few = record {
@@ -109,6 +132,7 @@ decimals limit few = record {
       (λ bytes r. number-read (IsNumber limit) decimal 1 limit bytes r (λ n low high. record { from = low; until = high }) (λ n is. (is.from, is.until)))
       (λ m n is_m is_n e. decimal_injective m n (omega (arith, few, is_m.until)) (omega (arith, few, is_n.until)) e);
   printing = λ v is. at_least-less 48 32 (decimal v) (omega arith) (number-at_least limit v few is);
+  utf8 = λ v is. IsUtf8-from_ascii (decimal v) (IsAscii-decimal v (omega (arith, few, is.until)));
 }
 
 pub ceremonies : Value (IsNumber 9999) decimal ceremony_of
@@ -180,31 +204,38 @@ pub places-read : Value IsPlace place_text place_of
 unfolding place_of
 places-read = texts-value place_text places (again-by place-read (λ v w _ _. place-same v w)) refl
 
+pub place-passes : (test : List ℕ → Bool) → list_all (λ v. test (place_text v)) places ≡ true → (v : Place) → IsPlace v → test (place_text v) ≡ true
+unfolding place_of
+place-passes = text-passes place_text places places-read.again
+
 -- ---- texts that are their own value
 
 pub initials : Value IsInitials (λ text. text) initials_of
 initials = record {
   again = λ v is. sym (initials-read (Some v) v (is, refl));
   printing = λ v is. at_least-less 65 32 v (omega arith) (initials-at_least v is);
+  utf8 = λ v is. ascii-utf8 v (All-weaker IsCapital (λ b. b < 128) (λ b h. omega (arith, h.1)) v is.capitals);
 }
 
 pub serials : Value IsSerial (λ text. text) serial_of
 serials = record {
   again = λ v is. sym (serial-read (Some v) v (is, refl));
   printing = λ v is. at_least-less 48 32 v (omega arith) (serial-at_least v is);
+  utf8 = λ v is. ascii-utf8 v (All-weaker (λ b. IsCapital b ⊎ IsDigit b) (λ b. b < 128) (λ b h. grind arith) v is.each);
 }
 
-line-forms : (limit : ℕ) → Reads (IsLine limit) (λ text. text) (line_of limit)
-line-forms limit v is = sym (line-read limit (Some v) v (is, refl))
+lines-read : (limit : ℕ) → Value (IsLine limit) (λ text. text) (line_of limit)
+lines-read limit = record {
+  again = λ v is. sym (line-read limit (Some v) v (is, refl));
+  printing = λ v is. All-weaker IsPrinting (λ b. 32 ≤ b) (λ b h. h.0) v is.printing;
+  utf8 = λ v is. is.text;
+}
 
-pub names : Reads (IsLine 120) (λ text. text) name_of
-names = line-forms 120
+pub names : Value (IsLine 120) (λ text. text) name_of
+names = lines-read 120
 
 pub remarks : Value (IsLine 1000) (λ text. text) remark_of
-remarks = record {
-  again = line-forms 1000;
-  printing = λ v is. All-weaker IsPrinting (λ b. 32 ≤ b) (λ b h. h.0) v is.printing;
-}
+remarks = lines-read 1000
 
 pub scripts : Reads IsUtf8 (λ text. text) script_of
 scripts v is = sym (script-read (Some v) v (is, refl))
@@ -228,12 +259,16 @@ destination-again (DepositBox n) is = by (same_text (decimal n) (codes "safe1"))
     by true e = absurd (number-no_word n is (equal_texts (decimal n) (codes "safe1") (sym e)))
     by false e = rw (e, boxes.again n is) refl
 
-destination-printing : (v : Destination) → IsDestination v → AtLeast 32 (destination_text v)
-destination-printing SafeOne is = literal 32 (codes "safe1") refl
-destination-printing (DepositBox n) is = at_least-less 48 32 (decimal n) (omega arith) (number-at_least 9999 n (omega arith) is)
+destination-plain : (v : Destination) → IsDestination v → AtLeast 32 (destination_text v) × IsUtf8 (destination_text v)
+destination-plain SafeOne is = plain (codes "safe1") refl
+destination-plain (DepositBox n) is = (boxes.printing n is, boxes.utf8 n is)
 
 pub destinations : Value IsDestination destination_text destination_of
-destinations = record { again = destination-again; printing = destination-printing }
+destinations = record {
+  again = destination-again;
+  printing = λ v is. (destination-plain v is).0;
+  utf8 = λ v is. (destination-plain v is).1;
+}
 
 -- ---- lists
 

@@ -1,7 +1,10 @@
 -- Readers of values.
 use Rattle.std.proofs.Common.{◌≡◌, ℕ, ◌≤◌, ◌<◌, List, Option, Some}
 use Rattle.std.proofs.Common.{arith, All}
+use Rattle.std.specs.Str.{IsUtf8}
 use Rattle.std.proofs.lemmas.List.Elements.{All-weaker}
+use Rattle.std.proofs.lemmas.Str.{IsUtf8-from_ascii}
+use Rattle.std.proofs.lemmas.Str.Ascii.{IsAscii-from_all}
 use Rattle.kcr_forms.proofs.Cutting.{Lacks, lacks-by}
 
 -- a reader reads each value again from its text
@@ -12,10 +15,15 @@ Reads {V} IsValue text_of read = (v : V) → IsValue v → read (text_of v) ≡ 
 abbrev pub AtLeast : ℕ → List ℕ → Type 0
 AtLeast low text = All (λ b. low ≤ b) text
 
--- the same if the texts have no control character, so that each stands on a line
+-- the same if the texts are UTF-8 without control characters, so that each stands on a line
 pub record Value {V : Type 0} (IsValue : V → Type 0) (text_of : V → List ℕ) (read : List ℕ → Option V) : Type 0 where
   pub again : Reads IsValue text_of read
   pub printing : (v : V) → IsValue v → AtLeast 32 (text_of v)
+  pub utf8 : (v : V) → IsValue v → IsUtf8 (text_of v)
+
+-- ASCII is UTF-8
+pub ascii-utf8 : (text : List ℕ) → All (λ b. b < 128) text → IsUtf8 text
+ascii-utf8 text each = IsUtf8-from_ascii text (IsAscii-from_all text each)
 
 pub lacks-below : (byte low : ℕ) (text : List ℕ) → byte < low → AtLeast low text → Lacks byte text
 lacks-below byte low text lt least = lacks-by (λ b. low ≤ b) byte (λ h. omega (arith, lt, h)) text least

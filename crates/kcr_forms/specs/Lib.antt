@@ -4,5 +4,6 @@ pub mod Split
 pub mod Values
 pub mod OrMemory
 pub mod Reading
+pub mod Shapes
 pub mod Posts
 pub mod Lines

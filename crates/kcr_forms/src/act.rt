@@ -1,4 +1,6 @@
 //! The act that a path and its members are.
+#![tactic(auto, using(crate::proofs::FormLemmas::item_form, crate::proofs::FormLemmas::name_form, crate::proofs::FormLemmas::remark_form))]
+
 ghost use Rattle.kcr_forms.specs.OrMemory.{OrMemory};
 ghost use Rattle.kcr_forms.specs.Posts.{posted_act};
 ghost use Rattle.kcr_forms.specs.declared.post.Post.TheVariants as Posts;

@@ -1,5 +1,5 @@
 -- An act is read again from its text.
-use Rattle.std.proofs.Common.{◌≡◌, ◌≤◌, ℕ, List, [], ◌∷◌, ◌++◌, length, Option, Some, None, if◌then◌else◌, IfSome, refl, sym, ap, ◌∙◌, append_assoc, arith}
+use Rattle.std.proofs.Common.{◌≡◌, ◌≤◌, ℕ, List, [], ◌∷◌, ◌++◌, length, Option, Some, None, if◌then◌else◌, IfSome, true, true≢false, refl, sym, ap, subst, ◌∙◌, append_assoc, arith}
 use Rattle.std.specs.Cmp.Lexicographic.{same_text as equal_texts}
 use Rattle.std.specs.List.{fold}
 use Rattle.std.specs.Option.{option_and_then}
@@ -9,36 +9,25 @@ use Rattle.kcr_base.specs.Same.{same_text}
 use Rattle.kcr_base.specs.declared.refusal.Member.{Member}
 use Rattle.kcr_base.proofs.SameLemmas.{same-itself}
 use Rattle.kcr_history.specs.declared.commands.Act.{Act}
-use Rattle.kcr_history.specs.declared.commands.Act.TheVariants as act
 use Rattle.kcr_history.specs.Texts.{MemberValue, path_text, members_of, value_text, with_line, command_text}
 use Rattle.kcr_forms.specs.Acts.{IsAct}
+use Rattle.kcr_forms.specs.Shapes.{Form, shape}
 use Rattle.kcr_forms.proofs.Cutting.{cut-again}
 use Rattle.kcr_forms.proofs.Gives.{lines_text, lines-told}
+use Rattle.kcr_forms.proofs.Posts.{post_of, AllGiven, told, members_in, is_shape, shaped}
 use Rattle.kcr_wire.specs.ActTexts.{told_at, act_told, if_told, act_of}
 use Rattle.kcr_wire.specs.Endpoints.{target_of}
 use Rattle.kcr_wire.proofs.Paths.{path-feed}
 use Rattle.kcr_wire.proofs.Targets.{act-path, act-target}
 
-some-member : (does : Act) → 1 ≤ length (members_of does)
-some-member (act.Enter who name) = omega arith
-some-member (act.Train who role since until) = omega arith
-some-member (act.Withdraw who role day) = omega arith
-some-member (act.Appoint place who day) = omega arith
-some-member (act.Replace place who day) = omega arith
-some-member (act.Release place day) = omega arith
-some-member (act.AddBox facility number place) = omega arith
-some-member (act.AddItem ceremony item at) = omega arith
-some-member (act.Plan number facility day script) = omega arith
-some-member (act.Open ceremony at) = omega arith
-some-member (act.Close ceremony at) = omega arith
-some-member (act.RecordSheet ceremony way who at) = omega arith
-some-member (act.Sign ceremony k at) = omega arith
-some-member (act.RecordException ceremony text pass at) = omega arith
-some-member (act.SetSafe ceremony which state by at) = omega arith
-some-member (act.Seal ceremony serial items at) = omega arith
-some-member (act.Take ceremony serial at) = omega arith
-some-member (act.Put ceremony serial to at) = omega arith
-some-member (act.Cut ceremony serial at) = omega arith
+some-told : (members : List (Member × Form)) (given : AllGiven members) → is_shape members ≡ true → 1 ≤ length (told members given)
+some-told [] given e = absurd (true≢false (sym e))
+some-told (m ∷ ms) given e = omega arith
+
+some-member : (does : Act) → IsAct does → 1 ≤ length (members_of does)
+some-member does is =
+    let has = shaped does is in
+    subst (λ ms. 1 ≤ length ms) (sym has.2) (some-told (members_in (shape (post_of does))) has.0 has.3)
 
 in-lines : (ms : List (Member × MemberValue)) (path : List ℕ) → 1 ≤ length ms → fold with_line path ms ≡ path ++ 10 ∷ lines_text ms
 in-lines [] path some = absurd (omega (arith, some))
@@ -51,7 +40,7 @@ unfolding act_told
 told-again does is =
     let path = path_text does in
     let values = lines_text (members_of does) in
-    ap act_told (in-lines (members_of does) path (some-member does))
+    ap act_told (in-lines (members_of does) path (some-member does is))
     ∙ ap (option_and_then (λ (p : List ℕ × List ℕ). option_and_then (told_at p.1) (result_ok (target_of p.0)))) (cut-again 10 path values (path-feed path (act-path does is).bytes))
     ∙ ap (λ r. option_and_then (told_at values) (result_ok r)) (act-target does is)
     ∙ ap result_ok (lines-told does is)

@@ -1,42 +1,27 @@
 -- The pieces in which a body is written are its text.
-use Rattle.std.proofs.Common.{◌≡◌, ℕ, true, false, map, List, [], ◌∷◌, ◌++◌, codes, refl, sym, ap, ◌∙◌, append_assoc}
+use Rattle.std.proofs.Common.{◌≡◌, ℕ, true, false, map, List, [], ◌∷◌, ◌++◌, codes, refl, sym, ap, ◌∙◌, append_assoc, arith, All}
+use Rattle.std.proofs.lemmas.List.Elements.{All-head, All-tail}
+use Rattle.json.proofs.Printed.Strings.{escape_byte_plain}
 use Rattle.json.specs.Print.{escape, escape_byte, quoted}
 use Rattle.serde_json.specs.Data.{Data, string}
 use Rattle.serde_json.specs.View.{items_of}
 use Rattle.serde_json.specs.Written.{compact_text, members_text, items_have_float}
+use Rattle.kcr_base.specs.Key.{IsKeyByte}
 use Rattle.kcr_base.specs.Refusal.{member_text}
 use Rattle.kcr_base.specs.declared.refusal.Member.{Member}
-use Rattle.kcr_base.specs.declared.refusal.Member.TheVariants as name
 use Rattle.kcr_history.specs.declared.commands.Command.{Command}
 use Rattle.std.specs.List.{fold}
 use Rattle.kcr_history.specs.Texts.{MemberValue, members_of}
 use Rattle.kcr_wire.specs.Bodies.{json_of, json_members, body_text, next_member}
+use Rattle.kcr_wire.proofs.Bytes.{name-word}
 
--- no name needs an escape
-name-escape : (m : Member) → escape (member_text m) ≡ member_text m
-unfolding escape_byte
-name-escape name.Key = refl
-name-escape name.Who = refl
-name-escape name.Name = refl
-name-escape name.Role = refl
-name-escape name.From = refl
-name-escape name.Until = refl
-name-escape name.Day = refl
-name-escape name.Place = refl
-name-escape name.Facility = refl
-name-escape name.Box = refl
-name-escape name.Ceremony = refl
-name-escape name.Item = refl
-name-escape name.At = refl
-name-escape name.Number = refl
-name-escape name.Script = refl
-name-escape name.Way = refl
-name-escape name.Text = refl
-name-escape name.Pass = refl
-name-escape name.Open = refl
-name-escape name.By = refl
-name-escape name.Items = refl
-name-escape name.To = refl
+-- letters need no escape
+word-escape : (text : List ℕ) → All IsKeyByte text → escape text ≡ text
+word-escape [] each = refl
+word-escape (b ∷ text) each =
+    let is = All-head IsKeyByte b text each in
+    let alone = escape_byte_plain b (λ e. grind (arith, is, e)) (λ e. grind (arith, is, e)) (grind (arith, is)) in
+    rw (alone, word-escape text (All-tail IsKeyByte b text each)) refl
 
 pieces : (t a n b v : List ℕ) → (((t ++ a) ++ n) ++ b) ++ v ≡ t ++ (a ++ (n ++ (b ++ v)))
 pieces t a n b v = simp append_assoc
@@ -49,7 +34,7 @@ value_told text m value =
     let v = compact_text value in
     pieces text (codes ",\"") n (codes "\":") v
     ∙ ap (λ (s : List ℕ). text ++ 44 ∷ 34 ∷ s) (sym (append_assoc n (34 ∷ []) (58 ∷ v)))
-    ∙ ap (λ (e : List ℕ). text ++ 44 ∷ 34 ∷ ((e ++ 34 ∷ []) ++ 58 ∷ v)) (sym (name-escape m))
+    ∙ ap (λ (e : List ℕ). text ++ 44 ∷ 34 ∷ ((e ++ 34 ∷ []) ++ 58 ∷ v)) (sym (word-escape n (name-word m)))
 
 -- a text with members behind it, one after the other
 abbrev pub with_members : List ℕ → List (Member × MemberValue) → List ℕ

@@ -1,26 +1,28 @@
 -- The bytes of paths and of the texts in bodies.
-use Rattle.std.proofs.Common.{◌≡◌, ℕ, ◌<◌, ◌≤◌, ◌⊎◌, ◌+◌, true, List, [], ◌∷◌, length, codes, inl, inr, refl, arith, All}
+use Rattle.std.proofs.Common.{◌≡◌, ℕ, ◌<◌, ◌≤◌, ◌⊎◌, ◌&&◌, nat_le, Bool, true, List, [], ◌∷◌, length, inl, inr, refl, arith, All}
 use Rattle.std.specs.Fmt.{decimal}
 use Rattle.std.specs.List.{list_all}
 use Rattle.std.specs.Str.{IsUtf8}
 use Rattle.std.specs.Str.Parse.{AllDigits}
+use Rattle.std.proofs.lemmas.Bool.{leb-true, and_parts}
 use Rattle.std.proofs.lemmas.Bool.Decides.{nat_tests}
 use Rattle.std.proofs.lemmas.Fmt.{decimal_is_IsNumeral, length-decimal-le}
-use Rattle.std.proofs.lemmas.List.Elements.{All-nil, All-cons, All-append, All-weaker}
+use Rattle.std.proofs.lemmas.List.Elements.{All-nil, All-cons, All-weaker}
 use Rattle.std.proofs.lemmas.List.Sums.{AllPass-from_list_all}
-use Rattle.std.proofs.lemmas.Str.{IsUtf8-from_ascii}
-use Rattle.std.proofs.lemmas.Str.Ascii.{IsAscii-from_all}
 use Rattle.std.proofs.lemmas.Str.Parse.{digit_at}
 use Rattle.kcr_base.specs.Initials.{IsCapital, IsInitials}
 use Rattle.kcr_base.specs.Key.{IsKeyByte}
 use Rattle.kcr_base.specs.Number.{IsNumber}
 use Rattle.kcr_base.specs.Place.{IsPlace, place_text}
+use Rattle.kcr_base.specs.Refusal.{member_text}
+use Rattle.kcr_base.specs.declared.refusal.Member.{Member}
+use Rattle.kcr_base.specs.declared.refusal.Member.TheVariants as name
 use Rattle.kcr_base.specs.Serial.{IsDigit, IsSerial}
-use Rattle.kcr_base.specs.declared.place.Facility.TheVariants.{East, West}
 use Rattle.kcr_base.specs.declared.place.Place.{Place}
-use Rattle.kcr_base.specs.declared.place.Place.TheVariants.{Co, Rksh}
 use Rattle.kcr_forms.specs.Forms.{is_key_byte}
 use Rattle.kcr_forms.proofs.Cutting.{Lacks, lacks-by}
+use Rattle.kcr_forms.proofs.Formed.{place-passes}
+use Rattle.kcr_forms.proofs.Readers.{ascii-utf8}
 
 -- ---- letters, digits and `-`
 
@@ -36,6 +38,14 @@ key_byte b h = grind (arith, nat_tests)
 -- the bytes of a literal
 pub literal : (text : List ℕ) → list_all is_key_byte text ≡ true → All IsKeyByte text
 literal text test = All-weaker (λ b. is_key_byte b ≡ true) IsKeyByte key_byte text (AllPass-from_list_all is_key_byte text test)
+
+letters : (m : Member) → list_all is_key_byte (member_text m) ≡ true
+letters name.Key = refl
+letters m = refl
+
+-- the name of a member is letters
+pub name-word : (m : Member) → All IsKeyByte (member_text m)
+name-word m = literal (member_text m) (letters m)
 
 -- initials are a word
 pub initials-word : (text : List ℕ) → IsInitials text → IsWord text
@@ -74,33 +84,16 @@ number-word limit n few is =
       bytes = digits-bytes (decimal n) numeral.1;
     }
 
-place-digit : (n : ℕ) → 1 ≤ n → n ≤ 7 → IsDigit (48 + n)
-place-digit n low high = (omega arith, omega arith)
-
-place-bytes : (place : Place) → IsPlace place → All IsKeyByte (place_text place)
-place-bytes (Co East n) is =
-    All-append IsKeyByte (codes "CO-EAST-") ((48 + n) ∷ []) (literal (codes "CO-EAST-") refl)
-    (All-cons IsKeyByte (48 + n) [] (inr (inr (inl (place-digit n is.0 is.1)))) (All-nil IsKeyByte))
-place-bytes (Co West n) is =
-    All-append IsKeyByte (codes "CO-WEST-") ((48 + n) ∷ []) (literal (codes "CO-WEST-") refl)
-    (All-cons IsKeyByte (48 + n) [] (inr (inr (inl (place-digit n is.0 is.1)))) (All-nil IsKeyByte))
-place-bytes (Rksh n) is =
-    All-append IsKeyByte (codes "RKSH-") ((48 + n) ∷ []) (literal (codes "RKSH-") refl)
-    (All-cons IsKeyByte (48 + n) [] (inr (inr (inl (place-digit n is.0 is.1)))) (All-nil IsKeyByte))
-
-place-some : (place : Place) → 0 < length (place_text place)
-place-some (Co East n) = omega arith
-place-some (Co West n) = omega arith
-place-some (Rksh n) = omega arith
-
-place-short : (place : Place) → length (place_text place) ≤ 40
-place-short (Co East n) = omega arith
-place-short (Co West n) = omega arith
-place-short (Rksh n) = omega arith
+abbrev is_word : List ℕ → Bool
+is_word text = nat_le 1 (length text) && (nat_le (length text) 40 && list_all is_key_byte text)
 
 -- the text of a place is a word
 pub place-word : (place : Place) → IsPlace place → IsWord (place_text place)
-place-word place is = record { some = place-some place; short = place-short place; bytes = place-bytes place is }
+place-word place is =
+    let text = place_text place in
+    let some = and_parts (nat_le 1 (length text)) (nat_le (length text) 40 && list_all is_key_byte text) (place-passes is_word refl place is) in
+    let short = and_parts (nat_le (length text) 40) (list_all is_key_byte text) some.1 in
+    record { some = omega (arith, leb-true 1 (length text) some.0); short = leb-true (length text) 40 short.0; bytes = literal text short.1 }
 
 -- ---- what they are not
 
@@ -111,12 +104,6 @@ word-slash text each = lacks-by IsKeyByte 47 (λ h. grind arith) text each
 -- the byte of a word is ASCII
 pub word-below : (b : ℕ) → IsKeyByte b → b < 128
 word-below b h = grind arith
-
--- ---- ASCII is UTF-8
-
--- ASCII is UTF-8
-pub ascii-utf8 : (text : List ℕ) → All (λ b. b < 128) text → IsUtf8 text
-ascii-utf8 text each = IsUtf8-from_ascii text (IsAscii-from_all text each)
 
 -- a word is UTF-8
 pub word-utf8 : (text : List ℕ) → All IsKeyByte text → IsUtf8 text

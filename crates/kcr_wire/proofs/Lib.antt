@@ -10,7 +10,6 @@ pub mod Paths
 pub mod Targets
 pub mod Again
 pub mod Sent
-pub mod SentValues
 pub mod BodiesRead
 pub mod RequestsAgain
 pub mod BodyPieces

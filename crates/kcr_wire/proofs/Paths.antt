@@ -12,7 +12,8 @@ use Rattle.kcr_forms.specs.Forms.{is_key_byte}
 use Rattle.kcr_forms.proofs.Cutting.{Lacks, lacks-by, nowhere}
 use Rattle.kcr_wire.specs.Endpoints.{ascii_in, path_of}
 use Rattle.kcr_wire.proofs.PartLemmas.{ascii_in-some}
-use Rattle.kcr_wire.proofs.Bytes.{IsWord, ascii-utf8, word-below}
+use Rattle.kcr_wire.proofs.Bytes.{IsWord, word-below}
+use Rattle.kcr_forms.proofs.Readers.{ascii-utf8}
 
 -- a piece of a path between slashes, its parts put together from the right
 pub piece : (front part rest : List ℕ) → front ++ part ++ codes "/" ++ rest ≡ front ++ (part ++ 47 ∷ rest)

@@ -1,0 +1,75 @@
+-- The shape of each command: the members behind its path, with the forms of their values.
+use Rattle.std.specs.Prelude.{ℕ, List, [], ◌∷◌, Bool, Option}
+use Rattle.kcr_base.specs.Day.{day_text}
+use Rattle.kcr_base.specs.Facility.{facility_text}
+use Rattle.kcr_base.specs.Forms.{item_of, name_of, remark_of}
+use Rattle.kcr_base.specs.Moment.{moment_text}
+use Rattle.kcr_base.specs.Place.{place_text}
+use Rattle.kcr_base.specs.Role.{role_text}
+use Rattle.kcr_base.specs.declared.refusal.Member.{Member}
+use Rattle.kcr_base.specs.declared.refusal.Member.TheVariants as member
+use Rattle.kcr_custody.specs.Destinations.{destination_text}
+use Rattle.kcr_room.specs.Room.{way_text}
+use Rattle.kcr_history.specs.declared.commands.Act.{Act}
+use Rattle.kcr_history.specs.declared.commands.Act.TheVariants as act
+use Rattle.kcr_forms.specs.Forms.{initials_of, serial_of, day_of, moment_of, place_of, facility_of}
+use Rattle.kcr_forms.specs.Forms.{role_of, way_of, destination_of, script_of}
+use Rattle.kcr_forms.specs.declared.post.Post.{Post}
+use Rattle.kcr_forms.specs.declared.post.Post.TheVariants as post
+
+-- the form of a member's value: a value with a text, by the text of each value and its reader; a number from 1 to 9999; a truth
+-- value; up to so many codes, none of them twice, by their reader
+pub data Form : Type 1 where
+  Text : {V : Type 0} → (V → List ℕ) → (List ℕ → Option V) → Form
+  Number : Form
+  Truth : Form
+  Codes : ℕ → (List ℕ → Option (List ℕ)) → Form
+
+-- what its values are
+abbrev pub ValueOf : Form → Type 0
+ValueOf (Text {V} text_of read) = V
+ValueOf Number = ℕ
+ValueOf Truth = Bool
+ValueOf (Codes most read) = List (List ℕ)
+
+-- a text that is its own value
+abbrev pub code : (List ℕ → Option (List ℕ)) → Form
+code read = Text (λ text. text) read
+
+abbrev pub day : Form
+day = Text day_text day_of
+
+-- the moment of an act
+abbrev pub at : Member × Form
+at = (member.At, Text moment_text moment_of)
+
+-- what makes an act of the values of these members, given one after the other
+abbrev pub Makes : List (Member × Form) → Type 0
+Makes [] = Act
+Makes (m ∷ ms) = ValueOf m.1 → Makes ms
+
+-- the members of a command in their order, and the act that their values make
+pub data Shape : Type 1 where
+  row : (members : List (Member × Form)) → Makes members → Shape
+
+-- the command that is posted to each path
+abbrev pub shape : Post → Shape
+shape post.People = row ((member.Who, code initials_of) ∷ (member.Name, code name_of) ∷ []) act.Enter
+shape (post.Roles who) = row ((member.Role, Text role_text role_of) ∷ (member.From, day) ∷ (member.Until, day) ∷ []) (act.Train who)
+shape (post.Withdrawals who) = row ((member.Role, Text role_text role_of) ∷ (member.Day, day) ∷ []) (act.Withdraw who)
+shape post.Custodians = row ((member.Place, Text place_text place_of) ∷ (member.Who, code initials_of) ∷ (member.Day, day) ∷ []) act.Appoint
+shape (post.Replacement place) = row ((member.Who, code initials_of) ∷ (member.Day, day) ∷ []) (act.Replace place)
+shape (post.Release place) = row ((member.Day, day) ∷ []) (act.Release place)
+shape post.Boxes = row ((member.Facility, Text facility_text facility_of) ∷ (member.Box, Number) ∷ (member.Place, Text place_text place_of) ∷ []) act.AddBox
+shape post.Items = row ((member.Ceremony, Number) ∷ (member.Item, code item_of) ∷ at ∷ []) act.AddItem
+shape post.Ceremonies = row ((member.Number, Number) ∷ (member.Facility, Text facility_text facility_of) ∷ (member.Day, day) ∷ (member.Script, code script_of) ∷ []) act.Plan
+shape (post.Opening ceremony) = row (at ∷ []) (act.Open ceremony)
+shape (post.Closing ceremony) = row (at ∷ []) (act.Close ceremony)
+shape (post.Sheet ceremony) = row ((member.Way, Text way_text way_of) ∷ (member.Who, Codes 32 initials_of) ∷ at ∷ []) (act.RecordSheet ceremony)
+shape (post.Signature ceremony step) = row (at ∷ []) (act.Sign ceremony step)
+shape (post.Exceptions ceremony) = row ((member.Text, code remark_of) ∷ (member.Pass, Truth) ∷ at ∷ []) (act.RecordException ceremony)
+shape (post.Safe ceremony safe) = row ((member.Open, Truth) ∷ (member.By, code initials_of) ∷ at ∷ []) (act.SetSafe ceremony safe)
+shape (post.Seal ceremony serial) = row ((member.Items, Codes 64 item_of) ∷ at ∷ []) (act.Seal ceremony serial)
+shape (post.Take ceremony serial) = row (at ∷ []) (act.Take ceremony serial)
+shape (post.Put ceremony serial) = row ((member.To, Text destination_text destination_of) ∷ at ∷ []) (act.Put ceremony serial)
+shape (post.Cut ceremony serial) = row (at ∷ []) (act.Cut ceremony serial)
