@@ -12,7 +12,7 @@ use Rattle.kcr_custody.specs.Destinations.{destination_text}
 use Rattle.kcr_room.specs.Room.{way_text}
 use Rattle.kcr_history.specs.declared.commands.Act.{Act}
 use Rattle.kcr_history.specs.declared.commands.Act.TheVariants as act
-use Rattle.kcr_forms.specs.Forms.{initials_of, serial_of, day_of, moment_of, place_of, facility_of}
+use Rattle.kcr_forms.specs.Forms.{initials_of, day_of, moment_of, place_of, facility_of}
 use Rattle.kcr_forms.specs.Forms.{role_of, way_of, destination_of, script_of}
 use Rattle.kcr_forms.specs.declared.post.Post.{Post}
 use Rattle.kcr_forms.specs.declared.post.Post.TheVariants as post

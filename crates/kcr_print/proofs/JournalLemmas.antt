@@ -1,9 +1,6 @@
 -- The lines that the rows of accepted commands keep are those of the commands.
-use Rattle.std.proofs.Common.{◌≡◌, ℕ, ◌⊎◌, List, [], map, take, reverse, Option, None, inl, inr, sym, ap, subst, ◌∙◌}
-use Rattle.std.specs.Prelude.{IsTrue, Result, ⊤, unwrap_or}
-use Rattle.std.specs.Coded.{coded_ℕ, coded_list}
-use base.Stored.{Coded-set}
-use Rattle.std.proofs.Math.Logic.{∥∥₁_elim}
+use Rattle.std.proofs.Common.{◌≡◌, ℕ, List, [], map, take, reverse, Option, ap, subst, ◌∙◌}
+use Rattle.std.specs.Prelude.{Result, ⊤}
 use Rattle.std.specs.List.{AllByRecursion, flat_map}
 use Rattle.std.proofs.lemmas.List.{take-map}
 use Rattle.std.proofs.lemmas.List.Sorted.{IsPermutation-reverse}

@@ -5,7 +5,6 @@ use Rattle.sqlite.specs.Store.{Ghosts}
 use Rattle.kcr_base.specs.Counted.{inner_of}
 use Rattle.kcr_base.specs.declared.counted.Counted.{Counted}
 use Rattle.kcr_forms.specs.Values.{AreValues}
-use Rattle.kcr_history.specs.History.{History}
 use Rattle.kcr_history.specs.Tables.{Tables, tables}
 use Rattle.kcr_journal.specs.Journal.{journal, row_line}
 use Rattle.kcr_reading.specs.Commands.{commands_within}
