@@ -8,4 +8,4 @@ pub returns : goal.returns
 returns g c =
     let e = c.custody-outcome.ensures in
     text_answered g.S.Store _ Text c.into_inner-text.result.items custody
-    e (λ clean A at. search (rules, e.printed clean A at)) c.report_response.ensures
+    e.prints (λ clean A at. search (rules, e.prints.printed clean A at)) c.report_response.ensures
