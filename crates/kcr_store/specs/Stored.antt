@@ -27,6 +27,6 @@ OfStored g old new Says =
     IfClean g old new (λ before _. (A : History) → (IsTrue before.is_open → Stores A before.now) → Says A)
 
 -- said of whatever rows the database held, if it was open, by a call that leaves the disk clean
-abbrev pub OfRows : {S : Type 0} → Ghosts S → Transaction S → Transaction S → (Tables → Type 0) → Type 0
-OfRows g old new Says =
+abbrev pub OfStoredRows : {S : Type 0} → Ghosts S → Transaction S → Transaction S → (Tables → Type 0) → Type 0
+OfStoredRows g old new Says =
     IfClean g old new (λ before _. (m : Tables) → (IsTrue before.is_open → HoldsTables m before.now) → Says m)

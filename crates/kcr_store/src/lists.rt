@@ -8,7 +8,7 @@ ghost use Rattle.kcr_store.specs.Commands.{IsQuestionRefusal, MayRefuseQuestion}
 ghost use Rattle.kcr_store.specs.Rows.{IsRowOf, HasNoRow, MayHaveNoRow};
 ghost use Rattle.kcr_store.specs.ShownBy.{AreStepsShownBy, IsSheetShownBy, IsCustodyShownBy};
 ghost use Rattle.kcr_store.specs.ShownBy.{HasNoRowBy, IsQuestionRefusalBy, IsRowBy};
-ghost use Rattle.kcr_store.specs.Stored.{OfRows, OfStored};
+ghost use Rattle.kcr_store.specs.Stored.{OfStoredRows, OfStored};
 
 use kcr_base::{CeremonyNumber, Refusal, Thing};
 use kcr_custody::SafeRow;
@@ -27,7 +27,7 @@ pub(crate) fn find_ceremony<S: Alter>(
     ceremony: CeremonyNumber,
 ) -> Result<CeremonyRow, Refusal>
     ensures row { OfStored S.Store tx.old tx.new (λ A. MatchResult result (IsRowOf A ceremony) (HasNoRow A ceremony)) }
-    ensures rows { OfRows S.Store tx.old tx.new (λ m. MatchResult result (IsRowBy m ceremony) (HasNoRowBy m ceremony)) }
+    ensures rows { OfStoredRows S.Store tx.old tx.new (λ m. MatchResult result (IsRowBy m ceremony) (HasNoRowBy m ceremony)) }
     ensures opened { ImpliesOpen S.Store tx.old tx.new result }
     ensures tables { ChangesMachineTables S.Store tx.old tx.new result (λ m. m) }
     ensures frame { StaysInTransaction S.Store (MayHaveNoRow ceremony) tx.old tx.new result }
@@ -46,7 +46,7 @@ pub(crate) fn read_steps<S: Alter>(
 ) -> Result<StepsShown, Refusal>
     ensures shown { OfStored S.Store tx.old tx.new (λ A. MatchResult result (AreStepsShown A ceremony)
         (IsQuestionRefusal A (Question.Steps ceremony))) }
-    ensures rows { OfRows S.Store tx.old tx.new (λ m. MatchResult result (AreStepsShownBy m ceremony)
+    ensures rows { OfStoredRows S.Store tx.old tx.new (λ m. MatchResult result (AreStepsShownBy m ceremony)
         (IsQuestionRefusalBy m (Question.Steps ceremony))) }
     ensures frame { StaysInTransaction S.Store (MayRefuseQuestion (Question.Steps ceremony)) tx.old tx.new result }
 {
@@ -68,7 +68,7 @@ pub(crate) fn read_sheet<S: Alter>(
 ) -> Result<Vec<StayWithName>, Refusal>
     ensures shown { OfStored S.Store tx.old tx.new (λ A. MatchResult result (λ stays. IsSheetShown A ceremony stays.items)
         (IsQuestionRefusal A (Question.Sheet ceremony))) }
-    ensures rows { OfRows S.Store tx.old tx.new (λ m. MatchResult result (λ stays. IsSheetShownBy m ceremony stays.items)
+    ensures rows { OfStoredRows S.Store tx.old tx.new (λ m. MatchResult result (λ stays. IsSheetShownBy m ceremony stays.items)
         (IsQuestionRefusalBy m (Question.Sheet ceremony))) }
     ensures frame { StaysInTransaction S.Store (MayRefuseQuestion (Question.Sheet ceremony)) tx.old tx.new result }
 {
@@ -82,7 +82,7 @@ pub(crate) fn read_custody<S: Alter>(
     tx: &mut Transaction<'_, S>,
 ) -> Result<CustodyShown, Refusal>
     ensures shown { OfStored S.Store tx.old tx.new (λ A. IfOk result (IsCustodyShown A)) }
-    ensures rows { OfRows S.Store tx.old tx.new (λ m. IfOk result (IsCustodyShownBy m)) }
+    ensures rows { OfStoredRows S.Store tx.old tx.new (λ m. IfOk result (IsCustodyShownBy m)) }
     ensures frame { StaysInTransaction S.Store IsFault tx.old tx.new result }
 {
     let safes = all_rows::<_, SafeRow>(alloc, tx)?;

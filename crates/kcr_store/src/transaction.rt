@@ -10,7 +10,7 @@ ghost use Rattle.kcr_tables.specs.MachineTables.{HoldsTables};
 ghost use Rattle.kcr_tables.specs.Refusals.{IsFault};
 ghost use Rattle.kcr_rows.specs.Frame.{state_in, IfClean, ImpliesOpen, StaysInTransaction};
 ghost use Rattle.kcr_store.specs.Frame.{IfCleanOver, OfDurable, OfRowsOver, OnlyReads};
-ghost use Rattle.kcr_store.specs.Stored.{Stores, OfRows, OfStored};
+ghost use Rattle.kcr_store.specs.Stored.{Stores, OfStoredRows, OfStored};
 ghost use Rattle.kcr_history.specs.Questions.{ArePeopleShown, AreCustodiansShown, IsBagShown, IsRoomShown};
 ghost use Rattle.kcr_store.specs.Commands as steps;
 ghost use Rattle.kcr_store.specs.Commands.{AppliesCommand, with_reply, IsQuestionResult, IsQuestionRefusal, MayBeReplied, MayRefuseQuestion};
@@ -162,7 +162,7 @@ pub(crate) trait TableQuery {
         tx: &mut Transaction<'_, S>,
     ) -> Result<Self::Answer, Refusal>
         ensures answer { OfStored S.Store tx.old tx.new (λ A. is_answer self.now A result) }
-        ensures rows { OfRows S.Store tx.old tx.new (λ m. is_answer_by self.now m result) }
+        ensures rows { OfStoredRows S.Store tx.old tx.new (λ m. is_answer_by self.now m result) }
         ensures by_rows { IfOk result (may_answer self.now) }
         ensures frame { StaysInTransaction S.Store (may_refuse self.now) tx.old tx.new result };
 }
@@ -217,7 +217,7 @@ fn read_people<S: Alter>(
     tx: &mut Transaction<'_, S>,
 ) -> Result<Vec<PersonShown>, Refusal>
     ensures shown { OfStored S.Store tx.old tx.new (λ A. IfOk result (λ rows. ArePeopleShown A rows.items)) }
-    ensures rows { OfRows S.Store tx.old tx.new (λ m. IfOk result (λ rows. ArePeopleShownBy m rows.items)) }
+    ensures rows { OfStoredRows S.Store tx.old tx.new (λ m. IfOk result (λ rows. ArePeopleShownBy m rows.items)) }
     ensures by_rows { IfOk result (λ rows. IsShownByRows Question.People (Shown.People rows)) }
     ensures frame { StaysInTransaction S.Store IsFault tx.old tx.new result }
 {
@@ -234,7 +234,7 @@ fn read_custodians<S: Alter>(
     day: Day,
 ) -> Result<CustodiansShown, Refusal>
     ensures shown { OfStored S.Store tx.old tx.new (λ A. IfOk result (AreCustodiansShown A day)) }
-    ensures rows { OfRows S.Store tx.old tx.new (λ m. IfOk result (AreCustodiansShownBy m day)) }
+    ensures rows { OfStoredRows S.Store tx.old tx.new (λ m. IfOk result (AreCustodiansShownBy m day)) }
     ensures by_rows { IfOk result (λ shown. IsShownByRows (Question.Custodians day) (Shown.Custodians shown)) }
     ensures frame { StaysInTransaction S.Store IsFault tx.old tx.new result }
 {
@@ -250,7 +250,7 @@ fn read_bag<S: Alter>(
 ) -> Result<BagShown, Refusal>
     ensures shown { OfStored S.Store tx.old tx.new (λ A. MatchResult result (IsBagShown A serial)
         (IsQuestionRefusal A (Question.Bag serial))) }
-    ensures rows { OfRows S.Store tx.old tx.new (λ m. MatchResult result (IsBagShownBy m serial)
+    ensures rows { OfStoredRows S.Store tx.old tx.new (λ m. MatchResult result (IsBagShownBy m serial)
         (IsQuestionRefusalBy m (Question.Bag serial))) }
     ensures by_rows { IfOk result (λ shown. IsShownByRows (Question.Bag serial) (Shown.Bag shown)) }
     ensures frame { StaysInTransaction S.Store (MayRefuseQuestion (Question.Bag serial)) tx.old tx.new result }
@@ -277,7 +277,7 @@ fn read_room<S: Alter>(
 ) -> Result<RoomShown, Refusal>
     ensures shown { OfStored S.Store tx.old tx.new (λ A. MatchResult result (IsRoomShown A ceremony at)
         (IsQuestionRefusal A (Question.Room ceremony at))) }
-    ensures rows { OfRows S.Store tx.old tx.new (λ m. MatchResult result (IsRoomShownBy m ceremony at)
+    ensures rows { OfStoredRows S.Store tx.old tx.new (λ m. MatchResult result (IsRoomShownBy m ceremony at)
         (IsQuestionRefusalBy m (Question.Room ceremony at))) }
     ensures by_rows { IfOk result (λ shown. IsShownByRows (Question.Room ceremony at) (Shown.Room shown)) }
     ensures frame { StaysInTransaction S.Store (MayRefuseQuestion (Question.Room ceremony at)) tx.old tx.new result }
