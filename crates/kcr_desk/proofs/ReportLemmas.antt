@@ -9,6 +9,7 @@ use Rattle.kcr_base.specs.declared.refusal.Refusal.TheVariants as Refusals
 use Rattle.kcr_forms.specs.Values.{AreValues}
 use Rattle.kcr_history.specs.Ceremonies.{is_ceremony}
 use Rattle.kcr_history.specs.History.{History}
+use Rattle.kcr_history.specs.Tables.{Tables}
 use Rattle.kcr_tables.specs.Refusals.{IsFault}
 use Rattle.kcr_store.specs.Register.{IsConsistent, RegisterState, StandsAt}
 use Rattle.kcr_store.specs.Calls.{ReadsHistory, OfHistory, left_at}
@@ -21,7 +22,7 @@ use Rattle.kcr_print.specs.declared.fault.PrintFault.TheVariants.{Refused, Write
 use Rattle.kcr_desk.specs.declared.response.MediaType.{MediaType}
 use Rattle.kcr_desk.specs.Answers.{IsReported, IsText, IsFeed, IsFeedText, feed, no_command, MayBeFed, MayBeReported, MayBeText, outcome_of, report_response, Replies, RespondsOrMemory, RespondsRefusal, AnswersReading}
 use Rattle.kcr_desk.specs.Texts.{ResponseValue}
-use Rattle.kcr_desk.proofs.AnswerLemmas.{reading_answered}
+use Rattle.kcr_desk.proofs.AnswerLemmas.{not_so, reading_answered}
 
 disk_outcome : (outcome : Result ⊤ PrintFault) (text : List ℕ)
     → (outcome ≡ Err (Refused Refusals.Disk)) ↔ (outcome_of outcome text ≡ Err Refusals.Disk)
@@ -68,7 +69,7 @@ module _ {S W : Type 0} (g : Ghosts S) {contents : W → Option (List ℕ)} {bef
       → ((r : Refusal) → IsFault r ⊎ MayDeny r → MayFail r) → Prints g contents before after x y outcome D MayDeny t
       → OfHistory g before after (λ A. Says A (outcome_of outcome text))
       → RespondsOrMemory (report_response kind) (outcome_of outcome text) told
-      → AnswersReading g before told after (report_response kind) (λ result. IfErr result MayFail) Says
+      → AnswersReading g before told after (report_response kind) (λ result. IfErr result MayFail) Says (λ _ result. IfErr result MayFail)
   says_answered MayDeny MayFail Says may prints says =
       let disk = disk_outcome outcome text in
       let leaves = prints.leaves in
@@ -81,8 +82,8 @@ module _ {S W : Type 0} (g : Ghosts S) {contents : W → Option (List ℕ)} {bef
         clean = prints.clean;
         kept = prints.kept;
       } in
-      reading_answered g before after told (report_response kind) (λ r. refl) (outcome_of outcome text) Says
-      (λ result. IfErr result MayFail) (may Refusals.Memory (inl (inl refl))) looks.cause looks says
+      reading_answered g before after told (report_response kind) (λ r. refl) (outcome_of outcome text) Says (λ _ result. IfErr result MayFail)
+      (λ result. IfErr result MayFail) (may Refusals.Memory (inl (inl refl))) looks.cause looks says (λ whole clean m had. looks.cause whole)
 
   -- a report of a ceremony
   pub report_answered : {D : History → Refusal → Type 0} {t : History → List ℕ} (report : History → ℕ → List ℕ) (ceremony : ℕ)
@@ -90,7 +91,7 @@ module _ {S W : Type 0} (g : Ghosts S) {contents : W → Option (List ℕ)} {bef
       → OfHistory g before after (λ A. IsPrinted (IsNotPlanned A ceremony) (report A ceremony) outcome (Some []) (Some text))
       → OfHistory g before after (λ A. OnOk outcome (IsTrue (is_ceremony A ceremony)))
       → RespondsOrMemory (report_response kind) (outcome_of outcome text) told
-      → AnswersReading g before told after (report_response kind) (MayBeReported ceremony) (IsReported report ceremony)
+      → AnswersReading g before told after (report_response kind) (MayBeReported ceremony) (IsReported report ceremony) (λ _. MayBeReported ceremony)
   report_answered report ceremony prints printed planned =
       says_answered (NamesCeremony ceremony) (MayHaveNoRow ceremony) (IsReported report ceremony) (λ r h. h) prints
       (λ c A at. reported report ceremony A outcome text (printed c A at) (planned c A at))
@@ -100,7 +101,7 @@ module _ {S W : Type 0} (g : Ghosts S) {contents : W → Option (List ℕ)} {bef
       → Prints g contents before after x y outcome D (λ _. ⊥) t
       → OfHistory g before after (λ A. IsPrinted (λ _. ⊥) (text_of A) outcome (Some []) (Some text))
       → RespondsOrMemory (report_response kind) (outcome_of outcome text) told
-      → AnswersReading g before told after (report_response kind) MayBeText (IsText text_of)
+      → AnswersReading g before told after (report_response kind) MayBeText (IsText text_of) (λ _. MayBeText)
   text_answered text_of prints printed =
       says_answered (λ _. ⊥) IsFault (IsText text_of) (λ r h. undenied r h) prints
       (λ c A at. is_text text_of A outcome text (printed c A at))
@@ -109,23 +110,20 @@ module _ {S W : Type 0} (g : Ghosts S) {contents : W → Option (List ℕ)} {bef
   pub feed_answered : {n u : ℕ} (number count : ℕ) → 0 < count → count ≤ 1000 → Exports g contents before after x y outcome n u
       → OfHistory g before after (λ A. AreValues A → IsPrinted (λ _. ⊥) (feed number count A) outcome (Some []) (Some text))
       → (before.is_broken ≡ false → number ≤ before.last_number) → RespondsOrMemory (report_response kind) (outcome_of outcome text) told
-      → AnswersReading g before told after (report_response kind) (MayBeFed number) (IsFeed number)
+      → AnswersReading g before told after (report_response kind) (MayBeFed number) (IsFeed number) (λ _. MayBeFed number)
   feed_answered number count some most exports requests enough =
       says_answered (λ _. ⊥) (λ refusal. IsFault refusal ⊎ (refusal ≡ no_command number)) (IsFeed number) (λ r h. inl (undenied r h)) exports.prints
       (λ c A at values. let counts = (at.shows refl).counts (exports.prints.clean c) in
       is_feed number count A outcome text some most (subst (λ n. number ≤ n) counts (enough at.broken)) (requests c A at values))
 
-not_so : (b : Bool) → (IsTrue b → ⊥) → b ≡ false
-not_so true never = absurd (never refl)
-not_so false never = refl
-
 -- after an export of which the writer did not take all, a register answers as it would have before
 module _ {S W Value : Type 0} (g : Ghosts S) {contents : W → Option (List ℕ)} {before between after : RegisterState S} {x y : Counted W} {outcome : Result ⊤ PrintFault} where
   pub answered_again : {D : History → Refusal → Type 0} {MayDeny : Refusal → Type 0} {t : History → List ℕ} (told : ResponseValue)
       (told_by : Result Value Refusal → ResponseValue) (MayBe : Result Value Refusal → Type 0) (Says : History → Result Value Refusal → Type 0)
+      (SaysBy : Tables → Result Value Refusal → Type 0)
       → Prints g contents before between x y outcome D MayDeny t → outcome ≡ Err Write
-      → AnswersReading g between told after told_by MayBe Says → AnswersReading g before told after told_by MayBe Says
-  answered_again told told_by MayBe Says prints ended answers =
+      → AnswersReading g between told after told_by MayBe Says SaysBy → AnswersReading g before told after told_by MayBe Says SaysBy
+  answered_again told told_by MayBe Says SaysBy prints ended answers =
       let whole : before.is_broken ≡ false =
       not_so before.is_broken (λ yes. let e : ◌≡◌ {A = Result ⊤ PrintFault} (Err Write) (Err (Refused Refusals.Broken)) = sym ended ∙ (prints.broken yes).0 in cc) in
       let still : between.is_broken ≡ false =
@@ -136,13 +134,18 @@ module _ {S W Value : Type 0} (g : Ghosts S) {contents : W → Option (List ℕ)
         reply = subst (λ (b : Bool). RespondsRefusal b told after.is_broken Refusals.Memory ⊎ Replies told_by MayBe b told after.is_broken) (still ∙ sym whole)
             answers.reply;
         answer = λ now s at. answers.answer now s (subst (λ (b : Bool). StandsAt g (left_at b s) between) still (prints.leaves.stands s at));
+        rows = λ now t at. answers.rows now t (record {
+          broken = still ∙ sym whole ∙ at.broken;
+          number = prints.leaves.nothing.number ∙ at.number;
+          shows = λ calm. prints.leaves.nothing.rows t.rows (at.shows calm);
+        });
       }
 
 -- the number that a feed begins behind is none of a command
 pub unknown_answered : {S : Type 0} (g : Ghosts S) (register : RegisterState S) (told : ResponseValue) (kind : MediaType) (number : ℕ)
     → IsConsistent g register → register.is_broken ≡ false → register.last_number < number
     → RespondsOrMemory (report_response kind) (Err (no_command number)) told
-    → AnswersReading g register told register (report_response kind) (MayBeFed number) (IsFeed number)
+    → AnswersReading g register told register (report_response kind) (MayBeFed number) (IsFeed number) (λ _. MayBeFed number)
 unknown_answered g register told kind number kept unbroken few =
     let MayFail : Refusal → Type 0 = λ refusal. IsFault refusal ⊎ (refusal ≡ no_command number) in
     let unknown : Result (List ℕ) Refusal = Err (no_command number) in
@@ -155,6 +158,6 @@ unknown_answered g register told kind number kept unbroken few =
       clean = λ clean. clean;
       kept = kept;
     } in
-    reading_answered g register register told (report_response kind) (λ r. refl) unknown (IsFeed number) (MayBeFed number)
+    reading_answered g register register told (report_response kind) (λ r. refl) unknown (IsFeed number) (λ _. MayBeFed number) (MayBeFed number)
     (inl (inl refl)) looks.cause looks
-    (λ clean A at values. inr (subst (λ (n : ℕ). n < number) ((at.shows refl).counts clean) few, refl))
+    (λ clean A at values. inr (subst (λ (n : ℕ). n < number) ((at.shows refl).counts clean) few, refl)) (λ whole clean m had. looks.cause whole)

@@ -5,14 +5,14 @@ use Rattle.kcr_base.specs.Counted.{failures_of, nonempty_reads_of}
 use Rattle.sqlite.specs.Held.{state}
 use Rattle.sqlite.specs.State.{HasCleanDisk}
 use Rattle.sqlite.specs.Store.{Ghosts}
-use Rattle.kcr_store.specs.Register.{RegisterState, StandsAt}
-use Rattle.kcr_store.specs.Calls.{Leads}
+use Rattle.kcr_store.specs.Register.{RegisterState, ShowsAt, StandsAt}
+use Rattle.kcr_store.specs.Calls.{Leads, RowsLead}
 use Rattle.kcr_desk.specs.declared.fault.DeskFault.{DeskFault}
 use Rattle.kcr_desk.specs.declared.fault.DeskFault.TheVariants.{Read, Write, Memory}
 use Rattle.kcr_desk.specs.declared.stream.Served.{Served}
-use Rattle.kcr_desk.specs.Answers.{Answers, IsAnswer, IsReply}
+use Rattle.kcr_desk.specs.Answers.{Answers, IsAnswer, IsAnswerByRows, IsReply}
 use Rattle.kcr_desk.specs.Connections.{Ends}
-use Rattle.kcr_desk.specs.Run.{Request, Exchange, Run, IsServed, IsServedInPart}
+use Rattle.kcr_desk.specs.Run.{Request, Exchange, Run, IsServed, IsServedInPart, request_of}
 use Rattle.kcr_desk.specs.Streams.{Streams, BreaksStream}
 use Rattle.kcr_desk.specs.Texts.{ResponseValue}
 
@@ -28,13 +28,40 @@ module _ {S : Type 0} (g : Ghosts S) where
   run_replies before after [] run = ap (λ (r : RegisterState S). r.is_broken) run
   run_replies before after (x ∷ xs) run = (run.0.is_broken, run.1.reply, run_replies run.0 after xs run.2)
 
-  -- from whatever history the register stands at
-  pub run_answers : (before after : RegisterState S) (xs : List Exchange) → Run (Answers g) before xs after → Leads g before after (λ s end. Run IsAnswer s xs end)
-  run_answers before after [] run clean s at = (s, subst (StandsAt g s) run at, refl)
-  run_answers before after (x ∷ xs) run clean s at =
-      let one = run.1.answer (run_clean run.0 after xs run.2 clean) s at in
-      let rest = run_answers run.0 after xs run.2 clean one.0 one.1 in
-      (rest.0, rest.1, (one.0, one.2, rest.2))
+-- from wherever a register stands, in either sense, each message leads to where it stands afterwards; so a run does
+module _ {S Stand : Type 0} (g : Ghosts S) (Stands : Stand → RegisterState S → Type 0) (step : Stand → Request → ResponseValue → Stand → Type 0) where
+  -- as `Leads` and `RowsLead`
+  abbrev pub Moves : RegisterState S → RegisterState S → (Stand → Stand → Type 0) → Type 0
+  Moves before after Says =
+      HasCleanDisk (state g after.conn) → (s : Stand) → Stands s before → (end : Stand) × Stands end after × Says s end
+
+  module _ (one : (a b : RegisterState S) (asked : Request) (told : ResponseValue) → Answers g a asked told b → Moves a b (λ s end. step s asked told end)) where
+    run_moves : (before after : RegisterState S) (xs : List Exchange) → Run (Answers g) before xs after → Moves before after (λ s end. Run step s xs end)
+    run_moves before after [] run clean s at = (s, subst (Stands s) run at, refl)
+    run_moves before after (x ∷ xs) run clean s at =
+        let now = one before run.0 (request_of x.message) x.reply run.1 (run_clean g run.0 after xs run.2 clean) s at in
+        let rest = run_moves run.0 after xs run.2 clean now.0 now.1 in
+        (rest.0, rest.1, (now.0, now.2, rest.2))
+
+    -- and so does a stream
+    pub ends_moved : {R W : Type 0} (s : Streams R W) (before after : RegisterState S) (result : Result Served DeskFault)
+        → Ends (Answers g) s before after result → Moves before after (λ stand end. Ends step s stand end result)
+    ends_moved s before after (Ok served) ends clean stand at =
+        let run = run_moves before after ends.exchanges ends.run clean stand at in (
+          run.0,
+          run.1,
+          record {
+            exchanges = ends.exchanges;
+            ending = ends.ending;
+            cut = ends.cut;
+            run = run.2;
+            written = ends.written;
+            requests = ends.requests;
+          },
+        )
+    ends_moved s before after (Err fault) ends clean stand at =
+        let run = run_moves before after ends.exchanges ends.run clean stand at in
+        (run.0, run.1, record { exchanges = ends.exchanges; next = ends.next; begins = ends.begins; run = run.2; written = ends.written })
 
 -- a stream that was served by these steps was so by others, if these lead as those do
 module _ {S R : Type 0} {step : S → Request → ResponseValue → S → Type 0} {other : R → Request → ResponseValue → R → Type 0} {input a b : Option (List ℕ)}
@@ -59,31 +86,21 @@ ran step s before after (Ok served) ends = (ends.exchanges, ends.run)
 ran step s before after (Err fault) ends = (ends.exchanges, ends.run)
 
 -- a stream ended by these steps, and so by others
-pub is_open_stay_of : {S T R W : Type 0} (step : S → Request → ResponseValue → S → Type 0) (other : T → Request → ResponseValue → T → Type 0) (s : Streams R W)
+pub ends_by : {S T R W : Type 0} (step : S → Request → ResponseValue → S → Type 0) (other : T → Request → ResponseValue → T → Type 0) (s : Streams R W)
     (before after : S) (first last : T) (result : Result Served DeskFault) → ((xs : List Exchange) → Run step before xs after → Run other first xs last)
     → Ends step s before after result → Ends other s first last result
-is_open_stay_of step other s before after first last (Ok served) leads ends = served_by leads ends
-is_open_stay_of step other s before after first last (Err fault) leads ends = broken_by leads ends
+ends_by step other s before after first last (Ok served) leads ends = served_by leads ends
+ends_by step other s before after first last (Err fault) leads ends = broken_by leads ends
 
 -- a stream that a register ended: from whatever history it stood at, by the machine
 pub ends_answered : {S R W : Type 0} (g : Ghosts S) (s : Streams R W) (before after : RegisterState S) (result : Result Served DeskFault)
     → Ends (Answers g) s before after result → Leads g before after (λ stand end. Ends IsAnswer s stand end result)
-ends_answered g s before after (Ok served) ends clean stand at =
-    let run = run_answers g before after ends.exchanges ends.run clean stand at in (
-      run.0,
-      run.1,
-      record {
-        exchanges = ends.exchanges;
-        ending = ends.ending;
-        cut = ends.cut;
-        run = run.2;
-        written = ends.written;
-        requests = ends.requests;
-      },
-    )
-ends_answered g s before after (Err fault) ends clean stand at =
-    let run = run_answers g before after ends.exchanges ends.run clean stand at in
-    (run.0, run.1, record { exchanges = ends.exchanges; next = ends.next; begins = ends.begins; run = run.2; written = ends.written })
+ends_answered g = ends_moved g (StandsAt g) IsAnswer (λ a b asked told answers. answers.answer)
+
+-- and by whatever rows it showed
+pub ends_by_rows : {S R W : Type 0} (g : Ghosts S) (s : Streams R W) (before after : RegisterState S) (result : Result Served DeskFault)
+    → Ends (Answers g) s before after result → RowsLead g before after (λ t end. Ends IsAnswerByRows s t end result)
+ends_by_rows g = ends_moved g (ShowsAt g) IsAnswerByRows (λ a b asked told answers. answers.rows)
 
 -- what the counts of the reader and of the writer tell of a fault
 pub broken_stream : {T R W : Type 0} (s : Streams R W) (result : Result T DeskFault)

@@ -17,12 +17,15 @@ use Rattle.kcr_history.specs.declared.commands.Command.{Command}
 use Rattle.kcr_history.specs.declared.commands.Reply.{Reply}
 use Rattle.kcr_history.specs.Ceremonies.{is_ceremony}
 use Rattle.kcr_history.specs.Prints.{annotated, attendance, custody}
+use Rattle.kcr_history.specs.Tables.{Tables}
 use Rattle.kcr_tables.specs.Refusals.{IsFault}
 use Rattle.kcr_store.specs.Register.{RegisterState}
-pub use Rattle.kcr_store.specs.Register.{RegisterHistory, whole}
-use Rattle.kcr_store.specs.Calls.{Leads}
+pub use Rattle.kcr_store.specs.Register.{RegisterHistory, RegisterRows, whole}
+use Rattle.kcr_store.specs.ByRows.{DecidesRows}
+use Rattle.kcr_store.specs.Calls.{Leads, RowsLead}
 use Rattle.kcr_store.specs.Rows.{HasNoRow, MayHaveNoRow}
 use Rattle.kcr_store.specs.Shown.{IsShownByRows}
+use Rattle.kcr_store.specs.ShownBy.{IsQuestionResultBy}
 use Rattle.kcr_store.specs.Commands.{AppliesCommand, IsSameOrNext, IsQuestionResult, MayBeReplied, MayRefuseQuestion}
 use Rattle.kcr_history.specs.declared.questions.Question.{Question}
 use Rattle.kcr_history.specs.declared.questions.Shown.{Shown}
@@ -229,6 +232,57 @@ IsReply before asked told after =
     RespondsRefusal before told after Refusals.Memory
     ⊎ RepliesBy (method_of asked.method) before asked told after
 
+-- BY WHATEVER ROWS THE TABLES HOLD
+
+-- what only reads says this of the rows, and keeps them. A fault of the device alone breaks the register
+pub record ReadsRows {Value : Type 0} (Says : Tables → Result Value Refusal → Type 0) (before : RegisterRows)
+    (result : Result Value Refusal) (after : RegisterRows) : Type 0 where
+  pub says : Says before.rows result
+  pub rows : after.rows ≡ before.rows
+  pub number : after.last_number ≡ before.last_number
+  pub breaks : IsTrue after.is_broken ↔ (result ≡ Err Refusals.Disk)
+
+-- a register that is not broken does this and tells its result. A broken one says so, and stays as it was
+abbrev pub TakesByRows : {Value : Type 0} → (Result Value Refusal → ResponseValue)
+    → (RegisterRows → Result Value Refusal → RegisterRows → Type 0) → RegisterRows → ResponseValue → RegisterRows → Type 0
+TakesByRows {Value} told_by Does before told after =
+    MatchBool before.is_broken
+    (RespondsRefusal before told after Refusals.Broken)
+    ((result : Result Value Refusal) × (told ≡ told_by result) × Does before result after)
+
+-- a command: the rows decide it
+abbrev pub TakesCommandByRows : RegisterRows → ResponseValue → RegisterRows → Command → Type 0
+TakesCommandByRows before told after x = TakesByRows reply_response (λ t result end. DecidesRows t x result end) before told after
+
+-- a question is shown what the rows show. Of a report no more is said than of any register
+abbrev pub TakesInquiryByRows : RegisterRows → ResponseValue → RegisterRows → Inquiry → Type 0
+TakesInquiryByRows before told after (inquiry.Question question) =
+    TakesByRows shown_response (ReadsRows (λ m result. IsQuestionResultBy m question result)) before told after
+TakesInquiryByRows before told after (inquiry.Script ceremony) =
+    TakesByRows (report_response Text) (ReadsRows (λ _. MayBeReported ceremony)) before told after
+TakesInquiryByRows before told after (inquiry.Attendance ceremony) =
+    TakesByRows (report_response Csv) (ReadsRows (λ _. MayBeReported ceremony)) before told after
+TakesInquiryByRows before told after inquiry.Custody =
+    TakesByRows (report_response Text) (ReadsRows (λ _. MayBeText)) before told after
+TakesInquiryByRows before told after (inquiry.Commands number) =
+    TakesByRows (report_response Text) (ReadsRows (λ _. MayBeFed number)) before told after
+
+-- a POST is a command, a GET or a HEAD asks for something, and any other method is refused
+abbrev pub AnswersByRows : Method → RegisterRows → Request → ResponseValue → RegisterRows → Type 0
+AnswersByRows Post before asked told after =
+    MatchResult (command_of asked.target asked.body)
+    (TakesCommandByRows before told after) (RespondsUnread before asked.target told after)
+AnswersByRows Ask before asked told after =
+    MatchResult (question_of asked.target)
+    (TakesInquiryByRows before told after) (RespondsUnread before asked.target told after)
+AnswersByRows Other before asked told after = RespondsUnread before asked.target told after (refused_of asked.target)
+
+-- what a message is told by whatever rows the register shows, and what it leaves of them
+abbrev pub IsAnswerByRows : RegisterRows → Request → ResponseValue → RegisterRows → Type 0
+IsAnswerByRows before asked told after =
+    RespondsRefusal before told after Refusals.Memory
+    ⊎ AnswersByRows (method_of asked.method) before asked told after
+
 -- REGISTERS
 
 -- its history, and the one that a crash may have left in its place, are those of registers
@@ -243,36 +297,40 @@ AreOfMachine s = IsOfMachine s.accepted × IsOfMachine (unwrap_or s.in_doubt s.a
 abbrev pub AreOfValues : RegisterHistory → Type 0
 AreOfValues s = AreValues s.accepted × AreValues (unwrap_or s.in_doubt s.accepted)
 
--- a message is answered by a register: in any case a reply; and from whatever history the register stands at, as long
--- as its disk is clean, the answer
+-- a message is answered by a register: in any case a reply; and as long as its disk is clean the answer, from whatever
+-- history the register stands at, and by whatever rows it shows
 pub record Answered
     {S : Type 0} (g : Ghosts S) (before : RegisterState S) (told : ResponseValue) (after : RegisterState S)
-    (Answer : RegisterHistory → RegisterHistory → Type 0) (Reply : Bool → Bool → Type 0) : Type 0 where
+    (Answer : RegisterHistory → RegisterHistory → Type 0) (ByRows : RegisterRows → RegisterRows → Type 0)
+    (Reply : Bool → Bool → Type 0) : Type 0 where
   pub clean : HasCleanDisk (state g after.conn) → HasCleanDisk (state g before.conn)
   pub reply : RespondsRefusal before.is_broken told after.is_broken Refusals.Memory
       ⊎ Reply before.is_broken after.is_broken
   pub answer : Leads g before after (λ s end. RespondsRefusal s told end Refusals.Memory ⊎ Answer s end)
+  pub rows : RowsLead g before after (λ t end. RespondsRefusal t told end Refusals.Memory ⊎ ByRows t end)
 
 -- a command
 abbrev pub AnswersCommand : {S : Type 0} → Ghosts S → RegisterState S → ResponseValue → RegisterState S → Command → Type 0
 AnswersCommand g before told after x =
     Answered g before told after
-    (λ old new. TakesCommand old told new x)
+    (λ old new. TakesCommand old told new x) (λ old new. TakesCommandByRows old told new x)
     (λ old new. Replies reply_response (MayBeReplied x) old told new)
 
--- what only reads: how its result is told, what it may get, and what it says of the history
+-- what only reads: how its result is told, what it may get, and what it says of the history and of the rows
 abbrev pub AnswersReading : {S Value : Type 0} → Ghosts S → RegisterState S → ResponseValue → RegisterState S
     → (Result Value Refusal → ResponseValue) → (Result Value Refusal → Type 0) → (History → Result Value Refusal → Type 0)
-    → Type 0
-AnswersReading g before told after told_by MayBe Says =
+    → (Tables → Result Value Refusal → Type 0) → Type 0
+AnswersReading g before told after told_by MayBe Says SaysBy =
     Answered g before told after
-    (λ old new. TakesReading told_by Says old told new) (λ old new. Replies told_by MayBe old told new)
+    (λ old new. TakesReading told_by Says old told new) (λ old new. TakesByRows told_by (ReadsRows SaysBy) old told new)
+    (λ old new. Replies told_by MayBe old told new)
 
 -- a question, or a report
 abbrev pub AnswersInquiry : {S : Type 0} → Ghosts S → RegisterState S → ResponseValue → RegisterState S → Inquiry → Type 0
 AnswersInquiry g before told after inquiry =
     Answered g before told after
-    (λ old new. TakesInquiry old told new inquiry) (λ old new. RepliesInquiry old told new inquiry)
+    (λ old new. TakesInquiry old told new inquiry) (λ old new. TakesInquiryByRows old told new inquiry)
+    (λ old new. RepliesInquiry old told new inquiry)
 
 -- why a report was not printed whole into memory, if a write fails because memory ran out
 abbrev pub refusal_of : PrintFault → Refusal
@@ -294,7 +352,8 @@ RespondsOrMemory {Value} told_by result told =
 abbrev pub AnswersAs : {S : Type 0} → Method → Ghosts S → RegisterState S → Request → ResponseValue → RegisterState S → Type 0
 AnswersAs method g before asked told after =
     Answered g before told after
-    (λ old new. AnswersBy method old asked told new) (λ old new. RepliesBy method old asked told new)
+    (λ old new. AnswersBy method old asked told new) (λ old new. AnswersByRows method old asked told new)
+    (λ old new. RepliesBy method old asked told new)
 
 abbrev pub Answers : {S : Type 0} → Ghosts S → RegisterState S → Request → ResponseValue → RegisterState S → Type 0
 Answers g before asked told after = AnswersAs (method_of asked.method) g before asked told after

@@ -3,6 +3,7 @@ ghost use Rattle.std.specs.Prelude.{◌≡◌, ◌⊎◌, ◌<◌, ◌≤◌, fa
 ghost use Rattle.sqlite.specs.Held.{state};
 ghost use Rattle.sqlite.specs.State.{HasCleanDisk};
 ghost use Rattle.kcr_store.specs.Commands.{IsQuestionResult};
+ghost use Rattle.kcr_store.specs.ShownBy.{IsQuestionResultBy};
 ghost use Rattle.kcr_wire.specs.declared.method.Method.TheVariants.{Ask, Post};
 ghost use Rattle.kcr_history.specs.Refusals.{carries};
 ghost use Rattle.kcr_base.specs.declared.refusal.Refusal.TheVariants as Refusals;
@@ -101,7 +102,8 @@ fn answer_question<S: Alter>(
     question: &Question,
 ) -> Response
     ensures { AnswersReading S.Store register.old (response_value result) register.new
-        shown_response (MayBeShown question.now) (λ A shown. IsQuestionResult A question.now shown) }
+        shown_response (MayBeShown question.now) (λ A shown. IsQuestionResult A question.now shown)
+        (λ m shown. IsQuestionResultBy m question.now shown) }
 {
     match register.look(question) {
         Ok(shown) => {
@@ -155,7 +157,8 @@ fn answer_script<S: Alter>(
     ceremony: CeremonyNumber,
 ) -> Response
     ensures { AnswersReading S.Store register.old (response_value result) register.new
-        (report_response kinds.Text) (MayBeReported ceremony) (IsReported prints.annotated ceremony) }
+        (report_response kinds.Text) (MayBeReported ceremony) (IsReported prints.annotated ceremony)
+        (λ _. MayBeReported ceremony) }
 {
     let mut page = Counted::new(Vec::new(alloc));
     let outcome = annotated(alloc, register, ceremony, &mut page);
@@ -170,7 +173,8 @@ fn answer_attendance<S: Alter>(
     ceremony: CeremonyNumber,
 ) -> Response
     ensures { AnswersReading S.Store register.old (response_value result) register.new
-        (report_response kinds.Csv) (MayBeReported ceremony) (IsReported prints.attendance ceremony) }
+        (report_response kinds.Csv) (MayBeReported ceremony) (IsReported prints.attendance ceremony)
+        (λ _. MayBeReported ceremony) }
 {
     let mut page = Counted::new(Vec::new(alloc));
     let outcome = attendance_csv(alloc, register, ceremony, &mut page);
@@ -181,7 +185,7 @@ fn answer_attendance<S: Alter>(
 /// Prints custody into memory, and tells it.
 fn answer_custody<S: Alter>(alloc: Global, register: &mut Register<S>) -> Response
     ensures { AnswersReading S.Store register.old (response_value result) register.new
-        (report_response kinds.Text) MayBeText (IsText prints.custody) }
+        (report_response kinds.Text) MayBeText (IsText prints.custody) (λ _. MayBeText) }
 {
     let mut page = Counted::new(Vec::new(alloc));
     let outcome = custody(alloc, register, &mut page);
@@ -205,7 +209,7 @@ fn answer_unknown<S: Alter>(alloc: Global, register: &Register<S>, after: After)
     requires unbroken { register.now.is_broken ≡ false }
     requires few { register.now.last_number < after }
     ensures { AnswersReading S.Store register.now (response_value result) register.now
-        (report_response kinds.Text) (MayBeFed after) (IsFeed after) }
+        (report_response kinds.Text) (MayBeFed after) (IsFeed after) (λ _. MayBeFed after) }
 {
     // Any use of a register tells that it is whole.
     let _ = register.is_broken();
@@ -224,7 +228,7 @@ fn answer_count<S: Alter>(
     requires some { 0 < count }
     requires most { count ≤ 1000 }
     ensures { AnswersReading S.Store register.old (response_value result) register.new
-        (report_response kinds.Text) (MayBeFed after) (IsFeed after) }
+        (report_response kinds.Text) (MayBeFed after) (IsFeed after) (λ _. MayBeFed after) }
 {
     let after = after.get();
     let mut page = Counted::new(Vec::new(alloc));
@@ -243,7 +247,7 @@ fn answer_some<S: Alter>(
     requires some { 0 < count }
     requires most { count ≤ 1000 }
     ensures { AnswersReading S.Store register.old (response_value result) register.new
-        (report_response kinds.Text) (MayBeFed after) (IsFeed after) }
+        (report_response kinds.Text) (MayBeFed after) (IsFeed after) (λ _. MayBeFed after) }
 {
     if is_ahead(register, after) {
         answer_unknown(alloc, register, after)
@@ -275,7 +279,7 @@ fn fitting(outcome: &Result<(), PrintFault>, page: &Page) -> Option<u32>
 fn answer_feed<S: Alter>(alloc: Global, register: &mut Register<S>, after: After) -> Response
     requires enough { register.old.is_broken ≡ false → after ≤ register.old.last_number }
     ensures { AnswersReading S.Store register.old (response_value result) register.new
-        (report_response kinds.Text) (MayBeFed after) (IsFeed after) }
+        (report_response kinds.Text) (MayBeFed after) (IsFeed after) (λ _. MayBeFed after) }
 {
     let first = after.get();
     let mut page = Counted::new(Page::new(alloc));
@@ -297,7 +301,7 @@ fn answer_feed<S: Alter>(alloc: Global, register: &mut Register<S>, after: After
 /// more than were accepted is told that its last one is unknown: it followed another register.
 fn answer_commands<S: Alter>(alloc: Global, register: &mut Register<S>, after: After) -> Response
     ensures { AnswersReading S.Store register.old (response_value result) register.new
-        (report_response kinds.Text) (MayBeFed after) (IsFeed after) }
+        (report_response kinds.Text) (MayBeFed after) (IsFeed after) (λ _. MayBeFed after) }
 {
     if is_ahead(register, after) {
         answer_unknown(alloc, register, after)

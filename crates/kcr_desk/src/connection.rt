@@ -1,9 +1,9 @@
 //! One connection.
 ghost use Rattle.std.specs.Prelude.{◌≡◌, ◌+◌, ◌≤◌, ℕ, IfErr};
-ghost use Rattle.kcr_store.specs.Calls.{Leads as Moves};
+ghost use Rattle.kcr_store.specs.Calls.{Leads as Moves, RowsLead};
 ghost use Rattle.kcr_base.specs.Counted.{nonempty_reads_of};
 ghost use Rattle.kcr_store.specs.Register.{IsConsistent};
-ghost use Rattle.kcr_desk.specs.Answers.{RegisterHistory, AreOfMachine, AreRegisters, IsAnswer, IsReply};
+ghost use Rattle.kcr_desk.specs.Answers.{RegisterHistory, AreOfMachine, AreRegisters, IsAnswer, IsAnswerByRows, IsReply};
 ghost use Rattle.kcr_desk.specs.Connections.{Connects, Ends, Leads};
 ghost use Rattle.kcr_desk.specs.Streams.{BreaksStream, streams};
 
@@ -37,6 +37,10 @@ pub fn one<R: Read, W: Write, S: Alter>(
     // after a fault. The register has the commands of this run and no other.
     ensures answered { Moves S.Store register.old register.new (λ s after.
         Ends IsAnswer (streams R.remaining W.contents reader.old reader.new writer.old writer.new) s after result.stream) }
+
+    // Whatever rows the register showed, they are the answers of a run over these rows, or a prefix of them.
+    ensures by_rows { RowsLead S.Store register.old register.new (λ t after.
+        Ends IsAnswerByRows (streams R.remaining W.contents reader.old reader.new writer.old writer.new) t after result.stream) }
 
     // Whatever the database held, each message gets one reply, in their order.
     ensures replied { Ends IsReply (streams R.remaining W.contents reader.old reader.new writer.old writer.new)

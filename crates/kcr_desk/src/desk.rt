@@ -1,11 +1,11 @@
 //! The desk over a register.
 ghost use Rattle.std.specs.Prelude.{◌+◌, ◌≤◌, List, IfErr};
-ghost use Rattle.kcr_store.specs.Calls.{Leads};
+ghost use Rattle.kcr_store.specs.Calls.{Leads, RowsLead};
 ghost use Rattle.sqlite.specs.Held.{state};
 ghost use Rattle.sqlite.specs.State.{HasCleanDisk};
 ghost use Rattle.kcr_base.specs.Counted.{nonempty_reads_of};
 ghost use Rattle.kcr_store.specs.Register.{IsConsistent};
-ghost use Rattle.kcr_desk.specs.Answers.{RegisterHistory, IsAnswer, IsReply};
+ghost use Rattle.kcr_desk.specs.Answers.{RegisterHistory, IsAnswer, IsAnswerByRows, IsReply};
 ghost use Rattle.kcr_desk.specs.Answers.{AreRegisters, AreOfMachine, AreOfValues};
 ghost use Rattle.kcr_desk.specs.Connections.{Ends};
 ghost use Rattle.kcr_desk.specs.Run.{Exchange, Run};
@@ -35,6 +35,11 @@ pub fn serve<R: Read, W: Write, S: Alter>(
     // they are a prefix of those, and the register stands after the commands that it took.
     ensures answered { Leads S.Store register.old register.new (λ s after.
         Ends IsAnswer (streams R.remaining W.contents reader.old reader.new writer.old writer.new) s after result) }
+
+    // Whatever rows the register showed, whoever wrote them: the bytes are the answers of a run over these rows. They
+    // decide each command, and each question is shown what they show.
+    ensures by_rows { RowsLead S.Store register.old register.new (λ t after.
+        Ends IsAnswerByRows (streams R.remaining W.contents reader.old reader.new writer.old writer.new) t after result) }
 
     // Whatever the database held and whatever its disk does, each message gets one answer, in their order, and it is a
     // reply to it. After a fault a prefix of such replies was written.

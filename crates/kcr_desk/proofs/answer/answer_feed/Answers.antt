@@ -15,7 +15,7 @@ most_commands = omega arith
 
 pub returns-in-Some : goal.returns-in-Some
 returns-in-Some g c =
-    answered_again g.S.Store _ (report_response Text) (MayBeFed c.args.after) (IsFeed c.args.after)
+    answered_again g.S.Store _ (report_response Text) (MayBeFed c.args.after) (IsFeed c.args.after) (λ _. MayBeFed c.args.after)
     c.export-outcome.ensures.prints c.in-Some.ensures.cause c.answer_some.ensures
 
 pub returns-in-None : goal.returns-in-None

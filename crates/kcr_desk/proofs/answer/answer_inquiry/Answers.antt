@@ -7,5 +7,5 @@ returns-in-Ok g c = rw (← c.asked.view_is, ← c.in-Ok.ensures.question) c.ans
 
 pub returns-in-Err : goal.returns-in-Err
 returns-in-Err g c =
-    rw (← c.asked.view_is) (refused_answered g.S.Store _ _ _ _ _ _ c.in-Err.unread.refusal (λ _. sym c.in-Err.ensures.question)
+    rw (← c.asked.view_is) (refused_answered g.S.Store _ _ _ _ _ _ _ c.in-Err.unread.refusal (λ _. sym c.in-Err.ensures.question)
     (rw c.in-Err.ensures.allow at c.unread_response.ensures))

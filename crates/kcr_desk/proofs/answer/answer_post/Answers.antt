@@ -6,5 +6,5 @@ returns-in-Ok g c = rw (← c.asked.view_is, c.in-Ok.ensures.command) c.answer_c
 
 pub returns-in-Err : goal.returns-in-Err
 returns-in-Err g c =
-    rw (← c.asked.view_is) (refused_answered g.S.Store _ _ _ _ _ _ c.in-Err.unread.refusal c.in-Err.ensures.command
+    rw (← c.asked.view_is) (refused_answered g.S.Store _ _ _ _ _ _ _ c.in-Err.unread.refusal c.in-Err.ensures.command
     (rw c.in-Err.ensures.allow at c.unread_response.ensures))

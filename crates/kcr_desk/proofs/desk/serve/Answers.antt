@@ -1,6 +1,6 @@
 use Rattle.kcr_desk.specs.Answers.{Answers, IsReply}
 use Rattle.kcr_desk.specs.Streams.{streams}
-use Rattle.kcr_desk.proofs.StandingLemmas.{run_clean, run_replies, broken_stream, ends_answered, is_open_stay_of, ran}
+use Rattle.kcr_desk.proofs.StandingLemmas.{run_clean, run_replies, broken_stream, ends_answered, ends_by_rows, ends_by, ran}
 use Rattle.kcr_desk.proofs.desk.serve.Goals as goal
 
 pub returns-clause-answered : goal.returns-clause-answered
@@ -11,13 +11,21 @@ returns-clause-answered g c =
     let after = c.serve_stream-result.new.responder in
     ends_answered g.S.Store s before after c.serve_stream-result.result c.serve_stream-result.ensures.served
 
+pub returns-clause-by_rows : goal.returns-clause-by_rows
+returns-clause-by_rows g c =
+    let s = streams g.R.Read.remaining g.W.Write.contents c.args.reader.now c.serve_stream-result.new.reader c.args.writer.now
+    c.serve_stream-result.new.writer in
+    let before = c.args.register.now in
+    let after = c.serve_stream-result.new.responder in
+    ends_by_rows g.S.Store s before after c.serve_stream-result.result c.serve_stream-result.ensures.served
+
 pub returns-clause-replied : goal.returns-clause-replied
 returns-clause-replied g c =
     let s = streams g.R.Read.remaining g.W.Write.contents c.args.reader.now c.serve_stream-result.new.reader c.args.writer.now
     c.serve_stream-result.new.writer in
     let before = c.args.register.now in
     let after = c.serve_stream-result.new.responder in
-    is_open_stay_of (Answers g.S.Store) IsReply s before after before.is_broken after.is_broken c.serve_stream-result.result
+    ends_by (Answers g.S.Store) IsReply s before after before.is_broken after.is_broken c.serve_stream-result.result
     (run_replies g.S.Store before after) c.serve_stream-result.ensures.served
 
 pub returns-clause-clean : goal.returns-clause-clean
