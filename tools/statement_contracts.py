@@ -1,6 +1,7 @@
 """The contracts with which the statement begins, clause by clause."""
 import re
 
+from statement_list import LEFT_OUT
 from statement_read import Stop, closing, comment_above, ghost_imports
 
 
@@ -47,6 +48,8 @@ class Contract:
             if between.strip():
                 raise Stop(f"{self.root} has what is no clause: {between.strip()}")
             ends.append(closing(whole, start.end() - 1) + 1)
+            if (self.root, start[2]) in LEFT_OUT:
+                continue
             comment = comment_above(lines, whole.count("\n", 0, start.start()), "//")
             self.clauses.append(Clause(start[1], start[2], whole[start.start():ends[-1]], comment))
         self.signature = re.sub(r"\n *//.*", "", whole[:starts[0].start()]).rstrip()
