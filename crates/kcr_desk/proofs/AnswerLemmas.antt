@@ -11,8 +11,7 @@ use Rattle.kcr_base.specs.declared.refusal.Refusal.TheVariants as Refusals
 use Rattle.kcr_history.specs.History.{History}
 use Rattle.kcr_history.specs.Refusals.{carries}
 use Rattle.kcr_history.specs.Tables.{Tables}
-use Rattle.kcr_store.specs.Calls.{Leads, ReadsHistory, RowsLead, OfHistory, left_at}
-use Rattle.kcr_store.specs.Frame.{OfRowsOver}
+use Rattle.kcr_store.specs.Calls.{Leads, ReadsHistory, RowsLead, OfHistory, OfRows, left_at}
 use Rattle.kcr_store.specs.Register.{RegisterState, ShowsAt, StandsAt}
 use Rattle.kcr_store.proofs.WholeLemmas.{not_in_doubt}
 use Rattle.kcr_desk.specs.Answers.{RegisterHistory, RegisterRows, TakesByRows, ReadsRows, whole, json_response, refusal_response, RespondsOrMemory, ReadsAsHistory, RespondsRefusal, RespondsUnread, Replies, Answered, AnswersReading}
@@ -52,6 +51,16 @@ whole_is : (s : RegisterHistory) → s.in_doubt ≡ None → s ≡ whole s.accep
 whole_is s none = λ i. record { accepted = s.accepted; in_doubt = none i }
 
 -- A RESULT THAT IS TOLD
+
+-- said of whatever rows a register that is not broken shows, by a call that leaves the disk clean
+abbrev pub OfShown : {S : Type 0} → Ghosts S → RegisterState S → RegisterState S → (RegisterRows → Type 0) → Type 0
+OfShown g before after Says =
+    before.is_broken ≡ false → HasCleanDisk (state g after.conn) → (t : RegisterRows) → ShowsAt g t before → Says t
+
+-- what is said of the rows that it had
+pub of_rows : {S : Type 0} (g : Ghosts S) (before after : RegisterState S) (Says : Tables → Type 0)
+    → OfRows g before after Says → OfShown g before after (λ t. Says t.rows)
+of_rows g before after Says says whole clean t at = says clean whole t.rows (at.shows (sym at.broken ∙ whole))
 
 -- what a result makes of the history at which the register stood
 abbrev pub Makes : {Value : Type 0} → (RegisterHistory → RegisterHistory → Result Value Refusal → Type 0) → Result Value Refusal
@@ -176,11 +185,11 @@ module _ {S Value : Type 0} (g : Ghosts S) (before after : RegisterState S) (tol
         looks.nothing.rows t.rows (at.shows (sym at.broken ∙ whole));
   }
 
-  pub reading_answered : (Says : History → Result Value Refusal → Type 0) (SaysBy : Tables → Result Value Refusal → Type 0)
+  pub reading_answered : (Says : History → Result Value Refusal → Type 0) (SaysBy : RegisterRows → Result Value Refusal → Type 0)
       (MayBe : Result Value Refusal → Type 0) {MayFail : Refusal → Type 0}
       → MayBe (Err Refusals.Memory) → (before.is_broken ≡ false → MayBe result) → ReadsHistory g MayFail before after result
       → OfHistory g before after (λ A. Says A result)
-      → (before.is_broken ≡ false → OfRowsOver g before.conn after.conn (λ m. SaysBy m result)) → RespondsOrMemory told_by result told
+      → OfShown g before after (λ t. SaysBy t result) → RespondsOrMemory told_by result told
       → AnswersReading g before told after told_by MayBe Says SaysBy
   reading_answered Says SaysBy MayBe memory may looks says says_by =
       result_answered (λ old new r. ReadsAsHistory Says old.accepted r new) (ReadsRows SaysBy) MayBe memory may looks.broken looks.breaks
@@ -211,7 +220,7 @@ module _ {S Value : Type 0} (g : Ghosts S) (before after : RegisterState S) (tol
           (λ whole.
               let intact : before.is_broken ≡ false = at.broken ∙ whole in
               record {
-                says = says_by intact clean t.rows (λ live. (at.shows whole (looks.clean clean) live).now);
+                says = says_by intact clean t at;
                 rows = refl;
                 number = refl;
                 breaks = looks.breaks intact;

@@ -25,7 +25,7 @@ use Rattle.kcr_store.specs.ByRows.{DecidesRows}
 use Rattle.kcr_store.specs.Calls.{Leads, RowsLead}
 use Rattle.kcr_store.specs.Rows.{HasNoRow, MayHaveNoRow}
 use Rattle.kcr_store.specs.Shown.{IsShownByRows}
-use Rattle.kcr_store.specs.ShownBy.{IsQuestionResultBy}
+use Rattle.kcr_store.specs.ShownBy.{HasNoRowBy, IsQuestionResultBy}
 use Rattle.kcr_store.specs.Commands.{AppliesCommand, IsSameOrNext, IsQuestionResult, MayBeReplied, MayRefuseQuestion}
 use Rattle.kcr_history.specs.declared.questions.Question.{Question}
 use Rattle.kcr_history.specs.declared.questions.Shown.{Shown}
@@ -41,7 +41,8 @@ use Rattle.kcr_wire.specs.declared.method.Method.{Method}
 use Rattle.kcr_wire.specs.declared.method.Method.TheVariants.{Ask, Post, Other}
 use Rattle.kcr_desk.specs.declared.response.MediaType.{MediaType}
 use Rattle.kcr_desk.specs.declared.response.MediaType.TheVariants.{Json, Text, Csv}
-use Rattle.kcr_print.specs.Requests.{requests_between}
+use Rattle.kcr_print.specs.ByRows.{annotated_by, attendance_by, custody_by, row_of_ceremony}
+use Rattle.kcr_print.specs.Requests.{requests_between, row_requests}
 use Rattle.kcr_print.specs.declared.fault.PrintFault.{PrintFault}
 use Rattle.kcr_print.specs.declared.fault.PrintFault.TheVariants.{Refused, Write}
 use Rattle.kcr_desk.specs.Run.{Request}
@@ -98,9 +99,9 @@ abbrev pub IsReported : (History → ℕ → List ℕ) → ℕ → History → R
 IsReported report ceremony A result =
     MatchResult result (λ text. IsTrue (is_ceremony A ceremony) × (text ≡ report A ceremony)) (HasNoRow A ceremony)
 
--- the text of the history; or out of memory, or an I/O error
-abbrev pub IsText : (History → List ℕ) → History → Result (List ℕ) Refusal → Type 0
-IsText text_of A result = MatchResult result (λ text. text ≡ text_of A) IsFault
+-- the text of the history, or of the rows; or out of memory, or an I/O error
+abbrev pub IsText : {Of : Type 0} → (Of → List ℕ) → Of → Result (List ℕ) Refusal → Type 0
+IsText text_of x result = MatchResult result (λ text. text ≡ text_of x) IsFault
 
 -- the requests of the accepted commands after the first N, at most this many of them
 abbrev pub feed : ℕ → ℕ → History → List ℕ
@@ -234,10 +235,10 @@ IsReply before asked told after =
 
 -- BY WHATEVER ROWS THE TABLES HOLD
 
--- what only reads says this of the rows, and keeps them. A fault of the device alone breaks the register
-pub record ReadsRows {Value : Type 0} (Says : Tables → Result Value Refusal → Type 0) (before : RegisterRows)
+-- what only reads says this of the rows and of their number, and keeps both. A fault of the device alone breaks the register
+pub record ReadsRows {Value : Type 0} (Says : RegisterRows → Result Value Refusal → Type 0) (before : RegisterRows)
     (result : Result Value Refusal) (after : RegisterRows) : Type 0 where
-  pub says : Says before.rows result
+  pub says : Says before result
   pub rows : after.rows ≡ before.rows
   pub number : after.last_number ≡ before.last_number
   pub breaks : IsTrue after.is_broken ↔ (result ≡ Err Refusals.Disk)
@@ -254,16 +255,21 @@ TakesByRows {Value} told_by Does before told after =
 abbrev pub TakesCommandByRows : RegisterRows → ResponseValue → RegisterRows → Command → Type 0
 TakesCommandByRows before told after x = TakesByRows reply_response (λ t result end. DecidesRows t x result end) before told after
 
--- a question is shown what the rows show. Of a report no more is said than of any register
+-- a ceremony that has a row has this report; another has none
+abbrev pub IsReportedByRows : (Tables → ℕ → List ℕ) → ℕ → Tables → Result (List ℕ) Refusal → Type 0
+IsReportedByRows report ceremony m result =
+    MatchResult result (λ text. IsSome (row_of_ceremony ceremony m) × (text ≡ report m ceremony)) (HasNoRowBy m ceremony)
+
+-- a question is shown what the rows show, and a report is their text
 abbrev pub TakesInquiryByRows : RegisterRows → ResponseValue → RegisterRows → Inquiry → Type 0
 TakesInquiryByRows before told after (inquiry.Question question) =
-    TakesByRows shown_response (ReadsRows (λ m result. IsQuestionResultBy m question result)) before told after
+    TakesByRows shown_response (ReadsRows (λ t result. IsQuestionResultBy t.rows question result)) before told after
 TakesInquiryByRows before told after (inquiry.Script ceremony) =
-    TakesByRows (report_response Text) (ReadsRows (λ _. MayBeReported ceremony)) before told after
+    TakesByRows (report_response Text) (ReadsRows (λ t. IsReportedByRows annotated_by ceremony t.rows)) before told after
 TakesInquiryByRows before told after (inquiry.Attendance ceremony) =
-    TakesByRows (report_response Csv) (ReadsRows (λ _. MayBeReported ceremony)) before told after
+    TakesByRows (report_response Csv) (ReadsRows (λ t. IsReportedByRows attendance_by ceremony t.rows)) before told after
 TakesInquiryByRows before told after inquiry.Custody =
-    TakesByRows (report_response Text) (ReadsRows (λ _. MayBeText)) before told after
+    TakesByRows (report_response Text) (ReadsRows (λ t. IsText custody_by t.rows)) before told after
 TakesInquiryByRows before told after (inquiry.Commands number) =
     TakesByRows (report_response Text) (ReadsRows (λ _. MayBeFed number)) before told after
 
@@ -319,7 +325,7 @@ AnswersCommand g before told after x =
 -- what only reads: how its result is told, what it may get, and what it says of the history and of the rows
 abbrev pub AnswersReading : {S Value : Type 0} → Ghosts S → RegisterState S → ResponseValue → RegisterState S
     → (Result Value Refusal → ResponseValue) → (Result Value Refusal → Type 0) → (History → Result Value Refusal → Type 0)
-    → (Tables → Result Value Refusal → Type 0) → Type 0
+    → (RegisterRows → Result Value Refusal → Type 0) → Type 0
 AnswersReading g before told after told_by MayBe Says SaysBy =
     Answered g before told after
     (λ old new. TakesReading told_by Says old told new) (λ old new. TakesByRows told_by (ReadsRows SaysBy) old told new)

@@ -11,7 +11,8 @@ ghost use Rattle.kcr_desk.specs.Answers.{Answers, AnswersAs, AnswersCommand, Ans
 ghost use Rattle.kcr_desk.specs.Answers.{IsReported, json_response, refusal_response, shown_response, report_response};
 ghost use Rattle.kcr_desk.specs.Answers.{RespondsOrMemory, refusal_of};
 ghost use Rattle.kcr_desk.specs.Answers.{outcome_of, MayBeReported, MayBeShown, MayBeText, IsText};
-ghost use Rattle.kcr_desk.specs.Answers.{IsFeed, MayBeFed};
+ghost use Rattle.kcr_desk.specs.Answers.{IsFeed, IsReportedByRows, MayBeFed};
+ghost use Rattle.kcr_print.specs.ByRows.{annotated_by, attendance_by, custody_by};
 ghost use Rattle.kcr_desk.specs.declared.response.MediaType.TheVariants as kinds;
 ghost use Rattle.kcr_history.specs.Prints as prints;
 ghost use Rattle.kcr_desk.specs.Responses.{response_value};
@@ -103,7 +104,7 @@ fn answer_question<S: Alter>(
 ) -> Response
     ensures { AnswersReading S.Store register.old (response_value result) register.new
         shown_response (MayBeShown question.now) (λ A shown. IsQuestionResult A question.now shown)
-        (λ m shown. IsQuestionResultBy m question.now shown) }
+        (λ t shown. IsQuestionResultBy t.rows question.now shown) }
 {
     match register.look(question) {
         Ok(shown) => {
@@ -158,7 +159,7 @@ fn answer_script<S: Alter>(
 ) -> Response
     ensures { AnswersReading S.Store register.old (response_value result) register.new
         (report_response kinds.Text) (MayBeReported ceremony) (IsReported prints.annotated ceremony)
-        (λ _. MayBeReported ceremony) }
+        (λ t. IsReportedByRows annotated_by ceremony t.rows) }
 {
     let mut page = Counted::new(Vec::new(alloc));
     let outcome = annotated(alloc, register, ceremony, &mut page);
@@ -174,7 +175,7 @@ fn answer_attendance<S: Alter>(
 ) -> Response
     ensures { AnswersReading S.Store register.old (response_value result) register.new
         (report_response kinds.Csv) (MayBeReported ceremony) (IsReported prints.attendance ceremony)
-        (λ _. MayBeReported ceremony) }
+        (λ t. IsReportedByRows attendance_by ceremony t.rows) }
 {
     let mut page = Counted::new(Vec::new(alloc));
     let outcome = attendance_csv(alloc, register, ceremony, &mut page);
@@ -185,7 +186,7 @@ fn answer_attendance<S: Alter>(
 /// Prints custody into memory, and tells it.
 fn answer_custody<S: Alter>(alloc: Global, register: &mut Register<S>) -> Response
     ensures { AnswersReading S.Store register.old (response_value result) register.new
-        (report_response kinds.Text) MayBeText (IsText prints.custody) (λ _. MayBeText) }
+        (report_response kinds.Text) MayBeText (IsText prints.custody) (λ t. IsText custody_by t.rows) }
 {
     let mut page = Counted::new(Vec::new(alloc));
     let outcome = custody(alloc, register, &mut page);
