@@ -1,7 +1,7 @@
 -- What a report that was printed into memory is told.
 use Rattle.std.proofs.Common.{◌≡◌, ◌∙◌, ℕ, List, [], Bool, true, false, refl, ap, sym, subst, inl, inr}
 use Rattle.std.proofs.lemmas.Bool.{true≢false}
-use Rattle.std.specs.Prelude.{◌↔◌, ◌⊎◌, ◌<◌, ◌≤◌, ⊤, Option, Some, Result, Ok, Err, IfErr, MatchResult, OnOk, IsSome, IsTrue, length}
+use Rattle.std.specs.Prelude.{◌+◌, ◌↔◌, ◌⊎◌, ◌<◌, ◌≤◌, ⊤, Option, Some, Result, Ok, Err, IfErr, MatchResult, OnOk, IsSome, IsTrue, length}
 use Rattle.sqlite.specs.Store.{Ghosts}
 use Rattle.kcr_base.specs.declared.counted.Counted.{Counted}
 use Rattle.kcr_base.specs.declared.refusal.Refusal.{Refusal}
@@ -18,11 +18,11 @@ use Rattle.kcr_store.specs.Rows.{IsNotPlanned, MayHaveNoRow, NamesCeremony}
 use Rattle.kcr_store.proofs.WholeLemmas.{commits_nothing}
 use Rattle.kcr_print.specs.ByRows.{row_of_ceremony}
 use Rattle.kcr_print.specs.Reports.{IsPrinted, Prints, Stops}
-use Rattle.kcr_print.specs.Requests.{Exports}
+use Rattle.kcr_print.specs.Requests.{Exports, row_requests}
 use Rattle.kcr_print.specs.declared.fault.PrintFault.{PrintFault}
 use Rattle.kcr_print.specs.declared.fault.PrintFault.TheVariants.{Refused, Write}
 use Rattle.kcr_desk.specs.declared.response.MediaType.{MediaType}
-use Rattle.kcr_desk.specs.Answers.{IsReported, IsReportedByRows, IsText, IsFeed, IsFeedText, feed, no_command, MayBeFed, MayBeReported, MayBeText, outcome_of, report_response, Replies, RespondsOrMemory, RespondsRefusal, AnswersReading}
+use Rattle.kcr_desk.specs.Answers.{IsReported, IsReportedByRows, IsText, IsFeed, IsFeedByRows, IsFeedText, feed, no_command, MayBeFed, MayBeReported, MayBeText, outcome_of, report_response, Replies, RespondsOrMemory, RespondsRefusal, AnswersReading}
 use Rattle.kcr_desk.specs.Texts.{ResponseValue}
 use Rattle.kcr_desk.proofs.AnswerLemmas.{OfShown, not_so, of_rows, reading_answered}
 
@@ -64,6 +64,14 @@ is_feed : (number count : ℕ) (A : History) (outcome : Result ⊤ PrintFault) (
 is_feed number count A (Ok done) text some most enough printed = (enough, (count, some, most, printed))
 is_feed number count A (Err (Refused refusal)) text some most enough printed = inl (undenied refusal printed.1)
 is_feed number count A (Err Write) text some most enough printed = inl (inl refl)
+
+is_feed_by : (number count : ℕ) (t : RegisterRows) (outcome : Result ⊤ PrintFault) (text : List ℕ)
+    → 0 < count → count ≤ 1000 → number ≤ t.last_number
+    → IsPrinted (λ _. ⊥) (row_requests number (number + count) t.rows) outcome (Some []) (Some text)
+    → IsFeedByRows number t (outcome_of outcome text)
+is_feed_by number count t (Ok done) text some most enough printed = (enough, (count, some, most, printed))
+is_feed_by number count t (Err (Refused refusal)) text some most enough printed = inl (undenied refusal printed.1)
+is_feed_by number count t (Err Write) text some most enough printed = inl (inl refl)
 
 -- a report that is not whole is refused as it may be
 may_fail : {MayDeny MayFail : Refusal → Type 0} → ((r : Refusal) → IsFault r ⊎ MayDeny r → MayFail r) → (outcome : Result ⊤ PrintFault) (text : List ℕ)
@@ -127,14 +135,16 @@ module _ {S W : Type 0} (g : Ghosts S) {contents : W → Option (List ℕ)} {bef
   -- the feed
   pub feed_answered : {n u : ℕ} (number count : ℕ) → 0 < count → count ≤ 1000 → Exports g contents before after x y outcome n u
       → OfHistory g before after (λ A. AreValues A → IsPrinted (λ _. ⊥) (feed number count A) outcome (Some []) (Some text))
+      → OfRows g before after (λ m. IsPrinted (λ _. ⊥) (row_requests number (number + count) m) outcome (Some []) (Some text))
       → (before.is_broken ≡ false → number ≤ before.last_number) → RespondsOrMemory (report_response kind) (outcome_of outcome text) told
-      → AnswersReading g before told after (report_response kind) (MayBeFed number) (IsFeed number) (λ _. MayBeFed number)
-  feed_answered number count some most exports requests enough =
+      → AnswersReading g before told after (report_response kind) (MayBeFed number) (IsFeed number) (IsFeedByRows number)
+  feed_answered number count some most exports requests by_rows enough =
       says_answered (λ _. ⊥) (λ refusal. IsFault refusal ⊎ (refusal ≡ no_command number)) (IsFeed number)
-      (λ _. MayBeFed number) (λ r h. inl (undenied r h)) exports.prints
+      (IsFeedByRows number) (λ r h. inl (undenied r h)) exports.prints
       (λ c A at values. let counts = (at.shows refl).counts (exports.prints.clean c) in
       is_feed number count A outcome text some most (subst (λ n. number ≤ n) counts (enough at.broken)) (requests c A at values))
-      (λ whole c t at. may_fail (λ r h. inl (undenied r h)) outcome text (exports.prints.cause whole))
+      (λ whole c t at. is_feed_by number count t outcome text some most (subst (λ n. number ≤ n) at.number (enough whole))
+      (by_rows c whole t.rows (at.shows (sym at.broken ∙ whole))))
 
 -- after an export of which the writer did not take all, a register answers as it would have before
 module _ {S W Value : Type 0} (g : Ghosts S) {contents : W → Option (List ℕ)} {before between after : RegisterState S} {x y : Counted W} {outcome : Result ⊤ PrintFault} where
@@ -165,7 +175,7 @@ module _ {S W Value : Type 0} (g : Ghosts S) {contents : W → Option (List ℕ)
 pub unknown_answered : {S : Type 0} (g : Ghosts S) (register : RegisterState S) (told : ResponseValue) (kind : MediaType) (number : ℕ)
     → IsConsistent g register → register.is_broken ≡ false → register.last_number < number
     → RespondsOrMemory (report_response kind) (Err (no_command number)) told
-    → AnswersReading g register told register (report_response kind) (MayBeFed number) (IsFeed number) (λ _. MayBeFed number)
+    → AnswersReading g register told register (report_response kind) (MayBeFed number) (IsFeed number) (IsFeedByRows number)
 unknown_answered g register told kind number kept unbroken few =
     let MayFail : Refusal → Type 0 = λ refusal. IsFault refusal ⊎ (refusal ≡ no_command number) in
     let unknown : Result (List ℕ) Refusal = Err (no_command number) in
@@ -178,6 +188,6 @@ unknown_answered g register told kind number kept unbroken few =
       clean = λ clean. clean;
       kept = kept;
     } in
-    reading_answered g register register told (report_response kind) (λ r. refl) unknown (IsFeed number) (λ _. MayBeFed number) (MayBeFed number)
+    reading_answered g register register told (report_response kind) (λ r. refl) unknown (IsFeed number) (IsFeedByRows number) (MayBeFed number)
     (inl (inl refl)) looks.cause looks
-    (λ clean A at values. inr (subst (λ (n : ℕ). n < number) ((at.shows refl).counts clean) few, refl)) (λ whole clean t at. looks.cause whole)
+    (λ clean A at values. inr (subst (λ (n : ℕ). n < number) ((at.shows refl).counts clean) few, refl)) (λ whole clean t at. inr (subst (λ (n : ℕ). n < number) at.number few, refl))

@@ -260,7 +260,16 @@ abbrev pub IsReportedByRows : (Tables → ℕ → List ℕ) → ℕ → Tables �
 IsReportedByRows report ceremony m result =
     MatchResult result (λ text. IsSome (row_of_ceremony ceremony m) × (text ≡ report m ceremony)) (HasNoRowBy m ceremony)
 
--- a question is shown what the rows show, and a report is their text
+-- the requests that the rows keep of the commands after this number, of 1,000 at most and of one at least, if there is
+-- one; a number greater than that of the last command is refused; or out of memory, or an I/O error
+abbrev pub IsFeedByRows : ℕ → RegisterRows → Result (List ℕ) Refusal → Type 0
+IsFeedByRows after t result =
+    MatchResult result
+    (λ text. (after ≤ t.last_number)
+    × ((count : ℕ) × (0 < count) × (count ≤ 1000) × (text ≡ row_requests after (after + count) t.rows)))
+    (λ refusal. IsFault refusal ⊎ ((t.last_number < after) × (refusal ≡ no_command after)))
+
+-- a question is shown what the rows show; a report is their text, and a feed the requests that they keep
 abbrev pub TakesInquiryByRows : RegisterRows → ResponseValue → RegisterRows → Inquiry → Type 0
 TakesInquiryByRows before told after (inquiry.Question question) =
     TakesByRows shown_response (ReadsRows (λ t result. IsQuestionResultBy t.rows question result)) before told after
@@ -271,7 +280,7 @@ TakesInquiryByRows before told after (inquiry.Attendance ceremony) =
 TakesInquiryByRows before told after inquiry.Custody =
     TakesByRows (report_response Text) (ReadsRows (λ t. IsText custody_by t.rows)) before told after
 TakesInquiryByRows before told after (inquiry.Commands number) =
-    TakesByRows (report_response Text) (ReadsRows (λ _. MayBeFed number)) before told after
+    TakesByRows (report_response Text) (ReadsRows (IsFeedByRows number)) before told after
 
 -- a POST is a command, a GET or a HEAD asks for something, and any other method is refused
 abbrev pub AnswersByRows : Method → RegisterRows → Request → ResponseValue → RegisterRows → Type 0

@@ -11,7 +11,7 @@ ghost use Rattle.kcr_desk.specs.Answers.{Answers, AnswersAs, AnswersCommand, Ans
 ghost use Rattle.kcr_desk.specs.Answers.{IsReported, json_response, refusal_response, shown_response, report_response};
 ghost use Rattle.kcr_desk.specs.Answers.{RespondsOrMemory, refusal_of};
 ghost use Rattle.kcr_desk.specs.Answers.{outcome_of, MayBeReported, MayBeShown, MayBeText, IsText};
-ghost use Rattle.kcr_desk.specs.Answers.{IsFeed, IsReportedByRows, MayBeFed};
+ghost use Rattle.kcr_desk.specs.Answers.{IsFeed, IsFeedByRows, IsReportedByRows, MayBeFed};
 ghost use Rattle.kcr_print.specs.ByRows.{annotated_by, attendance_by, custody_by};
 ghost use Rattle.kcr_desk.specs.declared.response.MediaType.TheVariants as kinds;
 ghost use Rattle.kcr_history.specs.Prints as prints;
@@ -210,7 +210,7 @@ fn answer_unknown<S: Alter>(alloc: Global, register: &Register<S>, after: After)
     requires unbroken { register.now.is_broken ≡ false }
     requires few { register.now.last_number < after }
     ensures { AnswersReading S.Store register.now (response_value result) register.now
-        (report_response kinds.Text) (MayBeFed after) (IsFeed after) (λ _. MayBeFed after) }
+        (report_response kinds.Text) (MayBeFed after) (IsFeed after) (IsFeedByRows after) }
 {
     // Any use of a register tells that it is whole.
     let _ = register.is_broken();
@@ -229,7 +229,7 @@ fn answer_count<S: Alter>(
     requires some { 0 < count }
     requires most { count ≤ 1000 }
     ensures { AnswersReading S.Store register.old (response_value result) register.new
-        (report_response kinds.Text) (MayBeFed after) (IsFeed after) (λ _. MayBeFed after) }
+        (report_response kinds.Text) (MayBeFed after) (IsFeed after) (IsFeedByRows after) }
 {
     let after = after.get();
     let mut page = Counted::new(Vec::new(alloc));
@@ -248,7 +248,7 @@ fn answer_some<S: Alter>(
     requires some { 0 < count }
     requires most { count ≤ 1000 }
     ensures { AnswersReading S.Store register.old (response_value result) register.new
-        (report_response kinds.Text) (MayBeFed after) (IsFeed after) (λ _. MayBeFed after) }
+        (report_response kinds.Text) (MayBeFed after) (IsFeed after) (IsFeedByRows after) }
 {
     if is_ahead(register, after) {
         answer_unknown(alloc, register, after)
@@ -280,7 +280,7 @@ fn fitting(outcome: &Result<(), PrintFault>, page: &Page) -> Option<u32>
 fn answer_feed<S: Alter>(alloc: Global, register: &mut Register<S>, after: After) -> Response
     requires enough { register.old.is_broken ≡ false → after ≤ register.old.last_number }
     ensures { AnswersReading S.Store register.old (response_value result) register.new
-        (report_response kinds.Text) (MayBeFed after) (IsFeed after) (λ _. MayBeFed after) }
+        (report_response kinds.Text) (MayBeFed after) (IsFeed after) (IsFeedByRows after) }
 {
     let first = after.get();
     let mut page = Counted::new(Page::new(alloc));
@@ -302,7 +302,7 @@ fn answer_feed<S: Alter>(alloc: Global, register: &mut Register<S>, after: After
 /// more than were accepted is told that its last one is unknown: it followed another register.
 fn answer_commands<S: Alter>(alloc: Global, register: &mut Register<S>, after: After) -> Response
     ensures { AnswersReading S.Store register.old (response_value result) register.new
-        (report_response kinds.Text) (MayBeFed after) (IsFeed after) (λ _. MayBeFed after) }
+        (report_response kinds.Text) (MayBeFed after) (IsFeed after) (IsFeedByRows after) }
 {
     if is_ahead(register, after) {
         answer_unknown(alloc, register, after)

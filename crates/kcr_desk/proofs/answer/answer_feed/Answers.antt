@@ -1,7 +1,7 @@
 use Rattle.std.proofs.Common.{◌≡◌, ◌∙◌, [], ap, arith}
 use Rattle.std.specs.Prelude.{◌<◌, ◌≤◌}
 use Rattle.kcr_base.specs.Counted.{inner_of}
-use Rattle.kcr_desk.specs.Answers.{IsFeed, MayBeFed, report_response}
+use Rattle.kcr_desk.specs.Answers.{IsFeed, IsFeedByRows, MayBeFed, report_response}
 use Rattle.kcr_desk.specs.Pages.{text_of}
 use Rattle.kcr_desk.specs.declared.response.MediaType.TheVariants.{Text}
 use Rattle.kcr_desk.proofs.ReportLemmas.{answered_again, feed_answered}
@@ -15,7 +15,7 @@ most_commands = omega arith
 
 pub returns-in-Some : goal.returns-in-Some
 returns-in-Some g c =
-    answered_again g.S.Store _ (report_response Text) (MayBeFed c.args.after) (IsFeed c.args.after) (λ _. MayBeFed c.args.after)
+    answered_again g.S.Store _ (report_response Text) (MayBeFed c.args.after) (IsFeed c.args.after) (IsFeedByRows c.args.after)
     c.export-outcome.ensures.prints c.in-Some.ensures.cause c.answer_some.ensures
 
 pub returns-in-None : goal.returns-in-None
@@ -23,4 +23,5 @@ returns-in-None g c =
     let e = rw c.get-first.ensures.value at c.export-outcome.ensures in
     let blank : text_of (inner_of c.new-page.result) ≡ [] = ap text_of c.new-page.ensures.inner ∙ c.new.ensures in
     feed_answered g.S.Store _ Text c.into_text-text.result.items c.args.after 1000 some_commands most_commands
-    e (λ clean A at values. let printed = e.requests clean A at values in rw (c.into_text-text.ensures, c.into_inner-page.ensures) (rw blank at printed)) c.requires.enough c.report_response.ensures
+    e (λ clean A at values. let printed = e.requests clean A at values in rw (c.into_text-text.ensures, c.into_inner-page.ensures) (rw blank at printed))
+    (λ clean whole m had. let printed = e.by_rows clean whole m had in rw (c.into_text-text.ensures, c.into_inner-page.ensures) (rw blank at printed)) c.requires.enough c.report_response.ensures
