@@ -1,5 +1,5 @@
 -- What a report that was printed into memory is told.
-use Rattle.std.proofs.Common.{◌≡◌, ◌∙◌, ℕ, List, [], Bool, true, false, refl, ap, sym, subst, inl, inr}
+use Rattle.std.proofs.Common.{◌≡◌, ◌∙◌, ℕ, List, [], Bool, false, refl, ap, sym, subst, inl, inr}
 use Rattle.std.proofs.lemmas.Bool.{true≢false}
 use Rattle.std.specs.Prelude.{◌+◌, ◌↔◌, ◌⊎◌, ◌<◌, ◌≤◌, ⊤, Option, Some, Result, Ok, Err, IfErr, MatchResult, OnOk, IsSome, IsTrue, length}
 use Rattle.sqlite.specs.Store.{Ghosts}

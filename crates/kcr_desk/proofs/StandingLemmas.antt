@@ -1,6 +1,6 @@
 -- From runs over registers to runs over their histories.
-use Rattle.std.proofs.Common.{◌≡◌, ◌+◌, ◌<◌, ◌⊎◌, ℕ, List, [], ◌∷◌, refl, ap, ◌∙◌, subst, sym}
-use Rattle.std.specs.Prelude.{Option, IsTrue, IsErrOf, Result, Ok, Err, IfErr}
+use Rattle.std.proofs.Common.{◌≡◌, ◌+◌, ◌<◌, ◌⊎◌, ℕ, List, [], ◌∷◌, refl, ap, subst, sym}
+use Rattle.std.specs.Prelude.{Option, IsErrOf, Result, Ok, Err, IfErr}
 use Rattle.kcr_base.specs.Counted.{failures_of, nonempty_reads_of}
 use Rattle.sqlite.specs.Held.{state}
 use Rattle.sqlite.specs.State.{HasCleanDisk}
