@@ -19,7 +19,7 @@ import threading
 import time
 
 SECONDS_BETWEEN_LOOKS = 0.25
-BYTES_FOR_A_CHECK = 5 << 30  # the most that one has taken
+BYTES_FOR_A_CHECK = 5 << 30  # few take as much
 PARTS = ["library", "tests", "edits"]
 TICKS = os.sysconf("SC_CLK_TCK")
 

@@ -17,8 +17,8 @@ use Rattle.kcr_forms.specs.Forms.{role_of, way_of, destination_of, script_of}
 use Rattle.kcr_forms.specs.declared.post.Post.{Post}
 use Rattle.kcr_forms.specs.declared.post.Post.TheVariants as post
 
--- the form of a member's value: a value with a text, by the text of each value and its reader; a number from 1 to 9999; a truth
--- value; up to so many codes, none of them twice, by their reader
+-- the form of a member's value: a value with a text, by the text of each value and its reader; a number from 1 to 9999;
+-- a truth value; a list of 1 to N codes, no two of them the same, by N and their reader
 pub data Form : Type 1 where
   Text : {V : Type 0} → (V → List ℕ) → (List ℕ → Option V) → Form
   Number : Form
