@@ -3,6 +3,7 @@ use Rattle.std.specs.Prelude.{◌∷◌, [], ℕ, codes, true, Some, List}
 use Rattle.clap.specs.Words.{App, Rule, Text, new_app, new_rule, with_rule, with_subcommand}
 use Rattle.clap.specs.declared.builder.action.ArgAction.TheVariants.{SetTrue}
 use Rattle.clap.specs.declared.builder.value_parser.ValueParser.TheVariants.{Unsigned}
+use Rattle.kcr_base.specs.declared.limits.TheConstants.{MAX_CEREMONY, MAX_COMMANDS}
 
 -- `--file FILE`
 abbrev pub file_rule : Rule
@@ -36,7 +37,7 @@ of_own_file name = with_rule (of_file name) (flag_rule (codes "existing"))
 
 -- `--ceremony N`
 abbrev pub of_ceremony : Text → App
-of_ceremony name = with_rule (of_file name) (number_rule (codes "ceremony") 9999)
+of_ceremony name = with_rule (of_file name) (number_rule (codes "ceremony") MAX_CEREMONY)
 
 -- `kcr serve --port N --connections N --idle N --longest N`
 abbrev pub serve_app : App
@@ -51,12 +52,12 @@ serve_app = with_rule (
 
 -- `kcr export --after N --until N`
 abbrev pub export_app : App
-export_app = with_rule (with_rule (of_file (codes "export")) (choice_rule (codes "after") 0 4000000000))
-    (choice_rule (codes "until") 0 4000000000)
+export_app = with_rule (with_rule (of_file (codes "export")) (choice_rule (codes "after") 0 MAX_COMMANDS))
+    (choice_rule (codes "until") 0 MAX_COMMANDS)
 
 -- `kcr journal --ceremony N`, where the ceremony may be left out
 abbrev pub journal_app : App
-journal_app = with_rule (of_file (codes "journal")) (choice_rule (codes "ceremony") 1 9999)
+journal_app = with_rule (of_file (codes "journal")) (choice_rule (codes "ceremony") 1 MAX_CEREMONY)
 
 -- a subcommand that makes a new file of a register, as `kcr rebuild --into FILE`
 abbrev pub into_file : Text → App

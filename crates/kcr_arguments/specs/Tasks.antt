@@ -16,6 +16,7 @@ use Rattle.kcr_arguments.specs.declared.words.Report.{Report}
 use Rattle.kcr_arguments.specs.declared.words.Report.TheVariants.{Print, Attendance, Custody, Export, Journal, Audit}
 use Rattle.kcr_arguments.specs.declared.words.Task.{Task}
 use Rattle.kcr_arguments.specs.declared.words.Task.TheVariants.{Run, Serve, Write, Verify, Rebuild, Pack}
+use Rattle.kcr_base.specs.declared.limits.TheConstants.{MAX_CEREMONY, MAX_COMMANDS}
 
 -- the words as texts
 abbrev pub said : {Z : Type 0} → List (String Z) → List Text
@@ -39,7 +40,7 @@ number_at least most name rows = option_and_then (number_between least most) (on
 
 -- the ceremony that was named
 abbrev pub ceremony_at : List Row → Option ℕ
-ceremony_at = number_at 1 9999 (codes "ceremony")
+ceremony_at = number_at 1 MAX_CEREMONY (codes "ceremony")
 
 -- for how many seconds a connection may be silent between two messages: 5 if no number was named
 abbrev pub idle_at : List Row → ℕ
@@ -63,7 +64,7 @@ serve_at rows = option_and_then
 
 -- the number of a command that was named
 abbrev pub command_at : Text → List Row → Option ℕ
-command_at = number_at 0 4000000000
+command_at = number_at 0 MAX_COMMANDS
 
 -- the commands to be exported: those behind a number, all of them where none was named, up to a number, or to the last
 abbrev pub export_at : List Row → Report

@@ -5,9 +5,11 @@ ghost use Rattle.clap.specs.declared.builder.command.Command.TheViews.{out-Comma
 ghost use Rattle.kcr_arguments.specs.Commands.{choice_rule, file_rule, flag_rule, number_rule, text_rule, root_app};
 ghost use Rattle.kcr_arguments.specs.Commands.{of_file, of_own_file, of_ceremony, explained, serve_app, export_app};
 ghost use Rattle.kcr_arguments.specs.Commands.{journal_app, into_file, tool_app};
+ghost use Rattle.kcr_base.specs.declared.limits.TheConstants.{MAX_CEREMONY, MAX_COMMANDS};
 
 use clap::builder::ValueParser;
 use clap::{Arg, ArgAction, Command};
+use kcr_base::{MAX_CEREMONY, MAX_COMMANDS};
 use std::alloc::{AllocError, Global};
 
 /// The version of the program, and the logic that it is proved by.
@@ -59,27 +61,27 @@ fn seconds_option<'a>(alloc: Global, name: &'a str, most: u64, help: &'a str) ->
         .help(help)
 }
 
-/// An option whose value is the number of a command, 0 to 4,000,000,000.
+/// An option whose value is the number of a command, 0 to `MAX_COMMANDS`.
 fn command_option<'a>(alloc: Global, name: &'a str, help: &'a str) -> Arg<'a>
-    ensures rule { rule_of result ≡ choice_rule name.entry.now 0 4000000000 }
+    ensures rule { rule_of result ≡ choice_rule name.entry.now 0 MAX_COMMANDS }
     ensures local { result.global ≡ false }
 {
     Arg::new(alloc, name)
         .long(name)
         .value_name("N")
-        .value_parser(ValueParser::unsigned(0, 4_000_000_000))
+        .value_parser(ValueParser::unsigned(0, u64::from(MAX_COMMANDS)))
         .help(help)
 }
 
 /// The option of a ceremony that need not be named.
 fn ceremony_option<'a>(alloc: Global) -> Arg<'a>
-    ensures rule { rule_of result ≡ choice_rule (codes "ceremony") 1 9999 }
+    ensures rule { rule_of result ≡ choice_rule (codes "ceremony") 1 MAX_CEREMONY }
     ensures local { result.global ≡ false }
 {
     Arg::new(alloc, "ceremony")
         .long("ceremony")
         .value_name("N")
-        .value_parser(ValueParser::unsigned(1, 9_999))
+        .value_parser(ValueParser::unsigned(1, u64::from(MAX_CEREMONY)))
         .help("Prints only the commands that name this ceremony, 1 to 9999; without it all")
 }
 
@@ -218,7 +220,7 @@ fn over_ceremony<'a>(alloc: Global, help: Help) -> Result<Command<'a>, AllocErro
         alloc,
         command,
         "ceremony",
-        9_999,
+        u64::from(MAX_CEREMONY),
         "Names the ceremony, 1 to 9999",
     )
 }

@@ -10,7 +10,7 @@ ghost use Rattle.kcr_arguments.specs.Tasks.{IsCompanion, faults_of, file_in, int
 use crate::commands::tool;
 use clap::ArgMatches;
 use clap::error::ErrorKind;
-use kcr_base::CeremonyNumber;
+use kcr_base::{CeremonyNumber, MAX_CEREMONY, MAX_COMMANDS};
 use std::alloc::Global;
 
 /// For how many seconds a connection may be silent between two messages, unless the words say.
@@ -129,7 +129,7 @@ fn read_number(matches: &ArgMatches<'_>, name: &str, least: u32, most: u32) -> O
 fn read_ceremony(matches: &ArgMatches<'_>) -> Option<CeremonyNumber>
     ensures { result ≡ ceremony_at (rows_of (found_of matches.now)) }
 {
-    CeremonyNumber::new(read_number(matches, "ceremony", 1, 9_999)?)
+    CeremonyNumber::new(read_number(matches, "ceremony", 1, MAX_CEREMONY)?)
 }
 
 /// For how many seconds a connection may be silent between two messages, 5 if no number was named.
@@ -166,7 +166,7 @@ fn read_serve(matches: &ArgMatches<'_>) -> Option<Task>
 fn read_command(matches: &ArgMatches<'_>, name: &str) -> Option<u32>
     ensures { result ≡ command_at name.now (rows_of (found_of matches.now)) }
 {
-    read_number(matches, name, 0, 4_000_000_000)
+    read_number(matches, name, 0, MAX_COMMANDS)
 }
 
 /// The commands to be exported: behind the one that was named, or all of them, up to the other one, or to the last.

@@ -1,6 +1,7 @@
 -- Moments of rooms.
 use Rattle.std.specs.Prelude.{◌≡◌, ℕ, ◌==◌, Bool, true, false, ◌&&◌, nat_lt, List, Option, Some, None}
 use Rattle.std.specs.List.{All}
+use Rattle.kcr_base.specs.declared.limits.TheConstants.{MAX_PRESENT}
 use Rattle.kcr_room.specs.declared.SheetRow.{SheetRow}
 use Rattle.kcr_room.specs.declared.Stay.{Stay}
 use Rattle.kcr_room.specs.Room.{headcount_by}
@@ -10,11 +11,11 @@ use Rattle.kcr_room.specs.Stays.{is_crowd_in_by}
 abbrev pub is_lone : List SheetRow → ℕ → ℕ → Bool
 is_lone rows ceremony t = headcount_by rows ceremony t == 1
 
--- more than 128 people are in the room
+-- more than `MAX_PRESENT` people are in the room
 abbrev pub is_crowd : List SheetRow → ℕ → ℕ → Bool
-is_crowd rows ceremony t = nat_lt 128 (headcount_by rows ceremony t)
+is_crowd rows ceremony t = nat_lt MAX_PRESENT (headcount_by rows ceremony t)
 
--- at the beginning of this stay of the ceremony more than 128 people are in its room
+-- at the beginning of this stay of the ceremony more than `MAX_PRESENT` people are in its room
 abbrev pub is_crowd_at : List Stay → ℕ → Stay → Bool
 is_crowd_at stays ceremony stay = stay.ceremony == ceremony && is_crowd_in_by stays ceremony stay.since
 

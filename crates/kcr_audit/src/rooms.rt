@@ -5,13 +5,10 @@ ghost use Rattle.kcr_room.specs.Stays;
 ghost use Rattle.kcr_audit.specs.Kinds.{IsFindingOfKind};
 ghost use Rattle.kcr_audit.specs.Rooms;
 
-use kcr_base::Moment;
+use kcr_base::{MAX_PRESENT, Moment};
 use kcr_history::{Finding, FullView};
 use kcr_room::{SheetRow, Stay, first_lone, is_crowded, stay_covers, stays_of};
 use std::alloc::{AllocError, Global};
-
-/// At most this many people may be in a room.
-const MAX_PEOPLE: usize = 128;
 
 /// The ceremony of each row.
 fn ceremony_of_each(alloc: Global, rows: &[SheetRow]) -> Result<Vec<u32>, AllocError>
@@ -82,7 +79,7 @@ fn crowd(stays: &[Stay], ceremony: u32, at: Moment) -> usize
 fn is_crowd_at(stays: &[Stay], ceremony: u32, stay: Stay) -> bool
     ensures { result ≡ Rooms.is_crowd_at stays.now ceremony stay }
 {
-    stay.ceremony == ceremony && crowd(stays, ceremony, stay.since) > MAX_PEOPLE
+    stay.ceremony == ceremony && crowd(stays, ceremony, stay.since) > MAX_PRESENT
 }
 
 /// When the first such stay begins.
@@ -123,7 +120,7 @@ fn crowd_among(
     Ok(None)
 }
 
-/// A moment with more than 128 people in the room of a ceremony.
+/// A moment with more than `MAX_PRESENT` people in the room of a ceremony.
 pub(crate) fn find_crowded_room(
     alloc: Global,
     view: &FullView,

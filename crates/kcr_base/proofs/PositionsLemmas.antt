@@ -16,8 +16,8 @@ place_below xs rises (suc k) within =
     rw next (omega (arith, place_below xs rises k (omega arith), rises k (omega arith)))
 
 -- rising numbers below n are at most n
-pub few : (xs : List ℕ) (n : ℕ) → IsStrictlyIncreasing xs → All (λ x. x < n) xs → length xs ≤ n
-few xs n rises below = elim (cases_lt n (length xs)) [
+pub length_below : (xs : List ℕ) (n : ℕ) → IsStrictlyIncreasing xs → All (λ x. x < n) xs → length xs ≤ n
+length_below xs n rises below = elim (cases_lt n (length xs)) [
   | inl more ↦ absurd (omega (arith, place_below xs rises n more, below n 0 more))
   | inr less ↦ less
 ]
@@ -29,7 +29,7 @@ positions_of xs rises below = record {
       let inside : k + 1 < length xs = rw (length-map xs suc) at within in
       rw (get_or-map suc xs k 0 0 (omega arith), get_or-map suc xs (k + 1) 0 0 inside) (omega (arith, rises k inside));
   each = All-map (λ p. (1 ≤ p) × (p ≤ 16)) suc xs (λ k d within. (omega arith, below k d within));
-  at_most_sixteen = rw (length-map xs suc) (few xs 16 rises below);
+  at_most_sixteen = rw (length-map xs suc) (length_below xs 16 rises below);
 }
 
 -- one more cell is filled

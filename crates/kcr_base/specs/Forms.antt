@@ -10,6 +10,7 @@ use Rattle.kcr_base.specs.Facility.{facility_text}
 use Rattle.kcr_base.specs.Moment.{moment_text}
 use Rattle.kcr_base.specs.Place.{place_text}
 use Rattle.kcr_base.specs.Role.{role_text}
+use Rattle.kcr_base.specs.declared.limits.TheConstants.{MAX_BOX, MAX_CEREMONY, MAX_REMARK, MAX_STEPS}
 use Rattle.kcr_base.specs.declared.place.Facility.{Facility}
 use Rattle.kcr_base.specs.declared.place.Facility.TheVariants.{East, West}
 use Rattle.kcr_base.specs.declared.place.Place.{Place}
@@ -85,7 +86,7 @@ name_of text = line_of 120 text
 
 -- the remark that a text is
 abbrev pub remark_of : List ℕ → Option (List ℕ)
-remark_of text = line_of 1000 text
+remark_of text = line_of MAX_REMARK text
 
 -- a script's text, if it is UTF-8
 unfoldable pub script_of : List ℕ → Option (List ℕ)
@@ -111,15 +112,15 @@ moment_of text = number_by_text moment_text (10957 * 86400) (47481 * 86400 + 863
 
 -- the number of a ceremony whose decimal text this is
 unfoldable pub ceremony_of : List ℕ → Option ℕ
-ceremony_of text = number_by_text decimal 1 9999 text
+ceremony_of text = number_by_text decimal 1 MAX_CEREMONY text
 
 -- the number of a box whose decimal text this is
 unfoldable pub box_of : List ℕ → Option ℕ
-box_of text = number_by_text decimal 1 9999 text
+box_of text = number_by_text decimal 1 MAX_BOX text
 
 -- the number of a step whose decimal text this is
 unfoldable pub step_of : List ℕ → Option ℕ
-step_of text = number_by_text decimal 1 400 text
+step_of text = number_by_text decimal 1 MAX_STEPS text
 
 -- the number from 1 to `limit` whose decimal text this is
 unfoldable pub number_of : ℕ → List ℕ → Option ℕ

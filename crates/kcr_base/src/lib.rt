@@ -8,6 +8,7 @@ pub mod day;
 mod digits;
 pub mod initials;
 pub mod key;
+pub mod limits;
 pub mod line;
 pub mod lists;
 pub mod moment;
@@ -26,6 +27,10 @@ pub use counted::Counted;
 pub use day::Day;
 pub use initials::Initials;
 pub use key::Key;
+pub use limits::{
+    MAX_BOX, MAX_CEREMONY, MAX_COMMANDS, MAX_ENTRIES, MAX_EXCEPTIONS, MAX_PRESENT, MAX_REMARK,
+    MAX_STEPS,
+};
 pub use line::{Activity, Line, Name, Remark};
 pub use lists::{Items, People, is_among};
 pub use moment::Moment;

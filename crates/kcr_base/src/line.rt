@@ -4,6 +4,7 @@ ghost use Rattle.std.specs.Cmp.{partial_equiv_from_equiv};
 ghost use Rattle.std.specs.Cmp.Lexicographic.{pointwise, nat_list_eq_equiv};
 ghost use Rattle.kcr_base.specs.Line.{IsLine};
 
+use crate::limits::MAX_REMARK;
 use std::alloc::{AllocError, Global};
 use std::marker::Model;
 use std::str;
@@ -14,8 +15,8 @@ pub type Name = Line<120>;
 /// What a step of a script does: 1 to 500 bytes.
 pub type Activity = Line<500>;
 
-/// What a script exception says: 1 to 1,000 bytes.
-pub type Remark = Line<1000>;
+/// What a script exception says: 1 to `MAX_REMARK` bytes.
+pub type Remark = Line<MAX_REMARK>;
 
 /// 1 to `LIMIT` bytes of UTF-8 with no character below U+0020 and no U+007F. Clauses see the bytes.
 #[derive(Drop)]

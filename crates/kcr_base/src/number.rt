@@ -2,18 +2,20 @@
 ghost use Rattle.std.specs.Prelude.{◌≡◌, ◌↔◌, ℕ, ◌<◌, ◌^◌, IsTrue, IfSome, Some, SomeIff};
 ghost use Rattle.std.specs.Fmt.{decimal};
 ghost use Rattle.std.proofs.Common.{arith};
+ghost use Rattle.kcr_base.specs.declared.limits.TheConstants.{MAX_BOX, MAX_CEREMONY, MAX_STEPS};
 ghost use Rattle.kcr_base.specs.Number.{IsNumber, IsNumberText};
 
+use crate::limits::{MAX_BOX, MAX_CEREMONY, MAX_STEPS};
 use std::marker::{Model, PhantomData};
 use std::str;
 
-/// The number of a ceremony, from 1 to 9,999.
+/// The number of a ceremony, from 1 to `MAX_CEREMONY`.
 pub type CeremonyNumber = Number<OfCeremony>;
 
-/// The number of a box in safe 2 of its facility, from 1 to 9,999.
+/// The number of a box in safe 2 of its facility, from 1 to `MAX_BOX`.
 pub type BoxNumber = Number<OfBox>;
 
-/// The number of a step in its ceremony's script, from 1 to 400.
+/// The number of a step in its ceremony's script, from 1 to `MAX_STEPS`.
 pub type StepNumber = Number<OfStep>;
 
 /// What is numbered, from 1 up to a greatest number.
@@ -34,10 +36,10 @@ pub trait Numbered {
 pub struct OfCeremony;
 
 impl Numbered for OfCeremony {
-    ghost limit = { 9999 };
+    ghost limit = { MAX_CEREMONY };
 
     fn limit() -> u32 {
-        9_999
+        MAX_CEREMONY
     }
 
     ghost fits = { omega arith };
@@ -48,10 +50,10 @@ impl Numbered for OfCeremony {
 pub struct OfBox;
 
 impl Numbered for OfBox {
-    ghost limit = { 9999 };
+    ghost limit = { MAX_BOX };
 
     fn limit() -> u32 {
-        9_999
+        MAX_BOX
     }
 
     ghost fits = { omega arith };
@@ -62,10 +64,10 @@ impl Numbered for OfBox {
 pub struct OfStep;
 
 impl Numbered for OfStep {
-    ghost limit = { 400 };
+    ghost limit = { MAX_STEPS };
 
     fn limit() -> u32 {
-        400
+        MAX_STEPS
     }
 
     ghost fits = { omega arith };

@@ -77,7 +77,7 @@ fn is_rising(numbers: &[u8]) -> bool
 }
 
 /// Each index and one more, in the first cells.
-#[tactic(auto, using(crate::proofs::PositionsLemmas::few, crate::proofs::PositionsLemmas::filled_more))]
+#[tactic(auto, using(crate::proofs::PositionsLemmas::length_below, crate::proofs::PositionsLemmas::filled_more))]
 fn counted_from_one(indices: &[usize]) -> [u8; 16]
     requires rising { IsStrictlyIncreasing indices.now }
     requires below { All (λ i. i < 16) indices.now }

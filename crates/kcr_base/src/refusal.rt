@@ -121,7 +121,7 @@ pub enum Refusal {
     Order { next: u32 },
     /// The first person of the request whose rows of the sheet would not go in and out in turn, in rising time.
     Turn { who: Initials },
-    /// More than 128 people would be in the room.
+    /// More than `MAX_PRESENT` people would be in the room.
     Crowd,
     /// Somebody would be alone in the room; the first such moment is carried.
     Lone { moment: Moment },

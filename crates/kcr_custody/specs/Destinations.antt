@@ -4,13 +4,14 @@ use Rattle.std.specs.Fmt.{decimal}
 use Rattle.kcr_base.specs.Forms.{box_of}
 use Rattle.kcr_base.specs.Number.{IsNumber}
 use Rattle.kcr_base.specs.Same.{same_text}
+use Rattle.kcr_base.specs.declared.limits.TheConstants.{MAX_BOX}
 use Rattle.kcr_custody.specs.declared.Destination.{Destination}
 use Rattle.kcr_custody.specs.declared.Destination.TheVariants.{SafeOne, DepositBox}
 
 -- safe 1, or a box with a number that boxes have
 abbrev pub IsDestination : Destination → Type 0
 IsDestination SafeOne = ⊤
-IsDestination (DepositBox number) = IsNumber 9999 number
+IsDestination (DepositBox number) = IsNumber MAX_BOX number
 
 -- `safe1`, or the number of a box
 abbrev pub destination_text : Destination → List ℕ

@@ -39,7 +39,7 @@ pub struct SafeRow {
     pub is_open: bool,
 }
 
-/// A box: it lies in safe 2 of its facility, has a number of 1 to 9,999 there, and belongs to a place.
+/// A box: it lies in safe 2 of its facility, has a number of 1 to `MAX_BOX` there, and belongs to a place.
 #[derive(Clone, Copy, PartialEq, Eq)]
 pub struct BoxRow {
     pub facility: Facility,

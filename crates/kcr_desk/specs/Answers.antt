@@ -4,6 +4,7 @@ use Rattle.std.specs.Prelude.{IfErr, IsSome, IsTrue, MatchBool, MatchOption, Mat
 use Rattle.sqlite.specs.Held.{state}
 use Rattle.sqlite.specs.State.{HasCleanDisk}
 use Rattle.sqlite.specs.Store.{Ghosts}
+use Rattle.kcr_desk.specs.declared.answer.TheConstants.{MAX_FEED_COMMANDS}
 use Rattle.kcr_forms.specs.Acts.{IsAct}
 use Rattle.kcr_forms.specs.Values.{AreValues}
 use Rattle.kcr_base.specs.Refusal.{status_of}
@@ -107,9 +108,9 @@ IsText text_of x result = MatchResult result (λ text. text ≡ text_of x) IsFau
 abbrev pub feed : ℕ → ℕ → History → List ℕ
 feed after count A = requests_between after (after + count) A
 
--- this text is a feed, of at most 1,000 commands and of one at least, if there is one
+-- this text is a feed, of at most `MAX_FEED_COMMANDS` and of one at least, if there is one
 abbrev pub IsFeedText : ℕ → History → List ℕ → Type 0
-IsFeedText after A text = (count : ℕ) × (0 < count) × (count ≤ 1000) × (text ≡ feed after count A)
+IsFeedText after A text = (count : ℕ) × (0 < count) × (count ≤ MAX_FEED_COMMANDS) × (text ≡ feed after count A)
 
 -- the refusal of the number of a command that was never accepted
 abbrev pub no_command : ℕ → Refusal
@@ -260,13 +261,13 @@ abbrev pub IsReportedByRows : (Tables → ℕ → List ℕ) → ℕ → Tables �
 IsReportedByRows report ceremony m result =
     MatchResult result (λ text. IsSome (row_of_ceremony ceremony m) × (text ≡ report m ceremony)) (HasNoRowBy m ceremony)
 
--- the requests that the rows keep of the commands after this number, of 1,000 at most and of one at least, if there is
--- one; a number greater than that of the last command is refused; or out of memory, or an I/O error
+-- the requests that the rows keep of the commands after this number, of `MAX_FEED_COMMANDS` at most and of one at
+-- least, if there is one; a number greater than that of the last command is refused; or out of memory, or an I/O error
 abbrev pub IsFeedByRows : ℕ → RegisterRows → Result (List ℕ) Refusal → Type 0
 IsFeedByRows after t result =
     MatchResult result
     (λ text. (after ≤ t.last_number)
-    × ((count : ℕ) × (0 < count) × (count ≤ 1000) × (text ≡ row_requests after (after + count) t.rows)))
+    × ((count : ℕ) × (0 < count) × (count ≤ MAX_FEED_COMMANDS) × (text ≡ row_requests after (after + count) t.rows)))
     (λ refusal. IsFault refusal ⊎ ((t.last_number < after) × (refusal ≡ no_command after)))
 
 -- a question is shown what the rows show; a report is their text, and a feed the requests that they keep

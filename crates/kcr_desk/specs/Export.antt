@@ -5,6 +5,7 @@ use Rattle.std.specs.Fmt.{decimal}
 use Rattle.httparse.specs.Grammar.{RequestHead, crlf}
 use Rattle.kcr_base.specs.Key.{IsKey}
 use Rattle.kcr_base.specs.declared.refusal.Refusal.TheVariants.{Memory, Disk}
+use Rattle.kcr_desk.specs.declared.head.TheConstants.{MAX_BODY}
 use Rattle.kcr_forms.specs.Acts.{IsAct}
 use Rattle.kcr_history.specs.History.{History}
 use Rattle.kcr_history.specs.Texts.{path_text, reply_text}
@@ -46,7 +47,7 @@ message_of x = posted_message (path_text x.act) (body_text x)
 pub record IsSendable (x : Command) : Type 0 where
   pub key : IsKey x.key
   pub act : IsAct x.act
-  pub short : length (body_text x) ≤ 131072
+  pub short : length (body_text x) ≤ MAX_BODY
 
 -- the requests of commands, one after the other, with nothing between them
 abbrev pub requests_text : List Command → List ℕ

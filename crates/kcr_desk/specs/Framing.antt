@@ -12,6 +12,7 @@ use Rattle.kcr_desk.specs.declared.head.FieldValues.{FieldValues}
 use Rattle.kcr_desk.specs.declared.head.FieldValues.TheVariants.{Absent, One, Many}
 use Rattle.kcr_base.specs.declared.refusal.Refusal.{Refusal}
 use Rattle.kcr_base.specs.declared.refusal.Refusal.TheVariants.{Host, Length, Coding, Large}
+use Rattle.kcr_desk.specs.declared.head.TheConstants.{MAX_BODY}
 
 -- the name is this one, in any case
 abbrev pub is_named : List ℕ → List ℕ × List ℕ → Bool
@@ -52,7 +53,7 @@ abbrev pub measured : ℕ → Bool → Bool → Bool → Option ℕ → Result F
 measured minor coded closing expecting None = Err Length
 measured minor coded closing expecting (Some n) =
     if coded then Err Coding else
-    if nat_lt 131072 n then Err Large else
+    if nat_lt MAX_BODY n then Err Large else
     Ok (record { length = n; closes = minor == 0 || closing; expects_continue = (minor == 1 && nat_lt 0 n) && expecting })
 
 -- the first test that fails, or what is asked for

@@ -3,6 +3,7 @@ use Rattle.std.specs.Prelude.{◌≡◌, ℕ, ◌≤◌, ◌<◌, false, List, �
 use Rattle.httparse.specs.Grammar.{RequestHead}
 use Rattle.httparse.specs.Spans.{span_bytes, IsWithin}
 use Rattle.httparse.specs.declared.spans.RequestSpans.{RequestSpans}
+use Rattle.kcr_desk.specs.declared.head.TheConstants.{MAX_BODY, MAX_HEAD}
 use Rattle.kcr_history.specs.Refusals.{carries}
 use Rattle.kcr_desk.specs.declared.head.HeadParse.{HeadParse}
 use Rattle.kcr_desk.specs.declared.head.HeadParse.TheVariants.{Whole, More, Nothing}
@@ -19,7 +20,7 @@ pub record IsWhole (buf : List ℕ) (spans : RequestSpans) (h : RequestHead) : T
   pub at : (more : List ℕ) → IsHeadAt (buf ++ more) spans h
   pub len : spans.len ≤ length buf
   pub some : 0 < spans.len
-  pub short : spans.len ≤ 8192
+  pub short : spans.len ≤ MAX_HEAD
   pub method : IsWithin (length buf) spans.method
   pub path : IsWithin (length buf) spans.path
 
@@ -30,6 +31,6 @@ pub record IsHopeless (buf : List ℕ) : Type 0 where
 
 abbrev pub IsHeadParse : List ℕ → HeadParse → Type 0
 IsHeadParse buf (Whole spans judged) = (h : RequestHead) × IsWhole buf spans h × (framing_of h ≡ judged)
-    × IfOk judged (λ plan. plan.length ≤ 131072) × IfErr judged (λ refusal. carries refusal ≡ false)
+    × IfOk judged (λ plan. plan.length ≤ MAX_BODY) × IfErr judged (λ refusal. carries refusal ≡ false)
 IsHeadParse buf More = HasNoHead buf
 IsHeadParse buf Nothing = IsHopeless buf

@@ -7,6 +7,7 @@ use Rattle.kcr_desk.specs.declared.head.Framing.{Framing}
 use Rattle.kcr_base.specs.declared.refusal.Refusal.{Refusal}
 use Rattle.kcr_base.specs.declared.refusal.Refusal.TheVariants.{Head}
 use Rattle.kcr_desk.specs.Framing.{planned, is_head}
+use Rattle.kcr_desk.specs.declared.head.TheConstants.{MAX_HEAD}
 
 -- what the fields of a head ask for, or the refusal of its first test that fails
 abbrev pub framing_of : RequestHead → Result Framing Refusal
@@ -15,7 +16,7 @@ framing_of h = planned h.minor (map name_and_value h.fields)
 -- bytes is a head within the limits, and then rest
 pub record HasHead (bytes : List ℕ) (h : RequestHead) (rest : List ℕ) : Type 0 where
   pub reads : ReadsRequest bytes h rest
-  pub short : length (print_request h) ≤ 8192
+  pub short : length (print_request h) ≤ MAX_HEAD
   pub few : length h.fields ≤ 64
 
 abbrev pub HasNoHead : List ℕ → Type 0
@@ -25,7 +26,7 @@ HasNoHead bytes = (h : RequestHead) (rest : List ℕ) → ¬ (HasHead bytes h re
 pub record IsBlankRest (bytes : List ℕ) : Type 0 where
   pub ends : List LineEnd
   pub is : bytes ≡ print_blank ends
-  pub short : length bytes ≤ 8192
+  pub short : length bytes ≤ MAX_HEAD
 
 -- a head, what it asks for, and its body
 pub record Message : Type 0 where

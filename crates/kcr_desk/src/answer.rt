@@ -2,6 +2,7 @@
 ghost use Rattle.std.specs.Prelude.{◌≡◌, ◌⊎◌, ◌<◌, ◌≤◌, false, None, Err, IfSome, IsTrue};
 ghost use Rattle.sqlite.specs.Held.{state};
 ghost use Rattle.sqlite.specs.State.{HasCleanDisk};
+ghost use Rattle.kcr_desk.specs.declared.answer.TheConstants.{MAX_FEED_COMMANDS};
 ghost use Rattle.kcr_store.specs.Commands.{IsQuestionResult};
 ghost use Rattle.kcr_store.specs.ShownBy.{IsQuestionResultBy};
 ghost use Rattle.kcr_wire.specs.declared.method.Method.TheVariants.{Ask, Post};
@@ -227,7 +228,7 @@ fn answer_count<S: Alter>(
 ) -> Response
     requires enough { register.old.is_broken ≡ false → after ≤ register.old.last_number }
     requires some { 0 < count }
-    requires most { count ≤ 1000 }
+    requires most { count ≤ MAX_FEED_COMMANDS }
     ensures { AnswersReading S.Store register.old (response_value result) register.new
         (report_response kinds.Text) (MayBeFed after) (IsFeed after) (IsFeedByRows after) }
 {
@@ -246,7 +247,7 @@ fn answer_some<S: Alter>(
     count: u32,
 ) -> Response
     requires some { 0 < count }
-    requires most { count ≤ 1000 }
+    requires most { count ≤ MAX_FEED_COMMANDS }
     ensures { AnswersReading S.Store register.old (response_value result) register.new
         (report_response kinds.Text) (MayBeFed after) (IsFeed after) (IsFeedByRows after) }
 {
@@ -261,7 +262,7 @@ fn answer_some<S: Alter>(
 fn fitting(outcome: &Result<(), PrintFault>, page: &Page) -> Option<u32>
     ensures cause { IfSome result (λ _. outcome.now ≡ Err PrintFault.Write) }
     ensures some { IfSome result (λ count. 0 < count) }
-    ensures most { IfSome result (λ count. count ≤ 1000) }
+    ensures most { IfSome result (λ count. count ≤ MAX_FEED_COMMANDS) }
 {
     match outcome {
         Err(PrintFault::Write) => {

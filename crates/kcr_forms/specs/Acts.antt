@@ -8,6 +8,7 @@ use Rattle.kcr_base.specs.Moment.{IsMoment}
 use Rattle.kcr_base.specs.Number.{IsNumber}
 use Rattle.kcr_base.specs.Place.{IsPlace}
 use Rattle.kcr_base.specs.Serial.{IsSerial}
+use Rattle.kcr_base.specs.declared.limits.TheConstants.{MAX_CEREMONY, MAX_REMARK, MAX_STEPS}
 use Rattle.kcr_custody.specs.Destinations.{IsDestination}
 use Rattle.kcr_history.specs.declared.commands.Act.{Act}
 use Rattle.kcr_history.specs.declared.commands.Act.TheVariants.{Enter, Train, Withdraw, Appoint, Replace, Release}
@@ -32,16 +33,16 @@ IsAct (Withdraw who role day) = IsInitials who × IsDay day
 IsAct (Appoint place who day) = IsPlace place × IsInitials who × IsDay day
 IsAct (Replace place who day) = IsPlace place × IsInitials who × IsDay day
 IsAct (Release place day) = IsPlace place × IsDay day
-IsAct (AddBox facility number place) = IsNumber 9999 number × IsPlace place
-IsAct (AddItem ceremony item at) = IsNumber 9999 ceremony × IsSerial item × IsMoment at
-IsAct (Plan number facility day script) = IsNumber 9999 number × IsDay day × IsUtf8 script
-IsAct (Open ceremony at) = IsNumber 9999 ceremony × IsMoment at
-IsAct (Close ceremony at) = IsNumber 9999 ceremony × IsMoment at
-IsAct (RecordSheet ceremony way who at) = IsNumber 9999 ceremony × ArePeople who × IsMoment at
-IsAct (Sign ceremony step at) = IsNumber 9999 ceremony × IsNumber 400 step × IsMoment at
-IsAct (RecordException ceremony text pass at) = IsNumber 9999 ceremony × IsLine 1000 text × IsMoment at
-IsAct (SetSafe ceremony safe state by at) = IsNumber 9999 ceremony × IsInitials by × IsMoment at
-IsAct (Seal ceremony serial items at) = IsNumber 9999 ceremony × IsSerial serial × AreItems items × IsMoment at
-IsAct (Take ceremony serial at) = IsNumber 9999 ceremony × IsSerial serial × IsMoment at
-IsAct (Put ceremony serial to at) = IsNumber 9999 ceremony × IsSerial serial × IsDestination to × IsMoment at
-IsAct (Cut ceremony serial at) = IsNumber 9999 ceremony × IsSerial serial × IsMoment at
+IsAct (AddBox facility number place) = IsNumber MAX_CEREMONY number × IsPlace place
+IsAct (AddItem ceremony item at) = IsNumber MAX_CEREMONY ceremony × IsSerial item × IsMoment at
+IsAct (Plan number facility day script) = IsNumber MAX_CEREMONY number × IsDay day × IsUtf8 script
+IsAct (Open ceremony at) = IsNumber MAX_CEREMONY ceremony × IsMoment at
+IsAct (Close ceremony at) = IsNumber MAX_CEREMONY ceremony × IsMoment at
+IsAct (RecordSheet ceremony way who at) = IsNumber MAX_CEREMONY ceremony × ArePeople who × IsMoment at
+IsAct (Sign ceremony step at) = IsNumber MAX_CEREMONY ceremony × IsNumber MAX_STEPS step × IsMoment at
+IsAct (RecordException ceremony text pass at) = IsNumber MAX_CEREMONY ceremony × IsLine MAX_REMARK text × IsMoment at
+IsAct (SetSafe ceremony safe state by at) = IsNumber MAX_CEREMONY ceremony × IsInitials by × IsMoment at
+IsAct (Seal ceremony serial items at) = IsNumber MAX_CEREMONY ceremony × IsSerial serial × AreItems items × IsMoment at
+IsAct (Take ceremony serial at) = IsNumber MAX_CEREMONY ceremony × IsSerial serial × IsMoment at
+IsAct (Put ceremony serial to at) = IsNumber MAX_CEREMONY ceremony × IsSerial serial × IsDestination to × IsMoment at
+IsAct (Cut ceremony serial at) = IsNumber MAX_CEREMONY ceremony × IsSerial serial × IsMoment at

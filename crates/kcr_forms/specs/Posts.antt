@@ -1,5 +1,6 @@
 -- The act of a path and its members.
 use Rattle.std.specs.Prelude.{List, [], ◌∷◌, Option, Result, Ok}
+use Rattle.kcr_base.specs.declared.limits.TheConstants.{MAX_CEREMONY}
 use Rattle.kcr_base.specs.declared.refusal.Member.{Member}
 use Rattle.kcr_base.specs.declared.refusal.Refusal.{Refusal}
 use Rattle.kcr_history.specs.declared.commands.Act.{Act}
@@ -12,7 +13,7 @@ use Rattle.kcr_forms.specs.declared.post.Post.{Post}
 -- the value of a member that is not the last one
 abbrev pub next : {S : Type 0} → Reading S → Member → (form : Form) → S → Option (ValueOf form)
 next r name (Text text_of read) s = r.word read name s
-next r name Number s = r.number 9999 name s
+next r name Number s = r.number MAX_CEREMONY name s
 next r name Truth s = r.truth name s
 next r name (Codes most read) s = r.list read (listed_of most (λ texts. texts)) name s
 

@@ -7,6 +7,7 @@ ghost use Rattle.kcr_base.specs.Moment.{IsMoment};
 ghost use Rattle.kcr_base.specs.Number.{IsNumber};
 ghost use Rattle.kcr_base.specs.Place.{IsPlace};
 ghost use Rattle.kcr_base.specs.Serial.{IsSerial};
+ghost use Rattle.kcr_base.specs.declared.limits.TheConstants.{MAX_CEREMONY, MAX_REMARK, MAX_STEPS};
 ghost use Rattle.kcr_custody.specs.Destinations.{IsDestination};
 ghost use Rattle.kcr_forms.specs.Acts.{ArePeople, AreItems};
 
@@ -29,7 +30,7 @@ pub(crate) fn name(name: &Name)
 }
 
 pub(crate) fn remark(remark: &Remark)
-    ensures { IsLine 1000 remark.now }
+    ensures { IsLine MAX_REMARK remark.now }
 {
     let _ = remark.as_str();
 }
@@ -65,19 +66,19 @@ pub(crate) fn moment(at: Moment)
 }
 
 pub(crate) fn ceremony(number: CeremonyNumber)
-    ensures { IsNumber 9999 number }
+    ensures { IsNumber MAX_CEREMONY number }
 {
     let _ = number.get();
 }
 
 pub(crate) fn step(number: StepNumber)
-    ensures { IsNumber 400 number }
+    ensures { IsNumber MAX_STEPS number }
 {
     let _ = number.get();
 }
 
 pub(crate) fn new_box(number: BoxNumber)
-    ensures { IsNumber 9999 number }
+    ensures { IsNumber MAX_CEREMONY number }
 {
     let _ = number.get();
 }

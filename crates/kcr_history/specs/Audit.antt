@@ -4,6 +4,7 @@ use Rattle.std.specs.Prelude.{Option, Some, None, IsTrue}
 use Rattle.std.specs.List.{list_any, count_by}
 use Rattle.kcr_base.specs.Days.{day_of}
 use Rattle.kcr_base.specs.Same.{same_text}
+use Rattle.kcr_base.specs.declared.limits.TheConstants.{MAX_PRESENT}
 use Rattle.kcr_room.specs.Room.{in_by, headcount_by}
 use Rattle.kcr_custody.specs.Balance.{holds_items}
 use Rattle.kcr_custody.specs.Custody.{is_box}
@@ -103,7 +104,7 @@ IsTrueOf view (Findings.Bag serial) =
     || list_any (λ row. same_text row.serial serial && is_in_missing_box view row.spot) view.view.bags.items)
 IsTrueOf view (Findings.Key key) = IsTrue (is_duplicate (λ row. same_text row.key key) view.keys.items)
 IsTrueOf view (Findings.Lone ceremony moment) = headcount_by view.sheet.items ceremony moment ≡ 1
-IsTrueOf view (Findings.Crowd ceremony moment) = 128 < headcount_by view.sheet.items ceremony moment
+IsTrueOf view (Findings.Crowd ceremony moment) = MAX_PRESENT < headcount_by view.sheet.items ceremony moment
 
 -- the kinds of finding in the order in which they are sought
 abbrev pub rank : Finding → ℕ

@@ -8,6 +8,7 @@ use Rattle.kcr_base.specs.Days.{day_of}
 use Rattle.kcr_base.specs.Refuse.{when, first_of, unknown_people_refusal, unknown_ceremony_refusal, before_mark_refusal}
 use Rattle.kcr_base.specs.Refuse.{not_after_mark_refusal}
 use Rattle.kcr_base.specs.Same.{same_facility, same_text}
+use Rattle.kcr_base.specs.declared.limits.TheConstants.{MAX_COMMANDS, MAX_ENTRIES, MAX_EXCEPTIONS}
 use Rattle.kcr_base.specs.declared.place.Facility.{Facility}
 use Rattle.kcr_base.specs.declared.place.Place.{Place}
 use Rattle.kcr_base.specs.declared.place.Role.{Role}
@@ -181,7 +182,7 @@ exception_early facts ceremony pass at =
     ∷ not_open_refusal facts ceremony
     ∷ before_mark_refusal at (facts.mark ceremony)
     ∷ when (pass && facts.lacks_step ceremony (facts.next_step ceremony)) (Order (facts.next_step ceremony))
-    ∷ when (nat_le 200 (facts.exception_count ceremony)) Full
+    ∷ when (nat_le MAX_EXCEPTIONS (facts.exception_count ceremony)) Full
     ∷ when facts.is_full Full
     ∷ []
 
@@ -259,7 +260,7 @@ conditions_over facts act = early_conditions facts act ++ late_conditions facts 
 
 -- the register has as many accepted commands as it may have
 abbrev pub is_full : History → Bool
-is_full A = nat_le 4000000000 (length A)
+is_full A = nat_le MAX_COMMANDS (length A)
 
 -- another ceremony is open in the facility
 abbrev pub is_busy : History → ℕ → Bool
@@ -294,7 +295,7 @@ has_bag_on_table A facility =
 abbrev pub out_of_turn_refusal : History → ℕ → Way → ℕ → List (List ℕ) → Option Refusal
 out_of_turn_refusal A ceremony way at people = turn_refusal (find (is_out_of_turn_by (sheet A) ceremony way at) people)
 
--- at some moment more than 128 people would be in the room
+-- at some moment more than `MAX_PRESENT` people would be in the room
 abbrev pub crowd_refusal : List SheetRow → ℕ → Option Refusal
 crowd_refusal rows ceremony = when (is_crowded_in_by (stays_by rows) ceremony) Crowd
 
@@ -302,9 +303,9 @@ crowd_refusal rows ceremony = when (is_crowded_in_by (stays_by rows) ceremony) C
 abbrev pub lone_room_refusal : List SheetRow → ℕ → Option Refusal
 lone_room_refusal rows ceremony = lone_refusal (first_lone_in_by (stays_by rows) ceremony)
 
--- with an `in` the ceremony would have more than 1,000 `in` rows
+-- with an `in` the ceremony would have more than `MAX_ENTRIES` `in` rows
 abbrev pub is_overfull : Way → List SheetRow → ℕ → Bool
-is_overfull Ways.Enter rows ceremony = nat_lt 1000 (in_row_count_by rows ceremony)
+is_overfull Ways.Enter rows ceremony = nat_lt MAX_ENTRIES (in_row_count_by rows ceremony)
 is_overfull Ways.Leave rows ceremony = false
 
 -- what the sheet with the rows of a request tells

@@ -38,7 +38,8 @@ is_seated A (Some s) (Some people) = is_seating A s.ceremony s.at s.seats people
 abbrev pub are_seated : History → Bool
 are_seated A = list_all (λ entry. is_seated A (seat_request A entry.command.act) entry.reply.seating) A
 
--- every recorded seating is one by the whole of A, and at no moment is exactly one person, or more than 128, in a room
+-- every recorded seating is one by the whole of A, and at no moment is exactly one person, or more than `MAX_PRESENT`, in
+-- a room
 pub record IsSound (A : History) : Type 0 where
   pub seated : IsTrue (are_seated A)
   pub rooms : (ceremony t : ℕ) → IsAllowed (headcount_by (sheet A) ceremony t)

@@ -180,6 +180,6 @@ pub enum Finding {
     Key(Key),
     /// A moment with exactly one person in the room of the ceremony.
     Lone(u32, Moment),
-    /// A moment with more than 128 people in the room of the ceremony.
+    /// A moment with more than `MAX_PRESENT` people in the room of the ceremony.
     Crowd(u32, Moment),
 }

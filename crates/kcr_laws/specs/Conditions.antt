@@ -2,6 +2,7 @@
 use Rattle.std.specs.Prelude.{◌≡◌, ◌≢◌, ℕ, suc, ◌<◌, ◌≤◌, List, map, Option, Some, None, is_some, unwrap_or}
 use Rattle.std.specs.Prelude.{if◌then◌else◌, IsTrue}
 use Rattle.kcr_base.specs.Same.{same_place}
+use Rattle.kcr_base.specs.declared.limits.TheConstants.{MAX_PRESENT}
 use Rattle.kcr_base.specs.declared.place.Place.{Place}
 use Rattle.kcr_base.specs.declared.place.Role.{Role}
 use Rattle.kcr_base.specs.declared.refusal.Refusal.TheVariants.{Short}
@@ -41,9 +42,9 @@ IsShortOf A key ceremony step at =
 
 -- ROOMS
 
--- at some moment more than 128 people are in the room of the ceremony by the rows
+-- at some moment more than `MAX_PRESENT` people are in the room of the ceremony by the rows
 abbrev pub IsEverCrowded : List SheetRow → ℕ → Type 0
-IsEverCrowded rows ceremony = (t : ℕ) × (128 < headcount_by rows ceremony t)
+IsEverCrowded rows ceremony = (t : ℕ) × (MAX_PRESENT < headcount_by rows ceremony t)
 
 -- at the moment exactly one person is in the room of the ceremony by the rows, and at no earlier one
 abbrev pub IsFirstAlone : List SheetRow → ℕ → ℕ → Type 0

@@ -1,6 +1,7 @@
 //! What holds of every register: functions that do nothing, whose contracts say it.
 ghost use Rattle.std.specs.Prelude.{◌≡◌, ◌∷◌, ◌++◌, ◌==◌, map, option_map, ℕ, suc, ◌<◌, ◌≤◌, nat_lt, Bool, true, List};
 ghost use Rattle.std.specs.Prelude.{length, Option, Some, None, IsTrue, ◌⊎◌, ◌↔◌};
+ghost use Rattle.kcr_base.specs.declared.limits.TheConstants.{MAX_COMMANDS, MAX_PRESENT};
 ghost use Rattle.kcr_base.specs.declared.place.Place.{Place};
 ghost use Rattle.kcr_base.specs.declared.place.Role.{Role};
 ghost use Rattle.kcr_base.specs.declared.refusal.Refusal.{Refusal};
@@ -94,12 +95,12 @@ pub fn room_rules_hold_at_every_moment()
         IsFirstMoment (λ t. headcount_by (sheet_after act (sheet A)) ceremony t == 1)
         (first_lone_in_by (stays_by (sheet_after act (sheet A))) ceremony) }
     ensures crowded { (A : History) (act : Act) (ceremony : ℕ) →
-        IsEver (λ t. nat_lt 128 (headcount_by (sheet_after act (sheet A)) ceremony t))
+        IsEver (λ t. nat_lt MAX_PRESENT (headcount_by (sheet_after act (sheet A)) ceremony t))
         (is_crowded_in_by (stays_by (sheet_after act (sheet A))) ceremony) }
 {}
 
 /// In every register each recorded seating is one by the whole history, whatever came later; and at no moment is
-/// exactly one person in a room, or more than 128.
+/// exactly one person in a room, or more than `MAX_PRESENT`.
 pub fn registers_are_sound()
     ensures { (A : History) → IsRegister A → IsSound A }
 {}
@@ -116,7 +117,7 @@ pub fn registers_are_balanced()
 /// first such people.
 pub fn signed_iff_seats_can_be_filled()
     ensures signed { (A : History) (key : List ℕ) (ceremony step at : ℕ) → entry_of A key ≡ None
-        → length A < 4000000000 →
+        → length A < MAX_COMMANDS →
         IsAccepted A (signature key ceremony step at)
         ↔ (IsTrue (next A ceremony step at) × CanFill A ceremony step at) }
     ensures known { (A : History) (ceremony step at : ℕ) → IsTrue (next A ceremony step at)
@@ -134,7 +135,7 @@ pub fn signed_iff_seats_can_be_filled()
 /// seats. The refusal `short` of a signature always names such a set, its positions counted from 1.
 pub fn short_iff_seats_cannot_be_filled()
     ensures short { (A : History) (key : List ℕ) (ceremony step at : ℕ) → entry_of A key ≡ None
-        → length A < 4000000000 →
+        → length A < MAX_COMMANDS →
         IsShortOf A key ceremony step at ↔ (IsTrue (next A ceremony step at) × (CanFill A ceremony step at → ⊥)) }
     ensures named { (A : History) (key : List ℕ) (ceremony step at : ℕ) (named : List ℕ) (after : History)
         → entry_of A key ≡ None →
@@ -148,8 +149,8 @@ pub fn every_command_is_answered()
     ensures { (A : History) (x : Command) → (outcome : Outcome) × (after : History) × machine A x outcome after }
 {}
 
-/// The refusal `crowd` holds of a sheet request if and only if at some moment more than 128 people would be in the room,
-/// by the sheet with its rows; and a request that is answered so would have such a moment.
+/// The refusal `crowd` holds of a sheet request if and only if at some moment more than `MAX_PRESENT` people would be in
+/// the room, by the sheet with its rows; and a request that is answered so would have such a moment.
 pub fn sheets_are_refused_at_a_crowded_moment()
     ensures holds { (A : History) (act : Act) (ceremony : ℕ) →
         crowd_refusal (sheet_after act (sheet A)) ceremony ≡ Some Crowd ↔ IsEverCrowded (sheet_after act (sheet A)) ceremony }

@@ -2,6 +2,7 @@
 use Rattle.std.specs.Prelude.{◌+◌, ◌%◌, ◌==◌, ◌&&◌, ◌||◌, ℕ, Bool, zero, suc, false, List, max}
 use Rattle.sqlite_wal.specs.Format.{be32}
 use Rattle.kcr_log.specs.declared.begun_anew.Count.{Count}
+use Rattle.kcr_log.specs.declared.begun_anew.TheConstants.{MAX_CHECKPOINTS}
 
 -- what a checkpoint changes of a head: the number of checkpoints, and the first salt
 abbrev pub count_of : List ℕ → Count
@@ -24,7 +25,7 @@ unfoldable pub is_later : ℕ → Count → Count → Bool
 is_later zero first second = false
 is_later (suc k) first second = same (next first) second || is_later k (next first) second
 
--- the version and the size of a page stay, and the register has begun its log anew, at most 1,000 times
+-- the version and the size of a page stay, and the register has begun its log anew, at most `MAX_CHECKPOINTS` times
 abbrev pub is_begun_anew : List ℕ → List ℕ → Bool
 is_begun_anew seen now =
-    (be32 seen 4 == be32 now 4) && ((be32 seen 8 == be32 now 8) && is_later 1000 (count_of seen) (count_of now))
+    (be32 seen 4 == be32 now 4) && ((be32 seen 8 == be32 now 8) && is_later MAX_CHECKPOINTS (count_of seen) (count_of now))

@@ -2,6 +2,7 @@
 use Rattle.std.specs.Prelude.{◌≡◌, ◌≢◌, ℕ, Bool, true, false, nat_le, List, [], None}
 use Rattle.std.specs.Prelude.{◌⊎◌, Some, MatchResult, Result, IsSome, IsTrue}
 use Rattle.kcr_base.specs.Same.{same_text}
+use Rattle.kcr_base.specs.declared.limits.TheConstants.{MAX_COMMANDS}
 use Rattle.kcr_base.specs.declared.refusal.Refusal.{Refusal}
 use Rattle.kcr_base.specs.declared.refusal.Refusal.TheVariants.{Key, Memory}
 use Rattle.kcr_history.specs.declared.commands.Act.{Act}
@@ -15,7 +16,7 @@ use Rattle.kcr_rules.specs.Refusals.{may_refuse}
 
 -- a register whose last command has this number is full
 abbrev pub is_full_by : ℕ → Bool
-is_full_by last = nat_le 4000000000 last
+is_full_by last = nat_le MAX_COMMANDS last
 
 -- the key has a row of the same command: its reply, and no change
 pub record RepeatsRow (row : KeyRow) (x : Command) (verdict : Verdict) : Type 0 where

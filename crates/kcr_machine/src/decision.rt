@@ -11,15 +11,12 @@ ghost use Rattle.kcr_machine.specs.RowDecision.{IsRowRepeat, is_full_by};
 ghost use Rattle.kcr_machine.specs.RowDecision.{IsOfKind, IsOwnRefusal};
 ghost use Rattle.kcr_machine.specs.NewDecision.{IsRowDecision};
 
-use kcr_base::Refusal;
+use kcr_base::{MAX_COMMANDS, Refusal};
 use kcr_history::{
     Change, Command, KeyRow, Reply, ReplyData, Verdict, View, command_text, reply_text,
 };
 use kcr_rules::{Effect, check, evaluate};
 use std::alloc::Global;
-
-/// At most this many commands are accepted.
-const MAX_COMMANDS: u32 = 4_000_000_000;
 
 /// Decides a command whose key has this row, as it has if a command was accepted under it.
 ///
@@ -79,7 +76,7 @@ pub fn check_early(
 /// of the tables of A that the command asks for, in any order, and `accepted` is the number of the last command of A, 0
 /// if there is none, the result is the machine's step from A, and the changes lead from the tables of A to those
 /// after it, up to the order of rows. The act's own refusals come in the order of their numbers, and 27 if
-/// 4,000,000,000 commands have been accepted. Out of memory (33) may be answered in place of all of these; it changes
+/// `MAX_COMMANDS` have been accepted. Out of memory (33) may be answered in place of all of these; it changes
 /// nothing. Over any other view and number there is some answer. A signature and an exception that passes a step record
 /// the first seating of the people in the room, or else are refused (32) with a least shortage.
 pub fn decide_new(

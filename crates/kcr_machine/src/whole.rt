@@ -38,8 +38,8 @@ fn greatest_number(rows: &[KeyRow]) -> u32
 /// numbers; else the changes lead from the tables of A to those after it, up to the order of rows, with the reply. A
 /// signature and an exception that passes a step record the first seating of the people in the room, or are refused
 /// (32) with a least shortage. Out of memory (33) may be answered in place of all of these; it changes nothing. Over
-/// any other view there is some answer: 34 if more than 128 people are in the room, or more steps are done than a
-/// script has.
+/// any other view there is some answer: 34 if more than `MAX_PRESENT` people are in the room, or more steps are done than
+/// a script has.
 pub fn decide(alloc: Global, view: &FullView, command: &Command) -> Result<Verdict, Refusal>
     ensures step { (A : History) → IsRegister A → IsAsked A command.now view.now → IsDecision A command.now result }
     ensures kind { IfErr result (MayBeRefused command.now) }

@@ -1,6 +1,7 @@
 -- What the traffic of a room tells.
 use Rattle.std.specs.Prelude.{ℕ, ◌-◌, ◌==◌, Bool, nat_lt, List}
 use Rattle.std.specs.List.Sorted.{IsPermutation}
+use Rattle.kcr_base.specs.declared.limits.TheConstants.{MAX_PRESENT}
 use Rattle.kcr_room.specs.declared.Stay.{Stay}
 use Rattle.kcr_room.specs.declared.occupancy.Occupancy.{Occupancy}
 use Rattle.kcr_room.specs.Moments.{count_until}
@@ -10,9 +11,9 @@ use Rattle.kcr_room.specs.Stays.{comings_by, goings_by}
 abbrev pub headcount_of : Occupancy → ℕ → ℕ
 headcount_of traffic t = count_until traffic.arrivals.items t - count_until traffic.departures.items t
 
--- more than 128 people are in the room at t
+-- more than `MAX_PRESENT` people are in the room at t
 abbrev pub is_crowd_of : Occupancy → ℕ → Bool
-is_crowd_of traffic t = nat_lt 128 (headcount_of traffic t)
+is_crowd_of traffic t = nat_lt MAX_PRESENT (headcount_of traffic t)
 
 -- exactly one person is in the room at t
 abbrev pub is_lone_of : Occupancy → ℕ → Bool

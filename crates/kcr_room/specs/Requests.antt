@@ -5,6 +5,7 @@ use Rattle.std.specs.List.{list_any, count_by, find}
 use Rattle.kcr_base.specs.Lists.{is_among}
 use Rattle.kcr_base.specs.Same.{same_text}
 use Rattle.kcr_base.specs.Refuse.{when, first_of, not_after_mark_refusal}
+use Rattle.kcr_base.specs.declared.limits.TheConstants.{MAX_ENTRIES}
 use Rattle.kcr_base.specs.declared.refusal.Refusal.{Refusal}
 use Rattle.kcr_base.specs.declared.refusal.Refusal.TheVariants.{Turn, Crowd, Lone, Full}
 use Rattle.kcr_room.specs.declared.Way.{Way}
@@ -84,9 +85,9 @@ clipped_to_moment at stay = record stay { since = if nat_lt stay.since at then a
 abbrev pub stays_from_moment : List Stay → ℕ → Way → List (List ℕ) → ℕ → List Stay
 stays_from_moment stays ceremony way people at = map (clipped_to_moment at) (stays_after_request stays ceremony way people at)
 
--- with these people the ceremony, which has N `in` rows, has more than 1,000 of them
+-- with these people the ceremony, which has N `in` rows, has more than `MAX_ENTRIES` of them
 abbrev pub is_overfull : ℕ → Way → List (List ℕ) → Bool
-is_overfull entered Enter people = nat_lt 1000 (entered + length people)
+is_overfull entered Enter people = nat_lt MAX_ENTRIES (entered + length people)
 is_overfull entered Leave people = false
 
 -- the first refusal for these stays of the ceremony
@@ -130,7 +131,7 @@ abbrev pub stay_count : List Stay → ℕ → ℕ
 stay_count stays ceremony = count_by (of_ceremony ceremony) stays
 
 abbrev pub is_overfull_by : List Stay → ℕ → Way → Bool
-is_overfull_by stays ceremony Enter = nat_lt 1000 (stay_count stays ceremony)
+is_overfull_by stays ceremony Enter = nat_lt MAX_ENTRIES (stay_count stays ceremony)
 is_overfull_by stays ceremony Leave = false
 
 -- the first refusal for the stays of the sheet after the request

@@ -3,6 +3,7 @@ use Rattle.std.specs.Prelude.{ℕ, ◌==◌, Bool, true, not, ◌&&◌, ◌||◌
 use Rattle.std.specs.Prelude.{filter, Option, Some, None, if◌then◌else◌}
 use Rattle.std.specs.List.{list_any, list_all, count_by, filter_map}
 use Rattle.kcr_base.specs.Same.{is_before}
+use Rattle.kcr_base.specs.declared.limits.TheConstants.{MAX_PRESENT}
 use Rattle.kcr_room.specs.declared.SheetRow.{SheetRow}
 use Rattle.kcr_room.specs.declared.Stay.{Stay}
 use Rattle.kcr_room.specs.Room.{is_enter, Followed, followed_rows, ascending}
@@ -55,9 +56,9 @@ headcount_in_by stays ceremony t = count_by (stay_covers ceremony t) stays
 abbrev pub is_lone_in_by : List Stay → ℕ → ℕ → Bool
 is_lone_in_by stays ceremony t = headcount_in_by stays ceremony t == 1
 
--- more than 128 people are in the room at t
+-- more than `MAX_PRESENT` people are in the room at t
 abbrev pub is_crowd_in_by : List Stay → ℕ → ℕ → Bool
-is_crowd_in_by stays ceremony t = nat_lt 128 (headcount_in_by stays ceremony t)
+is_crowd_in_by stays ceremony t = nat_lt MAX_PRESENT (headcount_in_by stays ceremony t)
 
 -- the stay is of the ceremony and holds at some moment
 abbrev pub is_held : ℕ → Stay → Bool
@@ -76,7 +77,7 @@ abbrev pub first_lone_in_by : List Stay → ℕ → Option ℕ
 first_lone_in_by stays ceremony =
     least (filter (is_lone_in_by stays ceremony) (comings_by stays ceremony ++ goings_by stays ceremony))
 
--- at some moment more than 128 people are in the room: at one at which somebody comes
+-- at some moment more than `MAX_PRESENT` people are in the room: at one at which somebody comes
 abbrev pub is_crowded_in_by : List Stay → ℕ → Bool
 is_crowded_in_by stays ceremony = list_any (is_crowd_in_by stays ceremony) (comings_by stays ceremony)
 

@@ -7,7 +7,7 @@ ghost use Rattle.kcr_room.specs.Stays;
 
 use crate::Stay;
 use crate::presence::ends_after;
-use kcr_base::Moment;
+use kcr_base::{MAX_PRESENT, Moment};
 use std::alloc::{AllocError, Global};
 
 // Whether the stay is of the ceremony and holds at some moment.
@@ -105,7 +105,7 @@ impl Occupancy {
     fn is_crowd(&self, at: Moment) -> bool
         ensures { result ≡ is_crowd_of self.now at }
     {
-        self.headcount(at) > 128
+        self.headcount(at) > MAX_PRESENT
     }
 
     fn is_lone(&self, at: Moment) -> bool
@@ -114,7 +114,7 @@ impl Occupancy {
         self.headcount(at) == 1
     }
 
-    // Whether at any moment more than 128 people are in the room: at one at which somebody comes.
+    // Whether at any moment more than `MAX_PRESENT` people are in the room: at one at which somebody comes.
     fn is_crowded(&self) -> bool
         ensures { result ≡ list_any (is_crowd_of self.now) self.now.arrivals.items }
     {

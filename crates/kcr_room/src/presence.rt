@@ -1,6 +1,7 @@
 //! Who is in a room at a moment, the first moment with one person alone there, and whether it is
 //! ever too full.
 ghost use Rattle.std.specs.Prelude.{◌==◌, nat_lt, ◌≡◌, ◌≤◌, ◌∷◌, ◌++◌, IfOk, length, take, drop};
+ghost use Rattle.kcr_base.specs.declared.limits.TheConstants.{MAX_PRESENT};
 ghost use Rattle.kcr_room.specs.Moments;
 ghost use Rattle.kcr_room.specs.Room;
 ghost use Rattle.kcr_room.specs.Stays;
@@ -91,9 +92,9 @@ pub fn first_lone(
     Ok(crowding.first_lone)
 }
 
-/// Whether at any moment more than 128 people are in the room of the ceremony; exact for any rows.
+/// Whether at any moment more than `MAX_PRESENT` people are in the room of the ceremony; exact for any rows.
 pub fn is_crowded(alloc: Global, rows: &[SheetRow], ceremony: u32) -> Result<bool, AllocError>
-    ensures { IfOk result (Moments.IsEver (λ t. nat_lt 128 (Room.headcount_by rows.now ceremony t))) }
+    ensures { IfOk result (Moments.IsEver (λ t. nat_lt MAX_PRESENT (Room.headcount_by rows.now ceremony t))) }
 {
     let stays = stays_of(alloc, rows)?;
     let crowding = check_occupancy(alloc, &stays, ceremony)?;

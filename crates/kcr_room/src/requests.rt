@@ -8,7 +8,7 @@ ghost use Rattle.kcr_room.specs.declared.Way.TheVariants.{Enter, Leave};
 
 use crate::occupancy::check_occupancy;
 use crate::{SheetRequest, Stay, Way};
-use kcr_base::{Initials, Moment, Refusal, is_among};
+use kcr_base::{Initials, MAX_ENTRIES, Moment, Refusal, is_among};
 use std::alloc::{AllocError, Global};
 
 fn has_no_end(until: Option<Moment>) -> bool
@@ -231,7 +231,7 @@ fn is_overfull(entered: usize, request: &SheetRequest<'_>) -> bool
         result ≡ Requests.is_overfull entered asked.way asked.people.now }
 {
     match request.way {
-        Way::Enter => entered.saturating_add(request.people.len()) > 1000,
+        Way::Enter => entered.saturating_add(request.people.len()) > MAX_ENTRIES,
         Way::Leave => false,
     }
 }
@@ -266,8 +266,8 @@ pub(crate) fn occupancy_refusal(
 /// mark; `Turn` with the first of the people, in the order of the request, who has a row at the moment or
 /// later, or who for `in` is in some room, or for `out` is not in the room of this ceremony; then, of the
 /// room as it would be after the whole request, at its moment and at every later one: `Crowd`, more than
-/// 128 people would be in it; `Lone` with the first moment at which exactly one would be; `Full`, for `in`
-/// there would be more than 1,000 `in` rows, or the register is full. What was before the moment the
+/// `MAX_PRESENT` people would be in it; `Lone` with the first moment at which exactly one would be; `Full`, for
+/// `in` there would be more than `MAX_ENTRIES` `in` rows, or the register is full. What was before the moment the
 /// request does not change. A refusal changes nothing. `Memory` comes if memory runs out.
 pub fn add_stays(
     alloc: Global,

@@ -11,7 +11,7 @@ ghost use Rattle.kcr_room.specs.declared.SheetRequest.{SheetRequest};
 use crate::requests::occupancy_refusal;
 use crate::stays::is_enter;
 use crate::{SheetRequest, SheetRow, Stay, Way, present_in, stays_of};
-use kcr_base::{Initials, Moment, Refusal, is_before};
+use kcr_base::{Initials, MAX_ENTRIES, Moment, Refusal, is_before};
 use std::alloc::{AllocError, Global};
 
 // The later of two rows; of two with one moment the second.
@@ -121,7 +121,7 @@ fn is_overfull(stays: &[Stay], request: &SheetRequest<'_>) -> bool
         result ≡ Requests.is_overfull_by stays.now asked.ceremony asked.way }
 {
     match request.way {
-        Way::Enter => stay_count(stays, request.ceremony) > 1000,
+        Way::Enter => stay_count(stays, request.ceremony) > MAX_ENTRIES,
         Way::Leave => false,
     }
 }
@@ -131,9 +131,9 @@ fn is_overfull(stays: &[Stay], request: &SheetRequest<'_>) -> bool
 /// commands. The first refusal that holds, of: `Late` with the mark, the moment is not later than the mark; `Turn` with
 /// the first of the people, in the order of the request, whose last row is not earlier, or who for `in` is in some room
 /// by it, or for `out` is not in the room of this ceremony; then, of the room by all rows with the added ones, at every
-/// moment: `Crowd`, more than 128 people would be in it; `Lone` with the first moment at which exactly one would be;
-/// `Full`, for `in` there would be more than 1,000 `in` rows, or the register is full. Any rows are taken, also such as
-/// were not made in turn. A refusal changes nothing. `Memory` comes if memory runs out.
+/// moment: `Crowd`, more than `MAX_PRESENT` people would be in it; `Lone` with the first moment at which exactly one
+/// would be; `Full`, for `in` there would be more than `MAX_ENTRIES` `in` rows, or the register is full. Any rows are
+/// taken, also such as were not made in turn. A refusal changes nothing. `Memory` comes if memory runs out.
 pub fn add_rows(
     alloc: Global,
     rows: &[SheetRow],

@@ -139,7 +139,7 @@ pub fn number_or_null_at<T: AsNumber>(row: &Row, at: usize) -> Result<Option<T>,
     }
 }
 
-/// The spot of a bag in a column, whose boxes are numbered from 1 to 9,999.
+/// The spot of a bag in a column, whose boxes are numbered from 1 to `MAX_BOX`.
 pub fn spot_at(row: &Row, at: usize) -> Result<Spot, Refusal>
     ensures value { IfOk result (λ found. column row.now at ≡ Chars (spot_text found)) }
     ensures read { IfOk result IsNumbered }

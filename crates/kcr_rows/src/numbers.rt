@@ -4,11 +4,12 @@ ghost use Rattle.std.specs.Prelude.{⊤, ◌≡◌, ◌<◌, ◌^◌, ℕ, pos, 
 ghost use Rattle.std.proofs.Common.{arith};
 ghost use Rattle.kcr_base.specs.Day.{IsDay};
 ghost use Rattle.kcr_base.specs.Moment.{IsMoment};
+ghost use Rattle.kcr_base.specs.declared.limits.TheConstants.{MAX_COMMANDS, MAX_EXCEPTIONS};
 ghost use Rattle.kcr_rows.specs.Values.{truth_number};
 ghost use Rattle.kcr_rows.specs.States.{safe_digit, way_number, ceremony_number, step_number};
 
 use kcr_base::number::Numbered;
-use kcr_base::{Day, Moment};
+use kcr_base::{Day, MAX_COMMANDS, MAX_EXCEPTIONS, Moment};
 use kcr_custody::SafeNumber;
 use kcr_history::{CeremonyState, StepState};
 use kcr_room::Way;
@@ -209,14 +210,14 @@ impl Numbered for OfSeat {
     ghost fits = { omega arith };
 }
 
-/// That a number is an exception's, of 200 in a ceremony at most.
+/// That a number is an exception's, of `MAX_EXCEPTIONS` in a ceremony at most.
 pub struct OfException;
 
 impl Numbered for OfException {
-    ghost limit = { 200 };
+    ghost limit = { MAX_EXCEPTIONS };
 
     fn limit() -> u32 {
-        200
+        MAX_EXCEPTIONS
     }
 
     ghost fits = { omega arith };
@@ -226,10 +227,10 @@ impl Numbered for OfException {
 pub struct OfCommand;
 
 impl Numbered for OfCommand {
-    ghost limit = { 4000000000 };
+    ghost limit = { MAX_COMMANDS };
 
     fn limit() -> u32 {
-        4_000_000_000
+        MAX_COMMANDS
     }
 
     ghost fits = { omega arith };

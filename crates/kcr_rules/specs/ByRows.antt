@@ -6,6 +6,7 @@ use Rattle.std.specs.Global.{Global}
 use Rattle.kcr_base.specs.Days.{day_of}
 use Rattle.kcr_base.specs.Refuse.{first_of}
 use Rattle.kcr_base.specs.Same.{same_place}
+use Rattle.kcr_base.specs.declared.limits.TheConstants.{MAX_STEPS}
 use Rattle.kcr_base.specs.declared.place.Place.{Place}
 use Rattle.kcr_base.specs.declared.place.Role.TheVariants.{Ca}
 use Rattle.kcr_base.specs.declared.refusal.Refusal.{Refusal}
@@ -185,8 +186,8 @@ reply_step_by view act = None
 
 -- the rows tell of more steps done than a script has, which no register's rows do
 abbrev pub has_too_many_steps : View → Act → Bool
-has_too_many_steps view (Sign ceremony step at) = nat_lt 400 (last_seated view.seatings.items ceremony)
-has_too_many_steps view (RecordException ceremony text pass at) = nat_lt 400 (last_seated view.seatings.items ceremony)
+has_too_many_steps view (Sign ceremony step at) = nat_lt MAX_STEPS (last_seated view.seatings.items ceremony)
+has_too_many_steps view (RecordException ceremony text pass at) = nat_lt MAX_STEPS (last_seated view.seatings.items ceremony)
 has_too_many_steps view act = false
 
 -- nothing that is read first refuses the act

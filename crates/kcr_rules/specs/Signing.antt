@@ -2,6 +2,7 @@
 use Rattle.std.specs.Prelude.{◌≡◌, ℕ, suc, Bool, true, false, nat_lt, List, [], ◌∷◌, ◌++◌, map}
 use Rattle.std.specs.Prelude.{filter, length, find, get_or, slice_get, Option, Some, None, ◌⊎◌}
 use Rattle.kcr_base.specs.Days.{day_of}
+use Rattle.kcr_base.specs.declared.limits.TheConstants.{MAX_PRESENT}
 use Rattle.kcr_base.specs.declared.place.Role.TheVariants.{Ca, Iw}
 use Rattle.kcr_base.specs.declared.refusal.Refusal.{Refusal}
 use Rattle.kcr_base.specs.declared.refusal.Refusal.TheVariants.{Short, Disk}
@@ -79,7 +80,7 @@ pub record IsShortBy (view : View) (s : SeatRequest) (positions : List ℕ) : Ty
 abbrev pub IsUnseatedBy : View → SeatRequest → Refusal → Type 0
 IsUnseatedBy view s refusal =
     ((positions : List ℕ) × IsShortBy view s positions × (refusal ≡ Short positions))
-    ⊎ ((refusal ≡ Disk) × (nat_lt 128 (length (room_by view s)) ≡ true))
+    ⊎ ((refusal ≡ Disk) × (nat_lt MAX_PRESENT (length (room_by view s)) ≡ true))
 
 -- the seats of an exception that passes a step
 abbrev pub staff : List Seat

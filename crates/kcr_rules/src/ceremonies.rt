@@ -2,6 +2,7 @@
 ghost use Rattle.std.specs.Prelude.{◌≡◌, ◌≤◌, ◌++◌, length, map, Ok, Err, IfOk};
 ghost use Rattle.std.specs.List.{list_any};
 ghost use Rattle.kcr_base.specs.Refuse.{unless};
+ghost use Rattle.kcr_base.specs.declared.limits.TheConstants.{MAX_STEPS};
 ghost use Rattle.kcr_custody.specs.Custody;
 ghost use Rattle.kcr_script.specs.Fault.{IfRow};
 ghost use Rattle.kcr_script.specs.Reading.{script_of};
@@ -53,7 +54,7 @@ fn push_steps(
     ceremony: u32,
     steps: &[Step],
 ) -> Result<Vec<Change>, AllocError>
-    requires { length steps.now ≤ 400 }
+    requires { length steps.now ≤ MAX_STEPS }
     ensures { IfOk result (λ all. all.items ≡ changes.items
         ++ map PutStep (CeremonyRows.planned_step_rows ceremony 1 steps.now)) }
 {

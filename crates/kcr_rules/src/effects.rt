@@ -135,7 +135,7 @@ impl DecisionContext<'_> {
 
 /// Decides an act that is cleared (`check`) by the rows of a view. Errors: its first refusal.
 ///
-/// The refusals come in the order of their numbers; `full` tells that 4,000,000,000 commands have been accepted (27),
+/// The refusals come in the order of their numbers; `full` tells that `MAX_COMMANDS` have been accepted (27),
 /// and then no act is accepted. A signature, and an exception that passes a step, come with the first seating of the
 /// people in the room, or are refused (32) with a least shortage. Out of memory (33) may be answered in place of all
 /// of these.

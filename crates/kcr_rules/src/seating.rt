@@ -9,15 +9,12 @@ ghost use Rattle.kcr_rules.specs.TrainingsByPerson.{trainings_by_person};
 ghost use Rattle.kcr_rules.specs.Signing;
 
 use crate::context::DecisionContext;
-use kcr_base::{Day, Facility, Initials, Moment, Positions, Refusal};
+use kcr_base::{Day, Facility, Initials, MAX_PRESENT, Moment, Positions, Refusal};
 use kcr_history::{InitialsList, fits};
 use kcr_people::{Appointment, Training, Withdrawal};
 use kcr_script::Seat;
 use kcr_seats::{Answer, Fits};
 use std::alloc::{AllocError, Global};
-
-/// At most this many people are in a room.
-const MAX_PEOPLE: usize = 128;
 
 /// The seats and people of one search, with the rows that tell who fits what. Each person's trainings stand by
 /// themselves, since the search asks for every seat and person.
@@ -118,7 +115,7 @@ impl DecisionContext<'_> {
             (λ refusal. refusal ≢ Memory → Signing.IsUnseatedBy self.now.view.now s refusal) }
     {
         let people = self.people_present(ceremony, at)?;
-        if people.len() > MAX_PEOPLE {
+        if people.len() > MAX_PRESENT {
             return Err(Refusal::Disk);
         }
         let own = trainings_of_each(self.alloc, &self.view.trainings, &people)?;

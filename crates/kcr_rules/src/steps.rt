@@ -2,6 +2,7 @@
 //! exception not be stated, their seats aside, and the rows that both put.
 ghost use Rattle.std.specs.Prelude.{◌≡◌, ◌<◌, ◌≤◌, ℕ, ◌++◌, ◌∷◌, [], suc, length, map, option_copied, true, false};
 ghost use Rattle.std.specs.Prelude.{None, Some, nat_lt, MatchResult, IfErr, IfOk, IsTrue, List, OnOk};
+ghost use Rattle.kcr_base.specs.declared.limits.TheConstants.{MAX_EXCEPTIONS, MAX_STEPS};
 ghost use Rattle.kcr_base.specs.declared.refusal.Refusal.TheVariants.{Disk};
 ghost use Rattle.kcr_history.specs.declared.commands.Act.TheVariants as Kinds;
 ghost use Rattle.kcr_history.specs.Tables.{seat_rows};
@@ -13,18 +14,12 @@ ghost use Rattle.kcr_rules.specs.Signing;
 
 use crate::ceremony_status::{check_running, known_ceremony};
 use crate::context::DecisionContext;
-use kcr_base::{Initials, Moment, Refusal, Remark, Thing};
+use kcr_base::{Initials, MAX_EXCEPTIONS, MAX_STEPS, Moment, Refusal, Remark, Thing};
 use kcr_history::{
     Change, ExceptionRow, InitialsList, MarkRow, SeatingRow, StepRow, StepState, View, last_seated,
 };
 use kcr_script::Seat;
 use std::alloc::AllocError;
-
-/// At most this many steps a script has.
-const MAX_STEPS: u32 = 400;
-
-/// At most this many exceptions are stated in a ceremony.
-const MAX_EXCEPTIONS: usize = 200;
 
 /// How many exceptions the ceremony has.
 fn exception_count(rows: &[ExceptionRow], ceremony: u32) -> usize
@@ -46,8 +41,8 @@ pub fn step_row(rows: &[StepRow], ceremony: u32, step: u32) -> Option<&StepRow>
 pub fn next_step(view: &View, ceremony: u32) -> Result<u32, Refusal>
     ensures next { MatchResult result
         (λ step. step ≡ Signing.next_step_by view.now.seatings.items ceremony)
-        (λ refusal. (nat_lt 400 (Views.last_seated view.now.seatings.items ceremony) ≡ true) × (refusal ≡ Disk)) }
-    ensures few { OnOk result (nat_lt 400 (Views.last_seated view.now.seatings.items ceremony) ≡ false) }
+        (λ refusal. (nat_lt MAX_STEPS (Views.last_seated view.now.seatings.items ceremony) ≡ true) × (refusal ≡ Disk)) }
+    ensures few { OnOk result (nat_lt MAX_STEPS (Views.last_seated view.now.seatings.items ceremony) ≡ false) }
 {
     let last = last_seated(&view.seatings, ceremony);
     if last > MAX_STEPS {
@@ -142,9 +137,9 @@ impl DecisionContext<'_> {
     pub fn check_sign(&self, ceremony: u32, step: u32, at: Moment) -> Result<(), Refusal>
         ensures first { MatchResult result
             (λ _. early_refusal_by self.now.view.now self.now.is_full (Kinds.Sign ceremony step at) ≡ None)
-            (λ refusal. nat_lt 400 (Views.last_seated self.now.view.now.seatings.items ceremony) ≡ false
+            (λ refusal. nat_lt MAX_STEPS (Views.last_seated self.now.view.now.seatings.items ceremony) ≡ false
             → early_refusal_by self.now.view.now self.now.is_full (Kinds.Sign ceremony step at) ≡ Some refusal) }
-        ensures few { OnOk result (nat_lt 400 (Views.last_seated self.now.view.now.seatings.items ceremony) ≡ false) }
+        ensures few { OnOk result (nat_lt MAX_STEPS (Views.last_seated self.now.view.now.seatings.items ceremony) ≡ false) }
         ensures kind { IfErr result (λ refusal. IsTrue (may_refuse (Kinds.Sign ceremony step at) refusal)) }
     {
         let row = known_ceremony(self.view, ceremony)?;
@@ -165,14 +160,14 @@ impl DecisionContext<'_> {
     }
 
     /// An exception may be stated, if the seats of one that passes a step can be filled. Refused: 12 without the ceremony,
-    /// 20 if it is not open, 22 before its mark, 23 if no step is left to pass, 27 if the ceremony has 200 exceptions or
-    /// the register is full; 34 if `next_step` is.
+    /// 20 if it is not open, 22 before its mark, 23 if no step is left to pass, 27 if the ceremony has
+    /// `MAX_EXCEPTIONS` exceptions or the register is full; 34 if `next_step` is.
     pub fn check_exception(&self, ceremony: u32, pass: bool, at: Moment) -> Result<(), Refusal>
         ensures first { (text : List ℕ) → MatchResult result
             (λ _. early_refusal_by self.now.view.now self.now.is_full (Kinds.RecordException ceremony text pass at) ≡ None)
-            (λ refusal. nat_lt 400 (Views.last_seated self.now.view.now.seatings.items ceremony) ≡ false
+            (λ refusal. nat_lt MAX_STEPS (Views.last_seated self.now.view.now.seatings.items ceremony) ≡ false
             → early_refusal_by self.now.view.now self.now.is_full (Kinds.RecordException ceremony text pass at) ≡ Some refusal) }
-        ensures few { OnOk result (nat_lt 400 (Views.last_seated self.now.view.now.seatings.items ceremony) ≡ false) }
+        ensures few { OnOk result (nat_lt MAX_STEPS (Views.last_seated self.now.view.now.seatings.items ceremony) ≡ false) }
         ensures kind { (text : List ℕ)
             → IfErr result (λ refusal. IsTrue (may_refuse (Kinds.RecordException ceremony text pass at) refusal)) }
     {
@@ -182,7 +177,9 @@ impl DecisionContext<'_> {
         if pass && step_row(&self.view.steps, ceremony, next).is_none() {
             return Err(Refusal::Order { next });
         }
-        if self.is_full || exception_count(&self.view.exceptions, ceremony) >= MAX_EXCEPTIONS {
+        if self.is_full
+            || exception_count(&self.view.exceptions, ceremony) >= MAX_EXCEPTIONS as usize
+        {
             return Err(Refusal::Full);
         }
         Ok(())
@@ -190,7 +187,7 @@ impl DecisionContext<'_> {
 
     /// The number, counted from 1, of the exception that is stated next.
     pub fn exception_number(&self, ceremony: u32) -> u32
-        requires { Signing.exception_count_by self.now.view.now.exceptions.items ceremony < 200 }
+        requires { Signing.exception_count_by self.now.view.now.exceptions.items ceremony < MAX_EXCEPTIONS }
         ensures { result ≡ suc (Signing.exception_count_by self.now.view.now.exceptions.items ceremony) }
     {
         exception_count(&self.view.exceptions, ceremony) as u32 + 1

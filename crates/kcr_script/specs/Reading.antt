@@ -8,6 +8,7 @@ use Rattle.std.specs.Fmt.{decimal}
 use Rattle.std.specs.Cmp.Lexicographic.{pointwise}
 use Rattle.csv.specs.Reading.{records, default_config, strip_bom}
 use Rattle.kcr_base.specs.Same.{same_text}
+use Rattle.kcr_base.specs.declared.limits.TheConstants.{MAX_STEPS}
 use Rattle.kcr_base.specs.declared.place.Role.TheVariants.{Ca, Iw, Sa, Ssc1, Ssc2, Rkos, Sw}
 use Rattle.kcr_script.specs.declared.seat.Seat.{Seat}
 use Rattle.kcr_script.specs.declared.seat.Seat.TheVariants.{Staff, AnyCo, AnyRksh, Co, Rksh}
@@ -84,7 +85,7 @@ join_steps k (Some step) (Err row) = Err row
 -- step k and those behind it; there is no step 401
 abbrev pub steps_from : ℕ → List Fields → Result (List Step) ℕ
 steps_from k [] = Ok []
-steps_from k (row ∷ rows) = if nat_lt 400 k then Err (k + 1) else join_steps k (step_of k row) (steps_from (k + 1) rows)
+steps_from k (row ∷ rows) = if nat_lt MAX_STEPS k then Err (k + 1) else join_steps k (step_of k row) (steps_from (k + 1) rows)
 
 -- the steps of the rows under row 1, of which there is one at least
 abbrev pub some_steps : List Fields → Result (List Step) ℕ

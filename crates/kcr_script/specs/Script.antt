@@ -4,6 +4,7 @@ use Rattle.std.specs.Fmt.{decimal}
 use Rattle.csv.specs.Reading.{AreRecords, default_config, strip_bom}
 use Rattle.csv.specs.declared.parser.State.TheVariants as st
 use Rattle.kcr_base.specs.Line.{IsLine}
+use Rattle.kcr_base.specs.declared.limits.TheConstants.{MAX_STEPS}
 use Rattle.kcr_script.specs.Seats.{StandsFor}
 use Rattle.kcr_script.specs.declared.script.Step.{Step}
 
@@ -31,9 +32,9 @@ abbrev pub AreSteps : ℕ → List Fields → List Step → Type 0
 AreSteps k [] [] = ⊤
 AreSteps k [] (step ∷ steps) = ⊥
 AreSteps k (row ∷ rows) [] = ⊥
-AreSteps k (row ∷ rows) (step ∷ steps) = (k ≤ 400) × IsRow k row step × AreSteps (k + 1) rows steps
+AreSteps k (row ∷ rows) (step ∷ steps) = (k ≤ MAX_STEPS) × IsRow k row step × AreSteps (k + 1) rows steps
 
--- the rows of a script: row 1, then a row for each of 1 to 400 steps
+-- the rows of a script: row 1, then a row for each of 1 to `MAX_STEPS` steps
 abbrev pub IsScriptRows : List Fields → List Step → Type 0
 IsScriptRows [] steps = ⊥
 IsScriptRows (first ∷ rows) steps = (first ≡ header) × (1 ≤ length rows) × AreSteps 1 rows steps
@@ -42,8 +43,8 @@ IsScriptRows (first ∷ rows) steps = (first ≡ header) × (1 ≤ length rows) 
 abbrev pub BreaksFrom : ℕ → List Fields → ℕ → Type 0
 BreaksFrom k [] r = ⊥
 BreaksFrom k (row ∷ rows) r =
-    (((400 < k) ⊎ ((step : Step) → ¬ (IsRow k row step))) × (r ≡ k + 1))
-    ⊎ ((k ≤ 400) × (step : Step) × IsRow k row step × BreaksFrom (k + 1) rows r)
+    (((MAX_STEPS < k) ⊎ ((step : Step) → ¬ (IsRow k row step))) × (r ≡ k + 1))
+    ⊎ ((k ≤ MAX_STEPS) × (step : Step) × IsRow k row step × BreaksFrom (k + 1) rows r)
 
 -- row r is the first that breaks a rule
 abbrev pub BreaksAt : List Fields → ℕ → Type 0

@@ -37,7 +37,8 @@ pub fn scripts_are_read()
     ensures fault { (text : List ℕ) (row : ℕ) → (script_of text ≡ Err row) ↔ BreaksScript text row }
 {}
 
-/// A script has 1 to 400 steps, each with an activity of 1 to 500 bytes and 1 to 16 seats whose numbers are 1 to 7.
+/// A script has 1 to `MAX_STEPS` steps, each with an activity of 1 to 500 bytes and 1 to 16 seats whose numbers are 1 to
+/// 7.
 pub fn scripts_have_form()
     ensures number { (text : List ℕ) (steps : List Step) → script_of text ≡ Ok steps → HasSteps steps }
     ensures activities { (text : List ℕ) (steps : List Step) → script_of text ≡ Ok steps

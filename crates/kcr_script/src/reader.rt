@@ -10,7 +10,7 @@ use crate::csv_rows::read_csv_rows;
 use crate::script::{Script, Step, is_header, is_number, three_fields};
 use crate::seats::read_seats;
 use csv::ByteRecord;
-use kcr_base::{Activity, Refusal};
+use kcr_base::{Activity, MAX_STEPS, Refusal};
 use std::alloc::{AllocError, Global};
 
 /// The step of the row with this number.
@@ -44,7 +44,7 @@ fn read_steps(alloc: Global, rows: &[ByteRecord]) -> Result<Vec<Step>, Refusal>
     let mut rest = rows;
     let mut number = 1u32;
     while let Some((row, after)) = rest.split_first() {
-        if number > 400 {
+        if number > MAX_STEPS {
             return Err(Refusal::Script { row: number + 1 });
         }
         let Some(step) = read_row(alloc, number, row)? else {
@@ -80,9 +80,9 @@ fn read_rows(alloc: Global, rows: &[ByteRecord]) -> Result<Script, Refusal>
 }
 
 /// The script that the text is. Row 1 has the three fields `step`, `activity`, `seats`; row k + 1 has three fields: the
-/// number k in decimal without sign or leading zeros, an activity, a seat text; there are 1 to 400 steps. Else refusal
-/// 19 with the number of the first row that breaks a rule: 1 if row 1 is missing, 2 if there is no step, 402
-/// if there are more than 400; or 33 when out of memory.
+/// number k in decimal without sign or leading zeros, an activity, a seat text; there are 1 to `MAX_STEPS` steps. Else
+/// refusal 19 with the number of the first row that breaks a rule: 1 if row 1 is missing, 2 if there is no step,
+/// `MAX_STEPS` + 2 if there are more steps; or 33 when out of memory.
 pub fn read_script(alloc: Global, text: &[u8]) -> Result<Script, Refusal>
     ensures found { IfOk result (IsScript text.now) }
     ensures fault { IfErr result (IfRow (BreaksScript text.now)) }

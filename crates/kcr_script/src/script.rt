@@ -31,7 +31,7 @@ impl Clone for Step {
     }
 }
 
-/// The steps of a ceremony in order, 1 to 400: step k stands at position k - 1.
+/// The steps of a ceremony in order, 1 to `MAX_STEPS`: step k stands at position k - 1.
 #[derive(Drop)]
 pub struct Script {
     steps: Vec<Step>,

@@ -7,6 +7,7 @@
 ghost use Rattle.std.specs.Prelude.{◌≡◌, ℕ, ◌+◌, ◌*◌, ◌<◌, ◌≤◌, Bool, IfOk};
 ghost use Rattle.kcr_seats.specs.Answer.{IsAnswer};
 ghost use Rattle.kcr_seats.specs.Hall.{NotBoth, SeatingOrShort};
+ghost use Rattle.kcr_seats.specs.declared.TheConstants.{MAX_PEOPLE};
 
 mod check;
 mod matrix;
@@ -21,6 +22,9 @@ use std::alloc::{AllocError, Global};
 use std::marker::Brand;
 use std::sync::ledger::{Blank, Ledger};
 pub use steps::Steps;
+
+/// The most people whom the search takes.
+pub const MAX_PEOPLE: usize = 128;
 
 /// Which people fit which seats: a fixed relation between the numbers of the seats and of the people, both counted from
 /// 0.
@@ -65,7 +69,7 @@ pub fn seat<F: Fits, L: Ledger>(
     steps: &mut Steps<L>,
 ) -> Result<Answer, AllocError>
     requires seats { F.seat_count fits.now ≤ 16 }
-    requires people { F.person_count fits.now ≤ 128 }
+    requires people { F.person_count fits.now ≤ MAX_PEOPLE }
     ensures answer { IfOk result (λ a. IsAnswer (F.relation fits.now) (F.seat_count fits.now)
         (F.person_count fits.now) a) }
     ensures all { let seats = F.seat_count fits.now in let people = F.person_count fits.now in
@@ -82,7 +86,7 @@ fn seat_from<F: Fits, L: Ledger>(
     blank: Blank,
 ) -> Result<Answer, AllocError>
     requires seats { F.seat_count fits.now ≤ 16 }
-    requires people { F.person_count fits.now ≤ 128 }
+    requires people { F.person_count fits.now ≤ MAX_PEOPLE }
     requires name { blank.name ≡ L.name }
     requires parts { blank.parts ≡ L.parts }
     requires two { 2 ≤ blank.parts }
@@ -95,7 +99,7 @@ fn seat_from<F: Fits, L: Ledger>(
 /// `seat` without counting steps.
 pub fn seat_uncounted<F: Fits>(alloc: Global, fits: &F) -> Result<Answer, AllocError>
     requires seats { F.seat_count fits.now ≤ 16 }
-    requires people { F.person_count fits.now ≤ 128 }
+    requires people { F.person_count fits.now ≤ MAX_PEOPLE }
     ensures { IfOk result (λ a. IsAnswer (F.relation fits.now) (F.seat_count fits.now)
         (F.person_count fits.now) a) }
 {

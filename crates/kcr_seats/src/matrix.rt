@@ -1,6 +1,7 @@
 //! Which people fit which seats, asked for once.
 ghost use Rattle.std.specs.Prelude.{◌≡◌, ℕ, ◌+◌, ◌*◌, ◌<◌, ◌≤◌, Bool, IfOk, IsTrue, true, slice_index_or};
 ghost use Rattle.kcr_seats.specs.People.{contains, nobody};
+ghost use Rattle.kcr_seats.specs.declared.TheConstants.{MAX_PEOPLE};
 
 use crate::Fits;
 use crate::people::People;
@@ -13,7 +14,7 @@ use std::sync::ledger::Ledger;
 pub(crate) struct FitsMatrix {
     rows: Vec<People>,
     people: usize,
-    ghost small: { people ≤ 128 },
+    ghost small: { people ≤ MAX_PEOPLE },
     ghost in_range: { (seat person : ℕ) → contains (slice_index_or rows.items seat nobody) person ≡ true
         → person < people },
 }
@@ -27,7 +28,7 @@ impl FitsMatrix {
         fits: &F,
         steps: &mut Steps<L>,
     ) -> Result<Self, AllocError>
-        requires people { F.person_count fits.now ≤ 128 }
+        requires people { F.person_count fits.now ≤ MAX_PEOPLE }
         ensures table { IfOk result (IsMatrixOf (F.relation fits.now) (F.seat_count fits.now)
             (F.person_count fits.now)) }
         ensures all { steps.new.all ≤ steps.old.all + F.seat_count fits.now * (1 + 2 * F.person_count fits.now) }
@@ -78,7 +79,7 @@ fn call_fits<F: Fits, L: Ledger>(fits: &F, seat: usize, person: usize, steps: &m
 /// Asks for each person whether the person fits the seat.
 fn read_row<F: Fits, L: Ledger>(fits: &F, seat: usize, steps: &mut Steps<L>) -> People
     requires seat { seat < F.seat_count fits.now }
-    requires people { F.person_count fits.now ≤ 128 }
+    requires people { F.person_count fits.now ≤ MAX_PEOPLE }
     ensures in_range { (person : ℕ) → contains result person ≡ true
         → person < F.person_count fits.now }
     ensures each { (person : ℕ) → person < F.person_count fits.now

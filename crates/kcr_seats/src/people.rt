@@ -1,7 +1,8 @@
 //! Sets of people.
 ghost use Rattle.std.specs.Prelude.{◌≡◌, ◌≢◌, ℕ, ◌<◌, true, false, IfNone, IfSome};
+ghost use Rattle.kcr_seats.specs.declared.TheConstants.{MAX_PEOPLE};
 
-/// A set of people with numbers below 128: a bit for each.
+/// A set of people with numbers below `MAX_PEOPLE`: a bit for each.
 #[derive(Clone, Copy)]
 pub(crate) struct People {
     mask: u128,
@@ -19,7 +20,7 @@ impl People {
 
     /// The set with the person.
     pub fn with(self, person: usize) -> People
-        requires { person < 128 }
+        requires { person < MAX_PEOPLE }
         ensures here { contains result person ≡ true }
         ensures others { (other : ℕ) → other ≢ person → contains result other ≡
             contains self other }
@@ -31,7 +32,7 @@ impl People {
 
     /// Whether the person is one of them.
     pub fn contains(self, person: usize) -> bool
-        requires { person < 128 }
+        requires { person < MAX_PEOPLE }
         ensures { result ≡ contains self person }
     {
         self.mask & (1 << person) != 0

@@ -8,6 +8,7 @@ ghost use Rattle.kcr_seats.specs.Placement.{IsPlacement};
 ghost use Rattle.kcr_seats.specs.Answer.{IsAnswer};
 ghost use Rattle.kcr_seats.specs.Search.{IsSeatedBut, IsRootAlone, IsPut, IsReached, IsMarked, IsClosed, IsBusy};
 ghost use Rattle.kcr_seats.specs.Search.{IsListed, IsReassigned, IsNotReassigned, IsLowered, all_steps, lower_steps, search_steps};
+ghost use Rattle.kcr_seats.specs.declared.TheConstants.{MAX_PEOPLE};
 
 use crate::Answer;
 use crate::matrix::FitsMatrix;
@@ -65,7 +66,7 @@ fn reach<L: Ledger>(
     fixed: usize,
     turns: &mut StepCounter<L>,
 ) -> Result<Reached, AllocError>
-    requires people { people_of table.now ≤ 128 }
+    requires people { people_of table.now ≤ MAX_PEOPLE }
     requires seated { IsSeatedBut (fits_of table.now) (people_of table.now) root seating.now }
     requires seats { length seating.now ≤ seats_of table.now }
     requires root { root < length seating.now }
@@ -97,7 +98,7 @@ fn reach<L: Ledger>(
 /// The people who have a seat other than the root.
 fn busy_people<L: Ledger>(seating: &[usize], root: usize, turns: &mut StepCounter<L>) -> People
     requires { (seat : ℕ) → seat < length seating.now → seat ≢ root → slice_index
-        seating.now seat < 128 }
+        seating.now seat < MAX_PEOPLE }
     ensures busy { IsBusy root seating.now result }
     ensures cost { turns.new ≤ turns.old + length seating.now }
 {
@@ -153,7 +154,7 @@ fn reseat<L: Ledger>(
     fixed: usize,
     turns: &mut StepCounter<L>,
 ) -> Result<Placement, AllocError>
-    requires people { people_of table.now ≤ 128 }
+    requires people { people_of table.now ≤ MAX_PEOPLE }
     requires seated { IsSeatedBut (fits_of table.now) (people_of table.now) root seating.old.items }
     requires seats { vec_len seating.old ≤ seats_of table.now }
     requires root { root < vec_len seating.old }
@@ -229,7 +230,7 @@ fn try_person<L: Ledger>(
     person: usize,
     turns: &mut StepCounter<L>,
 ) -> Result<bool, AllocError>
-    requires people { people_of table.now ≤ 128 }
+    requires people { people_of table.now ≤ MAX_PEOPLE }
     requires seating { IsSeating (fits_of table.now) (seats_of table.now) (people_of table.now)
         seating.old.items }
     requires seat { seat < seats_of table.now }
@@ -268,7 +269,7 @@ fn assign_lowest<L: Ledger>(
     seat: usize,
     turns: &mut StepCounter<L>,
 ) -> Result<(), AllocError>
-    requires people { people_of table.now ≤ 128 }
+    requires people { people_of table.now ≤ MAX_PEOPLE }
     requires seating { IsSeating (fits_of table.now) (seats_of table.now) (people_of table.now)
         seating.old.items }
     requires seat { seat < seats_of table.now }
@@ -294,7 +295,7 @@ fn make_first<L: Ledger>(
     seating: &mut Vec<usize>,
     turns: &mut StepCounter<L>,
 ) -> Result<(), AllocError>
-    requires people { people_of table.now ≤ 128 }
+    requires people { people_of table.now ≤ MAX_PEOPLE }
     requires seating { IsSeating (fits_of table.now) (seats_of table.now) (people_of table.now)
         seating.old.items }
     ensures first { OnOk result (IsFirst (fits_of table.now) (seats_of table.now)
@@ -315,7 +316,7 @@ pub(crate) fn search<L: Ledger>(
     table: &FitsMatrix,
     turns: &mut StepCounter<L>,
 ) -> Result<Answer, AllocError>
-    requires people { people_of table.now ≤ 128 }
+    requires people { people_of table.now ≤ MAX_PEOPLE }
     ensures answer { IfOk result (λ a. IsAnswer (fits_of table.now) (seats_of table.now)
         (people_of table.now) a) }
     ensures cost { turns.new ≤ turns.old + all_steps (seats_of table.now) (people_of table.now) }

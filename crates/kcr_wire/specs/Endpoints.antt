@@ -10,6 +10,7 @@ use Rattle.matchit.specs.Params.{named, walk}
 use Rattle.matchit.specs.Router.{RouteOf}
 use Rattle.matchit.specs.Seek.{first}
 use Rattle.matchit.specs.declared.params.Params.{Params}
+use Rattle.kcr_base.specs.declared.limits.TheConstants.{MAX_COMMANDS}
 use Rattle.kcr_base.specs.declared.place.Place.{Place}
 use Rattle.kcr_base.specs.declared.refusal.Refusal.{Refusal}
 use Rattle.kcr_base.specs.declared.refusal.Refusal.TheVariants as refusal
@@ -60,9 +61,9 @@ ceremony_in parts = part_as ceremony_of (codes "ceremony") parts
 abbrev pub serial_in : Parts → Option (List ℕ)
 serial_in parts = part_as serial_of (codes "serial") parts
 
--- the number from 0 to 4,000,000,000 whose decimal text this is
+-- the number from 0 to `MAX_COMMANDS` whose decimal text this is
 unfoldable pub after_of : List ℕ → Option ℕ
-after_of text = number_by_text decimal 0 4000000000 text
+after_of text = number_by_text decimal 0 MAX_COMMANDS text
 
 -- what two parts make, if each is of its form
 abbrev pub with_parts : {A B : Type 0} → (A → B → Endpoint) → Option A → Option B → Option Endpoint

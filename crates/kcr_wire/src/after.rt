@@ -1,14 +1,13 @@
 //! How many accepted commands a client has.
 ghost use Rattle.std.specs.Prelude.{◌≡◌, ◌≤◌, SomeIff};
+ghost use Rattle.kcr_base.specs.declared.limits.TheConstants.{MAX_COMMANDS};
 ghost use Rattle.kcr_wire.specs.Endpoints.{after_of};
 
+use kcr_base::MAX_COMMANDS;
 use kcr_base::number::read_number;
 use std::marker::Model;
 
-/// The greatest number.
-const MAX_AFTER: u32 = 4_000_000_000;
-
-/// How many of the accepted commands a client has, the first ones: from 0 to 4,000,000,000.
+/// How many of the accepted commands a client has, the first ones: from 0 to `MAX_COMMANDS`.
 #[derive(Clone, Copy)]
 pub struct After {
     number: u32,
@@ -21,7 +20,7 @@ impl Model for After {
 
     ghost view = { λ s. s.number };
 
-    ghost invariant = { λ s. s.number ≤ 4000000000 };
+    ghost invariant = { λ s. s.number ≤ MAX_COMMANDS };
 
     ghost inverse = { λ n. record { number = n } };
 }
@@ -29,9 +28,9 @@ impl Model for After {
 impl After {
     // The number, or None if it is greater than the greatest.
     fn new(number: u32) -> Option<After>
-        ensures { SomeIff result (number ≤ 4000000000) number }
+        ensures { SomeIff result (number ≤ MAX_COMMANDS) number }
     {
-        if number <= MAX_AFTER {
+        if number <= MAX_COMMANDS {
             Some(After { number })
         } else {
             None
@@ -39,7 +38,7 @@ impl After {
     }
 
     /// The number that these bytes are in decimal, without sign or leading zeros, or None if they are none from 0 to
-    /// 4,000,000,000.
+    /// `MAX_COMMANDS`.
     pub fn read(bytes: &[u8]) -> Option<After>
         ensures { result ≡ after_of bytes.now }
     {
@@ -52,7 +51,7 @@ impl After {
     /// As a number.
     pub fn get(self) -> u32
         ensures value { result ≡ self }
-        ensures range { self ≤ 4000000000 }
+        ensures range { self ≤ MAX_COMMANDS }
     {
         self.number
     }
