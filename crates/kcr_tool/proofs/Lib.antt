@@ -6,4 +6,3 @@ pub mod Verifications
 pub mod Empty
 pub mod Copies
 pub mod Served
-pub mod Rows

@@ -10,7 +10,6 @@ ghost use Rattle.std.specs.Prelude.{◌≡◌, ◌⊎◌, ◌≤◌};
 
 mod act;
 mod audit;
-mod invalid;
 mod listen;
 mod opening;
 mod pack;

@@ -1,7 +1,5 @@
 pub mod Fresh
-pub mod Seated
 pub mod Verification
 pub mod FirstRow
 pub mod Quoted
 pub mod Columns
-pub mod Invalid

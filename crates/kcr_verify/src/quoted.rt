@@ -35,11 +35,7 @@ pub(crate) enum Column {
 
 /// Adds a value: a whole number, a text in single quotes, or `NULL`, which also stands for values of other types. No
 /// table of a register has these.
-pub(crate) fn push_value(
-    alloc: Global,
-    line: &mut Vec<u8>,
-    value: &ValueRef<'_>,
-) -> Result<(), AllocError>
+fn push_value(alloc: Global, line: &mut Vec<u8>, value: &ValueRef<'_>) -> Result<(), AllocError>
     ensures { OnOk result (line.new.items ≡ line.old.items ++ value_text (bound_value (owned value.now))) }
 {
     match value {
@@ -87,11 +83,7 @@ fn push_date(line: &mut Vec<u8>, date: &[u8]) -> Result<(), AllocError>
 }
 
 /// Adds the date of a value, if it has one.
-pub(crate) fn push_date_of(
-    line: &mut Vec<u8>,
-    column: Column,
-    value: &ValueRef<'_>,
-) -> Result<(), AllocError>
+fn push_date_of(line: &mut Vec<u8>, column: Column, value: &ValueRef<'_>) -> Result<(), AllocError>
     ensures { OnOk result (line.new.items ≡ line.old.items ++ date_behind column (bound_value (owned value.now))) }
 {
     match (column, value) {

@@ -17,6 +17,7 @@ mod body_members;
 mod body_text;
 pub mod command;
 pub mod endpoint;
+pub mod laws;
 pub mod method;
 pub mod question;
 pub mod request;

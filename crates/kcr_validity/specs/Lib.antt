@@ -1,4 +1,0 @@
-pub mod Cells
-pub mod Kinds
-pub mod Rows
-pub mod Stored
