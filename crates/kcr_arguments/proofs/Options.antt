@@ -30,6 +30,7 @@ use Rattle.clap.specs.declared.builder.value_parser.Reading.{Reading}
 use Rattle.kcr_arguments.specs.Commands.{number_rule, text_rule}
 use Rattle.kcr_arguments.specs.Tasks.{number_between, number_at}
 
+-- a list, and the one that is taken when it is empty, are both empty if nothing is taken
 pub both_empty : (a b : Kinds) → or_else a b ≡ [] → (a ≡ []) × (b ≡ [])
 both_empty [] b e = (refl, e)
 both_empty (k ∷ ks) b e = cc
@@ -263,9 +264,11 @@ given_keeps s holds name parser once plainly passes values rows none p = by_valu
         subst (λ (o : Option Row). MatchOption o (Unit {0}) (λ r. holds r ≡ true)) (sym row) (passes v each.1) in
         subst (λ (how : Reading). HasRow holds name (used_as Set name how (v ∷ []) rows)) (sym plainly) has
 
+-- an option with a number keeps that its row, if there is one, has a number from 1 to the most
 pub number_keeps : (s : Shape) (name : Text) (most : ℕ) → s.args_override_self ≡ false → Keeps s (HasRow (is_number most) name) (filled (number_rule name most))
 number_keeps s name most once = given_keeps s (is_number most) name (Some (Unsigned 1 most)) once refl (λ v free. grind (arith, free))
 
+-- an option with a text keeps that its row, if there is one, has a text
 pub text_keeps : (s : Shape) (name : Text) → s.args_override_self ≡ false → Keeps s (HasRow is_text name) (filled (text_rule name))
 text_keeps s name once = given_keeps s is_text name None once refl (λ v free. refl)
 
@@ -328,6 +331,7 @@ required_row s holds name keeps left negates required words none =
     by_row None has given = cc
     by_row (Some r) has given = (r, refl, has)
 
+-- a subcommand that is taken has the number of a required option
 pub required_number : (s : Shape) (name : Text) (most : ℕ) → AllByRecursion (Keeps s (HasRow (is_number most) name)) s.rules
     → AllByRecursion (IsLeft name) s.rules
     → s.subcommand_negates_reqs ≡ false
@@ -337,6 +341,7 @@ required_number s name most keeps left negates required words none =
     let row = required_row s (is_number most) name keeps left negates required words none in
     ap (λ (o : Option Row). is_some (option_and_then (number_between 1 most) (option_and_then row_text o))) row.1 ∙ row.2
 
+-- a subcommand that is taken has the text of a required option
 pub required_text : (s : Shape) (name : Text) → AllByRecursion (Keeps s (HasRow is_text name)) s.rules → AllByRecursion (IsLeft name) s.rules
     → s.subcommand_negates_reqs ≡ false
     → ((rows : List Row) → list_any (λ a. a.required && not (is_given a.id rows)) s.rules ≡ false → is_given name rows ≡ true)

@@ -15,10 +15,12 @@ use Rattle.kcr_arguments.specs.Tasks.{met_in, faults_of, task_of, task_at, file_
 use Rattle.kcr_arguments.specs.declared.words.Task.{Task}
 use Rattle.clap.specs.declared.parser.matches.ArgMatches.TheViews.{out-ArgMatches}
 
+-- the program's command line is simple
 pub tool-simple : is_simple tool_app ≡ true
 unfolding tool_app clap_on_literals
 tool-simple = refl
 
+-- the program's command line is simple, and none of its arguments has a rule on another
 pub tool-free : is_simple_and_free tool_app ≡ true
 unfolding tool_app clap_on_literals
 tool-free = refl
@@ -63,6 +65,7 @@ pub met_is : (words : List Text) (m : ArgMatches) (name : Text) (rows : List Row
     → Some rows ≡ option_map (λ p. p.1) (subcommand_rows (out-ArgMatches m).subcommand) → met_in words ≡ Some (name, rows)
 met_is words m name rows found n r = sym found ∙ met (out-ArgMatches m).subcommand name rows n r
 
+-- the task that the words name
 pub task_is : (words : List Text) (name : Text) (rows : List Row) (t : Task) → met_in words ≡ Some (name, rows) → task_at (name, rows) ≡ Some t
     → task_of words ≡ Some t
 unfolding task_of
@@ -86,6 +89,7 @@ pub existing_is : (words : List Text) (name : Text) (rows : List Row) (is : Bool
 unfolding is_existing
 existing_is words name rows is e h = rw e (sym h)
 
+-- the flag `explain` that they have
 pub explained_is : (words : List Text) (name : Text) (rows : List Row) (is : Bool) → met_in words ≡ Some (name, rows) → is ≡ flag_at (codes "explain") rows
     → is_explained words ≡ is
 unfolding is_explained

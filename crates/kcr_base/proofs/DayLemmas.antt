@@ -27,6 +27,7 @@ day_count-2100 = day_count-early (pos 2100) 12099 1 1 refl (omega arith) (omega 
 pub count_of_number : (y m d n : ℕ) → days_from_civil (pos y) m d ≡ pos n → n + 4_371_953 ≡ day_count (pos y) m d
 count_of_number y m d n e = omega (arith, signed_arith, days_from_civil-day_count (pos y) m d, e)
 
+-- the day number of a date's count
 pub number_of_count : (y m d n : ℕ) → n + 4_371_953 ≡ day_count (pos y) m d → days_from_civil (pos y) m d ≡ pos n
 number_of_count y m d n e = omega (arith, signed_arith, days_from_civil-day_count (pos y) m d, e)
 
@@ -185,6 +186,7 @@ date_found y m d date z from until year month day e =
 
 -- ---- the text
 
+-- the text of a date's day number is the date's text
 pub day_text_of_date : (y m d n : ℕ) → IsDayOf y m d n → day_text n ≡ date_text y m d
 unfolding day_text
 day_text_of_date y m d n h =
@@ -200,6 +202,7 @@ parts_of_day n h =
     let bounds = days_in_month_bounds (pos (year_of n)) (month_of n) in
     (record { year = omega (arith, date.until); month = omega (arith, date.civil.1.1); day = omega (arith, date.civil.2.1, bounds) }, refl)
 
+-- of two equal triples, if the second is the date of a day number, so is the first
 pub same_date : (a b c a' b' c' n : ℕ) → ◌≡◌ {A = Option (ℕ × ℕ × ℕ)} (Some (a, b, c)) (Some (a', b', c')) → IsDayOf a' b' c' n → IsDayOf a b c n
 same_date a b c a' b' c' n e h =
     let t : ◌≡◌ {A = ℕ × ℕ × ℕ} (a, b, c) (a', b', c') = cc in
@@ -211,6 +214,7 @@ date_at n h =
     let d = date_of_number n h in
     record { year = pos (year_of n); month = month_of n; day = day_of_month n; year_in = d.civil.0; month_in = d.civil.1; day_in = d.civil.2 }
 
+-- a date of the calendar has the year, month and day that its day number gives
 pub date_is : (n : ℕ) (date : Date) → IsDay n → epoch_day date +ℤ pos 4_371_587 ≡ pos (n + 4_371_587)
     → (date.year ≡ pos (year_of n)) × (date.month ≡ month_of n) × (date.day ≡ day_of_month n)
 unfolding date_at
@@ -227,6 +231,7 @@ pub moment_parts : (t : ℕ) (bytes : List ℕ) → moment_text t ≡ bytes
 unfolding moment_text day_text
 moment_parts t bytes e = (ap length (sym e), ap (λ (xs : List ℕ). take 10 xs) e, ap (λ (xs : List ℕ). drop 10 xs) e)
 
+-- the text of a day and that of a second of the day make the text of the moment
 pub moment_whole : (day second : ℕ) (bytes : List ℕ) → second < 86400 → day_text day ≡ take 10 bytes → 84 ∷ clock_text second ++ 90 ∷ [] ≡ drop 10 bytes
     → moment_text (day * 86400 + second) ≡ bytes
 unfolding moment_text day_text
@@ -235,6 +240,7 @@ moment_whole day second bytes h date clock =
     let s : (day * 86400 + second) % 86400 ≡ second = omega arith in
     (λ i. day_text (d i) ++ (84 ∷ clock_text (s i)) ++ 90 ∷ []) ∙ (λ i. date i ++ clock i) ∙ take-append-drop 10 bytes
 
+-- the day of a moment is a day
 pub day_of_moment : (t : ℕ) → IsMoment t → IsDay (t / 86400)
 day_of_moment t h = record { from = omega (arith, h.from); until = omega (arith, h.until) }
 
@@ -248,6 +254,7 @@ date_ascii y m d h =
     let two = two_ascii (y / 100) (omega (arith, h.year)) in
     grind (arith, two, two_ascii (y % 100) (omega arith), two_ascii m h.month, two_ascii d h.day)
 
+-- a day's text is ASCII
 pub day_ascii : (n : ℕ) → IsDay n → All (λ b. b < 128) (day_text n)
 unfolding day_text
 day_ascii n h = All-from_recursion (λ b. b < 128) (day_text n) (date_ascii (year_of n) (month_of n) (day_of_month n) (parts_of_day n h).0)
@@ -255,6 +262,7 @@ day_ascii n h = All-from_recursion (λ b. b < 128) (day_text n) (date_ascii (yea
 clock_ascii : (s : ℕ) → s < 86400 → AllByRecursion (λ b. b < 128) (84 ∷ clock_text s ++ 90 ∷ [])
 clock_ascii s h = grind (arith, two_ascii (s / 3600) (omega arith), two_ascii (s / 60 % 60) (omega arith), two_ascii (s % 60) (omega arith))
 
+-- a moment's text is ASCII
 pub moment_ascii : (t : ℕ) → IsMoment t → All (λ b. b < 128) (moment_text t)
 unfolding moment_text day_text
 moment_ascii t h =

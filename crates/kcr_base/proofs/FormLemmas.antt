@@ -28,9 +28,11 @@ all-from p P xs f h = All-weaker (λ x. p x ≡ true) P f xs (AllPass-from_list_
 all-to : (p : ℕ → Bool) (P : ℕ → Type 0) (xs : List ℕ) → ((x : ℕ) → P x → p x ≡ true) → All P xs → list_all p xs ≡ true
 all-to p P xs f h = list_all-from_AllPass p xs (All-weaker P (λ x. p x ≡ true) f xs h)
 
+-- a number that passes the test of a range is in the range
 pub within-from : (low high b : ℕ) → is_between low high b ≡ true → (low ≤ b) × (b ≤ high)
 within-from low high b h = (grind (arith, nat_tests), grind (arith, nat_tests))
 
+-- a number in the range passes its test
 pub within-to : (low high b : ℕ) → (low ≤ b) × (b ≤ high) → is_between low high b ≡ true
 within-to low high b h = grind (arith, nat_tests)
 
@@ -46,6 +48,7 @@ sized-to : (low high : ℕ) (p : ℕ → Bool) (P : ℕ → Type 0) (text : List
     → low ≤ length text → length text ≤ high → All P text → (is_between low high (length text) && list_all p text) ≡ true
 sized-to low high p P text f l m h = and_from _ (list_all p text) (within-to low high (length text) (l, m)) (all-to p P text f h)
 
+-- a reader that answers exactly initials answers what `initials_of` gives
 pub initials-read : (r : Option (List ℕ)) (text : List ℕ) → SomeIff r (IsInitials text) text → r ≡ initials_of text
 unfolding initials_of is_initials
 initials-read r text h =
@@ -59,6 +62,7 @@ key_byte-from b h = grind (arith, nat_tests)
 key_byte-to : (b : ℕ) → IsKeyByte b → is_key_byte b ≡ true
 key_byte-to b h = grind (arith, nat_tests)
 
+-- a reader that answers exactly keys answers what `key_of` gives
 pub key-read : (r : Option (List ℕ)) (text : List ℕ) → SomeIff r (IsKey text) text → r ≡ key_of text
 unfolding key_of is_key
 key-read r text h =
@@ -78,6 +82,7 @@ serial_byte-from b h = grind (arith, nat_tests)
 serial_byte-to : (b : ℕ) → IsCapital b ⊎ IsDigit b → is_serial_byte b ≡ true
 serial_byte-to b h = grind (arith, nat_tests)
 
+-- a reader that answers exactly serials answers what `serial_of` gives
 pub serial-read : (r : Option (List ℕ)) (text : List ℕ) → SomeIff r (IsSerial text) text → r ≡ serial_of text
 unfolding serial_of is_serial
 serial-read r text h =
@@ -86,6 +91,7 @@ serial-read r text h =
     record { at_least_four = s.0; at_most_sixteen = s.1; each = s.2 })
     (λ i. sized-to 4 16 is_serial_byte (λ b. IsCapital b ⊎ IsDigit b) text serial_byte-to i.at_least_four i.at_most_sixteen i.each)
 
+-- a reader that answers exactly lines of a limit answers what `line_of` gives
 pub line-read : (limit : ℕ) (r : Option (List ℕ)) (text : List ℕ) → SomeIff r (IsLine limit text) text → r ≡ line_of limit text
 unfolding line_of is_line
 line-read limit r text h =
@@ -100,6 +106,7 @@ line-read limit r text h =
       all-to is_printing IsPrinting text printing-to i.printing,
     ) refl)
 
+-- a reader that answers exactly UTF-8 texts answers what `script_of` gives
 pub script-read : (r : Option (List ℕ)) (text : List ℕ) → SomeIff r (IsUtf8 text) text → r ≡ script_of text
 unfolding script_of
 script-read r text h = if_form-is r (IsUtf8 text) text (is_utf8 text) h (IsUtf8-from_is_utf8 text) (is_utf8-from_IsUtf8 text)
@@ -109,6 +116,7 @@ pub own-has : (P : List ℕ → Type 0) (r : Option (List ℕ)) (text : List ℕ
 own-has P None text h = tt
 own-has P (Some v) text h = grind arith
 
+-- a reader of texts that are their own value finds each text of its form
 pub own-reads : (P : List ℕ → Type 0) (r : Option (List ℕ)) (text : List ℕ) → SomeIff r (P text) text → ReadsText P (λ v. v) text r
 own-reads P r text h v is e = grind arith
 

@@ -11,6 +11,7 @@ use Rattle.kcr_base.specs.Rows.{option_or}
 
 -- WHETHER SOME OR ALL PASS
 
+-- some image passes the test if and only if some element has an image that does
 pub any-map : {X Y : Type 0} (p : Y → Bool) (f : X → Y) (xs : List X) → list_any p (map f xs) ≡ list_any (λ x. p (f x)) xs
 any-map p f [] = refl
 any-map p f (x ∷ xs) = rw (any-map p f xs)
@@ -25,20 +26,24 @@ pub any-more : {X : Type 0} (p q : X → Bool) (xs : List X) → ((x : X) → p 
 any-more p q [] f h = absurd (false≢true h)
 any-more p q (x ∷ xs) f h = grind (arith, nat_tests, h, f x, any-more p q xs f)
 
+-- if all elements pass the first test, all pass the second
 pub all-more : {X : Type 0} (p q : X → Bool) (xs : List X) → ((x : X) → p x ≡ true → q x ≡ true) → list_all p xs ≡ true → list_all q xs ≡ true
 all-more p q [] f h = refl
 all-more p q (x ∷ xs) f h = grind (arith, nat_tests, h, f x, all-more p q xs f)
 
+-- what holds of the elements of two lists holds of those of both together
 pub each-append : {X : Type 0} (P : X → Type 0) (xs ys : List X) → AllByRecursion P xs → AllByRecursion P ys → AllByRecursion P (xs ++ ys)
 each-append P [] ys h k = k
 each-append P (x ∷ xs) ys h k = (h.0, each-append P xs ys h.1 k)
 
 -- THE FIRST THAT PASSES
 
+-- nothing is found if no element passes
 pub find-none : {X : Type 0} (test : X → Bool) (xs : List X) → list_any test xs ≡ false → find test xs ≡ None
 find-none test [] h = refl
 find-none test (x ∷ xs) h = grind (arith, nat_tests, h, find-none test xs)
 
+-- no element passes if nothing is found
 pub none-find : {X : Type 0} (test : X → Bool) (xs : List X) → find test xs ≡ None → list_any test xs ≡ false
 none-find test [] h = refl
 none-find test (x ∷ xs) h = grind (arith, none-find test xs)
@@ -48,6 +53,7 @@ pub any-find : {X : Type 0} (test : X → Bool) (xs : List X) → list_any test 
 any-find test [] = refl
 any-find test (x ∷ xs) = grind (arith, any-find test xs)
 
+-- some element passes if one is found
 pub some-find : {X : Type 0} (test : X → Bool) (x : X) (xs : List X) → find test xs ≡ Some x → list_any test xs ≡ true
 some-find test x xs h = grind (arith, any-find test xs)
 
@@ -77,6 +83,7 @@ pub find-all : {X : Type 0} (test : X → Bool) (v : X) (xs : List X) → Only t
 find-all test v [] a = refl
 find-all test v (x ∷ xs) a = grind (arith, a.0, find-all test v xs a.1)
 
+-- if some element passes, this one is found
 pub find-only : {X : Type 0} (test : X → Bool) (v : X) (xs : List X) → Only test v xs → list_any test xs ≡ true → find test xs ≡ Some v
 find-only test v xs a h = grind (arith, h, find-all test v xs a)
 
@@ -86,6 +93,7 @@ only-order {X} test v xs ys p a =
     let P : X → Type 0 = λ x. test x ≡ true → x ≡ v in
     recursion_from_All P ys (All-permutation P xs ys p (All-from_recursion P xs a))
 
+-- the same element is found in any order, if all that pass equal the one that is found
 pub find-order : {X : Type 0} (test : X → Bool) (xs ys : List X) → IsPermutation xs ys → ((x : X) → find test xs ≡ Some x → Only test x xs)
     → find test ys ≡ find test xs
 find-order {X} test xs ys p only = by_first (find test xs) refl
@@ -102,6 +110,7 @@ all-keys test row_of v same (k ∷ keys) = (same k, all-keys test row_of v same 
 
 -- VALUES THAT MAY BE THERE
 
+-- a value that is not missing is there
 pub there : {X : Type 0} (o : Option X) → is_none o ≡ false → is_some o ≡ true
 there o h = grind arith
 
@@ -109,5 +118,6 @@ there o h = grind arith
 pub still : {X : Type 0} (o p : Option X) → is_some p ≡ true → is_some (option_or o p) ≡ true
 still o p h = grind arith
 
+-- a value that is not there is missing
 pub none-there : {X : Type 0} (o : Option X) → is_some o ≡ false → o ≡ None
 none-there o h = grind arith

@@ -11,6 +11,7 @@ use Rattle.kcr_base.proofs.ListLemmas.{any-map, any-same}
 
 -- LISTS WITH THE SAME ELEMENTS, BY EXCHANGES OF NEIGHBOURS
 
+-- the second list is the first after exchanges of neighbours
 pub data Shuffled {X : Type 0} : List X → List X → Type 0 where
   nothing : Shuffled [] []
   under : (x : X) (xs ys : List X) → Shuffled xs ys → Shuffled (x ∷ xs) (x ∷ ys)
@@ -42,6 +43,7 @@ swapped : {X : Type 0} (xs : List X) (i j : ℕ) → i < length xs → j < lengt
 swapped [] i j p q = absurd (omega arith)
 swapped (x ∷ xs) i j p q = exchanged (x ∷ xs) i j x p q
 
+-- a permutation is made by exchanges of neighbours
 pub shuffled : {X : Type 0} (xs ys : List X) → IsPermutation xs ys → Shuffled xs ys
 shuffled xs ys p = IsPermutation-keeps xs (Shuffled xs) (unmoved xs) (λ l i j a b s. after xs l (swap l i j) s (swapped l i j a b)) ys p
 

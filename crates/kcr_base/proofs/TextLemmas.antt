@@ -9,6 +9,7 @@ use Rattle.kcr_base.proofs.Members.{IsIn, none-in}
 use Rattle.kcr_base.proofs.SameLemmas.{same-is, same-itself}
 use Rattle.kcr_base.specs.Forms.{by_text, number_by_text}
 
+-- a number from the first of a range on, and before its end, is in the range
 pub in-range : (a n k : ℕ) → a ≤ k → k < a + n → IsIn k (range_with_len a n)
 in-range a zero k le lt = absurd (omega (arith, le, lt))
 in-range a (suc n) k le lt = elim (cases_eq k a) [
@@ -16,10 +17,12 @@ in-range a (suc n) k le lt = elim (cases_eq k a) [
   | inr other ↦ inr (in-range (a + 1) n k (omega (arith, le, other)) (omega (arith, lt)))
 ]
 
+-- what holds of the image of each element holds of each image
 pub each-map : {U V : Type 0} (P : V → Type 0) (f : U → V) (xs : List U) → AllByRecursion (λ u. P (f u)) xs → AllByRecursion P (map f xs)
 each-map P f [] h = tt
 each-map P f (x ∷ xs) h = (h.0, each-map P f xs h.1)
 
+-- what holds of each number from the first of a range to before its end holds of the range
 pub each-range : (P : ℕ → Type 0) (a n : ℕ) → ((k : ℕ) → a ≤ k → k < a + n → P k) → AllByRecursion P (range_with_len a n)
 each-range P a zero h = tt
 each-range P a (suc n) h = (h a (omega arith) (omega arith), each-range P (a + 1) n (λ k le lt. h k (omega (arith, le)) (omega (arith, lt))))

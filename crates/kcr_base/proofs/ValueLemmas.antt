@@ -21,12 +21,14 @@ use Rattle.kcr_base.proofs.Members.{IsIn, in-front, in-behind, map-in}
 use Rattle.kcr_base.specs.Forms.{number_by_text, number_of, day_of, moment_of, ceremony_of, box_of, step_of, role_of, facility_of, places, place_of}
 use Rattle.kcr_base.proofs.TextLemmas.{in-range, each-map, each-range, by_text-read, number-read}
 
+-- a reader that finds exactly the days by their texts answers what `day_of` gives
 pub day-read : (bytes : List ℕ) (r : Option ℕ) → HasText IsDay day_text bytes r → ReadsText IsDay day_text bytes r → r ≡ day_of bytes
 unfolding day_of
 day-read bytes r found only =
     number-read IsDay day_text 10957 47481 bytes r
     (λ n low high. record { from = low; until = omega (arith, high) }) (λ n h. (h.from, omega (arith, h.until))) found only
 
+-- a reader that finds exactly the moments by their texts answers what `moment_of` gives
 pub moment-read : (bytes : List ℕ) (r : Option ℕ) → HasText IsMoment moment_text bytes r → ReadsText IsMoment moment_text bytes r → r ≡ moment_of bytes
 unfolding moment_of
 moment-read bytes r found only =
@@ -45,20 +47,24 @@ decimal-read limit bytes r found only =
     parts None h = tt
     parts (Some n) h = (h.number, h.text)
 
+-- a reader that finds exactly the decimal texts up to a limit answers what `number_of` gives
 pub numeral-read : (limit : ℕ) (bytes : List ℕ) (r : Option ℕ) → IfSome r (IsNumberText limit bytes) → ((n : ℕ) → IsNumberText limit bytes n → r ≡ Some n)
     → r ≡ number_of limit bytes
 unfolding number_of
 numeral-read limit bytes r found only = decimal-read limit bytes r found only
 
+-- a reader that finds exactly the decimal texts of ceremonies answers what `ceremony_of` gives
 pub ceremony-read : (bytes : List ℕ) (r : Option ℕ) → IfSome r (IsNumberText 9999 bytes) → ((n : ℕ) → IsNumberText 9999 bytes n → r ≡ Some n)
     → r ≡ ceremony_of bytes
 unfolding ceremony_of
 ceremony-read bytes r found only = decimal-read 9999 bytes r found only
 
+-- a reader that finds exactly the decimal texts of boxes answers what `box_of` gives
 pub box-read : (bytes : List ℕ) (r : Option ℕ) → IfSome r (IsNumberText 9999 bytes) → ((n : ℕ) → IsNumberText 9999 bytes n → r ≡ Some n) → r ≡ box_of bytes
 unfolding box_of
 box-read bytes r found only = decimal-read 9999 bytes r found only
 
+-- a reader that finds exactly the decimal texts of steps answers what `step_of` gives
 pub step-read : (bytes : List ℕ) (r : Option ℕ) → IfSome r (IsNumberText 400 bytes) → ((n : ℕ) → IsNumberText 400 bytes n → r ≡ Some n) → r ≡ step_of bytes
 unfolding step_of
 step-read bytes r found only = decimal-read 400 bytes r found only
@@ -66,6 +72,7 @@ step-read bytes r found only = decimal-read 400 bytes r found only
 in-roles : (v : Role) → IsIn v (Ca ∷ Iw ∷ Sa ∷ Ssc1 ∷ Ssc2 ∷ Rkos ∷ Sw ∷ [])
 in-roles v = grind arith
 
+-- a reader that finds exactly the roles by their texts answers what `role_of` gives
 pub role-read : (bytes : List ℕ) (r : Option Role) → HasText (λ _. ⊤) role_text bytes r → ReadsText (λ _. ⊤) role_text bytes r → r ≡ role_of bytes
 unfolding role_of
 role-read bytes r found only =
@@ -75,6 +82,7 @@ role-read bytes r found only =
 in-facilities : (v : Facility) → IsIn v (East ∷ West ∷ [])
 in-facilities v = grind arith
 
+-- a reader that finds exactly the facilities by their texts answers what `facility_of` gives
 pub facility-read : (bytes : List ℕ) (r : Option Facility) → HasText (λ _. ⊤) facility_text bytes r → ReadsText (λ _. ⊤) facility_text bytes r → r ≡ facility_of bytes
 unfolding facility_of
 facility-read bytes r found only = by_text-read (λ _. ⊤) facility_text bytes r (East ∷ West ∷ []) (tt, (tt, tt)) (λ v _. in-facilities v) found only
@@ -101,6 +109,7 @@ in-places (Rksh n) h =
     in-behind _ (map (Co East) seven) (map (Co West) seven ++ map Rksh seven)
     (in-behind _ (map (Co West) seven) (map Rksh seven) (map-in Rksh n seven (in-seven n h)))
 
+-- a reader that finds exactly the places by their texts answers what `place_of` gives
 pub place-read : (bytes : List ℕ) (r : Option Place) → HasText IsPlace place_text bytes r → ReadsText IsPlace place_text bytes r → r ≡ place_of bytes
 unfolding place_of
 place-read bytes r found only = by_text-read IsPlace place_text bytes r places each-place in-places found only

@@ -56,10 +56,12 @@ moved boxes bags items bag u b h =
       boxed = all_put_kept same_bag (λ row. has_its_box boxes row.spot) bag bags b h.boxed;
     }
 
+-- a bag that is laid on the table keeps balance
 pub take_keeps : (facility : Facility) (boxes : List BoxRow) (bags : List Bag) (items : List Item) (serial : List ℕ)
     → IsBalanced boxes bags items → IsBalanced boxes (put same_bag (record { serial = serial; spot = Table facility }) bags) items
 take_keeps facility boxes bags items serial h = moved boxes bags items (record { serial = serial; spot = Table facility }) refl refl h
 
+-- a bag that is put into a safe keeps balance, if it is not refused
 pub put_keeps : (status : CeremonyStatus) (safes : List SafeRow) (boxes : List BoxRow) (bags : List Bag) (items : List Item) (serial : List ℕ) (to : Destination)
     → IsBalanced boxes bags items → put_refusal status safes boxes bags serial to ≡ None
     → IsBalanced boxes (put same_bag (record { serial = serial; spot = spot_of_destination status.facility to }) bags) items
@@ -87,6 +89,7 @@ add_box_keeps boxes bags items is_full row h n =
 
 -- ITEMS
 
+-- an item that is loose keeps balance
 pub add_item_keeps : (facility : Facility) (boxes : List BoxRow) (bags : List Bag) (items : List Item) (code : List ℕ)
     → IsBalanced boxes bags items → IsBalanced boxes bags (put same_item (record { code = code; rest = Loose facility }) items)
 add_item_keeps facility boxes bags items code h =
@@ -110,6 +113,7 @@ packed_kept : (bags : List Bag) (serial : List ℕ) → holds_items (spot_by bag
 packed_kept bags serial u [] = refl
 packed_kept bags serial u (code ∷ codes) = rw u (packed_kept bags serial u codes)
 
+-- a bag on the table with the items sealed into it keeps balance
 pub seal_keeps : (facility : Facility) (boxes : List BoxRow) (bags : List Bag) (items : List Item) (serial : List ℕ) (codes : List (List ℕ))
     → IsBalanced boxes bags items
     → IsBalanced boxes (put same_bag (record { serial = serial; spot = Table facility }) bags) (put_all same_item (sealed_items serial codes) items)
@@ -140,6 +144,7 @@ all_loosened serial facility (row ∷ rows) = grind (arith, nat_tests, same-itse
         → (not (lies_in serial old) || (same_text old.code row.code || is_changed (loose_items rows serial facility) old)) ≡ true
     weaker old g = grind (arith, nat_tests, g)
 
+-- a spent bag, with its items loose, keeps balance
 pub cut_keeps : (facility : Facility) (boxes : List BoxRow) (bags : List Bag) (items : List Item) (serial : List ℕ)
     → IsBalanced boxes bags items
     → IsBalanced boxes (put same_bag (record { serial = serial; spot = Spent }) bags) (put_all same_item (loose_items items serial facility) items)

@@ -28,6 +28,7 @@ TellsRefusal allow refusal told =
 carries_not : {Value : Type 0} (r q : Refusal) → IsTrue (carries r) → carries q ≡ false → ◌≡◌ {A = Result Value Refusal} (Err r) (Err q) → ⊥
 carries_not r q c n e = let t : carries r ≡ true = c in cc
 
+-- a refusal that is told, or out of memory in its place, is the response to its result
 pub refused_or_memory : {Value : Type 0} (told_by : Result Value Refusal → ResponseValue) (told : ResponseValue) (r : Refusal)
     → told_by (Err r) ≡ refusal_response None r → TellsRefusal None r told → RespondsOrMemory told_by (Err r) told
 refused_or_memory told_by told r as_refusal (inl e) = inl (e ∙ sym as_refusal)
@@ -72,6 +73,7 @@ abbrev pub MakesRows : {Value : Type 0} → (RegisterRows → Result Value Refus
     → RegisterRows → RegisterRows → Type 0
 MakesRows Does result t end = (t.is_broken ≡ false → Does t result end) × (IsTrue t.is_broken → end ≡ t)
 
+-- a test that does not hold is false
 pub not_so : (b : Bool) → (IsTrue b → ⊥) → b ≡ false
 not_so true never = absurd (never refl)
 not_so false never = refl

@@ -66,8 +66,10 @@ module _ (P : RegisterHistory → Type 0) (keeps : (before : RegisterHistory) (x
   runs_keep before [] after are runs = subst P runs are
   runs_keep before (xs ∷ connections) after are runs = runs_keep runs.0 connections after (keeps before xs runs.0 are runs.1) runs.2
 
+-- connections lead from registers to registers
 pub leads_keep : (before after : RegisterHistory) (count : ℕ) → AreRegisters before → Leads IsAnswer before after count → AreRegisters after
 leads_keep before after count are leads = runs_keep AreRegisters run_keeps before leads.0 after are leads.2
 
+-- connections lead from histories that the machine leads to, to such ones
 pub leads_follow : (before after : RegisterHistory) (count : ℕ) → AreOfMachine before → Leads IsAnswer before after count → AreOfMachine after
 leads_follow before after count are leads = runs_keep AreOfMachine run_leads before leads.0 after are leads.2

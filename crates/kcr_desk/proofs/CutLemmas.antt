@@ -14,6 +14,7 @@ same_front a b x y l e = (
   sym (drop-append_seam a x) ∙ ap (drop (length a)) e ∙ ap (λ n. drop n (b ++ y)) l ∙ drop-append_seam b y,
 )
 
+-- bytes begin with at most one head, and one rest stands behind it
 pub head_unique : (b : List ℕ) (h k : RequestHead) (r q : List ℕ) → HasHead b h r → HasHead b k q → (h ≡ k) × (r ≡ q)
 head_unique b h k r q x y = request_unique b h k r q x.reads y.reads
 
@@ -21,6 +22,7 @@ head_unique b h k r q x y = request_unique b h k r q x.reads y.reads
 pub same_plan : (b : List ℕ) (h k : RequestHead) (r q : List ℕ) → HasHead b h r → HasHead b k q → framing_of h ≡ framing_of k
 same_plan b h k r q x y = ap framing_of (head_unique b h k r q x y).0
 
+-- bytes begin with at most one message, and one rest stands behind it
 pub message_unique : (b : List ℕ) (m n : Message) (r q : List ℕ) → IsMessage b m r → IsMessage b n q → (m ≡ n) × (r ≡ q)
 message_unique b m n r q x y =
     let heads = head_unique b m.head n.head (m.body ++ r) (n.body ++ q) x.head y.head in
@@ -34,6 +36,7 @@ EndsBy h rest clean_end = ⊥
 EndsBy h rest (refused r head_only) = (framing_of h ≡ Err r) × (is_head h.method ≡ head_only)
 EndsBy h rest (cut_off plan head_only) = (framing_of h ≡ Ok plan) × (is_head h.method ≡ head_only) × (length rest < plan.length)
 
+-- an end of bytes that begin with a head is one by this head and the rest behind it
 pub end_by : (b : List ℕ) (h : RequestHead) (rest : List ℕ) (e : Ending) → HasHead b h rest → IsEnd b e → EndsBy h rest e
 end_by b h rest e has (is_blank_rest q) = head_not_quiet b h rest has.reads q
 end_by b h rest e has (no_head none loud) = absurd (none h rest has)
@@ -43,6 +46,7 @@ end_by b h rest e has (is_cut k q has' why short) =
     let heads = head_unique b h k rest q has has' in
     (ap framing_of heads.0 ∙ why, ap (λ t. is_head t.method) heads.0, rw heads.1 short)
 
+-- bytes that begin with a whole message are no end
 pub message_not_end : (b : List ℕ) (m : Message) (r : List ℕ) (e : Ending) → IsMessage b m r → IsEnd b e → ⊥
 message_not_end b m r e x end' =
     let by = end_by b m.head (m.body ++ r) e x.head end' in
@@ -53,6 +57,7 @@ message_not_end b m r e x end' =
 same_ends : (h : RequestHead) (rest : List ℕ) (e f : Ending) → EndsBy h rest e → EndsBy h rest f → e ≡ f
 same_ends h rest e f x y = grind (arith, x, y)
 
+-- bytes have at most one end
 pub end_unique : (b : List ℕ) (e f : Ending) → IsEnd b e → IsEnd b f → e ≡ f
 end_unique b e f (fails h rest has why) y = same_ends h rest e f (why, refl) (end_by b h rest f has y)
 end_unique b e f (is_cut h rest has why short) y = same_ends h rest e f (why, refl, short) (end_by b h rest f has y)

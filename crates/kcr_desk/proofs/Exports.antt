@@ -40,6 +40,7 @@ use Rattle.kcr_desk.proofs.Posted.{message}
 uri-byte : (b : ℕ) → IsPathByte b → IsTrue (is_uri_byte b)
 uri-byte b h = grind (arith, nat_tests)
 
+-- the text of a command's request, before whatever bytes, is its message
 pub request_message : (x : Command) (rest : List ℕ) → IsSendable x → IsMessage (request_text x ++ rest) (message_of x) rest
 unfolding request_text
 request_message x rest is =
@@ -50,6 +51,7 @@ request_message x rest is =
     (message path body rest good.some (All-weaker IsPathByte (λ b. IsTrue (is_uri_byte b)) uri-byte path good.bytes) (path-utf8 path good.bytes)
     (omega (arith, good.short)) is.short)
 
+-- the requests of commands are their messages, one after the other, and end cleanly
 pub requests_cut : (xs : List Command) → AllByRecursion IsSendable xs → AreMessages (requests_text xs) (map message_of xs) clean_end
 requests_cut [] each = is_blank_rest (record { ends = []; is = refl; short = omega arith })
 requests_cut (x ∷ xs) each = (requests_text xs, request_message x (requests_text xs) each.0, requests_cut xs each.1)
@@ -145,6 +147,7 @@ module _ (entry : Entry) (B : History) (x : Exchange) (next : RegisterHistory) (
   one-again found = answered entry.command B x.reply next is faults.0 asked (λ result told p.
       performed-again entry B found x.reply next result faults.0 faults.1 told p)
 
+-- a run over requests of a register's next commands leads to that register, with the kept replies
 pub run_leads : (entries : List Entry) (B : History) (xs : List Exchange) (after : RegisterHistory) → IsOfMachine (pushed_onto entries B) → AreSendable entries
     → messages_of xs ≡ map message_of (commands_of entries) → AllByRecursion HadNoFault xs → Run IsAnswer (whole B) xs after
     → (after ≡ whole (pushed_onto entries B)) × (map (λ (x : Exchange). x.reply) xs ≡ map kept_reply entries)
@@ -204,6 +207,7 @@ run-again (entry ∷ entries) later B (x ∷ xs) after found of each same faults
     let rest = run-again entries later B xs after found.1 of each.1 parts.1 faults.1 (subst (λ (s : RegisterHistory). Run IsAnswer s xs after) first.0 run.2) in
     (rest.0, λ j. first.1 j ∷ rest.1 j)
 
+-- a run over commands that the register has, and then later ones, adds only the later, with all kept replies
 pub run_adds : (first later : List Entry) (xs : List Exchange) (after : RegisterHistory) → IsOfMachine (pushed_onto later (pushed_onto first []))
     → AreSendable (first ++ later) → messages_of xs ≡ map message_of (commands_of (first ++ later)) → AllByRecursion HadNoFault xs
     → Run IsAnswer (whole (pushed_onto first [])) xs after

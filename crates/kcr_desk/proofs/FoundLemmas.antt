@@ -33,6 +33,7 @@ ends_here buf (Some u) e end is p known =
 pub head_here : (buf : List ℕ) (spans : RequestSpans) (h : RequestHead) → IsWhole buf spans h → IsHeadAt buf spans h
 head_here buf spans h whole = subst (λ t. IsHeadAt t spans h) (append-nil buf) (whole.at [])
 
+-- a stream that begins with a head which is refused ends with this refusal
 pub failed_ends : (buf : List ℕ) (unread : Option (List ℕ)) (spans : RequestSpans) (h : RequestHead) (r : Refusal)
     → IsWhole buf spans h → framing_of h ≡ Err r → EndsAs (prepend_known buf unread) (refused r (is_head (span_bytes buf spans.method)))
 failed_ends buf unread spans h r whole bad =

@@ -19,6 +19,7 @@ use Rattle.kcr_desk.proofs.QuietLemmas.{blank_not_more}
 
 -- ---- a head is no quiet rest
 
+-- bytes that begin with a head are no rest of empty lines
 pub head_not_quiet : (bytes : List ℕ) (h : RequestHead) (rest : List ℕ) → ReadsRequest bytes h rest → IsBlankRest bytes → ⊥
 head_not_quiet bytes h rest reads quiet =
     blank_not_more quiet.ends h.blank _ (Stops_token h.method _ reads.0.method.0 reads.0.method.1)
@@ -56,6 +57,7 @@ small_reads ends = (is_small ends, sym (print_request-append (small ends) []))
 more_behind : (front buf rest more : List ℕ) → buf ≡ front ++ rest → buf ++ more ≡ front ++ (rest ++ more)
 more_behind front buf rest more e = ap (λ (t : List ℕ). t ++ more) e ∙ simp append_assoc
 
+-- a buffer is hopeless if each head that its front can begin has more than 64 fields
 pub overflow_hopeless : (front buf : List ℕ) (rest : List ℕ) → buf ≡ front ++ rest → RequestOverflows 64 front → IsHopeless buf
 overflow_hopeless front buf rest e over = record {
   no_head = λ more h after has.
@@ -78,6 +80,7 @@ short_front bytes n h rest reads le =
     let e : n ≡ length (print_request h) + d = omega arith in
     (reads.0, ap (λ m. take m bytes) e ∙ ap (take (length (print_request h) + d)) reads.1 ∙ take-append-add (print_request h) rest d)
 
+-- a buffer without a head in its first 8,192 bytes has none within the limits
 pub none_is_no_head : (buf : List ℕ) → HasNoRequest (take 8192 buf) → HasNoHead buf
 none_is_no_head buf none h rest has = none h _ (short_front buf 8192 h rest has.reads has.short)
 
@@ -88,6 +91,7 @@ quiet_alone buf more long quiet =
     let e : buf ++ more ≡ buf = ap (λ (t : List ℕ). buf ++ t) (nil_from_length more none) ∙ append-nil buf in
     subst IsBlankRest e quiet
 
+-- a buffer of 8,192 bytes or more is hopeless if it has no head in these, and is no rest of empty lines
 pub full_hopeless : (buf : List ℕ) → HasNoRequest (take 8192 buf) → 8192 ≤ length buf → ¬ (IsBlankRest buf) → IsHopeless buf
 full_hopeless buf none long loud = record {
   no_head = λ more. none_is_no_head (buf ++ more) (rw (take-append-le 8192 buf more long) none);
@@ -96,6 +100,7 @@ full_hopeless buf none long loud = record {
 
 -- ---- a whole head
 
+-- a span within some bytes is within more
 pub within_more : {n m : ℕ} (s : Span) → n ≤ m → IsWithin n s → IsWithin m s
 within_more {n} s le within = (within.0, let e : s.end ≤ n = within.1 in omega arith)
 
@@ -113,6 +118,7 @@ request_some h is =
     let m : 0 < length h.method = is.method.0 in
     omega (arith, e, m)
 
+-- a head of at most 64 fields, read in the first 8,192 bytes, stands whole at the front of the buffer
 pub whole_head : (front buf rest : List ℕ) (headers : List HeaderSpan) (spans : RequestSpans) (h : RequestHead)
     → buf ≡ front ++ rest → length front ≤ 8192 → length headers ≤ 64
     → IsRequestWithin front headers spans → IsRequestAt front headers spans h → IsWhole buf spans h

@@ -12,6 +12,7 @@ abbrev short_below : ℕ → Bool
 short_below zero = true
 short_below (suc n) = is_short n && short_below n
 
+-- the phrase of a status below 1000 has at most 31 bytes
 pub phrase_short : (n : ℕ) → n < 1000 → length (phrase_of n) ≤ 31
 unfolding phrase_of
 phrase_short n h =

@@ -111,6 +111,7 @@ head-length path size short small =
     let digits = length-decimal-le 6 size (omega arith) (omega (arith, small)) (omega (arith, small)) in
     simp length-append (omega (arith, digits, short))
 
+-- the text of a request with a path and a body, within the limits, is a whole message
 pub message : (path body rest : List ℕ) → 0 < length path → AllPass is_uri_byte path → IsUtf8 path → length path ≤ 8000 → length body ≤ 131072
     → IsMessage (head_text path (length body) ++ (body ++ rest)) (posted_message path body) rest
 message path body rest some uri text short small =

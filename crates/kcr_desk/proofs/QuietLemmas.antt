@@ -32,9 +32,11 @@ blanks [] false e = ([], refl)
 blanks [] true e = cc
 blanks (b ∷ bytes) cr e = step b bytes (blanks bytes) cr (eqb b 10) (eqb b 13) refl refl e
 
+-- bytes that pass the test are whole empty lines
 pub blank_lines : (bytes : List ℕ) → blank_from false bytes ≡ true → (ends : List LineEnd) × (bytes ≡ print_blank ends)
 blank_lines bytes e = blanks bytes false e
 
+-- whole empty lines pass the test
 pub blank_from-print : (ends : List LineEnd) → blank_from false (print_blank ends) ≡ true
 blank_from-print [] = refl
 blank_from-print (crlf ∷ ends) = blank_from-print ends

@@ -115,6 +115,7 @@ module _ (P : History → Type 0) (grown : (A : History) (x : Command) (answer :
   run_holds before [] after are run = subst HoldsOf run are
   run_holds before (x ∷ xs) after are run = run_holds run.0 xs after (answer_keeps before run.0 (request_of x.message) x.reply are run.1) run.2
 
+-- a run leads from registers to registers
 pub run_keeps : (before : RegisterHistory) (xs : List Exchange) (after : RegisterHistory) → AreRegisters before → Run IsAnswer before xs after → AreRegisters after
 run_keeps = run_holds IsRegister (λ A x answer is r step. (follows A x answer step, r))
 

@@ -99,6 +99,7 @@ split_body buf u at n fits =
     ∙ ap (λ t. t ++ drop n (drop at (buf ++ u))) (take-append-le n (drop at buf) u room ∙ sym (body_of buf at n))
     ∙ ap (λ t. slice_range buf at (at + n) ++ t) (drop-drop n at (buf ++ u))
 
+-- a buffer that is ready, before whatever bytes are unread, begins with its message
 pub message_is : (buf u : List ℕ) (spans : RequestSpans) (plan : Framing) (is : IsReady buf spans plan)
     → IsMessage (buf ++ u) (message_of buf spans plan is) (drop (spans.len + plan.length) (buf ++ u))
 message_is buf u spans plan is =

@@ -22,6 +22,7 @@ use Rattle.kcr_desk.proofs.FoundLemmas.{known_split, ends_here, head_here}
 use Rattle.kcr_desk.proofs.HeadLemmas.{within_more}
 use Rattle.kcr_desk.proofs.WaitingLemmas.{with_more, sent_front, sent_on}
 
+-- a fault that comes while the answers that wait are written breaks the turn
 pub breaks_at_once : (left a b : Option (List ℕ)) {w : List ℕ} → WritesPrefix a b w → BreaksItem left a b w
 breaks_at_once left a b {w} front = record {
   next = [];
@@ -29,12 +30,15 @@ breaks_at_once left a b {w} front = record {
   written = subst (WritesPrefix a b) (sym (append-nil w)) front;
 }
 
+-- an end of a stream is one by all that was known of it before
 pub ends_before : (old new : Option (List ℕ)) (e : Ending) → Stays old new → EndsAs new e → EndsAs old e
 ends_before old new e stays at_new bytes is = at_new bytes (stays bytes is)
 
+-- a fault that comes while the end is answered breaks the turn
 pub breaks_ending : {left a b : Option (List ℕ)} {w : List ℕ} (e : Ending) → EndsAs left e → WritesPrefix a b (w ++ ending_text e) → BreaksItem left a b w
 breaks_ending e end front = record { next = ending_text e; is_next = λ bytes is. ends e (end bytes is); written = front }
 
+-- a fault that comes while the client is told to continue breaks the turn
 pub breaks_continue : {buf : List ℕ} {left a b : Option (List ℕ)} {w : List ℕ} {spans : RequestSpans} {plan : Framing} (unread : Option (List ℕ))
     → HasFraming buf spans plan → Stays left (prepend_known buf unread) → WritesPrefix a b (w ++ continue_text plan) → BreaksItem left a b w
 breaks_continue {buf} {plan = plan} unread has stays front = record {
@@ -53,6 +57,7 @@ turn_later buf c u stays so_far (Message spans plan) is = (is.0, sent_on (with_m
 turn_later {old} {left} buf c u stays so_far Ended is =
     (is.0, ends_before old left is.0 stays is.1, sent_on (with_more (ending_text is.0) so_far) is.2)
 
+-- a fault after some of the answers were written breaks the turn as it was at its start
 pub breaks_later : {old left a b : Option (List ℕ)} {w v : List ℕ} (c : Option (List ℕ)) → Stays old left → IsQueued a b w v
     → BreaksItem left b c v → BreaksItem old a c w
 breaks_later c stays so_far breaks = record {
@@ -77,6 +82,7 @@ plan_more {buf} {new} {spans} {plan} more has e =
     } in
     subst (λ t. HasFraming t spans plan) (sym e) (record { head = has.head; whole = whole; planned = has.planned; fits = has.fits })
 
+-- a stream whose body is shorter than its head asks for ends cut off
 pub cut_ends : {buf : List ℕ} {spans : RequestSpans} {plan : Framing} (unread : Option (List ℕ)) → HasFraming buf spans plan
     → length buf < spans.len + plan.length → IsAtEnd unread
     → EndsAs (prepend_known buf unread) (cut_off plan (is_head (span_bytes buf spans.method)))

@@ -8,6 +8,7 @@ use Rattle.kcr_desk.specs.Output.{IsQueued}
 use Rattle.kcr_print.specs.Written.{WritesPrefix, Writes}
 use Rattle.kcr_print.proofs.WrittenLemmas.{appends_both, appends_nothing, front_both}
 
+-- at first nothing is sent, and all waits
 pub gathered_nothing : (a : Option (List ℕ)) (w : List ℕ) → IsQueued a a w w
 gathered_nothing a w = record { sent = []; written = appends_nothing a; rest = refl }
 
@@ -23,6 +24,7 @@ with_more {x = x} {w = w} y p = record {
   rest = let e : (p.sent ++ w) ++ y ≡ x ++ y = ap (λ t. t ++ y) p.rest in simp append_assoc at e;
 }
 
+-- more behind two texts is more behind what waits of them
 pub with_more_behind : {a b : Option (List ℕ)} {w : List ℕ} (x y z : List ℕ) → IsQueued a b (x ++ y) w → IsQueued a b (x ++ (y ++ z)) (w ++ z)
 with_more_behind {a} {b} {w} x y z p =
     let e : (x ++ y) ++ z ≡ x ++ (y ++ z) = simp append_assoc in subst (λ t. IsQueued a b t (w ++ z)) e (with_more z p)

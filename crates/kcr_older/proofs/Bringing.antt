@@ -21,12 +21,14 @@ use Rattle.kcr_older.specs.declared.migration.OldVersion.{OldVersion}
 use Rattle.kcr_older.specs.declared.migration.OldVersion.TheVariants.{V1, V2}
 use Rattle.kcr_older.proofs.Filling.{filled}
 
+-- a file that holds a history as a version does holds its tables, with the number of that version
 pub old_holds : (version : ℕ) (A : History) (db : Database) (s : HoldsHistoryAs version A db)
     → HoldsFirst (14 + version) db (record s.tables.t { versions = numbered version })
 old_holds version A db s = record { schema = s.schema; kept = s.tables.kept }
 
 -- ---- what is put leaves the number of the version
 
+-- the tables that are made and filled leave the number of the version
 pub same_number : (from : OldVersion) (t : StoredTables) → (with_own_stays from (with_bare_tables from t)).versions ≡ t.versions
 same_number V1 t = refl
 same_number V2 t = refl
@@ -61,6 +63,7 @@ brought_2 A old new s after =
     let stands = stands_older A t (tables A).stays t.rows.stays s.tables.stands (s.tables.unwithdrawn (omega arith)) s.tables.stands.rows.stays in
     tables_of (tables A) new (record { rows = record t.rows { withdrawals = [] }; versions = numbered 3 }) stands after
 
+-- a file of an older version, migrated, holds the machine's tables of its history
 pub brought_from : (from : OldVersion) (A : History) (old new : Database) (s : HoldsHistoryAs (number_of from) A old)
     → Holds new (migrated_tables from (record s.tables.t { versions = numbered (number_of from) })) → HoldsTables (tables A) new
 brought_from V1 A old new s after = brought_1 A old new s after

@@ -35,6 +35,7 @@ there A rows p = IsPermutation-trans _ _ _ (IsPermutation-reverse (sheet A)) p
 pub shared_none : (A : History) → IsRegister A → (rows : List SheetRow) → IsPermutation (reverse (sheet A)) rows → ShareNoMoment rows
 shared_none A h rows p = share-order (sheet A) rows (there A rows p) (sheet-shares (sheet A) (sheet-made A h))
 
+-- the stays of a register's sheet are the same, up to their order, for its rows in any order
 pub stays_meet : (A : History) → IsRegister A → (rows : List SheetRow) → IsPermutation (reverse (sheet A)) rows
     → IsPermutation (reverse (stays_by (sheet A))) (stays_by rows)
 stays_meet A h rows p =

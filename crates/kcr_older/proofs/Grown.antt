@@ -54,9 +54,11 @@ module _ (at : ℕ) (table : Table)
         sound = subst (λ s. IsSound s new.now.trees) schema w.sound;
       }
 
+-- after the first 15 tables, CREATE TABLE adds the table of stays, without rows
 pub creates_stays : (old new : State) (count : ℕ) → old.now.schema ≡ schema_prefix 15 → Executes (text_at 15) [] old new (Ok count) → Gains 15 stays old.now new.now
 creates_stays = creates_over 15 stays makes_stays.0 makes_stays.1 makes_stays.2 (defines 15 stays makes_stays) makes_stays.5 makes_stays.6
 
+-- after the first 16 tables, CREATE TABLE adds the table of withdrawals, without rows
 pub creates_withdrawals : (old new : State) (count : ℕ) → old.now.schema ≡ schema_prefix 16 → Executes (text_at 16) [] old new (Ok count)
     → Gains 16 withdrawals old.now new.now
 creates_withdrawals = creates_over 16 withdrawals makes_withdrawals.0 makes_withdrawals.1 makes_withdrawals.2
@@ -89,6 +91,7 @@ shares_kept whole db t u k s sound own_stays own_withdrawals =
     let later = behind 7 (take 15 all_tables) whole db s in
     search (rules, still, own_stays, own_withdrawals)
 
+-- with the tables of stays and withdrawals, a file of version 1 holds its rows, and none in these
 pub grown_from_1 : (old mid new : Database) (t : StoredTables) → HoldsFirst 15 old t → Gains 15 stays old mid → Gains 16 withdrawals mid new
     → Holds new (record t { rows = record t.rows { stays = []; withdrawals = [] } })
 grown_from_1 old mid new t held one two =
@@ -105,6 +108,7 @@ grown_from_1 old mid new t held one two =
           (bare stays_place new.trees none) (bare withdrawals_place new.trees two.empty);
     }
 
+-- with the table of withdrawals, a file of version 2 holds its rows, and none in this
 pub grown_from_2 : (old new : Database) (t : StoredTables) → HoldsFirst 16 old t → Gains 16 withdrawals old new
     → Holds new (record t { rows = record t.rows { withdrawals = [] } })
 grown_from_2 old new t held two =

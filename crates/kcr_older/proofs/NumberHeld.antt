@@ -21,6 +21,7 @@ use Rattle.kcr_older.specs.OldFiles.{HoldsFirst, numbered}
 use Rattle.kcr_older.specs.Kind.{numbered_table, numbers_in, only_number, version_in}
 use Rattle.kcr_older.proofs.NumberLemmas.{same_number}
 
+-- the versions are 1, 2 and 3
 abbrev pub IsKnown : ℕ → Type 0
 IsKnown version = (version ≡ 1) ⊎ ((version ≡ 2) ⊎ (version ≡ 3))
 
@@ -42,6 +43,7 @@ by_number [] = refl
 by_number (version ∷ []) = refl
 by_number (version ∷ next ∷ more) = refl
 
+-- the number of a database of a version is that in the one row of its table of versions
 pub held_version : (version : ℕ) → IsKnown version → (db : Database) (rows : List Version) → db.schema ≡ schema_prefix (14 + version)
     → TreeHolds versions_place db.trees (map version_row rows) → version_in db ≡ only_version rows
 held_version version known db rows schema keeps =
@@ -70,6 +72,7 @@ shares_versions version (inr (inl two)) old new s =
 shares_versions version (inr (inr three)) old new s =
     (subst (λ v. KeepsRows (take (14 + v) all_tables) old new) three s).1.1.1.1.1.1.1.1.1.1.1.1.1.0
 
+-- the number of a file of a version that holds rows is that in the one row of its versions
 pub older_version : (version : ℕ) → IsKnown version → (db : Database) (t : StoredTables) → HoldsFirst (14 + version) db t → version_in db ≡ only_version t.versions
 older_version version known db t h =
     held_version version known db t.versions h.schema

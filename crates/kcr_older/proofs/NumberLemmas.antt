@@ -61,6 +61,7 @@ stands_at schema table (Some at) is h =
     let one = one_column table.columns it.1 in
     record { at = at; finds = is; is = it.0; column = one.0; columns = one.1 }
 
+-- the table of the number, if it is found, stands in the schema with its one column
 pub stands : (schema : Schema) (table : Table) → numbered_table schema ≡ Some table → Stands schema table
 stands schema table h = stands_at schema table _ refl h
 
@@ -125,6 +126,7 @@ module _ (old new : State) (table : Table) (is : numbered_table old.now.schema �
       same_number numbers values (subst₂ IsPermutation (back numbers) (back values) same) in
       sym number ∙ (rw is refl)
 
+-- what is found is some table
 pub is_there : (found : Option Table) → IsTrue (is_some found) → (table : Table) × (found ≡ Some table)
 is_there (Some table) h = (table, refl)
 is_there None h = absurd cc

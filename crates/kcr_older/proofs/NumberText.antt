@@ -55,6 +55,7 @@ use Rattle.sqlite_resolve.specs.declared.error.CompileError.TheVariants.{Mismatc
 use Rattle.std.specs.Prelude.{if◌then◌else◌}
 use Rattle.sqlite_resolve.specs.Expr.{lower, lower_to, node, opened, passes}
 
+-- the text of the query for the number of the version
 abbrev pub text : List ℕ
 text = codes "SELECT number FROM versions"
 
@@ -82,6 +83,7 @@ pub record Read : Type 0 where
   item_is : out-Shown item ≡ Shown-F.One expr None number_name
   expr_is : out-Expr expr ≡ Expr-F.Column None number_name
 
+-- the text has these parts
 pub read_it : Read
 unfolding everything
 read_it = record {

@@ -139,6 +139,7 @@ set_tree trees next e i one id s =
     ∙ ap (λ l. put_row (cast_row versions (Int i ∷ Int (pos 3) ∷ [])) l) (gone_one i e id)
     ∙ (λ j. (cast_int i j ∷ cast_int (pos 3) j ∷ []) ∷ [])
 
+-- the statement sets the number of the version to 3 and leaves all other rows
 pub sets : (n : ℕ) (old new : State) (count : ℕ) (t : StoredTables) → t.versions ≡ numbered n → Holds old.now t
     → Executes (codes "UPDATE versions SET number = 3") [] old new (Ok count) → Holds new.now (record t { versions = numbered 3 })
 sets n old new count t one held h =

@@ -36,6 +36,7 @@ trains-first ws who role day d row l h =
         → (((s && nat_le row.since (max row.since day)) && nat_le (max row.since day) row.until) && not v) ≡ true
     by_parts s w v e f = grind (arith, nat_tests)
 
+-- who is trained on a day or later is trained on one of these days
 pub trained_on_some_day : (ts : List Training) (ws : List Withdrawal) (who : List ℕ) (role : Role) (day : ℕ) → trained_from_by ts ws who role day ≡ true
     → (d : ℕ) × (day ≤ d) × (trained_by ts ws who role d ≡ true)
 trained_on_some_day [] ws who role day h = absurd (false≢true h)
@@ -45,6 +46,7 @@ trained_on_some_day (row ∷ rows) ws who role day h =
       | inr e ↦ let w = trained_on_some_day rows ws who role day e in (w.0, w.1, or_right (trains ws who role w.0 row) (trained_by rows ws who role w.0) w.2)
     ]
 
+-- who is trained on one of these days is trained on the day or later
 pub trained_on_no_other : (ts : List Training) (ws : List Withdrawal) (who : List ℕ) (role : Role) (day d : ℕ) → day ≤ d → trained_by ts ws who role d ≡ true
     → trained_from_by ts ws who role day ≡ true
 trained_on_no_other ts ws who role day d l h =
@@ -88,12 +90,14 @@ some-find : {X Y : Type 0} (f : X → Y) (test : X → Bool) (rows : List X) →
 some-find f test [] = refl
 some-find f test (row ∷ rows) = grind (arith, some-find f test rows)
 
+-- a place that is held on a day or later has a holder on one of these days, if each appointment lasts
 pub place_on_some_day : (rows : List Appointment) → list_all lasts rows ≡ true → (place : Place) (day : ℕ) → place_held_from_by rows place day ≡ true
     → (d : ℕ) × (day ≤ d) × (is_some (holder_by rows place d) ≡ true)
 place_on_some_day rows l place day h =
     let w = held_on_some_day (λ row. same_place row.place place) rows day l h in
     (w.0, w.1, some-find (λ row. row.who) (holds place w.0) rows ∙ w.2)
 
+-- a place that has a holder on one of these days is held on the day or later
 pub place_on_no_other : (rows : List Appointment) (place : Place) (day d : ℕ) → day ≤ d → is_some (holder_by rows place d) ≡ true
     → place_held_from_by rows place day ≡ true
 place_on_no_other rows place day d l h =

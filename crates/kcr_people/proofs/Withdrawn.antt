@@ -22,6 +22,7 @@ use Rattle.kcr_people.specs.Laws.{same_withdrawn}
 abbrev pub training_of : Withdrawal → Training
 training_of w = record { who = w.who; role = w.role; since = w.since; until = w.until }
 
+-- the training that a withdrawal is found to be of is its own
 pub is_of-true : (row : Training) (w : Withdrawal) → is_of row w ≡ true → training_of w ≡ row
 is_of-true row w h =
     let who : w.who ≡ row.who = same-is w.who row.who (grind (arith, nat_tests)) in
@@ -30,6 +31,7 @@ is_of-true row w h =
     let until : w.until ≡ row.until = grind (arith, nat_tests) in
     λ i. record { who = who i; role = role i; since = since i; until = until i }
 
+-- a withdrawal is of its own training
 pub is_of-own : (w : Withdrawal) → is_of (training_of w) w ≡ true
 is_of-own w = grind (arith, nat_tests, same-itself w.who)
 
@@ -96,6 +98,7 @@ put_all-bears t d day ws (x ∷ xs) rows =
 
 -- THE LEAST DAY
 
+-- the least day is d or earlier if and only if the day is, or a withdrawal of the training is
 pub least-day : (ws : List Withdrawal) (row : Training) (day d : ℕ) → nat_le (least_day ws row day) d ≡ (nat_le day d || is_withdrawn_by ws row d)
 least-day [] row day d = sym (or-false (nat_le day d))
 least-day (w ∷ ws) row day d = by_test (is_of row w) (λ from. least-day ws row from d)
@@ -180,6 +183,7 @@ trains-after ts ws who role day p r d t own =
         ∙ rest (same_text p who && same_role r role && nat_le day d) (is_withdrawn_by ws t d)
     by_cover false e = refl
 
+-- after a withdrawal all are trained as before, but the person for the role on no day from its day on
 pub trained-after : (ts : List Training) (ws : List Withdrawal) (who : List ℕ) (role : Role) (day : ℕ) (p : List ℕ) (r : Role) (d : ℕ)
     → trained_by ts (put_all same_withdrawn (withdrawn_rows ts ws who role day) ws) p r d
     ≡ (trained_by ts ws p r d && not (same_text p who && same_role r role && nat_le day d))

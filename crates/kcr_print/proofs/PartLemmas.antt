@@ -44,6 +44,7 @@ stops_weaker M (Refused refusal) (inl f) = inl f
 stops_weaker M (Refused refusal) (inr none) = absurd none
 stops_weaker M Write h = tt
 
+-- a part that nothing denies stops only for what may stop any
 pub cause_weaker : (M : Refusal → Type 0) (r : Result ⊤ PrintFault) → IfErr r (Stops (λ _. ⊥)) → IfErr r (Stops M)
 cause_weaker M (Ok v) h = h
 cause_weaker M (Err e) h = stops_weaker M e h
@@ -138,9 +139,11 @@ told_then x y z r p q =
 
 -- PARTS
 
+-- a register stands where it stands
 pub keeps_refl : {S : Type 0} {g : Ghosts S} (a : RegisterState S) → KeepsStand g a a
 keeps_refl {g = g} a = record { unbroken = refl; nothing = commits_nothing g a; stands = λ s at. at }
 
+-- two calls of which each keeps where a register stands keep it one after the other
 pub keeps_both : {S : Type 0} {g : Ghosts S} (a b c : RegisterState S) → KeepsStand g a b → KeepsStand g b c → KeepsStand g a c
 keeps_both {g = g} a b c p q = record {
   unbroken = q.unbroken ∙ p.unbroken;

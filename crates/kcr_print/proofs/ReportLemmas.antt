@@ -98,6 +98,7 @@ annotated_text A ceremony = by (is_ceremony A ceremony) refl
         inr (told true is
         ∙ ap (λ t. head_lines row ++ t ++ flat_map exception_line (exceptions_of ceremony (tables A)) ++ foot_lines row) (steps_text A ceremony))
 
+-- by the tables of a history the report on custody is that of the history
 pub custody_text : (A : History) → custody_by (tables A) ≡ custody A
 custody_text A =
     ap (λ t. flat_map safe_line (safes A) ++ t ++ flat_map loose_line (loose_items (tables A))) (bags_text A)

@@ -113,6 +113,7 @@ past_more : (count last : ℕ) (m : machine.Tables) (found : Option KeyRow) → 
 unfolding commands_past
 past_more count last m found is = ap (λ (o : Option KeyRow). option_map_or (λ row. row ∷ commands_past count (last + 1) m) o []) is
 
+-- of a register, the rows of the next commands past a number are those at the positions behind it
 pub past_is : (A : History) → IsRegister A → (d : KeyRow) (count last : ℕ) → commands_past count last (tables A) ≡ take count (drop last (rows A))
 past_is A h d zero last = past_none last (tables A)
 past_is A h d (suc count) last = elim (cases_lt last (length A)) [
@@ -138,6 +139,7 @@ all_drop P zero xs all = all
 all_drop P (suc count) [] all = tt
 all_drop P (suc count) (x ∷ xs) all = all_drop P count xs all.1
 
+-- what holds of all elements holds of the first ones
 pub all_take : {X : Type 0} (P : X → Type 0) (count : ℕ) (xs : List X) → AllByRecursion P xs → AllByRecursion P (take count xs)
 all_take P zero xs all = tt
 all_take P (suc count) [] all = tt
@@ -227,6 +229,7 @@ drop_both zero m xs = let e : 0 + m ≡ m = omega arith in ap (λ k. drop k xs) 
 drop_both (suc n) m [] = drop_none (suc n + m) ∙ sym (drop_none m)
 drop_both (suc n) m (x ∷ xs) = let e : suc n + m ≡ suc (n + m) = omega arith in ap (λ k. drop k (x ∷ xs)) e ∙ drop_both n m xs
 
+-- the requests up to a number, and then those from it on, are the requests of both
 pub joined : (A : History) (after middle until : ℕ) → after ≤ middle → middle ≤ until
     → requests_between after until A ≡ requests_between after middle A ++ requests_between middle until A
 unfolding commands_between

@@ -24,6 +24,7 @@ pub record Goes (old new : Option (List ℕ)) (whole rest : List ℕ) : Type 0 w
   pub written : Appends old new text
   pub is : whole ≡ text ++ rest
 
+-- at first nothing is written, and the whole is left
 pub goes_start : (a : Option (List ℕ)) (whole : List ℕ) → Goes a a whole whole
 goes_start a whole = record { text = []; written = appends_nothing a; is = refl }
 
@@ -54,6 +55,7 @@ pub record Gone {X : Type 0} (f : X → List ℕ) (old new : Option (List ℕ)) 
   pub written : Appends old new (flat_map f (take count whole))
   pub is : drop count whole ≡ rest
 
+-- at first no row is written, and all are left
 pub gone_start : {X : Type 0} (f : X → List ℕ) (a : Option (List ℕ)) (whole : List X) → Gone f a a whole whole
 gone_start f a whole = record { count = zero; written = appends_nothing a; is = refl }
 
@@ -64,6 +66,7 @@ take_next zero xs x rest e = (ap (take 1) e, ap (drop 1) e)
 take_next (suc n) [] x rest e = absurd (cc e)
 take_next (suc n) (y ∷ ys) x rest e = let next = take_next n ys x rest e in (ap (λ l. y ∷ l) next.0, next.1)
 
+-- one row more is written, and those behind it are left
 pub gone_more : {X : Type 0} (f : X → List ℕ) (a b c : Option (List ℕ)) (whole before after : List X) (row : X)
     → Gone f a b whole before → before ≡ row ∷ after → Appends b c (f row) → Gone f a c whole after
 gone_more f a b c whole before after row g e p =

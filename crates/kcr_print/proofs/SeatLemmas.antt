@@ -5,6 +5,7 @@ use Rattle.kcr_script.specs.Seat.{seat_text}
 use Rattle.kcr_script.specs.declared.seat.Seat.{Seat}
 use Rattle.kcr_history.specs.Prints.{ends_line, words, seat_lines}
 
+-- the line of a seat: its text, then the initials of the person in it
 abbrev pub seat_line : Seat → List ℕ → List ℕ
 seat_line seat who = ends_line (codes "  " ++ words (seat_text seat ∷ who ∷ []))
 

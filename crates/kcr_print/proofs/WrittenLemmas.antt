@@ -6,12 +6,14 @@ use Rattle.std.proofs.lemmas.List.{append-nil, take-append-le, take_min}
 use Rattle.std.proofs.Math.Seq.{take-append-add}
 use Rattle.kcr_print.specs.Written.{WritesPrefix, Writes}
 
+-- two texts that are written one after the other are written together
 pub appends_both : (a b c : Option (List ℕ)) (x y : List ℕ) → Appends a b x → Appends b c y → Appends a c (x ++ y)
 appends_both None b c x y p q = tt
 appends_both (Some a) (Some b) (Some c) x y p q = q ∙ ap (λ (t : List ℕ). t ++ y) p ∙ simp append_assoc
 appends_both (Some a) (Some b) None x y p q = absurd q
 appends_both (Some a) None c x y p q = absurd p
 
+-- the empty text is written by writing nothing
 pub appends_nothing : (a : Option (List ℕ)) → Appends a a []
 appends_nothing None = tt
 appends_nothing (Some a) = sym (append-nil a)
@@ -29,6 +31,7 @@ front_after a b c x y rest p q =
 pub front_both : (a b c : Option (List ℕ)) (x y : List ℕ) → Appends a b x → WritesPrefix b c y → WritesPrefix a c (x ++ y)
 front_both a b c x y p q = subst (λ t. WritesPrefix a c (x ++ t)) (append-nil y) (front_after a b c x y [] p q)
 
+-- a call that writes a text behind one that was written writes both, or after a fault a prefix of both
 pub writes_then : {T E : Type 0} (r : Result T E) (a b c : Option (List ℕ)) (x y : List ℕ)
     → Appends a b x → Writes r b c y → Writes r a c (x ++ y)
 writes_then (Ok v) a b c x y p q = appends_both a b c x y p q

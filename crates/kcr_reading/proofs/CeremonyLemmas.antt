@@ -116,15 +116,18 @@ module _ {X : Type 0} (row_of : X → Row) (ceremony_of number_of : X → ℕ)
 
 -- ---- exceptions
 
+-- the text that shows the first exception past a number
 abbrev pub exceptions_text : List ℕ
 exceptions_text =
     codes "SELECT ceremony, exception, text, at, passed FROM exceptions WHERE ceremony = ?1 AND exception > ?2 ORDER BY ceremony, exception LIMIT 1"
 
+-- it shows the first of the ceremony's exceptions past the last
 pub exceptions_shown : (ceremony : ℕ) (last : Option ℕ) → ShowsFirst exceptions_text exceptions_place (number_params ceremony last) (numbered ceremony last)
 unfolding understood everything
 exceptions_shown ceremony last =
     record { test = number_test; project = exceptions.project; order = key_order exceptions_place; names = exceptions.names; bare = (refl, refl); is = refl }
 
+-- the first exception past the last is the next of those to come
 pub next_exception : (ceremony : ℕ) (last : Option ℕ) (m : machine.Tables) {db : Trees} (k : TreesHoldTables m db) (found : Option ExceptionRow)
     → IsFirstRow exception_row (numbered ceremony last) k.t.rows.exceptions found
     → IsNextOf (exceptions_past last ceremony m) found (exceptions_past (moved nat_cmp nat_cmp_total (λ (x : ExceptionRow). x.exception) last found) ceremony m)
@@ -133,9 +136,11 @@ next_exception ceremony last m k =
 
 -- ---- steps
 
+-- the text that shows up to 16 steps past a number
 abbrev pub steps_text : List ℕ
 steps_text = codes "SELECT ceremony, step, activity, seats, state, at FROM steps WHERE ceremony = ?1 AND step > ?2 ORDER BY ceremony, step LIMIT 16"
 
+-- it shows the first 16 of the ceremony's steps past the last
 pub steps_shown : (ceremony : ℕ) (last : Option ℕ) → ShowsSome 16 steps_text steps_place (number_params ceremony last) (numbered ceremony last)
 unfolding understood everything
 steps_shown ceremony last =
@@ -164,6 +169,7 @@ module _ (ceremony : ℕ) (last : Option ℕ) (m : machine.Tables) {db : Trees} 
 
 -- ---- the people of steps
 
+-- the text that shows the seatings of the steps past one number and up to another
 abbrev pub seatings_text : List ℕ
 seatings_text =
     codes "SELECT ceremony, step, seat, who FROM seatings WHERE ceremony = ?1 AND step > ?2 AND step <= ?3 ORDER BY ceremony, step, seat"
@@ -171,12 +177,14 @@ seatings_text =
 abbrev seatings_test : List Term
 seatings_test = op2 (Compare Eq Binary) (col 1 1) (col 0 0) ∷ op2 (Compare Gt Binary) (col 1 2) (col 0 1) ∷ op2 (Compare Le Binary) (col 1 2) (col 0 2) ∷ []
 
+-- its parameters
 abbrev pub seatings_params : ℕ → Option ℕ → Option ℕ → Row
 seatings_params ceremony from until = Int (pos ceremony) ∷ Int (bound_of from) ∷ Int (bound_of until) ∷ []
 
 abbrev passes : ℕ → Option ℕ → Option ℕ → Row → Bool
 passes ceremony from until = (by_test 3 seatings_test (seatings_params ceremony from until)).passes
 
+-- it shows the ceremony's seatings of these steps
 pub seatings_shown : (ceremony : ℕ) (from until : Option ℕ)
     → SelectsRows seatings_text seatings_place (seatings_params ceremony from until) (passes ceremony from until)
 unfolding understood everything
@@ -212,6 +220,7 @@ of_step ceremony from until step inside rows =
             ap (λ b. (x.ceremony == ceremony && b) && true) (ap (is_past_until from until) (eqb-true x.step step e) ∙ inside) ∙ settled (x.ceremony == ceremony)
         by_step false e = grind arith
 
+-- the people of one of these steps, among the rows that are shown, are those of the machine's seatings
 pub seated : (ceremony : ℕ) (from until : Option ℕ) (old new : State) (rows : List SeatingRow) (m : machine.Tables) (t : StoredTables) → Holds old.now t → SameRows m t
     → Shown seatings_text (seatings_params ceremony from until) old new (map seating_row rows)
     → (step : ℕ) → is_past_until from until step ≡ true → people_at step rows ≡ seated_at m.seatings ceremony step

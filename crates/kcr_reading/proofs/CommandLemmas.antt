@@ -22,14 +22,17 @@ use Rattle.kcr_reading.specs.Remaining.{IsNextOf}
 
 -- the text
 
+-- the text that shows the row of keys with a number
 abbrev pub number_text : List ℕ
 number_text = codes "SELECT \"key\", accepted, command, reply FROM keys WHERE accepted = ?1"
 
+-- it shows the rows that have this number
 pub number_shown : (number : ℕ) → SelectsUnordered number_text keys_place (Int (pos number) ∷ []) (has_value 1 (Int (pos number)))
 unfolding understood everything
 number_shown number =
     record { test = is_given 0; project = laws.project; order = []; names = laws.names; bare = (refl, refl); is = refl }
 
+-- a row has this number as a value if and only if it is its accepted command's
 pub is_numbered : (number : ℕ) (x : KeyRow) → has_value 1 (Int (pos number)) (key_row x) ≡ (x.accepted == number)
 is_numbered number x = value_is (Int (pos x.accepted)) (Int (pos number)) refl refl ∙ sym (number_ties x.accepted number)
 
@@ -38,6 +41,7 @@ is_numbered number x = value_is (Int (pos x.accepted)) (Int (pos number)) refl r
 of_length : {X : Type 0} (xs ys : List X) → IsPermutation xs ys → (length xs ≡ length ys → ⊥) → only xs ≡ only ys
 of_length xs ys same other = absurd (other (sym (length_permutation xs ys same)))
 
+-- the only element of a list, or that there is none, is the same in any order
 pub only_same : {X : Type 0} (xs ys : List X) → IsPermutation xs ys → only xs ≡ only ys
 only_same [] [] same = refl
 only_same [] (y ∷ ys) same = of_length [] (y ∷ ys) same (λ e. omega arith)
@@ -54,6 +58,7 @@ only_popped ys [] (Some x) one split some = ap only (sym split)
 only_popped ys (z ∷ rest) (Some x) one split some = absurd (let long = ap length split in omega (arith, length-append rest (x ∷ [])))
 only_popped ys rest None one split some = absurd (false≢true some)
 
+-- a list that has none or several elements has no only one
 pub only_other : {X : Type 0} (ys : List X) → (length ys ≡ 1 → ⊥) → only ys ≡ None
 only_other [] other = refl
 only_other (y ∷ []) other = absurd (other refl)
@@ -61,6 +66,7 @@ only_other (y ∷ z ∷ ys) other = refl
 
 -- the next of those to come
 
+-- if the last is at the end or past it, none is to come
 pub none_within : (last until : ℕ) (m : machine.Tables) → until ≤ last → commands_within last until m ≡ []
 unfolding commands_past
 none_within last until m low = let none : until - last ≡ 0 = omega arith in ap (λ k. commands_past k last m) none

@@ -97,13 +97,16 @@ module _ {X : Type 0} (row_of : X → Row) (key : X → List ℕ) (row_is : (x :
 
 -- ---- bags
 
+-- the text that shows the first bag behind a serial
 abbrev pub bags_text : Option (List ℕ) → List ℕ
 bags_text None = codes "SELECT serial, spot FROM bags ORDER BY serial LIMIT 1"
 bags_text (Some last) = codes "SELECT serial, spot FROM bags WHERE serial > ?1 ORDER BY serial LIMIT 1"
 
+-- the bags behind the last serial, by serial
 abbrev pub bags_choice : Option (List ℕ) → Choice
 bags_choice last = by_test 1 (behind_test last) (behind_params last)
 
+-- the text shows the first of these bags
 pub bags_shown : (last : Option (List ℕ)) → ShowsFirst (bags_text last) bags_place (behind_params last) (bags_choice last)
 unfolding understood everything
 bags_shown None =
@@ -111,12 +114,14 @@ bags_shown None =
 bags_shown (Some last) =
     record { test = behind_test (Some last); project = bags.project; order = key_order bags_place; names = bags.names; bare = (refl, refl); is = refl }
 
+-- the first row that is shown is the first bag past the last serial
 pub first_bag : (last : Option (List ℕ)) (m : machine.Tables) {db : Trees} (k : TreesHoldTables m db) (found : Option Bag)
     → IsFirstRow bag_row (bags_choice last) k.t.rows.bags found → found ≡ slice_get (serials_past last m) 0
 first_bag last m k =
     first_behind bag_row (λ x. x.serial) (λ x. refl) k.stands.rows.bags k.kept.bags.rising (λ _. true) last
     (behind_test last) (behind_params last) (λ x. is_tested last x.serial _)
 
+-- the first bag past the last serial is the next, and behind it come the others
 pub next_bag : (last : Option (List ℕ)) (m : machine.Tables) {db : Trees} (k : TreesHoldTables m db) (found : Option Bag)
     → found ≡ slice_get (serials_past last m) 0
     → IsNextOf (serials_past last m) found (serials_past (moved (slice_cmp nat_cmp) nat_list_cmp_total (λ (x : Bag). x.serial) last found) m)
@@ -129,6 +134,7 @@ within serial m k = ap (filter (lies_in serial)) (sym (are item_row (λ (x : Ite
 
 -- ---- loose items
 
+-- the text that shows the first loose item behind a code
 abbrev pub loose_text : Option (List ℕ) → List ℕ
 loose_text None = codes "SELECT code, facility, serial FROM items WHERE serial IS NULL ORDER BY code LIMIT 1"
 loose_text (Some last) = codes "SELECT code, facility, serial FROM items WHERE serial IS NULL AND code > ?1 ORDER BY code LIMIT 1"
@@ -136,9 +142,11 @@ loose_text (Some last) = codes "SELECT code, facility, serial FROM items WHERE s
 abbrev loose_test : Option (List ℕ) → List Term
 loose_test last = op2 (Is Binary) (col 1 3) (lit Null) ∷ behind_test last
 
+-- the loose items behind the last code, by code
 abbrev pub loose_choice : Option (List ℕ) → Choice
 loose_choice last = by_test 1 (loose_test last) (behind_params last)
 
+-- the text shows the first of these items
 pub loose_shown : (last : Option (List ℕ)) → ShowsFirst (loose_text last) items_place (behind_params last) (loose_choice last)
 unfolding understood everything
 loose_shown None =
@@ -157,12 +165,14 @@ is_chosen last x = by_rest x.rest
         ap (λ o. is_true (from_truth (Some (is_eq o))) && tested) (tied_itself value_cmp_total Null) ∙ is_tested last x.code _
     by_rest (Within serial) = refl
 
+-- the first row that is shown is the first loose item past the last code
 pub first_loose : (last : Option (List ℕ)) (m : machine.Tables) {db : Trees} (k : TreesHoldTables m db) (found : Option Item)
     → IsFirstRow item_row (loose_choice last) k.t.rows.items found → found ≡ slice_get (loose_past last m) 0
 first_loose last m k =
     first_behind item_row (λ x. x.code) (λ x. refl) k.stands.rows.items k.kept.items.rising is_loose last (loose_test last)
     (behind_params last) (is_chosen last)
 
+-- the first loose item past the last code is the next, and behind it come the others
 pub next_loose : (last : Option (List ℕ)) (m : machine.Tables) {db : Trees} (k : TreesHoldTables m db) (found : Option Item)
     → found ≡ slice_get (loose_past last m) 0
     → IsNextOf (loose_past last m) found (loose_past (moved (slice_cmp nat_cmp) nat_list_cmp_total (λ (x : Item). x.code) last found) m)

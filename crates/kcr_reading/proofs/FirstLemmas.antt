@@ -25,11 +25,13 @@ use Rattle.kcr_tables.specs.Statements.{Choice}
 use Rattle.kcr_reading.specs.FirstRows.{ShowsSome}
 use Rattle.kcr_reading.specs.Remaining.{Begin}
 
+-- what holds of all elements holds of the first ones
 pub all_take : {X : Type 0} (P : X → Type 0) (count : ℕ) (xs : List X) → AllByRecursion P xs → AllByRecursion P (take count xs)
 all_take P zero xs all = tt
 all_take P (suc count) [] all = tt
 all_take P (suc count) (x ∷ xs) all = (all.0, all_take P count xs all.1)
 
+-- the first elements of a list that ascends ascend too
 pub ascending_take : {X : Type 0} (R : X → X → Type 0) (count : ℕ) (xs : List X) → IsAscending R xs → IsAscending R (take count xs)
 ascending_take R zero xs up = tt
 ascending_take R (suc count) [] up = tt

@@ -19,12 +19,14 @@ use Rattle.kcr_reading.specs.Remaining.{IsNextOf, IsNextBatchOf, Begin}
 less : (o : Ordering) → is_lt o ≡ true → o ≡ Less
 less o h = grind arith
 
+-- the reverse of an order is less if and only if the order is greater
 pub turned : (o : Ordering) → is_lt (ordering_reverse o) ≡ is_gt o
 turned o = elim o as (λ o. is_lt (ordering_reverse o) ≡ is_gt o) [ Less ↦ refl | Equal ↦ refl | Greater ↦ refl ]
 
 reversed : (o : Ordering) → is_eq (ordering_reverse o) ≡ is_eq o
 reversed o = elim o as (λ o. is_eq (ordering_reverse o) ≡ is_eq o) [ Less ↦ refl | Equal ↦ refl | Greater ↦ refl ]
 
+-- a number is below another if and only if their order is less
 pub lt_is : (a b : ℕ) → nat_lt a b ≡ is_lt (nat_cmp a b)
 lt_is a b = grind (arith, nat_tests)
 

@@ -57,9 +57,11 @@ use Rattle.kcr_reading.proofs.OrderLemmas.{later, moved, moved_to, apart_on, sor
 
 -- ---- the order
 
+-- stays in order: by beginning, then by initials
 abbrev pub listed : Stay → Stay → Ordering
 listed = then_cmp (λ a b. nat_cmp a.since b.since) (λ a b. slice_cmp nat_cmp a.who b.who)
 
+-- this order is total
 pub listed_total : IsTotalOrder listed
 listed_total = then_total (on_total (λ (x : Stay). x.since) nat_cmp_total) (on_total (λ (x : Stay). x.who) nat_list_cmp_total)
 
@@ -70,6 +72,7 @@ past_later : (last : Option Stay) (x : Stay) → is_stay_past last x ≡ later l
 past_later None x = refl
 past_later (Some l) x = before_is l x
 
+-- the first stay is before the second in this order
 abbrev pub Rises : Stay → Stay → Type 0
 Rises a b = listed a b ≡ Less
 
@@ -142,6 +145,7 @@ module _ (ceremony : ℕ) (m : machine.Tables) {db : Trees} (k : TreesHoldTables
 
 -- ---- the next that begin with the last
 
+-- the text that shows up to 16 stays with one beginning, behind initials
 abbrev pub together_text : List ℕ
 together_text = codes "SELECT who, since, ceremony, until FROM stays WHERE ceremony = ?1 AND since = ?2 AND who > ?3 ORDER BY who, since LIMIT 16"
 
@@ -151,9 +155,11 @@ together_test = op2 (Compare Eq Binary) (col 1 3) (col 0 0) ∷ op2 (Compare Eq 
 abbrev together_params : ℕ → Stay → Row
 together_params ceremony last = Int (pos ceremony) ∷ Int (pos last.since) ∷ Text last.who ∷ []
 
+-- the ceremony's stays that begin with the last and are behind its initials, by initials
 abbrev pub together : ℕ → Stay → Choice
 together ceremony last = by_test 2 together_test (together_params ceremony last)
 
+-- the text shows the first 16 of them
 pub shows_together : (ceremony : ℕ) (last : Stay) → ShowsSome 16 together_text stays_place (together_params ceremony last) (together ceremony last)
 unfolding understood everything
 shows_together ceremony last =
@@ -164,6 +170,7 @@ unfolding binary
 passes_together ceremony last x =
     with_tests _ _ _ _ (equal_number x.ceremony ceremony) (with_tests _ _ _ _ (equal_number x.since last.since) (one_test _ ∙ behind_text last.who x.who))
 
+-- the first of these rows are a prefix of the stays that begin with the last
 pub first_together : (ceremony : ℕ) (last : Stay) (count : ℕ) → 0 < count → (m : machine.Tables) {db : Trees} (k : TreesHoldTables m db) (rows : List Stay)
     → AreFirst count stay_row (together ceremony last) k.t.rows.stays rows → Begin (filter (begins_with last) (those ceremony m)) rows
 first_together ceremony last count low m k rows first =
@@ -183,6 +190,7 @@ first_together ceremony last count low m k rows first =
 
 -- ---- the first that begin later
 
+-- the text that shows up to 16 stays that begin after a moment
 abbrev pub later_text : List ℕ
 later_text = codes "SELECT who, since, ceremony, until FROM stays WHERE ceremony = ?1 AND since > ?2 ORDER BY since, who LIMIT 16"
 
@@ -195,10 +203,12 @@ rank row = column row 1 ∷ column row 0 ∷ []
 abbrev later_params : ℕ → Option Stay → Row
 later_params ceremony last = Int (pos ceremony) ∷ Int (bound_of (since_of last)) ∷ []
 
+-- the ceremony's stays that begin later than the last, by beginning, then initials
 abbrev pub begins_later : ℕ → Option Stay → Choice
 begins_later ceremony last =
     record (by_test 2 later_test (later_params ceremony last)) { rank = rank; compare = λ a b. key_cmp 0 (rising 2 []) (rank a) (rank b) }
 
+-- the text shows the first 16 of them
 pub shows_later : (ceremony : ℕ) (last : Option Stay) → ShowsSome 16 later_text stays_place (later_params ceremony last) (begins_later ceremony last)
 unfolding understood everything
 shows_later ceremony last = record {
@@ -217,6 +227,7 @@ passes_later ceremony last x = with_tests _ _ _ _ (equal_number x.ceremony cerem
 by_since : (ceremony : ℕ) (last : Option Stay) (a b : Stay) → (begins_later ceremony last).compare (stay_row a) (stay_row b) ≡ listed a b
 by_since ceremony last a b = ap₂ (λ o p. ordering_then o p) (number_cmp a.since b.since) (then-Equal _ ∙ value_cmp-Text a.who b.who)
 
+-- the first of these rows are a prefix of the stays that begin later
 pub first_later : (ceremony : ℕ) (last : Option Stay) (count : ℕ) → 0 < count → (m : machine.Tables) {db : Trees} (k : TreesHoldTables m db) (rows : List Stay)
     → AreFirst count stay_row (begins_later ceremony last) k.t.rows.stays rows → Begin (filter (begins_after last) (those ceremony m)) rows
 first_later ceremony last count low m k rows first =
@@ -271,6 +282,7 @@ first_with ceremony last m k rows full begin = record {
   some = λ none. absurd (full none);
 }
 
+-- if no stay begins with the last, a prefix of those that begin later is one of those past it
 pub first_after : (ceremony : ℕ) (last : Stay) (m : machine.Tables) {db : Trees} (k : TreesHoldTables m db) (none : List Stay)
     → none ≡ [] → Begin (filter (begins_with last) (those ceremony m)) none
     → (rows : List Stay) → Begin (filter (begins_after (Some last)) (those ceremony m)) rows → Begin (listed_past (Some last) ceremony m) rows
@@ -278,6 +290,7 @@ first_after ceremony last m k none empty together rows begin =
     subst (λ l. Begin l rows) (sym (split last (those ceremony m) (rise_here ceremony m k)
     ∙ ap (λ l. l ++ filter (begins_after (Some last)) (those ceremony m)) (together.some empty))) begin
 
+-- a prefix of the stays past the last is the next batch, and behind it come the others
 pub next_listed : (ceremony : ℕ) (last : Option Stay) (m : machine.Tables) {db : Trees} (k : TreesHoldTables m db) (rows : List Stay) (found : Option Stay)
     → found ≡ slice_get rows (length rows - 1) → Begin (listed_past last ceremony m) rows
     → IsNextBatchOf (listed_past last ceremony m) rows (listed_past (moved listed listed_total (λ (s : Stay). s) last found) ceremony m)

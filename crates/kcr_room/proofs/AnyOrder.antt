@@ -64,6 +64,7 @@ stays-plain : (xs ys : List SheetRow) → IsPermutation xs ys → (rows : List S
 stays-plain xs ys p [] = refl
 stays-plain xs ys p (row ∷ rows) = grind (arith, nat_tests, next-order xs ys p row, stays-plain xs ys p rows)
 
+-- rows of which no two of one person share a moment are so in any order
 pub share-order : (xs ys : List SheetRow) → IsPermutation xs ys → ShareNoMoment xs → ShareNoMoment ys
 share-order xs ys p h =
     λ who t. let e = sum_by-IsPermutation (λ row. cond (same_text row.who who && row.at == t) 1 0) xs ys p in let n = h who t in omega (arith, e, n)
@@ -77,6 +78,7 @@ stays-order xs ys p h =
     (subst (IsPermutation (stays_of (map (plain xs) xs))) same
     (IsPermutation-map _ _ _ (filter-order (λ followed. is_enter followed.row.way) (map (plain xs) xs) (map (plain xs) ys) moved)))
 
+-- of such rows, those present are the same in any order
 pub rows-present : (xs ys : List SheetRow) → IsPermutation xs ys → ShareNoMoment xs → (c t : ℕ) → present_by ys c t ≡ present_by xs c t
 rows-present xs ys p h c t = sym (same-present ys c t) ∙ present-order (stays_by xs) (stays_by ys) (stays-order xs ys p h) c t ∙ same-present xs c t
 

@@ -51,6 +51,7 @@ lasts-found test t (m ∷ ts) rising =
     let rest = lasts-found test t ts (λ i j d k l. rising (suc i) (suc j) d (omega (arith, k)) (omega (arith, l))) in
     grind (arith, nat_tests, rest, none-sooner test t m ts behind)
 
+-- the sooner of the first moments that pass in two lists in order is the least of all that pass
 pub found-least : (test : ℕ → Bool) (ms ns : List ℕ) → IsNonDecreasing ms → IsNonDecreasing ns
     → min_moment (find test ms) (find test ns) ≡ least (filter test (ms ++ ns))
 found-least test ms ns f g = end-unique _ _ (λ t.
@@ -65,6 +66,7 @@ told-crowded traffic stays c told =
     any-same (is_crowd_of traffic) (is_crowd_in_by stays c) traffic.arrivals.items (λ t. ap (nat_lt 128) (told-crowd traffic stays c told t))
     ∙ sym (list_any-IsPermutation (is_crowd_in_by stays c) (comings_by stays c) traffic.arrivals.items told.0)
 
+-- the least moment of a room's traffic with one person is the first such moment by the stays
 pub told-lone : (traffic : Occupancy) (stays : List Stay) (c : ℕ) → HasMomentsOf traffic stays c
     → least (filter (is_lone_of traffic) (traffic.arrivals.items ++ traffic.departures.items)) ≡ first_lone_in_by stays c
 told-lone traffic stays c told = end-unique _ _ (λ t.

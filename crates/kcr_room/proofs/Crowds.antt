@@ -26,6 +26,7 @@ crowd-new : (c at t : ℕ) (people : List (List ℕ)) → headcount_in_by (map (
 crowd-new c at t [] = grind (arith, nat_tests)
 crowd-new c at t (who ∷ rest) = grind (arith, nat_tests, crowd-cons (new_stay c at who) (map (new_stay c at) rest) c t, crowd-new c at t rest)
 
+-- those who come raise the headcount by their number from the moment on, and not before
 pub crowd-enter : (stays : List Stay) (c at t : ℕ) (people : List (List ℕ))
     → headcount_in_by (added c Enter at people stays) c t ≡ headcount_in_by stays c t + cond (nat_le at t) (length people) 0
 crowd-enter stays c at t people =
@@ -79,6 +80,7 @@ entries-new c at [] = refl
 entries-new c at (who ∷ rest) =
     let k = count-cons (of_ceremony c) (new_stay c at who) (map (new_stay c at) rest) (c == c) refl in grind (arith, nat_tests, k, entries-new c at rest)
 
+-- a request exceeds the limit of entries if and only if the stays with its rows do
 pub overfull-added : (stays : List Stay) (c : ℕ) (way : Way) (at : ℕ) (people : List (List ℕ))
     → is_overfull (stay_count stays c) way people ≡ is_overfull_by (added c way at people stays) c way
 overfull-added stays c Enter at people = ap (nat_lt 1000)

@@ -12,6 +12,7 @@ use Rattle.kcr_room.specs.Stays.{ends_after, stay_from, next_of, stays_of, stays
 use Rattle.kcr_room.proofs.Words.{nat_tests, same_text, SheetRow, Stay}
 use Rattle.kcr_room.proofs.Firsts.{end-unique, lasts-sooner, lasts-least}
 
+-- without the rows that follow them, the rows are as they were
 pub followed-same : (before rows : List SheetRow) → map (λ followed. followed.row) (followed_rows_behind before rows) ≡ rows
 followed-same before [] = refl
 followed-same before (row ∷ rows) = ap (λ more. row ∷ more) (followed-same (before ++ (row ∷ [])) rows)
@@ -83,6 +84,7 @@ stays-append : (front : List Followed) (row : SheetRow) (by : List SheetRow)
 stays-append [] row by = grind (arith, nat_tests)
 stays-append (followed ∷ front) row by = grind (arith, nat_tests, stays-append front row by)
 
+-- the stays of rows with one more behind are the stays before, with this row
 pub stays-snoc : (rows : List SheetRow) (row : SheetRow) → stays_by (rows ++ (row ∷ [])) ≡ stays_next rows (stays_by rows) row
 stays-snoc rows row =
     ap stays_of (followed-more [] rows row)

@@ -17,6 +17,7 @@ use Rattle.kcr_room.proofs.Words.{nat_tests, same_text, SheetRow, Way}
 use Rattle.kcr_room.proofs.Lists.{any-filter, any-same}
 use Rattle.kcr_room.proofs.Agreement.{same-turned, listed, of_person, force-last}
 
+-- three tests joined by `and` answer the same whichever two are joined first
 pub and-assoc : (a b c : Bool) → ((a && b) && c) ≡ (a && (b && c))
 and-assoc a b c = grind (arith, nat_tests)
 
@@ -36,6 +37,7 @@ pub last-other : (rows : List SheetRow) (row : SheetRow) (who : List ℕ) → sa
     → last_row_of (rows ++ (row ∷ [])) who ≡ last_row_of rows who
 last-other rows row who h = ap last_row (filter-append (of_person who) rows (row ∷ [])) ∙ rw (h, append-nil (filter (of_person who) rows))
 
+-- rows of two lists are in turn if and only if the first list's are, and then the second's behind them
 pub in_turn-append : (before rows more : List SheetRow) → in_turn_onto before (rows ++ more) ≡ (in_turn_onto before rows && in_turn_onto (before ++ rows) more)
 in_turn-append before [] more = rw (append-nil before) refl
 in_turn-append before (row ∷ rows) more =
@@ -63,6 +65,7 @@ turns-more rows c way at (who ∷ rest) a h =
     let more = turn-others rows c way at who rest (not-true (list_any (same_text who) rest) d.0) n.1 in
     rw n.0 (turns-more (rows ++ (new_row c way at who ∷ [])) c way at rest d.1 more)
 
+-- after a request that is not refused, each row came in its turn if each had before
 pub turns_keep : TurnsKeep
 turns_keep rows c mark full way people at apart h s =
     in_turn-append [] rows (map (new_row c way at) people)
@@ -74,6 +77,7 @@ pub any-put : (p : List ℕ → Bool) (who : List ℕ) (people : List (List ℕ)
 any-put p who [] = refl
 any-put p who (other ∷ rest) = grind (arith, nat_tests, any-put p who rest)
 
+-- some of the people pass a test if and only if some of them in byte order do
 pub any-ascending : (p : List ℕ → Bool) (people : List (List ℕ)) → list_any p (ascending people) ≡ list_any p people
 any-ascending p [] = refl
 any-ascending p (who ∷ rest) = any-put p who (ascending rest) ∙ ap (λ b. p who || b) (any-ascending p rest)
@@ -86,6 +90,7 @@ any-listed : (c : ℕ) (last : Option SheetRow) → list_any (enters c) (listed 
 any-listed c None = refl
 any-listed c (Some row) = or-false (enters c row)
 
+-- somebody is among those present if and only if their last row says so
 pub present_are_in : PresentAreIn
 present_are_in rows who c t =
     any-ascending (same_text who) (map (λ row. row.who) (filter (enters c) (in_force t rows)))

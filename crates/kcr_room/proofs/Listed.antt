@@ -24,6 +24,7 @@ order-moves (stay ∷ rest) =
     IsPermutation-trans (stay ∷ rest) (stay ∷ in_order rest) (put_stay stay (in_order rest))
     (IsPermutation-cons stay rest (in_order rest) (order-moves rest)) (put-moves stay (in_order rest))
 
+-- the attendance of a ceremony has its stays, in some order
 pub attendance-moves : (stays : List Stay) (c : ℕ) → IsPermutation (filter (λ stay. stay.ceremony == c) stays) (attendance_in_by stays c)
 attendance-moves stays c = order-moves (filter (λ stay. stay.ceremony == c) stays)
 
@@ -53,6 +54,7 @@ order-listed : (stays : List Stay) → are_listed (in_order stays) ≡ true
 order-listed [] = refl
 order-listed (stay ∷ rest) = listed-put stay (in_order rest) (order-listed rest)
 
+-- in the attendance no stay stands behind one that it is listed before
 pub attendance-listed : (stays : List Stay) (c : ℕ) → are_listed (attendance_in_by stays c) ≡ true
 attendance-listed stays c = order-listed (filter (λ stay. stay.ceremony == c) stays)
 
@@ -62,6 +64,7 @@ in_order_onto c [] listed = listed
 in_order_onto c (stay ∷ rest) listed =
     cond (stay.ceremony == c) (put_stay stay (in_order_onto c rest listed)) (in_order_onto c rest listed)
 
+-- the ceremony's stays put among no others are its attendance
 pub onto-none : (c : ℕ) (stays : List Stay) → in_order_onto c stays [] ≡ attendance_in_by stays c
 onto-none c [] = refl
 onto-none c (stay ∷ rest) = grind (arith, nat_tests, onto-none c rest)

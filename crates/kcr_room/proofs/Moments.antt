@@ -37,6 +37,7 @@ count-rises t (n ∷ moments) = grind (arith, nat_tests, count-first n moments t
 
 -- HOW MANY ARE THERE
 
+-- one stay more raises the headcount by one if it covers the moment, else not
 pub crowd-cons : (stay : Stay) (stays : List Stay) (c t : ℕ) → headcount_in_by (stay ∷ stays) c t ≡ cond (stay_covers c t stay) 1 0 + headcount_in_by stays c t
 crowd-cons stay stays c t = sum_by-cons (λ s. cond (stay_covers c t s) 1 0) stay stays
 
@@ -87,15 +88,19 @@ lone-rises stays c t h p = by_moment t (or_parts _ _ (sym (list_any-append (λ n
         eq-eqb (headcount_in_by stays c t) 1
         (omega (arith, k, balance stays c t, balance stays c (suc t), count-kept t came h.0, count-kept t went h.1))
 
+-- the first lone moment by the stays is the first at which exactly one of them covers it
 pub first_lone-is_first : (stays : List Stay) (c : ℕ) → IsFirstMoment (is_lone_in_by stays c) (first_lone_in_by stays c)
 first_lone-is_first stays c = is_first (is_lone_in_by stays c) (comings_by stays c ++ goings_by stays c) (lone-rises stays c)
 
+-- the first lone moment by the stays of a sheet is the first by its rows
 pub first_lone-by_rows : (rows : List SheetRow) (c : ℕ) (o : Option ℕ) → IsFirstMoment (is_lone_in_by (stays_by rows) c) o → IsFirstMoment (λ t. headcount_by rows c t == 1) o
 first_lone-by_rows rows c o h = is_first-same (is_lone_in_by (stays_by rows) c) (λ t. headcount_by rows c t == 1) (λ t. ap (λ n. n == 1) (same-crowd rows c t)) o h
 
+-- the stays are found crowded if and only if at some moment too many people are there
 pub crowded-is_ever : (stays : List Stay) (c : ℕ) → IsEver (is_crowd_in_by stays c) (is_crowded_in_by stays c)
 crowded-is_ever stays c = is_ever (is_crowd_in_by stays c) (comings_by stays c) (crowd-rises stays c)
 
+-- a room is ever crowded by the stays of a sheet if and only if it is by its rows
 pub crowded-by_rows : (rows : List SheetRow) (c : ℕ) (b : Bool) → IsEver (is_crowd_in_by (stays_by rows) c) b → IsEver (λ t. nat_lt 128 (headcount_by rows c t)) b
 crowded-by_rows rows c true h = (h.0, subst (λ n. nat_lt 128 n ≡ true) (same-crowd rows c h.0) h.1)
 crowded-by_rows rows c false h = λ t. subst (λ n. nat_lt 128 n ≡ false) (same-crowd rows c t) (h t)

@@ -17,11 +17,13 @@ use Rattle.kcr_room.proofs.Agreement.{same-is}
 use Rattle.kcr_room.proofs.Refusals.{refused-same, find-same}
 use Rattle.kcr_room.proofs.Rising.{ranked, other-before}
 
+-- the headcount is the same for the stays in any order
 pub crowd-order : (xs ys : List Stay) → IsPermutation xs ys → (c t : ℕ) → headcount_in_by ys c t ≡ headcount_in_by xs c t
 crowd-order xs ys p c t = sum_by-IsPermutation (λ s. cond (stay_covers c t s) 1 0) xs ys p
 
 -- WHO
 
+-- a code that is before another is not behind it
 pub before-turned : (a b : List ℕ) → is_before a b ≡ true → is_before b a ≡ false
 before-turned a b h = ranked.one_way a b h
 
@@ -62,6 +64,7 @@ present-more stays i c t d h =
     ∙ ap ascending (map-append (λ stay. stay.who) (filter (stay_covers c t) (take i stays)) (filter (stay_covers c t) (stay ∷ [])))
     ∙ grind (arith, nat_tests, put-last own stay.who, append-nil own)
 
+-- those present are the same for the stays in any order
 pub present-order : (xs ys : List Stay) → IsPermutation xs ys → (c t : ℕ) → present_in_by ys c t ≡ present_in_by xs c t
 present-order xs ys p c t =
     let moved = IsPermutation-map (λ stay. stay.who) (filter (stay_covers c t) xs) (filter (stay_covers c t) ys) (filter-order (stay_covers c t) xs ys p) in
@@ -69,6 +72,7 @@ present-order xs ys p c t =
 
 -- WHAT A REQUEST IS REFUSED FOR
 
+-- the stays after a request are the same up to their order, for the stays before it in any order
 pub after-order : (xs ys : List Stay) → IsPermutation xs ys → (c : ℕ) (way : Way) (people : List (List ℕ)) (at : ℕ)
     → IsPermutation (stays_after_request xs c way people at) (stays_after_request ys c way people at)
 after-order xs ys p c Enter people at = IsPermutation-append_left (map (new_stay c at) people) _ _ (filter-order (of_ceremony c) xs ys p)
@@ -80,11 +84,13 @@ pub later-order : (xs ys : List Stay) → IsPermutation xs ys → (c : ℕ) (way
 later-order xs ys p c way people at t =
     crowd-order _ _ (IsPermutation-map (clipped_to_moment at) _ _ (after-order xs ys p c way people at)) c t
 
+-- whether it is a person's turn is the same for the stays in any order
 pub turn-order : (xs ys : List Stay) → IsPermutation xs ys → (c : ℕ) (way : Way) (at : ℕ) (who : List ℕ)
     → is_out_of_turn_in ys c way at who ≡ is_out_of_turn_in xs c way at who
 turn-order xs ys p c Enter at who = rw (list_any-IsPermutation (reaches who at) xs ys p, list_any-IsPermutation (is_inside who) xs ys p)
 turn-order xs ys p c Leave at who = rw (list_any-IsPermutation (reaches who at) xs ys p, list_any-IsPermutation (is_inside_of c who) xs ys p)
 
+-- a request is refused alike for the stays in any order
 pub refusal-order : (xs ys : List Stay) → IsPermutation xs ys → (entered c mark : ℕ) (full : Bool) (way : Way) (people : List (List ℕ)) (at : ℕ)
     → stays_refusal ys entered c mark full way people at ≡ stays_refusal xs entered c mark full way people at
 refusal-order xs ys p entered c mark full way people at = rw (

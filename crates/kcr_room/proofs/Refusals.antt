@@ -67,10 +67,12 @@ module _ (stays : List Stay) (c : ℕ) (way : Way) (at : ℕ) (people : List (Li
       (test-later (λ n. n == 1) refl (subst (IsFirstMoment (is_lone_in_by stays c)) settled.lone (first_lone-is_first stays c)))
       (test-later (nat_lt 128) refl (subst (IsEver (is_crowd_in_by stays c)) settled.crowded (crowded-is_ever stays c)))
 
+-- of two tests that answer alike, each finds the same person
 pub find-same : (p q : List ℕ → Bool) → ((who : List ℕ) → p who ≡ q who) → (people : List (List ℕ)) → find p people ≡ find q people
 find-same p q same [] = refl
 find-same p q same (who ∷ rest) = rw (same who, find-same p q same rest)
 
+-- of a sheet made in turn, a request that is not refused gives the ceremony the same stays by stays and by rows
 pub same_stays : SameStays
 same_stays rows s c mark full way people at a h = sym (same-added rows s c way at people a (taken rows c mark full way people at h).0)
 
@@ -80,6 +82,7 @@ third-alike (Some r) b c d h = refl
 third-alike None (Some r) c d h = refl
 third-alike None None c d h = rw (h refl)
 
+-- of a sheet made in turn, whose room was never lone or crowded, rows and stays refuse a request alike
 pub same_refusal : SameRefusal
 same_refusal rows s c mark full way people at a settled =
     let stays = stays_by rows in

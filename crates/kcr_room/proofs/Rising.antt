@@ -32,6 +32,7 @@ other-before a b f s = by_order (slice_cmp nat_cmp a b) refl f
 pub ranked : IsStrictWeakOrder is_before
 ranked = ranks_by nat_list_cmp_total (λ code. code)
 
+-- a code before a second is before each that the second is before
 pub before-trans : (a b c : List ℕ) → is_before a b ≡ true → is_before b c ≡ true → is_before a c ≡ true
 before-trans a b c f g = grind (arith, nat_tests, f, g, ranked.one_way a b, ranked.chain b a c)
 
@@ -77,6 +78,7 @@ one-listed : (last : Option SheetRow) → length (listed last) ≤ 1
 one-listed None = omega arith
 one-listed (Some row) = omega arith
 
+-- those present are listed in byte order, each once
 pub present_are_rising : PresentAreRising
 present_are_rising rows c t =
     rising-ascending (map (λ row. row.who) (filter (enters c) (in_force t rows)))

@@ -60,6 +60,7 @@ abbrev pub last_reaches : ℕ → Option SheetRow → Bool
 last_reaches at None = false
 last_reaches at (Some row) = nat_le at row.at
 
+-- by the last row: in some room
 abbrev pub last_inside : Option SheetRow → Bool
 last_inside None = false
 last_inside (Some row) = is_enter row.way
@@ -70,6 +71,7 @@ pub record Tells (who : List ℕ) (last : Option SheetRow) (stays : List Stay) :
   pub inside : list_any (is_inside who) stays ≡ last_inside last
   pub inside_of : (c : ℕ) → list_any (is_inside_of c who) stays ≡ last_enters c last
 
+-- the stays tell of everybody what the last row tells
 abbrev pub AllTell : List SheetRow → List Stay → Type 0
 AllTell rows stays = (who : List ℕ) → Tells who (last_row_of rows who) stays
 

@@ -27,9 +27,11 @@ use Rattle.kcr_room.proofs.Ends.{follows, IsEnd, ends-next}
 abbrev pub before : SheetEvent → SheetEvent → Bool
 before step other = nat_lt step.at other.at || (step.at == other.at && nat_lt step.place other.place)
 
+-- the order of steps: by moment, then by place, then by initials
 abbrev pub step_cmp : SheetEvent → SheetEvent → Ordering
 step_cmp a b = ordering_then (nat_cmp a.at b.at) (ordering_then (nat_cmp a.place b.place) (slice_cmp nat_cmp a.who b.who))
 
+-- the steps stand in this order
 abbrev pub AreSorted : List SheetEvent → Type 0
 AreSorted steps = IsSortedBy (λ a b. is_lt (step_cmp a b)) steps
 
@@ -112,6 +114,7 @@ pub record Told (rows : List SheetRow) (all front : List SheetEvent) (next : Lis
   pub ended : AllByRecursion (λ step. IsEnd (sheet_events_by rows) step (get_or ends step.place None)) (drop (length front) all)
   pub many : length ends ≡ length rows
 
+-- it holds at first, with all steps left, no next step known, and as many ends as rows
 pub told-init : (rows : List SheetRow) (all : List SheetEvent) (next : List ℕ → Option ℕ) (ends : List (Option ℕ)) → ((who : List ℕ) → next who ≡ None)
     → length ends ≡ length rows → Told rows all all next ends
 told-init rows all next ends none many =

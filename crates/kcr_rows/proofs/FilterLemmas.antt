@@ -9,6 +9,7 @@ use Rattle.sqlite.specs.Collation.TheVariants.{Binary}
 use Rattle.kcr_rows.proofs.KeyLemmas.{equal_is}
 use Rattle.kcr_rows.proofs.SameLemmas.{ties, ties_is}
 
+-- two tests that answer alike keep the same elements
 pub filter_as : {X : Type 0} (p q : X → Bool) → ((x : X) → p x ≡ q x) → (xs : List X) → filter p xs ≡ filter q xs
 filter_as p q same xs = λ i. filter (λ x. same x i) xs
 

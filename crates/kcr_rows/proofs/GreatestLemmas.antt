@@ -37,6 +37,7 @@ abbrev pub greatest : TableLayout → List Term → List Term → ℕ → Query
 greatest place test project at =
     asking place.tree test project ((col 1 (slice_index_or place.at at 0), record { collation = Binary; descending = true }) ∷ []) (pos 1)
 
+-- a row with the number by which the answer is sorted
 abbrev pub with_number : ℕ → Row → Output
 with_number at row = (column row at ∷ [], row)
 

@@ -17,10 +17,12 @@ use Rattle.sqlite_rules.specs.Lists.{Has}
 use Rattle.sqlite_rules.specs.Edit.{id_in, is_taken}
 use Rattle.kcr_rows.specs.Keyed.{TableLayout, cells, by_key, is_full}
 
+-- the places of so many columns, from this one on
 abbrev pub places_from : ℕ → ℕ → List ℕ
 places_from at zero = []
 places_from at (suc count) = at ∷ places_from (suc at) count
 
+-- none of so many columns of a row, from this one on, is NULL
 abbrev pub full : ℕ → ℕ → Row → Bool
 full at zero row = true
 full at (suc count) row = not (is_null (column row at)) && full (suc at) count row
@@ -33,6 +35,7 @@ pub equal_is : (a b : Value) → is_null a ≡ false → is_null b ≡ false →
 unfolding binary
 equal_is a b there here = rw (there, here) (truth_is (is_eq (value_cmp a b)))
 
+-- two rows whose keys have no NULL agree on them if and only if the order of the keys finds them equal
 pub agree_is : (count at : ℕ) (a b : Row) → full at count a ≡ true → full at count b ≡ true
     → agree plain (places_from at count) a (places_from at count) b ≡ is_eq (key_cmp at (rising count []) a b)
 agree_is zero at a b f g = refl
@@ -54,6 +57,7 @@ differ_is a b there here = rw (there, here) (truth_is (is_ne (value_cmp a b)) �
     other : (o : Ordering) → is_ne o ≡ not (is_eq o)
     other o = grind arith
 
+-- if no element passes, an element of the list fails
 pub not_any : {X : Type 0} (p : X → Bool) (xs : List X) (x : X) → list_any p xs ≡ false → Has xs x → p x ≡ false
 not_any p [] x none h = absurd h
 not_any p (y ∷ xs) x none (inl same) = ap p same ∙ (or_parts _ _ none).0
@@ -79,6 +83,7 @@ abbrev pub same_from : ℕ → ℕ → Row → Row → Bool
 same_from at zero row values = true
 same_from at (suc count) row values = equal Binary (column row at) (column values at) && same_from (suc at) count row values
 
+-- two rows have the same values in so many columns if and only if they agree on these
 pub same_is : (count at : ℕ) (a b : Row) → same_from at count a b ≡ agree plain (places_from at count) a (places_from at count) b
 same_is zero at a b = refl
 same_is (suc count) at a b = rw first_key-plain (ap (λ more. equal Binary (column a at) (column b at) && more) (same_is count (suc at) a b))

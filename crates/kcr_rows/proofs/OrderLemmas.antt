@@ -17,6 +17,7 @@ use Rattle.kcr_rows.proofs.PutLemmas.{put_rising}
 use Rattle.kcr_rows.proofs.SameLemmas.{key_total}
 use Rattle.kcr_rows.proofs.TableLemmas.{put_in_rows}
 
+-- values whose images ascend do so themselves, by their images
 pub from_map : {X : Type 0} (R : Row → Row → Type 0) (f : X → Row) (xs : List X) → IsAscending R (map f xs) → IsAscending (λ a b. R (f a) (f b)) xs
 from_map R f [] up = tt
 from_map R f (x ∷ xs) up = (all_from_map (R (f x)) f xs up.0, from_map R f xs up.1)
@@ -64,6 +65,7 @@ module _ {X : Type 0} (keys : ℕ) (row_of : X → Row) (new : X) where
           let none = none_behind x (λ l. let f : Greater ≡ Less = sym e ∙ l in cc) xs r.0 in
           rw (list_any_none (same new) xs none) (IsPermutation-refl (new ∷ x ∷ xs))
 
+-- a row put into a list in another order gives the same rows, up to their order
 pub put-order : {X : Type 0} (same : X → X → Bool) (row : X) (xs ys : List X) → IsPermutation xs ys → IsPermutation (put same row xs) (put same row ys)
 put-order same row xs ys p =
     rw (← list_any-IsPermutation (same row) xs ys p) (by_test (list_any (same row) xs))

@@ -50,6 +50,7 @@ at_most [] x y few h k = absurd h
 at_most (z ∷ []) x y few h k = grind arith
 at_most (z ∷ w ∷ more) x y few h k = absurd (omega (arith, few))
 
+-- an ordering that the test of equality accepts is `Equal`
 pub tie_is : (o : Ordering) → is_eq o ≡ true → o ≡ Equal
 tie_is o h = grind arith
 

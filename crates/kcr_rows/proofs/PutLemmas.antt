@@ -73,6 +73,7 @@ module _ (keys : ℕ) (new : Row) where
           let first = above total _ _ e in
           ((first, all_weaker _ (λ y. by_key keys new y ≡ Less) (λ y. total.trans _ _ _ first) rows up.0), up)
 
+-- a row whose rowid no other has is added to the rows, up to their order
 pub put_row_same : (new : Row) (rows : List Row) → is_taken rows new ≡ false → IsPermutation (new ∷ rows) (put_row new rows)
 put_row_same new [] free = IsPermutation-refl _
 put_row_same new (r ∷ rows) free = go (value_cmp (rowid r) (rowid new)) (or_parts _ _ free).0 (put_row_same new rows (or_parts _ _ free).1)

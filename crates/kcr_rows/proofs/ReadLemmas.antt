@@ -39,6 +39,7 @@ reading tree test project order = asking tree test project order (negsuc 0)
 abbrev pub with_key : ℕ → Row → Output
 with_key keys row = (take keys row, row)
 
+-- the images of those that pass, one by one, are the images of the filtered list
 pub matched : {X Y : Type 0} (p : X → Bool) (f : X → Y) (xs : List X) → flat_map (λ x. cond (p x) (f x ∷ []) []) xs ≡ map f (filter p xs)
 matched p f [] = refl
 matched p f (x ∷ xs) = elim (p x) as
@@ -47,6 +48,7 @@ matched p f (x ∷ xs) = elim (p x) as
       | false ↦ matched p f xs
     ]
 
+-- functions that agree have the same images
 pub map_same : {X Y : Type 0} (f g : X → Y) → ((x : X) → f x ≡ g x) → (xs : List X) → map f xs ≡ map g xs
 map_same f g same [] = refl
 map_same f g same (x ∷ xs) = λ i. same x i ∷ map_same f g same xs i

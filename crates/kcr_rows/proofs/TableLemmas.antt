@@ -152,6 +152,7 @@ keeps_on place old new rows same k = record {
   shaped = subst (IsShaped shape.Table) (sym same) k.shaped;
 }
 
+-- a table keeps its rows if the tree that was changed is another, and its own is no index
 pub keeps_still : (schema : Schema) (tree : ℕ) (place : TableLayout) (old new : Trees) (rows : List Row) → ((t : ℕ) → t ≢ tree → IsNoIndex schema t → new t ≡ old t)
     → (place.tree == tree) ≡ false → list_all (λ i. not (i.tree == place.tree)) schema.indexes ≡ true → TreeHolds place old rows → TreeHolds place new rows
 keeps_still schema tree place old new rows others apart bare =
@@ -176,6 +177,7 @@ module _ {X : Type 0} (row_of : X → Row) (IsRead IsStored : X → Type 0) (one
   same_values (x ∷ xs) (y ∷ ys) r p h =
       let head : row_of x ≡ row_of y = cc in let tail : map row_of xs ≡ map row_of ys = cc in λ i. one x y r.0 p.0 head i ∷ same_values xs ys r.1 p.1 tail i
 
+-- what holds of all elements holds of those that a test keeps
 pub all_filter : {X : Type 0} (P : X → Type 0) (p : X → Bool) (xs : List X) → AllByRecursion P xs → AllByRecursion P (filter p xs)
 all_filter P p [] all = tt
 all_filter P p (x ∷ xs) all = elim (p x) as
@@ -214,5 +216,6 @@ module _ (place : TableLayout) (schema : Schema) (sql : List ℕ) (params : Row)
       let read = reads_as sql params old new schema has _ is.0 bare is.1 (map row_of xs) h in
       reads_exact place test project order params passes shows tests sorts low old.now.trees (map row_of xs) (read.answer Null)
 
+-- a test that all pass keeps all
 pub filter_every : {X : Type 0} (xs : List X) → filter (λ _. true) xs ≡ xs
 filter_every xs = filter_all (λ _. true) xs (all_from _ xs (λ x h. refl))

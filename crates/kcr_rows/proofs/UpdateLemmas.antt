@@ -47,6 +47,7 @@ abbrev pub Updated : TableLayout → Schema → Row → Trees → Trees → ℕ 
 Updated place schema values old new zero = Stays place schema old new
 Updated place schema values old new (suc more) = Changes place schema values old new
 
+-- an update that changed some row has put one row
 pub row_changed : (place : TableLayout) (schema : Schema) (values : Row) (old new : Trees) (count : ℕ) → count ≢ 0 → Updated place schema values old new count
     → Changes place schema values old new
 row_changed place schema values old new zero some u = absurd (some refl)

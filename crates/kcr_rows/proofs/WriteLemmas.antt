@@ -28,10 +28,12 @@ use Rattle.kcr_rows.specs.Columns.{simple_as}
 either : {X : Type 0} (b : Bool) (x : X) → cond b x x ≡ x
 either b x = grind arith
 
+-- NULL is stored in a column of integers as it is
 pub cast_null : cast kind.Integer Null ≡ Null
 unfolding unary
 cast_null = either _ Null
 
+-- an integer is stored in a column of integers as it is
 pub cast_int : (n : ℤ) → cast kind.Integer (Int n) ≡ Int n
 unfolding unary
 cast_int n = either _ (Int n)
@@ -41,6 +43,7 @@ pub went : {B E R : Type 0} {b : B} {Stops : E → Type 0} → ((stop : E) × St
 went (inl stopped) = absurd (let e = stopped.2 in cc)
 went (inr on) = on
 
+-- two equal successes have equal values
 pub same_value : {B E : Type 0} {a b : B} → ◌≡◌ {A = Result B E} (Ok a) (Ok b) → a ≡ b
 same_value e = cc
 

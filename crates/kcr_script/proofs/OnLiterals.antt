@@ -7,6 +7,7 @@ use Rattle.csv.specs.Machine.{next_record}
 use Rattle.csv.specs.Reading.{records_from, strip_bom}
 use Rattle.kcr_script.specs.Reading.{seats_of, script_of}
 
+-- unfolds the readers of scripts and seats, so that they compute
 unfoldable pub script_on_literals : ⊤
 unfolding seats_of script_of chars encode_utf8 is_utf8 digits next_record records_from strip_bom
 script_on_literals = tt

@@ -37,6 +37,7 @@ rows_same cfg s xs (r ∷ rows) (q ∷ others) s₁ s₂ y₁ y₂ h₁ e₁ h�
     let tail : rows ≡ others = rows_same cfg h₁.0.1 h₁.0.2 rows others s₁ s₂ y₁ y₂ h₁.3 e₁ h₂' e₂ in
     λ i. head i ∷ tail i
 
+-- two lists of rows of one text are equal
 pub are_rows_same : (text : List ℕ) (r₁ r₂ : List Fields) → AreRows text r₁ → AreRows text r₂ → r₁ ≡ r₂
 are_rows_same text r₁ r₂ a b = rows_same _ _ _ r₁ r₂ _ _ _ _ a.2 a.3 b.2 b.3
 
@@ -67,6 +68,7 @@ step_ends st.AfterQuote c = cond_both (c == 34) _ _ EndsWell (λ e h. cc) (λ e.
 step_ends st.InComment c = cond_both (c == 10) _ _ EndsWell (λ e h. cc) (λ e h. cc)
 step_ends st.AfterCr c = cond_both (c == 10) _ _ EndsWell (λ e h. cc) (λ e. record_ends c)
 
+-- a choice gives its first value if the test holds, and its second if not
 pub chosen : {A : Type 0} (b : Bool) (x y z : A) → cond b x y ≡ z → ((b ≡ true) × (x ≡ z)) ⊎ ((b ≡ false) × (y ≡ z))
 chosen true x y z e = inl (refl, e)
 chosen false x y z e = inr (refl, e)

@@ -177,14 +177,17 @@ told_text text = by (steps_of_rows rows) (told_rows rows)
     by (Ok steps) h = (rows, rows_there text, h)
     by (Err row) h = (rows, rows_there text, h)
 
+-- the steps that are read are those of the script that the text is
 pub read_is_script : (text : List ℕ) (steps : List Step) → script_of text ≡ Ok steps → IsScript text steps
 read_is_script text steps e = rw e at (told_text text)
 
+-- the row that is named is the first that breaks a rule
 pub read_breaks : (text : List ℕ) (row : ℕ) → script_of text ≡ Err row → BreaksScript text row
 read_breaks text row e = rw e at (told_text text)
 
 -- ---- the form of what is read
 
+-- a script that is read has at least one step, and at most `MAX_STEPS`
 pub script_has_steps : (text : List ℕ) (steps : List Step) → script_of text ≡ Ok steps → HasSteps steps
 script_has_steps text steps e = by (read_is_script text steps e)
   where
@@ -192,6 +195,7 @@ script_has_steps text steps e = by (read_is_script text steps e)
     by ([], are, h) = absurd h
     by (first ∷ rows, are, h) = has_steps rows steps h.2 h.1
 
+-- the activity is a line of at most 500 bytes, and the seats are such as a text can stand for
 abbrev pub HasForm : Step → Type 0
 HasForm step = IsLine 500 step.activity × IsSeats step.seats
 
@@ -201,6 +205,7 @@ each_step k [] (step ∷ steps) h = absurd h
 each_step k (row ∷ rows) [] h = absurd h
 each_step k (row ∷ rows) (step ∷ steps) h = ((h.1.activity, stands_are_seats h.1.seat_text step.seats h.1.seats), each_step (k + 1) rows steps h.2)
 
+-- each step that is read has this form
 pub steps_have_form : (text : List ℕ) (steps : List Step) → script_of text ≡ Ok steps → All HasForm steps
 steps_have_form text steps e = by (read_is_script text steps e)
   where
@@ -215,6 +220,7 @@ row_named P Q Memory f h = tt
 row_named P Q (Script row) f h = f row h
 row_named P Q other f h = absurd h
 
+-- a reader that is right about a text's rows answers what `script_of` gives, unless out of memory
 pub script_is : (text : List ℕ) (rows : List Fields) → AreRows text rows → (found : Result (List Step) Refusal) → IfOk found (IsScriptRows rows)
     → IfErr found (IfRow (BreaksAt rows))
     → MatchResult found (λ steps. script_of text ≡ Ok steps) (IfRow (λ row. script_of text ≡ Err row))

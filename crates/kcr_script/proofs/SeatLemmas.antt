@@ -15,13 +15,16 @@ use Rattle.kcr_script.specs.Seats.{IsLast}
 
 -- ITEMS
 
+-- what holds of the elements of two lists holds of those of both together
 pub both_lists : {X : Type 0} (P : X → Type 0) (xs ys : List X) → AllByRecursion P xs → AllByRecursion P ys → AllByRecursion P (xs ++ ys)
 both_lists P [] ys h k = k
 both_lists P (x ∷ xs) ys h k = (h.0, both_lists P xs ys h.1 k)
 
+-- one seat is an item
 pub one_item : (seat : Seat) → IsSeat seat → IsItem (pair_item (seat, 1))
 one_item seat is = record { seat = is; one = omega arith; seven = omega arith; numbered = λ e. refl }
 
+-- one to seven of a seat that can be repeated are an item
 pub more_items : (seat : Seat) (count : ℕ) → IsSeat seat → can_repeat seat ≡ true → 1 ≤ count → count ≤ 7 → IsItem (pair_item (seat, count))
 more_items seat count is free low high = record { seat = is; one = low; seven = high; numbered = λ e. absurd (both_ways _ e free) }
 
@@ -73,6 +76,7 @@ spells_one item is = record {
   seats_are = sym (append-nil (item_seats item));
 }
 
+-- an item's text before a semicolon and a text of items spells the seats of all
 pub spells_more : (item : Item) (rest : List ℕ) (seats : List Seat) → IsItem item → Spells rest seats
     → Spells (item_text item ++ 59 ∷ rest) (item_seats item ++ seats)
 spells_more item rest seats is h = record {
@@ -141,11 +145,13 @@ IsCut text front rest = MatchOption rest (text ≡ front) (λ r. text ≡ front 
 abbrev Goes : List ℕ → Seat → ℕ → Option (Bor (List ℕ)) → Type 0
 Goes text seat count rest = MatchOption rest (IsLast text seat count) (λ r. Leads text seat count r.now)
 
+-- a text whose front is not that of an item spells no seats
 pub step_none : (text front : List ℕ) (rest : Option (Bor (List ℕ))) → All Plain front → IsCut text front rest → Only front None → (all : List Seat)
     → Spells text all → ⊥
 step_none text front None free e only all h = let r = whole_item front all free (rw e at h) in let clash = only r.item r.is r.text_is in cc
 step_none text front (Some rest) free e only all h = let r = first_item front rest.now all free (rw e at h) in let clash = only r.item r.is r.text_is in cc
 
+-- a text whose front is that of an item goes on with its rest, or ends there
 pub step_some : (text front : List ℕ) (rest : Option (Bor (List ℕ))) (seat : Seat) (count : ℕ) → All Plain front → IsCut text front rest
     → IsItem (pair_item (seat, count)) → item_text (pair_item (seat, count)) ≡ front → Only front (Some (seat, count)) → Goes text seat count rest
 step_some text front None seat count free e is t only = record {
@@ -161,11 +167,13 @@ step_some text front (Some rest) seat count free e is t only = record {
       (r.holds.0, r.holds.1, r.holds.2 ∙ ap (λ (xs : List Seat). xs ++ r.holds.0) (same_replicate r.item seat count (only r.item r.is r.text_is)));
 }
 
+-- the seats of a text begin with those of its first item
 pub step_front : (rest : List ℕ) (seat : Seat) (count : ℕ) (more : Option (Bor (List ℕ))) → Goes rest seat count more
     → (all : List Seat) → Spells rest all → (tail : List Seat) × (all ≡ replicate count seat ++ tail)
 step_front rest seat count None h all s = ([], h.only all s ∙ sym (append-nil (replicate count seat)))
 step_front rest seat count (Some r) h all s = let b = h.back all s in (b.0, b.2)
 
+-- the seats done, with those of the next item, are at most all
 pub more_than : (all done tail back : List Seat) (seat : Seat) (count : ℕ) → all ≡ done ++ tail → tail ≡ replicate count seat ++ back
     → length done + count ≤ length all
 more_than all done tail back seat count e f =
@@ -198,6 +206,7 @@ items_seats [] h = All-nil IsSeat
 items_seats (item ∷ more) h = All-append IsSeat (item_seats item) (flat_map item_seats more) (All-replicate IsSeat item.count item.seat h.0.seat)
     (items_seats more h.1)
 
+-- the seats that a text stands for are from 1 to 16 seats
 pub stands_are_seats : (text : List ℕ) (seats : List Seat) → StandsFor text seats → IsSeats seats
 stands_are_seats text seats h =
     let s = h.spells in

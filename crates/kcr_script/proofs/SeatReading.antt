@@ -83,6 +83,7 @@ again (Rksh n) count is =
 again (Staff Ca) count is = of_seven (Again (Staff Ca)) refl refl refl refl refl refl refl count is.one is.seven
 again other count is = of_seven (Again other) refl refl refl refl refl refl refl count is.one is.seven
 
+-- an item is found by its text
 pub item_again : (item : Item) → IsItem item → item_of (item_text item) ≡ Some item
 item_again item is = again item.seat item.count is
 
@@ -103,6 +104,7 @@ their_seats : (items : List Item) → AllByRecursion IsItem items → seats_of_i
 their_seats [] each = refl
 their_seats (item ∷ items) each = rw (item_again item each.0, their_seats items each.1) refl
 
+-- the seats that a text spells are found by its parts between semicolons
 pub spelled : (text : List ℕ) (seats : List Seat) → Spells text seats → seats_of_items (between_semicolons text) ≡ Some seats
 spelled text seats h =
     ap (λ (t : List ℕ). seats_of_items (between_semicolons t)) h.text_is

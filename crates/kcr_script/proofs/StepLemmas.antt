@@ -33,6 +33,7 @@ module _ (k : ℕ) (row : Fields) (rows rest : List Fields) (first : rest ≡ ro
 pub push_before : (done new tail : List Step) (step : Step) → new ≡ done ++ step ∷ [] → new ++ tail ≡ done ++ step ∷ tail
 push_before done new tail step e = ap (λ (xs : List Step). xs ++ tail) e ∙ append_assoc done (step ∷ []) tail
 
+-- no rows are the rows of no steps
 pub none_left : (rest : List Fields) (k : ℕ) → rest ≡ [] → AreSteps k rest []
 none_left rest k e = rw e tt
 

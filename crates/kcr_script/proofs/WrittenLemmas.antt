@@ -29,6 +29,7 @@ seat_of_kind-kind other h = refl
 kind_same : (s t : Seat) → kind s < 9 → kind s ≡ kind t → s ≡ t
 kind_same s t h e = sym (seat_of_kind-kind s h) ∙ ap seat_of_kind e ∙ seat_of_kind-kind t (rw (← e) h)
 
+-- two seats of one kind, which have no number, are equal
 pub merged_same : (s t : Seat) → (nat_lt (kind s) 9 && eqb (kind s) (kind t)) ≡ true → s ≡ t
 merged_same s t h = let p = and_parts (nat_lt (kind s) 9) (eqb (kind s) (kind t)) h in kind_same s t (ltb-true (kind s) 9 p.0) (eqb-true (kind s) (kind t) p.1)
 
@@ -74,6 +75,7 @@ run_of (x ∷ xs) (suc i) s low h same differ =
 
 -- ---- groups of a run
 
+-- a run with seven more seats has one more group of seven in front
 pub groups_more : (s : Seat) (n : ℕ) → groups (pair_item (s, n + 7)) ≡ pair_item (s, 7) ∷ groups (pair_item (s, n))
 groups_more s n =
     let q : (n + 7) / 7 ≡ suc (n / 7) = omega arith in
@@ -82,6 +84,7 @@ groups_more s n =
 
 -- ---- appending items
 
+-- two lists of items are appended one after the other
 pub all_appended-append : (text : List ℕ) (items more : List Item) → all_appended text (items ++ more) ≡ all_appended (all_appended text items) more
 all_appended-append text [] more = refl
 all_appended-append text (item ∷ items) more = all_appended-append (appended text item) items more
@@ -95,6 +98,7 @@ seat_front : (s : Seat) (star : List ℕ) → (b : ℕ) × (bytes : List ℕ) ×
 seat_front (Staff Ca) star = (_, _, refl)
 seat_front other star = (_, _, refl)
 
+-- items appended to the empty text give the items' text
 pub all_appended_is : (items : List Item) → all_appended [] items ≡ items_text items
 all_appended_is [] = refl
 all_appended_is (first ∷ more) =
@@ -184,6 +188,7 @@ spelled : (items : List Item) (seats : List Seat) → Are IsItem items seats →
 spelled [] seats h some = absurd (omega (arith, ap length h.are))
 spelled (first ∷ more) seats h some = record { first = first; more = more; is_first = h.each.0; each_more = h.each.1; text_is = refl; seats_are = sym h.are }
 
+-- the written text of seats stands for them
 pub written_stands : (seats : List Seat) → IsSeats seats → StandsFor (written seats) seats
 unfolding written
 written_stands seats h =

@@ -216,5 +216,6 @@ up_to fits seats people (suc n) h = elim (up_to fits seats people n (omega arith
   | inr s ↦ inr s
 ]
 
+-- every relation has a seating or a short list of seats
 pub seating_or_short : SeatingOrShort
 seating_or_short fits seats people = up_to fits seats people seats (omega arith)

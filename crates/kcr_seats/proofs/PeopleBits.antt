@@ -10,6 +10,7 @@ use Rattle.kcr_seats.proofs.Least.{below_or_not}
 pub one_from : (n : ℕ) → (n == 1) ≡ true → n ≡ 1
 one_from n h = grind (arith, nat_tests)
 
+-- a number that is 0 is not 1
 pub not_one : (n : ℕ) → n ≡ 0 → (n == 1) ≡ false
 not_one n h = rw h refl
 

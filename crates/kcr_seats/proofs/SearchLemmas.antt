@@ -18,10 +18,12 @@ use Rattle.kcr_seats.proofs.Moves.{all_seated, given, set_at}
 pub can_take_some : (fits : ℕ → ℕ → Bool) (s : List ℕ) (p i : ℕ) → i < length s → fits (get_or s i 0) p ≡ true → can_take fits s p ≡ true
 can_take_some fits s p i l h = list_any_at (λ k. fits k p) s i 0 l h
 
+-- a person who fits no seat of the list can take none of them
 pub can_take_none : (fits : ℕ → ℕ → Bool) (s : List ℕ) (p : ℕ) → ((i : ℕ) → i < length s → fits (get_or s i 0) p ≡ false)
     → can_take fits s p ≡ false
 can_take_none fits s p h = list_any_none (λ k. fits k p) s (All-from_get_or (λ k. fits k p ≡ false) s 0 h)
 
+-- a person who can take a seat of the list fits one of them
 pub can_take_at : (fits : ℕ → ℕ → Bool) (s : List ℕ) (p : ℕ) → can_take fits s p ≡ true → SomeIndex s (λ i. fits (get_or s i 0) p ≡ true)
 can_take_at fits [] p h = absurd (cc)
 can_take_at fits (x ∷ xs) p h = elim (true_or_false (fits x p)) [
@@ -96,6 +98,7 @@ still j other marked l h = elim (same_or_not j other) [
   | inr ne ↦ get_or-set_other marked other j true false ne ∙ h
 ]
 
+-- with one more seat reached and marked, still exactly the reached seats are marked
 pub marked_more : {w order : List ℕ} {marked : List Bool} (other : ℕ) → IsMarked w order marked → other < length w
     → IsMarked w (order ++ other ∷ []) (set marked other true)
 marked_more {w} {order} {marked} other m lo =

@@ -32,6 +32,7 @@ use Rattle.kcr_tables.specs.MachineTables.{HoldsTables}
 
 -- ---- what is given is what was read
 
+-- what is said of the rows that were read holds of the rows that are given
 pub given_rows : (P : FullView → Type 0) (rows : Result FullView Refusal) (result : Result FullView OpenFault) → IfOk result (λ view. rows ≡ Ok view)
     → IfOk rows P → IfOk result P
 given_rows P rows (Ok view) is h = subst (λ (r : Result FullView Refusal). IfOk r P) is h
@@ -44,6 +45,7 @@ given_answer number db (Ok view) is kind = is
 given_answer number db (Err fault) is (inl memory) = subst (RefusesBy number db) (sym memory) tt
 given_answer number db (Err fault) is (inr disk) = subst (RefusesBy number db) (sym disk) tt
 
+-- what holds if rows were read holds if rows are given
 pub given_open : (P : Type 0) (rows : Result FullView Refusal) (result : Result FullView OpenFault) → IfOk result (λ view. rows ≡ Ok view)
     → OnOk rows P → OnOk result P
 given_open P rows (Ok view) is h = subst (λ (r : Result FullView Refusal). OnOk r P) is h
@@ -51,6 +53,7 @@ given_open P rows (Err fault) is h = tt
 
 -- ---- by the standing of the database
 
+-- what is given of a database of any kind but `Versioned` is a right answer to it
 pub answer_by : (standing : DatabaseKind) (db : Database) (result : Result FullView OpenFault) → IsOfKind db.schema standing → Gives standing db result
     → standing ≢ Versioned → IsAnswer db result
 answer_by Empty db result stands gives other = empty_answer db result stands gives.kind
@@ -73,6 +76,7 @@ by_rows Is Says number rows db (Err fault) held known h is says =
     other_number number (inr (inl two)) other has = other.3 (let e = sym other.1 ∙ has ∙ ap (λ v. Some (pos v)) two in cc)
     other_number number (inr (inr three)) other has = other.4 (let e = sym other.1 ∙ has ∙ ap (λ v. Some (pos v)) three in cc)
 
+-- this version's tables are given, or refused for their version only if their number is another
 pub version_by : (standing : DatabaseKind) (db : Database) (result : Result FullView OpenFault) → IsOfKind db.schema standing → Gives standing db result
     → (t : held.StoredTables) → held.Holds db t → GivesOr (t.versions ≢ numbered 3) (IsNumberedView t) result
 version_by Empty db result stands gives t h = absurd (let e : 0 ≡ 17 = apart stands h.schema in omega (arith, e))
@@ -83,6 +87,7 @@ version_by Version2 db result stands gives t h = absurd (let e : 16 ≡ 17 = apa
 version_by Version1 db result stands gives t h = absurd (let e : 15 ≡ 17 = apart stands h.schema in omega (arith, e))
 version_by _ db result stands gives t h = absurd (none_strange 3 db.schema stands.0 h.schema (inr (inr refl)))
 
+-- what is given of a database that holds the machine's tables lists their rows
 pub rows_by : (standing : DatabaseKind) (db : Database) (result : Result FullView OpenFault) → IsOfKind db.schema standing → Gives standing db result
     → (m : Tables) → HoldsTables m db → IfOk result (IsListed m)
 rows_by Empty db result stands gives m h = absurd (let e : 0 ≡ 17 = apart stands h.schema in omega (arith, e))
@@ -108,6 +113,7 @@ older_given from db result gives t h =
     later P Is (Ok view) h = h
     later P Is (Err fault) h = tt
 
+-- an older version's tables are given migrated, or refused for their version only if their number is another
 pub older_by : (standing : DatabaseKind) (db : Database) (result : Result FullView OpenFault) → IsOfKind db.schema standing → Gives standing db result
     → (from : OldVersion) (t : held.StoredTables) → HoldsFirst (14 + number_of from) db t → GivesOr (t.versions ≢ numbered (number_of from)) (IsBroughtView from t) result
 older_by Empty db result stands gives older.V1 t h = absurd (let e : 0 ≡ 15 = apart stands h.schema in omega (arith, e))

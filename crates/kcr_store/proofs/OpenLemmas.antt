@@ -33,6 +33,7 @@ use Rattle.kcr_store.specs.declared.«open».OpenFault.TheVariants as fault
 use Rattle.kcr_store.specs.Frame.{StaysOutside}
 use Rattle.kcr_store.proofs.WholeLemmas.{begun_has, made_outside}
 
+-- how many tables a schema has
 abbrev pub count : Schema → ℕ
 count s = length s.tables
 
@@ -50,11 +51,13 @@ module _ {S : Type 0} (g : Ghosts S) (settled : (s : S) (db : Trees) → IsTrue 
         let it = found clean accepted founded in subst (IsTables accepted) (sym (settled new.store db it.1 may)) it.0.committed.tables;
   }
 
+-- a register that was opened shows its history, and is open
 pub opened_with : {accepted : History} {count : ℕ} {s : State} → IsOpened accepted count s → IsSynced accepted s × IsTrue s.is_open
 opened_with opened = (opened.shows, opened.live)
 
 -- ---- the schema of a version, or of none
 
+-- a foreign schema is that of no version
 pub none_strange : (version : ℕ) (s : Schema) → IsForeignSchema s → s ≡ schema_prefix (14 + version) → IsKnown version → ⊥
 none_strange version s strange is (inl one) = strange.first (subst (λ v. s ≡ schema_prefix (14 + v)) one is)
 none_strange version s strange is (inr (inl two)) = strange.second (subst (λ v. s ≡ schema_prefix (14 + v)) two is)
@@ -85,6 +88,7 @@ other_taken db other (inr (inr (inr three))) = other.4 (number_same db other.0 _
 
 -- ---- each answer is what its name says
 
+-- to an empty database each result is a right answer, if it fails only for memory or the disk
 pub empty_answer : {A : Type 0} (db : Database) (result : Result A OpenFault) → db.schema ≡ no_schema
     → IfErr result (λ e. (e ≡ fault.Memory) ⊎ (e ≡ fault.Disk)) → IsAnswer db result
 empty_answer db (Ok x) none kind = inl none
@@ -120,6 +124,7 @@ only_own version (inr (inr three)) db schema other (inr (inr (inl h))) =
     absurd (let e = apart h.0 (subst (λ v. db.schema ≡ schema_prefix (14 + v)) three schema) in omega (arith, e))
 only_own version (inr (inr three)) db schema other (inr (inr (inr h))) = other (h.1 ∙ ap (λ v. Some (pos v)) (sym three))
 
+-- an answer by the number of a version is right for a database with the schema of that version
 pub number_answer : {A : Type 0} (version : ℕ) → IsKnown version → (db : Database) (result : Result A OpenFault) → db.schema ≡ schema_prefix (14 + version)
     → IsAnswerBy (pos version) db result → IsAnswer db result
 number_answer version known db (Ok x) schema h = taken_at version known db (schema, h)
@@ -128,6 +133,7 @@ number_answer version known db (Err fault.Foreign) schema h = (only_own version 
 number_answer version known db (Err fault.Memory) schema h = tt
 number_answer version known db (Err fault.Disk) schema h = tt
 
+-- a database with a foreign schema is refused rightly if its number decides between version and foreign
 pub stranger_answer : (db : Database) (e : OpenFault) → IsForeignSchema db.schema
     → (e ≡ fault.Version → IsOfOtherVersion db) × (e ≡ fault.Foreign → ¬ IsOfOtherVersion db) → RefusesAs db e
 stranger_answer db fault.Version strange h = h.0 refl
@@ -135,6 +141,7 @@ stranger_answer db fault.Foreign strange h = (never_taken db strange, h.1 refl)
 stranger_answer db fault.Memory strange h = tt
 stranger_answer db fault.Disk strange h = tt
 
+-- a database with a foreign schema, and without the table of the number, is foreign
 pub foreign_answer : (db : Database) → IsForeignSchema db.schema → is_some (numbered_table db.schema) ≡ false → IsForeign db
 foreign_answer db strange none = (never_taken db strange, numberless db.schema db.trees _ refl none)
 
@@ -229,15 +236,19 @@ module _ (accepted : History) (old : State) (settled : IsTrue old.is_open → ol
 pub there : (version : ℕ) → IsKnown version → (s : Schema) → s ≡ schema_prefix (14 + version) → IsTrue (is_some (numbered_table s))
 there version known s is = ap (λ (t : Schema). is_some (numbered_table t)) is ∙ ap is_some (has_versions version known)
 
+-- 1 is the number of a version
 pub known_1 : IsKnown 1
 known_1 = inl refl
 
+-- 2 is the number of a version
 pub known_2 : IsKnown 2
 known_2 = inr (inl refl)
 
+-- 3 is the number of a version
 pub known_3 : IsKnown 3
 known_3 = inr (inr refl)
 
+-- the number of an older version is that of a version
 pub is_known : (from : OldVersion) → IsKnown (number_of from)
 is_known older.V1 = inl refl
 is_known older.V2 = inr (inl refl)
@@ -246,11 +257,13 @@ is_known older.V2 = inr (inl refl)
 pub still_has : (P : Database → Type 0) (old mid : State) → IsUnchanged old mid → P old.now → P mid.now
 still_has P old mid same has = subst P (sym same.0.now_is) has
 
+-- a database that stores a history still does after its number was read
 pub still_stores : (A : History) (old mid : State) → (IsTrue old.is_open → Stores A old.now) → IsTrue old.is_open
     → (IsTrue (is_some (numbered_table old.now.schema)) → IsUnchanged old mid) → Stores A mid.now
 still_stores A old mid had live same =
     let was = had live in still_has (Stores A) old mid (same (there 3 (inr (inr refl)) old.now.schema was.schema)) was
 
+-- a connection that shows a history still does if nothing changed
 pub still_shows : (A : History) (old new : State) → IsUnchanged old new → IsSynced A old → IsSynced A new
 still_shows A old new same s = record {
   now = subst (Stores A) (sym same.0.now_is) s.now;
@@ -305,6 +318,7 @@ none_as older.V1 db t (inr third) h = let e : 17 ≡ 15 = apart third h.schema i
 none_as older.V2 db t (inl none) h = let e : 0 ≡ 16 = apart none h.schema in omega (arith, e)
 none_as older.V2 db t (inr third) h = let e : 17 ≡ 16 = apart third h.schema in omega (arith, e)
 
+-- a database that is empty, or of this version, has no rows of an older version
 pub none_older : {X : Type 0} (old new : State) (result : Result X OpenFault) → (old.now.schema ≡ no_schema) ⊎ (old.now.schema ≡ schema_prefix 17)
     → IfOk result (λ _. (from : OldVersion) → MigratesRows from old.now new)
 none_older old new (Ok x) is = λ from t h. absurd (none_as from old.now t is h)
@@ -335,6 +349,7 @@ older_kept from old new (Err e) schema number shows = tt
 
 -- ---- what the files held is what the connection shows
 
+-- a connection over files that held a history finds its tables, or before the first command no schema
 pub founded_in : (accepted : History) (image : Image) (s : State) → FilesHoldHistory accepted image → FindsIn image s → Opens s → IsLive s
     → ((s.now.schema ≡ no_schema) × (accepted ≡ [])) ⊎ HoldsHistory accepted s.committed.trees
 founded_in accepted image s (inl held) finds opens lives = inr (subst (HoldsHistory accepted) (sym (finds.holds held.0 held.1)) held.2)

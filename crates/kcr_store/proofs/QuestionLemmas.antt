@@ -203,5 +203,6 @@ module _ (A : History) (ceremony : ℕ) where
       → IsSheetShown A ceremony stays
   sheet_of_history kept stays is = record { planned = planned_of_history A ceremony is.planned; stays = is.stays ∙ sheet_shown A kept ceremony }
 
+-- what is shown of custody by the tables of a history is what the history shows
 pub custody_of_history : (A : History) (custody : CustodyShown) → IsCustodyShownBy (tables A) custody → IsCustodyShown A custody
 custody_of_history A custody is = record { safes = is.safes; bags = is.bags; loose = is.loose }

@@ -17,6 +17,7 @@ pub record BeganWith (m : Tables) (s : State) : Type 0 where
   pub inside : IsTrue s.in_transaction
   pub has : HasRows m s
 
+-- a transaction begins over the rows that the connection shows
 pub begins_with : {S : Type 0} (g : Ghosts S) (old begun : Held S) → begun ≡ record old { in_transaction = true } → (m : Tables)
     → HasRows m (state g old) → BeganWith m (state g begun)
 begins_with g old begun is m had = rw is (record {

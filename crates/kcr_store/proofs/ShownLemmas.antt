@@ -59,6 +59,7 @@ role_cmp_total =
 before : (a b : RoleShown) → is_lt (role_cmp a b) ≡ is_role_before a b
 before a b = grind arith
 
+-- of sorted trainings none is before one that is listed ahead of it
 pub in_order : (roles : List RoleShown) → IsSortedBy (λ a b. is_lt (role_cmp a b)) roles → AllPairs (λ a b. is_role_before b a ≡ false) roles
 in_order roles up = λ i j d lt below.
     sym (before (get_or roles j d) (get_or roles i d))

@@ -48,6 +48,7 @@ use Rattle.kcr_store.specs.FullView.{AreRows, IsListed, Lists}
 pub holds_in : (A : History) (db : Database) (s : Stores A db) → Holds db s.tables.kept.t
 holds_in A db s = record { schema = s.schema; kept = s.tables.kept.kept }
 
+-- a database that stores a history holds the tables of the history
 pub held_in : (A : History) (db : Database) → Stores A db → HoldsTables (tables A) db
 held_in A db s = record { schema = s.schema; tables = s.tables.kept }
 
@@ -140,8 +141,10 @@ by_text text rest xs up =
     ascending_weaker _ _ (λ a b e. ap is_lt (sym (value_cmp-Text (text a) (text b)) ∙ sym (then-Equal (value_cmp (Text (text a)) (Text (text b)))) ∙ e)) xs
     (ascending_from_map (λ a b. by_key 1 a b ≡ Less) (λ x. Text (text x) ∷ rest x) xs up)
 
+-- people in the order of their keys stand by initials
 pub by_initials : (people : List Person) → IsAscending (λ a b. by_key 1 a b ≡ Less) (map person_row people) → IsByInitials people
 by_initials people up = all_pairs _ people (by_text (λ person. person.who) (λ person. Text person.name ∷ []) people up)
 
+-- items in the order of their keys stand by code
 pub by_code : (items : List Item) → IsAscending (λ a b. by_key 1 a b ≡ Less) (map item_row items) → IsAscending (λ a b. IsTrue (is_before a.code b.code)) items
 by_code items up = by_text (λ item. item.code) (λ item. loose_value item.rest ∷ within_value item.rest ∷ []) items up

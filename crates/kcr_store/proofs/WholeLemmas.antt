@@ -43,6 +43,7 @@ pub record Began (accepted : History) (s : State) : Type 0 where
   pub shows : HasCleanDisk s → IsTrue s.is_open → register.IsSynced accepted s
   pub crash : CrashKeeps accepted s
 
+-- a transaction of a register that is durable begins over its history
 pub begins : {S : Type 0} (g : Ghosts S) (accepted : History) (old begun : Held S) → begun ≡ record old { in_transaction = true }
     → IsDurable accepted (state g old) → Began accepted (state g begun)
 begins g accepted old begun is w =
@@ -52,6 +53,7 @@ begins g accepted old begun is w =
       crash = w.crash;
     })
 
+-- a disk that is clean within the transaction was clean before it
 pub begun_clean : {S : Type 0} (g : Ghosts S) (old begun : Held S) → begun ≡ record old { in_transaction = true } → HasCleanDisk (state g begun)
     → HasCleanDisk (state g old)
 begun_clean g old begun is clean = rw is at clean
@@ -413,6 +415,7 @@ commits_nothing g a = record {
   rows = λ m had. had;
 }
 
+-- two calls of which each commits nothing commit nothing one after the other
 pub commits_still_nothing : {S : Type 0} (g : Ghosts S) (a b c : RegisterState S) → CommitsNothing g a b → CommitsNothing g b c
     → CommitsNothing g a c
 commits_still_nothing g a b c one two = record {

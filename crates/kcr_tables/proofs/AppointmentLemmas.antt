@@ -26,6 +26,7 @@ use Rattle.kcr_tables.proofs.NamedLemmas.{passing}
 abbrev Reached : (Appointment → Bool) → List Appointment → Appointment → Type 0
 Reached test rows row = test row ≡ true → list_any (λ shown. test shown && nat_le row.since shown.since) rows ≡ true
 
+-- of the appointments that pass, one that none began after is shown, or none if none passes
 abbrev pub IsLast : (Appointment → Bool) → List Appointment → List Appointment → Type 0
 IsLast test table shown = IsGreatest (λ (x : Appointment). x.since) (filter test table) shown
 

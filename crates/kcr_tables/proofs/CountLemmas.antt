@@ -52,6 +52,7 @@ counting tree test = record {
   offset = lit (Int (pos 0));
 }
 
+-- the text that shows how many stays a ceremony has
 abbrev pub count_sql : List ℕ
 count_sql = codes "SELECT (SELECT COUNT(*) FROM stays WHERE ceremony = ?1)"
 
@@ -79,6 +80,7 @@ counting_of ceremony = record {
   passes = λ r. has_number 2 ceremony (cells stays_place r);
 }
 
+-- the text has no RETURNING and does not read the time
 pub count_bare : IsPlain (understood register_schema count_sql)
 unfolding understood everything
 count_bare = (refl, refl)

@@ -120,6 +120,7 @@ none_in : (rows : List Row) → length rows ≡ 0 → rows ≡ []
 none_in [] h = refl
 none_in (row ∷ rows) h = absurd (omega (arith, h))
 
+-- the first of some rows in another order is one of them, or there is none
 pub one_of : (rows ordered : List Row) → IsPermutation rows ordered → (shown : List Row) → shown ≡ take 1 ordered → IsOneOf rows shown
 one_of rows [] same shown is = inl (none_in rows (sym (length_permutation rows [] same)), is)
 one_of rows (row ∷ ordered) same shown is = inr (row, is, has_same (row ∷ ordered) rows row (IsPermutation-sym rows (row ∷ ordered) same) (inl refl))

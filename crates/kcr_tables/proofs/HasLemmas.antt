@@ -18,6 +18,7 @@ has_in x [] h = h
 has_in x (y ∷ xs) (inl same) = inl same
 has_in x (y ∷ xs) (inr h) = inr (has_in x xs h)
 
+-- an element that is in a list by `IsIn` is in it by `Has`
 pub in_has : {X : Type 0} (x : X) (xs : List X) → IsIn x xs → Has xs x
 in_has x [] i = i
 in_has x (y ∷ xs) (inl same) = inl same
@@ -66,25 +67,30 @@ one_key cmp back (r ∷ rows) up x y (inl h) (inr k) tie = absurd (let lower = a
 one_key cmp back (r ∷ rows) up x y (inr h) (inl k) tie = absurd (let lower = all_has _ rows x up.0 h in let same = back x r (rw k at tie) in cc)
 one_key cmp back (r ∷ rows) up x y (inr h) (inr k) tie = one_key cmp back rows up.1 x y h k tie
 
+-- an ordering that the test of equality accepts is `Equal`
 pub equal_is : (o : Ordering) → is_eq o ≡ true → o ≡ Equal
 equal_is Less h = absurd (cc)
 equal_is Equal h = refl
 equal_is Greater h = absurd (cc)
 
+-- an element of two lists together is in the first or in the second
 pub has_append : {X : Type 0} (xs ys : List X) (x : X) → Has (xs ++ ys) x → Has xs x ⊎ Has ys x
 has_append [] ys x h = inr h
 has_append (z ∷ xs) ys x (inl h) = inl (inl h)
 has_append (z ∷ xs) ys x (inr h) = elim (has_append xs ys x h) [ inl a ↦ inl (inr a) | inr b ↦ inr b ]
 
+-- an element of the first list is in both together
 pub has_left : {X : Type 0} (xs ys : List X) (x : X) → Has xs x → Has (xs ++ ys) x
 has_left [] ys x h = absurd h
 has_left (z ∷ xs) ys x (inl h) = inl h
 has_left (z ∷ xs) ys x (inr h) = inr (has_left xs ys x h)
 
+-- an element of the second list is in both together
 pub has_right : {X : Type 0} (xs ys : List X) (x : X) → Has ys x → Has (xs ++ ys) x
 has_right [] ys x h = h
 has_right (z ∷ xs) ys x h = inr (has_right xs ys x h)
 
+-- an element that a filter leaves is in the list
 pub filter_from : {X : Type 0} (p : X → Bool) (xs : List X) (x : X) → Has (filter p xs) x → Has xs x
 filter_from p [] x h = absurd h
 filter_from p (y ∷ ys) x h = by_test (p y) h (filter_from p ys x)
@@ -94,6 +100,7 @@ filter_from p (y ∷ ys) x h = by_test (p y) h (filter_from p ys x)
     by_test true (inr later) more = inr (more later)
     by_test false later more = inr (more later)
 
+-- an element that passes is left
 pub filter_to : {X : Type 0} (p : X → Bool) (xs : List X) (x : X) → Has xs x → p x ≡ true → Has (filter p xs) x
 filter_to p [] x h is = absurd h
 filter_to p (y ∷ ys) x h is = by_test (p y) refl h (λ there. filter_to p ys x there is)

@@ -70,6 +70,7 @@ module _ {X K : Type 0} (same : K → K → Bool) (is_under : K → X → Bool) 
 
 -- ---- rows that were asked for, in any order
 
+-- to filter twice by one test is to filter once
 pub twice : {X : Type 0} (p : X → Bool) (xs : List X) → filter p (filter p xs) ≡ filter p xs
 twice p [] = refl
 twice p (x ∷ xs) = by_test (p x) refl (twice p xs)

@@ -14,6 +14,7 @@ use Rattle.kcr_tables.proofs.HasLemmas.{find_same, one_key_of}
 use Rattle.kcr_tables.specs.MachineTables.{HoldsTables}
 use Rattle.kcr_tables.specs.Table.{TableSpec, IsTable, machine_rows}
 
+-- the first of a table's rows that pass is the one that the machine finds, if all that pass have one key
 pub first_is : {X : Type 0} (table : TableSpec X) (row_of : X → Row) (is_read : X → Type 0) → IsTable table row_of is_read → (p : X → Bool)
     → ((x y : X) → p x ≡ true → p y ≡ true → is_eq (by_key table.place.keys (row_of x) (row_of y)) ≡ true) → (m : machine.Tables) (db : Database)
     → (h : HoldsTables m db) → (rows : List X) → rows ≡ filter p (table.rows_in h.tables.t) → slice_get rows 0 ≡ find p (machine_rows table m)

@@ -42,9 +42,11 @@ use Rattle.kcr_tables.specs.TrainingsLaws as trainings
 use Rattle.kcr_tables.specs.Unordered.{SelectsUnordered}
 use Rattle.kcr_tables.proofs.QueryLemmas.{query}
 
+-- SQL's `=` of two texts answers as `same_text` does
 pub same_text_is : (a b : List ℕ) → (equal Binary (Text a) (Text b) && true) ≡ same_text a b
 same_text_is a b = value_is (Text a) (Text b) refl refl ∙ sym (text_ties a b)
 
+-- SQL's `=` of two numbers answers whether they are equal
 pub same_number_is : (a b : ℕ) → (equal Binary (Int (pos a)) (Int (pos b)) && true) ≡ (a == b)
 same_number_is a b = value_is (Int (pos a)) (Int (pos b)) refl refl ∙ sym (number_ties a b)
 
@@ -54,10 +56,12 @@ same_number_is a b = value_is (Int (pos a)) (Int (pos b)) refl refl ∙ sym (num
 abbrev key_sql : List ℕ
 key_sql = codes "SELECT \"key\", accepted, command, reply FROM keys ORDER BY accepted DESC LIMIT 1"
 
+-- the text shows the row of keys with the greatest number of a command
 pub selects_key : SelectsLast key_sql keys_place [] (λ _. true) 1
 unfolding understood everything
 selects_key = record { test = []; project = keys.project; names = keys.names; bare = (refl, refl); is = refl }
 
+-- the query for the row of the last accepted command
 abbrev pub last_key : Query keys.table key_row
 last_key = query key_sql [] (Last (λ x. x.accepted)) (λ _. true) (λ _. true) (λ x. refl) (λ x y. keys.one x y tt tt, (1, selects_key, λ x. refl))
 
@@ -65,10 +69,12 @@ last_key = query key_sql [] (Last (λ x. x.accepted)) (λ _. true) (λ _. true) 
 abbrev stay_sql : List ℕ
 stay_sql = codes "SELECT who, since, ceremony, until FROM stays WHERE who = ?1 ORDER BY since DESC LIMIT 1"
 
+-- the text shows the stay of the person with the latest beginning
 pub selects_stay : (who : List ℕ) → SelectsLast stay_sql stays_place (Text who ∷ []) (has_text 0 who) 1
 unfolding understood everything
 selects_stay who = record { test = is_given 1; project = stays.project; names = stays.names; bare = (refl, refl); is = refl }
 
+-- the query for the stay of a person that began last
 abbrev pub last_stay : List ℕ → Query stays.table stay_row
 last_stay who = query stay_sql (Text who ∷ []) (Last (λ x. x.since)) (λ x. same_text x.who who) (has_text 0 who) (λ x. same_text_is x.who who)
     (λ x y. stays.one x y tt tt, (1, selects_stay who, λ x. refl))
@@ -77,10 +83,12 @@ last_stay who = query stay_sql (Text who ∷ []) (Last (λ x. x.since)) (λ x. s
 abbrev to_sql : List ℕ
 to_sql = codes "SELECT place, since, who, until FROM appointments WHERE place = ?1 ORDER BY since DESC LIMIT 1"
 
+-- the text shows the appointment to the place with the latest beginning
 pub selects_to : (place : List ℕ) → SelectsLast to_sql appointments_place (Text place ∷ []) (has_text 0 place) 1
 unfolding understood everything
 selects_to place = record { test = is_given 1; project = appointments.project; names = appointments.names; bare = (refl, refl); is = refl }
 
+-- the query for the appointment to a place that began last
 abbrev pub last_to : Custodian → Query appointments.table appointment_row
 last_to place = query to_sql (Text (place_text place) ∷ []) (Last (λ x. x.since)) (is_appointment_to place) (has_text 0 (place_text place))
     (λ x. value_is (Text (place_text x.place)) (Text (place_text place)) refl refl ∙ sym (place_ties x.place place))
@@ -90,10 +98,12 @@ last_to place = query to_sql (Text (place_text place) ∷ []) (Last (λ x. x.sin
 abbrev of_sql : List ℕ
 of_sql = codes "SELECT place, since, who, until FROM appointments WHERE who = ?1 ORDER BY since DESC LIMIT 1"
 
+-- the text shows the appointment of the person with the latest beginning
 pub selects_of : (who : List ℕ) → SelectsLast of_sql appointments_place (Text who ∷ []) (has_text 2 who) 1
 unfolding understood everything
 selects_of who = record { test = is_given 3; project = appointments.project; names = appointments.names; bare = (refl, refl); is = refl }
 
+-- the query for the appointment of a person that began last
 abbrev pub last_of : List ℕ → Query appointments.table appointment_row
 last_of who = query of_sql (Text who ∷ []) (Last (λ x. x.since)) (is_appointment_of who) (has_text 2 who) (λ x. same_text_is x.who who)
     (λ x y. appointments.one x y tt tt, (1, selects_of who, λ x. refl))
@@ -102,16 +112,19 @@ last_of who = query of_sql (Text who ∷ []) (Last (λ x. x.since)) (is_appointm
 abbrev seating_sql : List ℕ
 seating_sql = codes "SELECT ceremony, step, seat, who FROM seatings WHERE ceremony = ?1 ORDER BY step DESC LIMIT 1"
 
+-- the text shows a seating of the ceremony with the greatest step
 pub selects_seating : (ceremony : ℕ) → SelectsLast seating_sql seatings_place (Int (pos ceremony) ∷ []) (has_number 0 ceremony) 1
 unfolding understood everything
 selects_seating ceremony = record { test = is_given 1; project = seatings.project; names = seatings.names; bare = (refl, refl); is = refl }
 
+-- the query for a seating of the last step of a ceremony that has one
 abbrev pub last_seating : ℕ → Query seatings.table seating_row
 last_seating ceremony = query seating_sql (Int (pos ceremony) ∷ []) (Last (λ x. x.step)) (is_seating_of ceremony) (has_number 0 ceremony)
     (λ x. same_number_is x.ceremony ceremony) (λ x y. seatings.one x y tt tt, (1, selects_seating ceremony, λ x. refl))
 
 -- ---- how a text compares an end with a number
 
+-- a test joined with one that always passes answers as it does alone
 pub with_true : (b : Bool) → (b && true) ≡ b
 with_true true = refl
 with_true false = refl
@@ -150,6 +163,7 @@ nothing_is (Real x) = refl
 nothing_is (Text t) = refl
 nothing_is (Blob b) = refl
 
+-- an end passes a comparison with a number if and only if it is NULL, or there and compares so
 pub ends_is : (op : CompareOp) (v : Value) (n : ℕ) → ends op v n ≡ (is_null v || (not (is_null v) && compared.test op (value_cmp v (Int (pos n)))))
 unfolding binary
 ends_is op Null n = ap (λ a. is_true (from_truth (or3 (truth (from_truth (Some a))) None))) (nothing_is Null)
@@ -158,6 +172,7 @@ ends_is op (Real x) n = let b = compared.test op (value_cmp (Real x) (Int (pos n
 ends_is op (Text t) n = let b = compared.test op (value_cmp (Text t) (Int (pos n))) in ap (λ a. either a b) (nothing_is (Text t)) ∙ either_is b
 ends_is op (Blob c) n = let b = compared.test op (value_cmp (Blob c) (Int (pos n))) in ap (λ a. either a b) (nothing_is (Blob c)) ∙ either_is b
 
+-- a number is at or after another as a value if and only if it is as a number
 pub number_from : (n day : ℕ) → is_ge (value_cmp (Int (pos n)) (Int (pos day))) ≡ nat_le day n
 number_from n day = ap is_ge (value_cmp-Int (pos n) (pos day)) ∙ grind (arith, nat_tests)
 
@@ -170,6 +185,7 @@ number_beyond n day = ap is_gt (value_cmp-Int (pos n) (pos day)) ∙ grind (arit
 abbrev lasting_sql : List ℕ
 lasting_sql = codes "SELECT who, role, since, until FROM trainings WHERE until >= ?1 ORDER BY rowid"
 
+-- the text shows the trainings whose last day is the day or later
 pub selects_lasting : (day : ℕ)
     → SelectsUnordered lasting_sql trainings_place (Int (pos day) ∷ []) (λ row. is_true (binary (Compare Ge Binary) (column row 3) (Int (pos day))) && true)
 unfolding understood everything
@@ -182,6 +198,7 @@ selects_lasting day = record {
   is = refl;
 }
 
+-- the query for the trainings that last to a day, in any order
 abbrev pub lasting : ℕ → Query trainings.table training_row
 lasting day = query lasting_sql (Int (pos day) ∷ []) Unordered (training_reaches day) (has_from 3 day) (λ x. number_from x.until day) (
   λ x y. trainings.one x y tt tt,
@@ -192,6 +209,7 @@ lasting day = query lasting_sql (Int (pos day) ∷ []) Unordered (training_reach
 abbrev beyond_sql : List ℕ
 beyond_sql = codes "SELECT place, since, who, until FROM appointments WHERE until IS NULL OR until > ?1 ORDER BY rowid"
 
+-- the text shows the appointments that have no end, or one after the day
 pub selects_beyond : (day : ℕ) → SelectsUnordered beyond_sql appointments_place (Int (pos day) ∷ []) (λ row. ends Gt (column row 3) day && true)
 unfolding understood everything
 selects_beyond day = record {
@@ -203,11 +221,13 @@ selects_beyond day = record {
   is = refl;
 }
 
+-- an end passes this test if and only if there is none, or it is after the day
 pub beyond_is : (day : ℕ) (until : Option ℕ)
     → (is_null (int_or_null until) || (not (is_null (int_or_null until)) && is_gt (value_cmp (int_or_null until) (Int (pos day))))) ≡ ends_after until day
 beyond_is day None = refl
 beyond_is day (Some until) = number_beyond until day
 
+-- the query for the appointments that last beyond a day, in any order
 abbrev pub beyond : ℕ → Query appointments.table appointment_row
 beyond day = query beyond_sql (Int (pos day) ∷ []) Unordered (lasts_beyond day) (is_beyond_row day) (λ x. beyond_is day x.until) (
   λ x y. appointments.one x y tt tt,
@@ -218,6 +238,7 @@ beyond day = query beyond_sql (Int (pos day) ∷ []) Unordered (lasts_beyond day
 abbrev room_sql : List ℕ
 room_sql = codes "SELECT who, since, ceremony, until FROM stays WHERE ceremony = ?1 AND (until IS NULL OR until >= ?2) ORDER BY since, who"
 
+-- the text shows the stays of the ceremony that have no end, or one at the moment or later
 pub selects_room : (ceremony at : ℕ) → SelectsUnordered room_sql stays_place (Int (pos ceremony) ∷ Int (pos at) ∷ [])
     (λ row. equal Binary (column row 2) (Int (pos ceremony)) && (ends Ge (column row 3) at && true))
 unfolding understood everything
@@ -232,11 +253,13 @@ selects_room ceremony at = record {
   is = refl;
 }
 
+-- an end passes this test if and only if there is none, or it is at the moment or later
 pub room_is : (at : ℕ) (until : Option ℕ)
     → (is_null (int_or_null until) || (not (is_null (int_or_null until)) && is_ge (value_cmp (int_or_null until) (Int (pos at))))) ≡ ends_at_or_after at until
 room_is at None = refl
 room_is at (Some until) = number_from until at
 
+-- the query for the stays of a ceremony that last to a moment, in any order
 abbrev pub room : ℕ → ℕ → Query stays.table stay_row
 room ceremony at = query room_sql (Int (pos ceremony) ∷ Int (pos at) ∷ []) Unordered (stay_reaches ceremony at) (is_lasting_row ceremony at)
     (λ x i. same_number_is x.ceremony ceremony i && room_is at x.until i) (
@@ -250,6 +273,7 @@ room ceremony at = query room_sql (Int (pos ceremony) ∷ Int (pos at) ∷ []) U
 abbrev step_sql : List ℕ
 step_sql = codes "SELECT ceremony, step, activity, seats, state, at FROM steps WHERE ceremony = ?1 AND step = ?2 ORDER BY ceremony, step"
 
+-- the text shows the rows of the ceremony with the number of the step
 pub selects_step : (ceremony step : ℕ) → SelectsRows step_sql steps_place (Int (pos ceremony) ∷ Int (pos step) ∷ [])
     (λ row. equal Binary (column row 0) (Int (pos ceremony)) && has_number 1 step row)
 unfolding understood everything
@@ -262,6 +286,7 @@ selects_step ceremony step = record {
   is = refl;
 }
 
+-- the query for the row of a step
 abbrev pub row_of_step : ℕ → ℕ → Query steps.table step_row
 row_of_step ceremony step = query step_sql (Int (pos ceremony) ∷ Int (pos step) ∷ []) Ordered (is_step_at ceremony step) (is_row_of_step ceremony step)
     (λ x i. same_number_is x.ceremony ceremony i && same_number_is x.step step i)

@@ -15,6 +15,7 @@ safes_are : put_in 2 safe_row (shut West Two)
 unfolding value_cmp everything lib.Ieee.is_nan lib.Ieee.lt
 safes_are = refl
 
+-- the four safes put into empty tables, beside the number of the version, make a new register
 pub first_is : record {
   rows = record empty_tables.rows {
     safes = put_in 2 safe_row (shut West Two) (put_in 2 safe_row (shut West One) (put_in 2 safe_row (shut East Two) (put_in 2 safe_row (shut East One) [])));

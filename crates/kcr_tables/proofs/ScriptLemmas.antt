@@ -49,6 +49,7 @@ order_seated xs ys ceremony same =
     let p = IsPermutation-filter (is_seating_of ceremony) xs ys same in
     seated_same _ _ (λ x h. (x, has_same _ _ x p h, omega arith)) (λ y h. (y, has_same _ _ y (IsPermutation-sym _ _ p) h, omega arith))
 
+-- rows that include the step asked for, of some tables, include it of these in any order
 pub steps_on : (asked : Option StepFilter) (all others seatings : List SeatingRow) (xs ys rows : List StepRow) → IsPermutation all others → IsPermutation xs ys
     → IncludesStep asked others seatings ys rows → IncludesStep asked all seatings xs rows
 steps_on None all others seatings xs ys rows p q h = tt

@@ -97,6 +97,7 @@ last_is xs s there most one = by_last (last_of xs) refl
 
 -- ---- of one person
 
+-- the stay is this person's
 abbrev pub is_of : List ℕ → Stay → Bool
 is_of who stay = same_text stay.who who
 
@@ -104,6 +105,7 @@ is_of who stay = same_text stay.who who
 abbrev pub Apart : List Stay → Type 0
 Apart table = (x y : Stay) → Has table x → Has table y → same_text x.who y.who ≡ true → x.since ≡ y.since → x ≡ y
 
+-- of stays that rise by their keys, no two of one person began at once
 pub apart_of : (table : List Stay) → IsAscending (λ a b. by_key 2 a b ≡ Less) (map stay_row table) → Apart table
 apart_of table up x y h k who since =
     one_key_of 2 stay_row table up x y h k (sym (key_of_stays y x) ∙ (λ i. who i && eq-eqb x.since y.since since i))
@@ -146,6 +148,7 @@ module _ (table rows : List Stay) (apart : Apart table) (within : (x : Stay) →
 
 -- ---- the rows gathered so far
 
+-- the rows are the table's that pass and others that do not, and have the last stay of each of the people
 pub record Gathered (mine : Stay → Bool) (people : List (List ℕ)) (table rows : List Stay) : Type 0 where
   pub more : List Stay
   pub are : IsPermutation (filter mine table ++ more) rows
@@ -221,6 +224,7 @@ all_last : (table rows : List Stay) → Apart table → ((x : Stay) → Has rows
 all_last table rows apart within [] all = tt
 all_last table rows apart within (who ∷ people) all = (same_last table rows apart within who all.0, all_last table rows apart within people all.1)
 
+-- rows gathered for all people asked for show the stays asked for, if no two of one person began at once
 pub gathered_shows : (asked : StayFilter) (table rows : List Stay) → Apart table
     → Gathered (stay_reaches asked.ceremony asked.at) asked.people table rows → ShowsStaysOf asked table rows
 gathered_shows asked table rows apart had =
@@ -265,6 +269,7 @@ order_lasts : (xs ys rows : List Stay) → Apart ys → IsPermutation xs ys → 
 order_lasts xs ys rows apart same [] h = tt
 order_lasts xs ys rows apart same (who ∷ people) h = (h.0 ∙ sym (order_last xs ys apart same who), order_lasts xs ys rows apart same people h.1)
 
+-- rows that show the stays asked for show them of the table in any order, if no two of one person began at once
 pub stays_shown : (asked : Selection StayFilter) (xs ys rows : List Stay) → Apart ys → IsPermutation xs ys → IncludesStays asked ys rows → IncludesStays asked xs rows
 stays_shown Nothing xs ys rows apart same h = tt
 stays_shown (Matching asked) xs ys rows apart same h = record {

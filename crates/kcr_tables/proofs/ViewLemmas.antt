@@ -27,6 +27,7 @@ shows_on is_under Nothing xs ys rows p h = tt
 shows_on is_under (Matching key) xs ys rows p h = IsPermutation-trans _ _ _ (IsPermutation-filter (is_under key) xs ys p) h
 shows_on is_under All xs ys rows p h = IsPermutation-trans _ _ _ p h
 
+-- the rows under a key, or all, of a table in one order are those asked for of it in another
 pub asked_shows : {X K : Type 0} (is_under : K → X → Bool) (asked : Selection K) (xs ys rows : List X) → IsPermutation xs ys
     → rows ≡ asked_of is_under asked ys → Includes is_under asked xs rows
 asked_shows {K = K} is_under asked xs ys rows p is = subst (Includes is_under asked xs) (sym is) (shown asked)
@@ -36,6 +37,7 @@ asked_shows {K = K} is_under asked xs ys rows p is = subst (Includes is_under as
     shown (Matching key) = subst (IsPermutation (filter (is_under key) xs)) (sym (twice (is_under key) ys)) (IsPermutation-filter (is_under key) xs ys p)
     shown All = p
 
+-- the whole table in one order, if it is asked for, is the whole of it in another
 pub all_shows : {X : Type 0} (asked : Bool) (xs ys rows : List X) → IsPermutation xs ys → rows ≡ asked_all asked ys → IncludesAll asked xs rows
 all_shows true xs ys rows p is = subst (IsPermutation xs) (sym is) p
 all_shows false xs ys rows p is = tt

@@ -33,5 +33,6 @@ pub audit_ends_by : {W : Type 0} (A : History) (Finds : Option Finding → Type 
 audit_ends_by A Finds w (Ok status) told zero = clean_by w status zero (audit_told told.0 w status told.2)
 audit_ends_by A Finds w (Err why) part zero = part
 
+-- an audit that found nothing has status 0
 pub nothing_told : {W : Type 0} (found : Option Finding) (w : Writing W) (status : ℕ) → WritesAudit found w status → found ≡ None → status ≡ 0
 nothing_told found w status told is = grind (arith, told, is)

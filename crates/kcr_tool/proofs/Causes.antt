@@ -36,6 +36,7 @@ met_whole register May met whole (inr broken) = absurd (never_both register.is_b
 
 -- WHAT STOPS A CALL
 
+-- what stops a report stops one that may meet more refusals
 pub stops_weaker : {W : Type 0} (May Other : Refusal → Type 0) (w : Writing W) (why : Fault) → ((met : Refusal) → May met → Other met)
     → StopsReport May w why → StopsReport Other w why
 stops_weaker May Other w (Refused met) weaker stops = weaker met stops
@@ -54,6 +55,7 @@ stops_weaker May Other w (Broken why) weaker stops = absurd stops
 
 -- CAUSES
 
+-- what stops a report of what a task may meet stops the task
 pub met_cause : {R W : Type 0} (task : Task) (why : Fault) (s : Streams R W) → StopsReport (MayMeet task) s.output why → StopsTask task s why
 met_cause task (Refused met) s stops = stops
 met_cause task Unwritten s stops = stops
@@ -107,6 +109,7 @@ task_cause task (Into fault) file s stops = absurd stops
 task_cause task Words file s stops = absurd stops
 task_cause task (Broken why) file s stops = (task, refl, stops)
 
+-- what stops a report is a cause of its fault, whichever file it is of
 pub report_cause : {R W : Type 0} (report : Report) (why : Fault) (file : Option (List ℕ)) (s : Streams R W)
     → StopsReport (MayMeet (Write report)) s.output why → HasCause (Some (Write report)) file s why
 report_cause report why file s stops = task_cause (Write report) why file s (met_cause (Write report) why s stops)
@@ -117,6 +120,7 @@ unfilled path Unnamed is = absurd is
 unfilled path Absent is = refl
 unfilled path Empty is = refl
 
+-- a named file may be without what is missing, if anything is, and that is not the name
 pub unfilled_of : (path : List ℕ) (missing : Option Missing) → IfSome missing IsUnfilled → IfSome missing (IsMissing (Some path))
 unfilled_of path None is = tt
 unfilled_of path (Some missing) is = unfilled path missing is
@@ -244,6 +248,7 @@ pub whole_front : {W : Type 0} (w : Writing W) (text : List ℕ) → WritesText 
 whole_front w text all =
     (length text, subst (λ (t : List ℕ). Appends (bytes_before w) (bytes_after w) t) (sym (take_all (length text) text (omega arith))) all)
 
+-- what holds holds if there is an error
 pub on_err : {T E X : Type 0} (r : Result T E) → X → OnErr r X
 on_err (Ok v) x = tt
 on_err (Err e) x = x

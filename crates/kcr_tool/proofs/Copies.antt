@@ -14,6 +14,7 @@ no_doubt true true p q = refl
 no_doubt true false p q = cc
 no_doubt false file p q = cc
 
+-- over files that are clean the disk is clean
 pub never_in_doubt : {D : Type 0} {g : Ghosts D} → ((file : D) → g.is_clean file ≡ true) → (conn : Held (FileStore D g)) → HasCleanDisk (file_state conn)
 unfolding state
 never_in_doubt clean conn = no_doubt _ _ (clean _) (clean _)

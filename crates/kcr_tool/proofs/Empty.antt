@@ -10,6 +10,7 @@ use Rattle.kcr_store.specs.Calls.{OfHistory}
 use Rattle.kcr_store.specs.Register.{RegisterState}
 use Rattle.kcr_verify.specs.Verification.{IsFresh}
 
+-- the disk of a register in memory is clean
 pub never_in_doubt : (conn : Held MemStore) → HasCleanDisk (state over_memory conn)
 unfolding doubt
 never_in_doubt conn = refl

@@ -25,10 +25,12 @@ pub noted_of : {W : Type 0} (May Other : Type 0) (report : Report) (file : Optio
     → IsNoted Other (Some (Write report)) file w
 noted_of May Other report file w weaker noted = inr (report, refl, noted_weaker May Other file w weaker noted)
 
+-- what a report may note is noted by the task that writes it
 pub noted_by : {W : Type 0} (May : Type 0) (report : Report) (file : Option (List ℕ)) (w : Writing W) → IsNotedOf May file w
     → IsNoted May (Some (Write report)) file w
 noted_by May report file w noted = inr (report, refl, noted)
 
+-- what a task noted for one reason it may note for another that follows
 pub task_noted : {W : Type 0} (May Other : Type 0) (task : Option Task) (file : Option (List ℕ)) (w : Writing W) → (May → Other) → IsNoted May task file w
     → IsNoted Other task file w
 task_noted May Other task file w weaker (inl same) = inl same
@@ -39,6 +41,7 @@ pub asked_of_fault : {E : Type 0} (is_explained : Bool) (why : E) → MayNote is
 asked_of_fault is_explained why (inl is) = is
 asked_of_fault is_explained why (inr same) = cc
 
+-- beside a finding notes are told only if they are asked for
 pub asked_of_finding : {E : Type 0} (is_explained : Bool) (status : ℕ) → status ≡ 1 → MayNote {E = E} is_explained (Ok status) → IsTrue is_explained
 asked_of_finding is_explained status one (inl is) = is
 asked_of_finding is_explained status one (inr same) = let zero : status ≡ 0 = cc in absurd (omega (arith, zero, one))

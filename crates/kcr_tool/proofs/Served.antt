@@ -7,6 +7,7 @@ use Rattle.kcr_store.specs.Register.{RegisterHistory, RegisterState, StandsAt}
 use Rattle.kcr_fault.specs.declared.fault.Fault.{Fault}
 use Rattle.kcr_tool.specs.Runs.{ConnectsUpTo, ServesTo}
 
+-- connections lead by runs of the machine from the history of a register to the one after them
 pub served_to : {S T : Type 0} (g : Ghosts S) (connections : ℕ) (old new : RegisterState S) (result : Result T Fault)
     → ConnectsUpTo g connections old new result → HasCleanDisk (state g new.conn) → (s : RegisterHistory) → StandsAt g s old
     → (after : RegisterHistory) × StandsAt g after new × ServesTo s after connections result

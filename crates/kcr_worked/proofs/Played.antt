@@ -29,6 +29,7 @@ is_no_better A c t seats people others = not (is_seating A c t seats others) || 
 abbrev pub is_first_by_trial : History → ℕ → ℕ → List Seat → List (List ℕ) → Bool
 is_first_by_trial A c t seats people = is_seating A c t seats people && every (is_no_better A c t seats people) (present A c t) (length seats)
 
+-- a seating that trying every list confirms as the first is the first
 pub first_by_trial : (A : History) (c t : ℕ) (seats : List Seat) (people : List (List ℕ)) → is_first_by_trial A c t seats people ≡ true
     → IsFirst A c t seats people
 first_by_trial A c t seats people h = record { seating = parts.0; first = better }
@@ -55,6 +56,7 @@ pub record Played : Type 0 where
   pub history : History
   pub fillings : List Filling
 
+-- seats are filled, or lack people, as the next filling says, if trying every list confirms it
 abbrev pub fill : History → Act → SeatRequest → List Filling → Option Played
 fill A act s [] = None
 fill A act s (Seated people ∷ fillings) =
@@ -66,10 +68,12 @@ fill A act s (Lacking positions ∷ fillings) =
     then Some (record { outcome = Refuses (Short (map suc positions)); history = A; fillings = fillings })
     else None
 
+-- an act that needs no seats is accepted, and the seats of another are filled
 abbrev pub seat_if : History → Act → Option SeatRequest → List Filling → Option Played
 seat_if A act None fillings = Some (record { outcome = Accepts (reply_to A act None); history = with_act A act None; fillings = fillings })
 seat_if A act (Some s) fillings = fill A act s fillings
 
+-- an act with a refusal is refused and changes nothing, and another takes its seats
 abbrev pub act_if : History → Act → Option Refusal → Option SeatRequest → List Filling → Option Played
 act_if A act (Some refusal) s fillings = Some (record { outcome = Refuses refusal; history = A; fillings = fillings })
 act_if A act None s fillings = seat_if A act s fillings
@@ -143,6 +147,7 @@ are_steps A (said ∷ rest) fillings A' e =
     let told = same-is (outcome_text p.0.outcome) said.1 t.0 in
     (p.0.outcome, p.0.history, play_is_step A said.0 fillings p.0 p.1, told, are_steps p.0.history rest p.0.fillings A' t.1)
 
+-- commands that were played to a history are answered so by the machine
 pub answered : (A : History) (exchanges : List (Act × List ℕ)) (fillings : List Filling) (A' : History) → plays A exchanges fillings ≡ Some A'
     → AreAnswered A exchanges A'
 answered A exchanges fillings A' e = record { steps = are_steps A exchanges fillings A' e }

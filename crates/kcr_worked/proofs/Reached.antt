@@ -21,6 +21,7 @@ signing =
     ∷ (Sign 61 1 (clock 20 10 0), codes "{\"accepted\":18,\"seating\":[\"BB\",\"AA\"],\"step\":1}")
     ∷ []
 
+-- the history after two people signed a step is that of a register
 pub two_signed : IsRegister signed_by_two
 unfolding rows_on_literals signing
 two_signed =
@@ -44,6 +45,7 @@ sealing =
     ∷ (leave (AA ∷ BB ∷ []) (clock 20 15 0), codes "{\"accepted\":23}")
     ∷ []
 
+-- the history after an item was sealed into a second bag is that of a register
 pub bag_lies : IsRegister bag_on_table
 unfolding rows_on_literals sealing
 bag_lies =
