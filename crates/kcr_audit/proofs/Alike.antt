@@ -16,7 +16,8 @@ use Rattle.kcr_room.specs.declared.Way.{Way}
 use Rattle.kcr_room.specs.Room.{enters, later_row, last_onto, last_row, last_enters, is_of, in_by, headcount_by}
 use Rattle.kcr_room.specs.Requests.{is_out_of_turn, is_out_of_turn_by, new_row}
 use Rattle.kcr_history.specs.declared.commands.Act.{Act}
-use Rattle.kcr_history.specs.declared.commands.Act.TheVariants.{RecordSheet}
+use Rattle.kcr_history.specs.declared.commands.Act.TheVariants.{Ceremony}
+use Rattle.kcr_history.specs.declared.commands.Deed.TheVariants.{RecordSheet}
 use Rattle.kcr_history.specs.History.{History}
 use Rattle.kcr_history.specs.Room.{sheet, sheet_after}
 use Rattle.kcr_history.specs.Conditions.{conditions, fault}
@@ -136,8 +137,8 @@ alike-more rows c way at people turn alike r o h k same e d = by_parts (in-appen
     by_parts (inr g) (inr n) = ap (enters d) (new-of c way at people r g).2 ∙ sym (ap (enters d) (new-of c way at people o n).2)
 
 alike-after : (A : History) (act : Act) → fault A act ≡ None → AreAlike (sheet A) → AreAlike (sheet_after act (sheet A))
-alike-after A (RecordSheet c way people at) f ih =
-    let n = none_holds (conditions A (RecordSheet c way people at)) f in
+alike-after A (Ceremony c at (RecordSheet way people)) f ih =
+    let n = none_holds (conditions A (Ceremony c at (RecordSheet way people))) f in
     alike-more (sheet A) c way at people (turns A c way at people (assumption n)) ih
 alike-after A act f ih = ih
 

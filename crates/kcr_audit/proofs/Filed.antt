@@ -13,7 +13,8 @@ use Rattle.kcr_base.specs.declared.refusal.Thing.TheVariants as Things
 use Rattle.kcr_script.specs.declared.seat.Seat.{Seat}
 use Rattle.kcr_script.specs.declared.seat.Seat.TheVariants.{Staff}
 use Rattle.kcr_history.specs.declared.commands.Act.{Act}
-use Rattle.kcr_history.specs.declared.commands.Act.TheVariants.{Sign, RecordException}
+use Rattle.kcr_history.specs.declared.commands.Act.TheVariants.{Ceremony}
+use Rattle.kcr_history.specs.declared.commands.Deed.TheVariants.{Sign, RecordException}
 use Rattle.kcr_history.specs.declared.commands.ReplyData.{ReplyData}
 use Rattle.kcr_history.specs.declared.row_types.SeatingRow.{SeatingRow}
 use Rattle.kcr_history.specs.declared.row_types.StepState.{StepState}
@@ -107,11 +108,11 @@ module _ (A B : History) (c k : ℕ) where
 
   files_to : (act : Act) (people : Option (List (List ℕ))) → fault B act ≡ None
       → Files A B c k (filed_by act (reply_to B act people)) (IsSeated A act (reply_to B act people)) (step_done c k act (reply_to B act people).step)
-  files_to (Sign d step at) None f = files_none (d == c && step == k) (Signed, at)
-  files_to (Sign d step at) (Some people) f = files_rows d step (Signed, at) people (none_holds (conditions B (Sign d step at)) f).0 (next_signed B d step at f)
-  files_to (RecordException d text true at) None f = files_none (d == c && next_step B d == k) (Passed, at)
-  files_to (RecordException d text true at) (Some people) f = files_rows d (next_step B d) (Passed, at) people
-      (none_holds (conditions B (RecordException d text true at)) f).0 refl
+  files_to (Ceremony d at (Sign step)) None f = files_none (d == c && step == k) (Signed, at)
+  files_to (Ceremony d at (Sign step)) (Some people) f = files_rows d step (Signed, at) people (none_holds (conditions B (Ceremony d at (Sign step))) f).0 (next_signed B d step at f)
+  files_to (Ceremony d at (RecordException text true)) None f = files_none (d == c && next_step B d == k) (Passed, at)
+  files_to (Ceremony d at (RecordException text true)) (Some people) f = files_rows d (next_step B d) (Passed, at) people
+      (none_holds (conditions B (Ceremony d at (RecordException text true))) f).0 refl
   files_to act people f = refl
 
   files : (entry : Entry) → Took B entry

@@ -14,3 +14,4 @@ mod seating;
 
 pub use findings::audit;
 pub use laws::registers_pass;
+pub use seating::{ceremony_in, is_seating};

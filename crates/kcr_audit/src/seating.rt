@@ -84,7 +84,7 @@ fn is_eligible(
 }
 
 /// Whether the people, all distinct, are each eligible for the seat in their position.
-fn is_seating(
+pub fn is_seating(
     view: &FullView,
     ceremony: &CeremonyRow,
     at: Moment,
@@ -201,7 +201,7 @@ fn is_done(state: StepState) -> bool
 }
 
 /// The row of the ceremony.
-fn ceremony_in(view: &FullView, number: u32) -> Option<CeremonyRow>
+pub fn ceremony_in(view: &FullView, number: u32) -> Option<CeremonyRow>
     ensures { result ≡ Audit.ceremony_in view.now number }
 {
     view.view

@@ -3,6 +3,7 @@ ghost use Rattle.std.specs.Prelude.{◌≡◌, ◌⊎◌, ◌<◌, ◌≤◌, fa
 ghost use Rattle.sqlite.specs.Held.{state};
 ghost use Rattle.sqlite.specs.State.{HasCleanDisk};
 ghost use Rattle.kcr_desk.specs.declared.answer.TheConstants.{MAX_FEED_COMMANDS};
+ghost use Rattle.kcr_forms.specs.Acts.{IsAct};
 ghost use Rattle.kcr_store.specs.Commands.{IsQuestionResult};
 ghost use Rattle.kcr_store.specs.ShownBy.{IsQuestionResultBy};
 ghost use Rattle.kcr_wire.specs.declared.method.Method.TheVariants.{Ask, Post};
@@ -23,7 +24,6 @@ use crate::responder::{Request, Responder};
 use crate::response::{Body, Heading, MediaType, Response, refusal_heading};
 use http::StatusCode;
 use kcr_base::{CeremonyNumber, Counted, Refusal, Text, Thing};
-use kcr_forms::laws::acts_are_values;
 use kcr_history::{Command, Question, fixed_text};
 use kcr_print::{PrintFault, annotated, attendance_csv, custody, export};
 use kcr_store::Register;
@@ -88,9 +88,9 @@ fn answer_command<S: Alter>(
     register: &mut Register<S>,
     command: &Command,
 ) -> Response
+    requires { IsAct command.now.act }
     ensures { AnswersCommand S.Store register.old (response_value result) register.new command.now }
 {
-    acts_are_values(&command.act);
     match register.apply(command) {
         Ok(reply) => json_response(reply.text),
         Err(refusal) => refusal_response(alloc, None, &refusal),

@@ -25,6 +25,7 @@ first-place byte x y lacks =
     (λ k h. rw (get_or-append x (byte ∷ y) 0 k h) (All-get_or (λ b. eqb b byte ≡ false) x k 0 h lacks))
     (λ h. rw (get_or-append_seam x byte y 0) (eq-eqb byte byte refl))
 
+-- a text is cut at the first such byte
 pub cut-again : (byte : ℕ) (x y : List ℕ) → Lacks byte x → split_at_byte byte (x ++ byte ∷ y) ≡ Some (x, y)
 unfolding split_at_byte
 cut-again byte x y lacks =
@@ -34,6 +35,7 @@ cut-again byte x y lacks =
     ap (option_map (λ i. (take i (x ++ byte ∷ y), drop (i + 1) (x ++ byte ∷ y)))) at
     ∙ (λ j. Some (take-append_seam x (byte ∷ y) j, drop-append-add x (byte ∷ y) 1 j))
 
+-- the byte is not found in a text that lacks it
 pub nowhere : (byte : ℕ) (text : List ℕ) → Lacks byte text → position (λ b. eqb b byte) text ≡ None
 nowhere byte text lacks =
     let past : position_or_len (λ b. eqb b byte) text ≡ length text =

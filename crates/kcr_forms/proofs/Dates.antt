@@ -21,6 +21,7 @@ date-same y m d z n e same =
 same-number : (y m d a b : ℕ) → IsDayOf y m d a → IsDayOf y m d b → a ≡ b
 same-number y m d a b is_a is_b = let same : pos a ≡ pos b = sym is_a.number ∙ is_b.number in cc
 
+-- days with one text are one
 pub day-same : (m n : ℕ) → IsDay m → IsDay n → day_text m ≡ day_text n → m ≡ n
 day-same m n is_m is_n e =
     let p = parts_of_day m is_m in
@@ -38,6 +39,7 @@ clock-same s t same =
     let second : s % 60 ≡ t % 60 = tens-same (s % 60) (t % 60) (at 7) (at 8) in
     omega (arith, hour, minute, second)
 
+-- moments with one text are one
 pub moment-same : (s t : ℕ) → IsMoment s → IsMoment t → moment_text s ≡ moment_text t → s ≡ t
 moment-same s t is_s is_t e =
     let p = moment_parts s (moment_text t) e in
@@ -48,10 +50,12 @@ moment-same s t is_s is_t e =
 
 -- ---- their bytes
 
+-- a day's text has no control character
 pub day-printing : (n : ℕ) → AtLeast 32 (day_text n)
 unfolding day_text
 day-printing n = All-from_recursion (λ b. 32 ≤ b) (day_text n) (search (rules, arith))
 
+-- nor has a moment's
 pub moment-printing : (n : ℕ) → AtLeast 32 (moment_text n)
 unfolding moment_text day_text
 moment-printing n =

@@ -8,6 +8,7 @@ use Rattle.kcr_base.specs.Forms.{item_of, serial_of, name_of, remark_of, line_of
 use Rattle.kcr_base.proofs.FormLemmas.{if_form-is, within-from, within-to}
 use Rattle.kcr_forms.specs.Forms.{is_between, number_to, listed_of}
 
+-- a reader that answers a number exactly if it is of 1 to the limit reads as `number_to`
 pub number-new : (limit n : ℕ) (r : Option ℕ) → SomeIff r (IsNumber limit n) n → r ≡ number_to limit n
 unfolding number_to
 number-new limit n r h =
@@ -20,6 +21,7 @@ pub number-large : (limit n : ℕ) → (n ≤ limit → ⊥) → number_to limit
 unfolding number_to
 number-large limit n h = rw (false_from_ne_true (is_between 1 limit n) (λ e. h (within-from 1 limit n e).1))
 
+-- a reader that answers a list exactly if its values may be listed reads as `listed_of`
 pub listed_new : {V : Type 0} (limit : ℕ) (texts : List V → List (List ℕ)) (list : List V) (r : Option (List V))
     → SomeIff r (IsListed limit (texts list)) list → r ≡ listed_of limit texts list
 unfolding listed_of
@@ -32,11 +34,14 @@ listed_new limit texts list r h =
 
 -- ---- readers by another name
 
+-- an item's code is read as a serial
 pub item_form : item_of ≡ serial_of
 item_form = refl
 
+-- a name is read as a line of 120 bytes
 pub name_form : name_of ≡ line_of 120
 name_form = refl
 
+-- a remark is read as a line of the greatest length
 pub remark_form : remark_of ≡ line_of 1000
 remark_form = refl

@@ -1,17 +1,18 @@
 -- The readers of the forms read the texts of their values and no others.
-use Rattle.std.proofs.Common.{◌≡◌, ℕ, ◌+◌, ◌≤◌, ◌<◌, ◌⊎◌, Bool, true, false, ◌&&◌, eqb, nat_le, List, [], ◌∷◌, suc}
-use Rattle.std.proofs.Common.{length, get_or, codes, Option, Some, refl, sym, ap, ◌∙◌, arith, All}
+use Rattle.std.proofs.Common.{◌≡◌, ℕ, ◌+◌, ◌-◌, ◌*◌, ◌≤◌, ◌<◌, ◌⊎◌, Bool, true, false, cond, ◌&&◌, eqb, nat_le, List, [], ◌∷◌, ◌++◌, suc}
+use Rattle.std.proofs.Common.{length, get_or, map, codes, Option, Some, option_map, if◌then◌else◌, IfSome, refl, sym, ap, ◌∙◌, arith, All}
 use Rattle.std.specs.Bool.{⊤}
 use Rattle.std.specs.Fmt.{decimal}
 use Rattle.std.specs.Int.Digits.{digits_of}
-use Rattle.std.specs.List.{find, list_all}
-use Rattle.std.specs.Str.{IsUtf8}
+use Rattle.std.specs.List.{AllByRecursion, find, list_all, range_with_len}
+use Rattle.std.specs.Str.{IsUtf8, is_utf8}
 use Rattle.std.specs.Cmp.Lexicographic.{same_text as equal_texts}
 use Rattle.std.proofs.lemmas.Bool.{leb-true, and_parts}
+use Rattle.std.proofs.lemmas.Bool.Decides.{nat_tests}
 use Rattle.std.proofs.lemmas.Fmt.{decimal_injective, decimal-digits_of, IsAscii-decimal}
 use Rattle.std.proofs.lemmas.List.Elements.{All-get_or, All-nil, All-weaker, All-map, All-append, All-head, All-tail, All-from_recursion}
 use Rattle.std.proofs.lemmas.List.Sums.{AllPass-from_list_all}
-use Rattle.std.proofs.lemmas.Str.{IsUtf8-from_ascii}
+use Rattle.std.proofs.lemmas.Str.{IsUtf8-from_ascii, IsUtf8-from_is_utf8}
 use Rattle.std.proofs.lemmas.List.Splits.{slice_split_none, slice_split_at}
 use Rattle.kcr_base.specs.Same.{same_text}
 use Rattle.kcr_base.specs.Day.{IsDay, day_text}
@@ -21,7 +22,7 @@ use Rattle.kcr_base.specs.Line.{IsPrinting, IsLine}
 use Rattle.kcr_base.specs.Moment.{IsMoment, moment_text}
 use Rattle.kcr_base.specs.Number.{IsNumber}
 use Rattle.kcr_base.specs.Reads.{HasText, ReadsText}
-use Rattle.kcr_base.specs.Place.{IsPlace, place_text}
+use Rattle.kcr_base.specs.Place.{IsPlace, IsPlaceNumber, place_text}
 use Rattle.kcr_base.specs.Role.{role_text}
 use Rattle.kcr_base.specs.Serial.{IsDigit, IsSerial}
 use Rattle.kcr_base.specs.declared.place.Facility.{Facility}
@@ -39,10 +40,13 @@ use Rattle.kcr_room.specs.declared.Way.TheVariants.{Enter, Leave}
 use Rattle.kcr_room.specs.Room.{way_text}
 use Rattle.kcr_history.specs.Texts.{safe_text, truth_text, listed}
 use Rattle.kcr_base.specs.Forms.{by_text, number_by_text, initials_of, serial_of, line_of, name_of, remark_of, day_of}
+use Rattle.kcr_base.specs.Forms.{is_between, is_capital, is_serial_byte, is_printing, is_initials, is_serial, is_line}
 use Rattle.kcr_base.specs.Forms.{moment_of, ceremony_of, box_of, step_of, role_of, facility_of, places, place_of, script_of}
 use Rattle.kcr_base.proofs.DayLemmas.{day_ascii, moment_ascii}
-use Rattle.kcr_base.proofs.FormLemmas.{initials-read, serial-read, line-read, script-read}
-use Rattle.kcr_base.proofs.TextLemmas.{number-read}
+use Rattle.kcr_base.specs.declared.limits.TheConstants.{MAX_BOX}
+use Rattle.kcr_base.proofs.FormLemmas.{initials-read, serial-read, line-read, script-read, within-from}
+use Rattle.kcr_base.proofs.ListLemmas.{each-append}
+use Rattle.kcr_base.proofs.TextLemmas.{number-read, each-map, each-range}
 use Rattle.kcr_base.proofs.ValueLemmas.{day-read, moment-read, place-read}
 use Rattle.kcr_custody.specs.Destinations.{IsDestination, destination_text, destination_of}
 use Rattle.kcr_custody.proofs.DestinationLemmas.{number-no_word}
@@ -51,7 +55,7 @@ use Rattle.kcr_forms.specs.Forms.{safe_of, truth_of}
 use Rattle.kcr_forms.specs.Lines.{each_of, between_commas}
 use Rattle.kcr_forms.proofs.Cutting.{Lacks}
 use Rattle.kcr_forms.proofs.Dates.{day-same, moment-same, day-printing, moment-printing}
-use Rattle.kcr_forms.proofs.Readers.{Reads, Value, AtLeast, ascii-utf8, lacks-below, at_least-less}
+use Rattle.kcr_forms.proofs.Readers.{Reads, Value, AtLeast, ascii-utf8, lacks-below, at_least-less, tested, mapped}
 
 -- ---- the bytes of texts
 
@@ -89,6 +93,27 @@ find-at {X} test (x ∷ xs) v e = by (test x) refl (find-at test xs v)
     by true t rest = let first : Some x ≡ Some v = rw t at e in let same : x ≡ v = cc in (0, omega arith, same)
     by false t rest = let r = rest (rw t at e) in (suc r.0, omega (arith, r.1), r.2)
 
+-- what is found among values is one
+found-one : {V : Type 0} (IsValue : V → Type 0) (test : V → Bool) (values : List V) → AllByRecursion IsValue values → IfSome (find test values) IsValue
+found-one IsValue test [] each = tt
+found-one IsValue test (x ∷ xs) each = by (test x) (found-one IsValue test xs each.1)
+  where
+    by : (b : Bool) → IfSome (find test xs) IsValue → IfSome (cond b (Some x) (find test xs)) IsValue
+    by true rest = each.0
+    by false rest = rest
+
+-- the same of numbers from one to another
+number-found : (IsValue : ℕ → Type 0) (text_of : ℕ → List ℕ) (low high : ℕ) → ((n : ℕ) → low ≤ n → n ≤ high → IsValue n)
+    → (text : List ℕ) → IfSome (number_by_text text_of low high text) IsValue
+unfolding number_by_text
+number-found IsValue text_of low high is text =
+    found-one IsValue _ (range_with_len low (high + 1 - low)) (each-range IsValue low (high + 1 - low) (λ n from below. is n from (omega (arith, from, below))))
+
+-- of some values all is known
+each-known : {V : Type 0} (values : List V) → AllByRecursion (λ _. ⊤) values
+each-known [] = tt
+each-known (v ∷ values) = (tt, each-known values)
+
 -- a reader of the values reads each again, if no two have one text
 again-by : {V : Type 0} {IsValue : V → Type 0} {text_of : V → List ℕ} {read : List ℕ → Option V}
     → ((bytes : List ℕ) (r : Option V) → HasText IsValue text_of bytes r → ReadsText IsValue text_of bytes r → r ≡ read bytes)
@@ -105,23 +130,36 @@ text-passes text_of values again test all v is =
 
 -- listed values whose texts are printing ASCII
 texts-value : {V : Type 0} {IsValue : V → Type 0} (text_of : V → List ℕ) (values : List V) → Reads IsValue text_of (by_text text_of values)
-    → list_all (λ v. list_all is_plain (text_of v)) values ≡ true → Value IsValue text_of (by_text text_of values)
-texts-value text_of values again all = record {
+    → AllByRecursion IsValue values → list_all (λ v. list_all is_plain (text_of v)) values ≡ true → Value IsValue text_of (by_text text_of values)
+texts-value {IsValue = IsValue} text_of values again each all = record {
   again = again;
+  found = λ text. found-one IsValue _ values each;
   printing = λ v is. (plain (text_of v) (text-passes text_of values again (list_all is_plain) all v is)).0;
   utf8 = λ v is. (plain (text_of v) (text-passes text_of values again (list_all is_plain) all v is)).1;
 }
 
+day-found : (text : List ℕ) → IfSome (day_of text) IsDay
+unfolding day_of
+day-found = number-found IsDay day_text 10957 47481 (λ n low high. record { from = low; until = omega (arith, high) })
+
+-- the reader of days
 pub days : Value IsDay day_text day_of
 days = record {
   again = again-by day-read day-same;
+  found = day-found;
   printing = λ v _. day-printing v;
   utf8 = λ v is. ascii-utf8 (day_text v) (day_ascii v is);
 }
 
+moment-found : (text : List ℕ) → IfSome (moment_of text) IsMoment
+unfolding moment_of
+moment-found = number-found IsMoment moment_text (10957 * 86400) (47481 * 86400 + 86399) (λ n low high. record { from = low; until = omega (arith, high) })
+
+-- the reader of moments
 pub moments : Value IsMoment moment_text moment_of
 moments = record {
   again = again-by moment-read moment-same;
+  found = moment-found;
   printing = λ v _. moment-printing v;
   utf8 = λ v is. ascii-utf8 (moment_text v) (moment_ascii v is);
 }
@@ -131,18 +169,22 @@ decimals limit few = record {
   again = again-by
       (λ bytes r. number-read (IsNumber limit) decimal 1 limit bytes r (λ n low high. record { from = low; until = high }) (λ n is. (is.from, is.until)))
       (λ m n is_m is_n e. decimal_injective m n (omega (arith, few, is_m.until)) (omega (arith, few, is_n.until)) e);
+  found = number-found (IsNumber limit) decimal 1 limit (λ n low high. record { from = low; until = high });
   printing = λ v is. at_least-less 48 32 (decimal v) (omega arith) (number-at_least limit v few is);
   utf8 = λ v is. IsUtf8-from_ascii (decimal v) (IsAscii-decimal v (omega (arith, few, is.until)));
 }
 
+-- the reader of ceremonies' numbers
 pub ceremonies : Value (IsNumber 9999) decimal ceremony_of
 unfolding ceremony_of
 ceremonies = decimals 9999 (omega arith)
 
+-- the reader of boxes' numbers
 pub boxes : Value (IsNumber 9999) decimal box_of
 unfolding box_of
 boxes = decimals 9999 (omega arith)
 
+-- the reader of steps' numbers
 pub steps : Value (IsNumber 400) decimal step_of
 unfolding step_of
 steps = decimals 400 (omega arith)
@@ -157,31 +199,35 @@ role-again Ssc2 = refl
 role-again Rkos = refl
 role-again Sw = refl
 
+-- the reader of roles
 pub roles : Value (λ _. ⊤) role_text role_of
 unfolding role_of
 roles =
     let all = Ca ∷ Iw ∷ Sa ∷ Ssc1 ∷ Ssc2 ∷ Rkos ∷ Sw ∷ [] in
-    texts-value role_text all (λ v _. role-again v) refl
+    texts-value role_text all (λ v _. role-again v) (each-known all) refl
 
+-- the reader of facilities
 pub facilities : Value (λ _. ⊤) facility_text facility_of
 unfolding facility_of
-facilities = texts-value facility_text (East ∷ West ∷ []) (λ v _. again v) refl
+facilities = texts-value facility_text (East ∷ West ∷ []) (λ v _. again v) (each-known (East ∷ West ∷ [])) refl
   where
     again : (v : Facility) → facility_of (facility_text v) ≡ Some v
     again East = refl
     again West = refl
 
+-- the reader of ways into the room and out of it
 pub ways : Value (λ _. ⊤) way_text way_of
 unfolding way_of
-ways = texts-value way_text (Enter ∷ Leave ∷ []) (λ v _. again v) refl
+ways = texts-value way_text (Enter ∷ Leave ∷ []) (λ v _. again v) (each-known (Enter ∷ Leave ∷ [])) refl
   where
     again : (v : Way) → way_of (way_text v) ≡ Some v
     again Enter = refl
     again Leave = refl
 
+-- the reader of safes' numbers
 pub safes : Value (λ _. ⊤) safe_text safe_of
 unfolding safe_of
-safes = texts-value safe_text (One ∷ Two ∷ []) (λ v _. again v) refl
+safes = texts-value safe_text (One ∷ Two ∷ []) (λ v _. again v) (each-known (One ∷ Two ∷ [])) refl
   where
     again : (v : SafeNumber) → safe_of (safe_text v) ≡ Some v
     again One = refl
@@ -200,49 +246,111 @@ place-same (Co West n) (Co East m) e = let apart : 87 ≡ 69 = byte 3 e in absur
 place-same (Co facility n) (Rksh m) e = let apart : 67 ≡ 82 = byte 0 e in absurd (omega (arith, apart))
 place-same (Rksh n) (Co facility m) e = let apart : 82 ≡ 67 = byte 0 e in absurd (omega (arith, apart))
 
+-- the numbers 1 to 7 are those of places
+abbrev seven : List ℕ
+seven = range_with_len 1 7
+
+each-place : AllByRecursion IsPlace places
+each-place =
+    let each : AllByRecursion IsPlaceNumber seven = each-range IsPlaceNumber 1 7 (λ k low high. (low, omega (arith, high))) in
+    each-append IsPlace (map (Co East) seven) (map (Co West) seven ++ map Rksh seven) (each-map IsPlace (Co East) seven each)
+    (each-append IsPlace (map (Co West) seven) (map Rksh seven) (each-map IsPlace (Co West) seven each) (each-map IsPlace Rksh seven each))
+
+-- the reader of places
 pub places-read : Value IsPlace place_text place_of
 unfolding place_of
-places-read = texts-value place_text places (again-by place-read (λ v w _ _. place-same v w)) refl
+places-read = texts-value place_text places (again-by place-read (λ v w _ _. place-same v w)) each-place refl
 
+-- a place's text passes a test that the texts of all places pass
 pub place-passes : (test : List ℕ → Bool) → list_all (λ v. test (place_text v)) places ≡ true → (v : Place) → IsPlace v → test (place_text v) ≡ true
 unfolding place_of
 place-passes = text-passes place_text places places-read.again
 
 -- ---- texts that are their own value
 
+-- a text whose length is in this range, and whose bytes each pass a test
+sized : (low high : ℕ) (p : ℕ → Bool) (P : ℕ → Type 0) (text : List ℕ) → ((b : ℕ) → p b ≡ true → P b)
+    → (is_between low high (length text) && list_all p text) ≡ true → (low ≤ length text) × (length text ≤ high) × All P text
+sized low high p P text is test =
+    let parts = and_parts (is_between low high (length text)) (list_all p text) test in
+    let long = within-from low high (length text) parts.0 in
+    (long.0, long.1, All-weaker (λ b. p b ≡ true) P is text (AllPass-from_list_all p text parts.1))
+
+initials-found : (text : List ℕ) → IfSome (initials_of text) IsInitials
+unfolding initials_of is_initials
+initials-found text =
+    tested IsInitials (is_initials text) text
+    (λ e. let s = sized 2 4 is_capital IsCapital text (within-from 65 90) e in record { at_least_two = s.0; at_most_four = s.1; capitals = s.2 })
+
+-- the reader of initials
 pub initials : Value IsInitials (λ text. text) initials_of
 initials = record {
   again = λ v is. sym (initials-read (Some v) v (is, refl));
+  found = initials-found;
   printing = λ v is. at_least-less 65 32 v (omega arith) (initials-at_least v is);
   utf8 = λ v is. ascii-utf8 v (All-weaker IsCapital (λ b. b < 128) (λ b h. omega (arith, h.1)) v is.capitals);
 }
 
+serial_byte : (b : ℕ) → is_serial_byte b ≡ true → IsCapital b ⊎ IsDigit b
+serial_byte b h = grind (arith, nat_tests)
+
+serial-found : (text : List ℕ) → IfSome (serial_of text) IsSerial
+unfolding serial_of is_serial
+serial-found text =
+    tested IsSerial (is_serial text) text
+    (λ e. let s = sized 4 16 is_serial_byte (λ b. IsCapital b ⊎ IsDigit b) text serial_byte e in record { at_least_four = s.0; at_most_sixteen = s.1; each = s.2 })
+
+-- the reader of bags' serials and of items' codes
 pub serials : Value IsSerial (λ text. text) serial_of
 serials = record {
   again = λ v is. sym (serial-read (Some v) v (is, refl));
+  found = serial-found;
   printing = λ v is. at_least-less 48 32 v (omega arith) (serial-at_least v is);
   utf8 = λ v is. ascii-utf8 v (All-weaker (λ b. IsCapital b ⊎ IsDigit b) (λ b. b < 128) (λ b h. grind arith) v is.each);
 }
 
+printing_byte : (b : ℕ) → is_printing b ≡ true → IsPrinting b
+printing_byte b h = (grind (arith, nat_tests), λ e. grind (arith, nat_tests))
+
+line-found : (limit : ℕ) (text : List ℕ) → IfSome (line_of limit text) (IsLine limit)
+unfolding line_of is_line
+line-found limit text =
+    tested (IsLine limit) (is_line limit text) text
+    (λ e. let parts = and_parts (is_between 1 limit (length text)) (is_utf8 text && list_all is_printing text) e in
+    let rest = and_parts (is_utf8 text) (list_all is_printing text) parts.1 in
+    let long = within-from 1 limit (length text) parts.0 in
+    let each = All-weaker (λ b. is_printing b ≡ true) IsPrinting printing_byte text (AllPass-from_list_all is_printing text rest.1) in
+    record { not_empty = long.0; short = long.1; text = IsUtf8-from_is_utf8 text rest.0; printing = each })
+
 lines-read : (limit : ℕ) → Value (IsLine limit) (λ text. text) (line_of limit)
 lines-read limit = record {
   again = λ v is. sym (line-read limit (Some v) v (is, refl));
+  found = line-found limit;
   printing = λ v is. All-weaker IsPrinting (λ b. 32 ≤ b) (λ b h. h.0) v is.printing;
   utf8 = λ v is. is.text;
 }
 
+-- the reader of names
 pub names : Value (IsLine 120) (λ text. text) name_of
 names = lines-read 120
 
+-- the reader of remarks
 pub remarks : Value (IsLine 1000) (λ text. text) remark_of
 remarks = lines-read 1000
 
+-- a script is read again from its text
 pub scripts : Reads IsUtf8 (λ text. text) script_of
 scripts v is = sym (script-read (Some v) v (is, refl))
 
+-- what is read as a script is UTF-8
+pub script-found : (text : List ℕ) → IfSome (script_of text) IsUtf8
+unfolding script_of
+script-found text = tested IsUtf8 (is_utf8 text) text (IsUtf8-from_is_utf8 text)
+
+-- the reader of truth values
 pub truths : Value (λ _. ⊤) truth_text truth_of
 unfolding truth_of
-truths = texts-value truth_text (true ∷ false ∷ []) (λ v _. again v) refl
+truths = texts-value truth_text (true ∷ false ∷ []) (λ v _. again v) (each-known (true ∷ false ∷ [])) refl
   where
     again : (v : Bool) → truth_of (truth_text v) ≡ Some v
     again true = refl
@@ -263,21 +371,33 @@ destination-plain : (v : Destination) → IsDestination v → AtLeast 32 (destin
 destination-plain SafeOne is = plain (codes "safe1") refl
 destination-plain (DepositBox n) is = (boxes.printing n is, boxes.utf8 n is)
 
+destination-found : (text : List ℕ) → IfSome (destination_of text) IsDestination
+unfolding destination_of
+destination-found text = by (same_text text (codes "safe1"))
+  where
+    by : (b : Bool) → IfSome (if b then Some SafeOne else option_map DepositBox (box_of text)) IsDestination
+    by true = tt
+    by false = mapped (IsNumber MAX_BOX) IsDestination DepositBox (λ n is. is) (box_of text) (boxes.found text)
+
+-- the reader of destinations of bags
 pub destinations : Value IsDestination destination_text destination_of
 destinations = record {
   again = destination-again;
+  found = destination-found;
   printing = λ v is. (destination-plain v is).0;
   utf8 = λ v is. (destination-plain v is).1;
 }
 
 -- ---- lists
 
+-- each code of a list is read again
 pub each-again : (IsValue : List ℕ → Type 0) (read : List ℕ → Option (List ℕ)) → Reads IsValue (λ text. text) read → (list : List (List ℕ))
     → All IsValue list → each_of read list ≡ Some list
 each-again IsValue read reads [] each = refl
 each-again IsValue read reads (code ∷ codes) each =
     rw (reads code (All-head IsValue code codes each), each-again IsValue read reads codes (All-tail IsValue code codes each)) refl
 
+-- a list is cut at its commas into its codes
 pub pieces : (list : List (List ℕ)) → 1 ≤ length list → All (λ code. Lacks 44 code) list → between_commas (listed list) ≡ list
 pieces [] some each = absurd (omega (arith, some))
 pieces (code ∷ []) some each = slice_split_none (λ b. eqb b 44) code (All-head (λ c. Lacks 44 c) code [] each)
@@ -302,5 +422,6 @@ codes-feed IsValue printing list each =
 pub initials-lack : (code : List ℕ) → IsInitials code → Lacks 44 code
 initials-lack code is = lacks-below 44 65 code (omega arith) (initials-at_least code is)
 
+-- an item's code has no comma
 pub items-lack : (code : List ℕ) → IsSerial code → Lacks 44 code
 items-lack code is = lacks-below 44 48 code (omega arith) (serial-at_least code is)

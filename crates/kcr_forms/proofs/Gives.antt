@@ -1,8 +1,9 @@
--- A source that gives the members of an act gives the act.
-use Rattle.std.proofs.Common.{◌≡◌, ℕ, List, [], ◌∷◌, ◌++◌, Option, Some, option_and_then, Ok, refl, sym, ap, ◌∙◌, subst}
+-- A source that gives the members of an act gives the act. A source that reads each member by its form gives acts of values.
+use Rattle.std.proofs.Common.{◌≡◌, ℕ, List, [], ◌∷◌, ◌++◌, Option, Some, None, option_and_then, Result, Ok, IfSome, IfOk, refl, sym, ap, ◌∙◌, subst}
 use Rattle.std.specs.Option.{option_map_or}
 use Rattle.kcr_base.specs.Number.{IsNumber}
 use Rattle.kcr_base.specs.declared.refusal.Member.{Member}
+use Rattle.kcr_base.specs.declared.refusal.Refusal.{Refusal}
 use Rattle.kcr_history.specs.Texts.{MemberValue, Whole, members_of, value_text}
 use Rattle.kcr_history.specs.declared.commands.Act.{Act}
 use Rattle.kcr_forms.specs.Acts.{IsAct}
@@ -14,9 +15,11 @@ use Rattle.kcr_forms.specs.Reading.{Reading, formed}
 use Rattle.kcr_forms.specs.Shapes.{Form, ValueOf, Makes, Shape, row, shape}
 use Rattle.kcr_forms.specs.Shapes as shapes
 use Rattle.kcr_forms.specs.Split.{split_at_byte}
+use Rattle.kcr_forms.specs.declared.post.Post.{Post}
 use Rattle.kcr_forms.proofs.Cutting.{Lacks, cut-again}
 use Rattle.kcr_forms.proofs.FormLemmas.{listed_new}
 use Rattle.kcr_forms.proofs.Formed.{ceremonies, truths, each-again, pieces}
+use Rattle.kcr_forms.proofs.Posts.{IsPost, IsRead, EachMade, EachOf, parts-made}
 use Rattle.kcr_forms.proofs.Posts.{post_of, IsAgain, Given, AllGiven, told_as, told, made, members_in, made_by, shaped}
 use Rattle.kcr_forms.proofs.Readers.{no-feed}
 
@@ -35,6 +38,7 @@ module _ {S : Type 0} (r : Reading S) where
       ap (λ v. and_then (formed m.0 v) (λ v. act_by r (n ∷ ms) (make v) (r.rest s))) g.0
       ∙ members-given (n ∷ ms) (make given.0.value) given.1 (r.rest s) g.1
 
+  -- such a source gives the act that the values make
   pub act-given : (of : Shape) (given : AllGiven (members_in of)) (s : S) → Gives r (members_in of) given s → act_of_shape r of s ≡ Ok (made_by of given)
   act-given (row members make) given s g = members-given members make given s g
 
@@ -95,9 +99,34 @@ lines-give (m ∷ n ∷ ms) given =
     let rest = lines_text (told (n ∷ ms) given.1) in
     (line-next m.0 rest m.1 given.0, subst (Gives lines (n ∷ ms) given.1) (sym (left rest m.1 given.0)) (lines-give (n ∷ ms) given.1))
 
+-- the lines of an act give the act
 pub lines-told : (does : Act) → IsAct does → posted_act lines (post_of does) (lines_text (members_of does)) ≡ Ok does
 lines-told does is =
     let has = shaped does is in
     let of = shape (post_of does) in
     ap (λ ms. posted_act lines (post_of does) (lines_text ms)) has.2
     ∙ act-given lines of has.0 (lines_text (told (members_in of) has.0)) (lines-give (members_in of) has.0) ∙ ap Ok has.1
+
+-- ---- a source that reads each member by its form
+
+-- what is read of a member is known, and so is what is made of it
+formed-then : {A B : Type 0} (m : Member) (P : A → Type 0) (Q : B → Type 0) (go : A → Result B Refusal) → ((a : A) → P a → IfOk (go a) Q)
+    → (o : Option A) → IfSome o P → IfOk (and_then (formed m o) go) Q
+formed-then m P Q go is None h = tt
+formed-then m P Q go is (Some a) h = is a h
+
+module _ {S : Type 0} (r : Reading S) (nexts : (m : Member) (form : Form) (s : S) → IfSome (next r m form s) (IsRead form))
+    (lasts : (m : Member) (form : Form) (s : S) → IfSome (last r m form s) (IsRead form)) where
+  act-made : (members : List (Member × Form)) (make : Makes members) → EachMade members make → (s : S) → IfOk (act_by r members make s) IsAct
+  act-made [] make each s = each
+  act-made (m ∷ []) make each s = formed-then m.0 (IsRead m.1) IsAct (λ v. Ok (make v)) each (last r m.0 m.1 s) (lasts m.0 m.1 s)
+  act-made (m ∷ n ∷ ms) make each s =
+      formed-then m.0 (IsRead m.1) IsAct (λ v. act_by r (n ∷ ms) (make v) (r.rest s)) (λ v is. act-made (n ∷ ms) (make v) (each v is) (r.rest s))
+      (next r m.0 m.1 s) (nexts m.0 m.1 s)
+
+  of-shape : (s : Shape) → EachOf s → (from : S) → IfOk (act_of_shape r s from) IsAct
+  of-shape (row members make) each from = act-made members make each from
+
+  -- an act that is posted to a path of values is of values
+  pub posted-values : (p : Post) → IsPost p → (s : S) → IfOk (posted_act r p s) IsAct
+  posted-values p is s = of-shape (shape p) (parts-made p is) s

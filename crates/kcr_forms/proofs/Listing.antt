@@ -15,6 +15,7 @@ module _ {V : Type 0} where
   after_codes done None = None
   after_codes done (Some rest) = Some (done ++ rest)
 
+  -- a code behind those that were read
   pub one_more : (done : List V) (code : V) (rest : Option (List V)) → after_codes (done ++ code ∷ []) rest ≡ after_codes done (option_map (λ r. code ∷ r) rest)
   one_more done code None = refl
   one_more done code (Some r) = ap Some (append_assoc done (code ∷ []) r)

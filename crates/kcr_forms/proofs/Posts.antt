@@ -1,46 +1,58 @@
 -- The path of each act, and its members as values of the path's shape.
-use Rattle.std.proofs.Common.{◌≡◌, ℕ, Bool, true, false, List, [], ◌∷◌, map, codes, Option, Some, All, not, true≢false, refl, sym}
+use Rattle.std.proofs.Common.{◌≡◌, ℕ, Bool, true, false, List, [], ◌∷◌, map, codes, Option, Some, All, IfSome, not, true≢false, refl, sym, subst}
+use Rattle.std.specs.Bool.{⊤}
 use Rattle.std.specs.Str.{IsUtf8}
 use Rattle.std.proofs.lemmas.Bool.{and_parts, not-true}
 use Rattle.std.proofs.lemmas.List.Elements.{All-weaker}
+use Rattle.kcr_base.specs.Initials.{IsInitials}
 use Rattle.kcr_base.specs.Lists.{IsListed, is_among, are_apart}
 use Rattle.kcr_base.specs.Number.{IsNumber}
+use Rattle.kcr_base.specs.Place.{IsPlace}
 use Rattle.kcr_base.specs.Refusal.{member_text}
+use Rattle.kcr_base.specs.Serial.{IsSerial}
+use Rattle.kcr_base.specs.declared.limits.TheConstants.{MAX_CEREMONY, MAX_STEPS}
 use Rattle.kcr_base.specs.declared.refusal.Member.{Member}
 use Rattle.kcr_history.specs.Texts.{MemberValue, Word, Whole, Truth, Several, listed, members_of}
 use Rattle.kcr_history.specs.declared.commands.Act.{Act}
 use Rattle.kcr_history.specs.declared.commands.Act.TheVariants as act
+use Rattle.kcr_history.specs.declared.commands.Deed.TheVariants as deed
 use Rattle.kcr_forms.specs.Acts.{IsAct}
+use Rattle.kcr_forms.specs.Forms.{script_of}
 use Rattle.kcr_forms.specs.Shapes.{Form, ValueOf, Makes, Shape, row, shape}
 use Rattle.kcr_forms.specs.Shapes as shapes
 use Rattle.kcr_forms.specs.declared.post.Post.{Post}
 use Rattle.kcr_forms.specs.declared.post.Post.TheVariants as post
+use Rattle.kcr_forms.specs.declared.post.CollectionPath.TheVariants.{People, Custodians, Boxes, Items, Ceremonies}
+use Rattle.kcr_forms.specs.declared.post.PersonPath.TheVariants.{Roles, Withdrawals}
+use Rattle.kcr_forms.specs.declared.post.PlacePath.TheVariants.{Replacement, Release}
+use Rattle.kcr_forms.specs.declared.post.CeremonyPath.TheVariants.{Opening, Closing, Sheet, Exceptions}
+use Rattle.kcr_forms.specs.declared.post.BagPath.TheVariants.{Seal, Take, Put, Cut}
 use Rattle.kcr_forms.proofs.Cutting.{Lacks}
-use Rattle.kcr_forms.proofs.Formed.{days, moments, roles, facilities, ways, places-read, initials, serials, names, remarks, scripts, destinations}
+use Rattle.kcr_forms.proofs.Formed.{days, moments, roles, facilities, ways, places-read, initials, serials, names, remarks, scripts, script-found, destinations}
 use Rattle.kcr_forms.proofs.Formed.{codes-feed, initials-lack, items-lack}
 use Rattle.kcr_forms.proofs.Readers.{Value, no-feed}
 
 -- the path to which an act's command is posted
 abbrev pub post_of : Act → Post
-post_of (act.Enter who name) = post.People
-post_of (act.Train who role since until) = post.Roles who
-post_of (act.Withdraw who role day) = post.Withdrawals who
-post_of (act.Appoint place who day) = post.Custodians
-post_of (act.Replace place who day) = post.Replacement place
-post_of (act.Release place day) = post.Release place
-post_of (act.AddBox facility number place) = post.Boxes
-post_of (act.AddItem ceremony item at) = post.Items
-post_of (act.Plan number facility day script) = post.Ceremonies
-post_of (act.Open ceremony at) = post.Opening ceremony
-post_of (act.Close ceremony at) = post.Closing ceremony
-post_of (act.RecordSheet ceremony way who at) = post.Sheet ceremony
-post_of (act.Sign ceremony step at) = post.Signature ceremony step
-post_of (act.RecordException ceremony text pass at) = post.Exceptions ceremony
-post_of (act.SetSafe ceremony safe is_open by at) = post.Safe ceremony safe
-post_of (act.Seal ceremony serial items at) = post.Seal ceremony serial
-post_of (act.Take ceremony serial at) = post.Take ceremony serial
-post_of (act.Put ceremony serial to at) = post.Put ceremony serial
-post_of (act.Cut ceremony serial at) = post.Cut ceremony serial
+post_of (act.Enter who name) = post.Collection People
+post_of (act.Train who role since until) = post.Person who Roles
+post_of (act.Withdraw who role day) = post.Person who Withdrawals
+post_of (act.Appoint place who day) = post.Collection Custodians
+post_of (act.Replace place who day) = post.Place place Replacement
+post_of (act.Release place day) = post.Place place Release
+post_of (act.AddBox facility number place) = post.Collection Boxes
+post_of (act.Ceremony ceremony at (deed.AddItem item)) = post.Collection Items
+post_of (act.Plan number facility day script) = post.Collection Ceremonies
+post_of (act.Ceremony ceremony at deed.Open) = post.Ceremony ceremony Opening
+post_of (act.Ceremony ceremony at deed.Close) = post.Ceremony ceremony Closing
+post_of (act.Ceremony ceremony at (deed.RecordSheet way who)) = post.Ceremony ceremony Sheet
+post_of (act.Ceremony ceremony at (deed.Sign step)) = post.Signature ceremony step
+post_of (act.Ceremony ceremony at (deed.RecordException text pass)) = post.Ceremony ceremony Exceptions
+post_of (act.Ceremony ceremony at (deed.SetSafe safe is_open by)) = post.Safe ceremony safe
+post_of (act.Ceremony ceremony at (deed.Seal serial items)) = post.Bag ceremony serial Seal
+post_of (act.Ceremony ceremony at (deed.Take serial)) = post.Bag ceremony serial Take
+post_of (act.Ceremony ceremony at (deed.Put serial to)) = post.Bag ceremony serial Put
+post_of (act.Ceremony ceremony at (deed.Cut serial)) = post.Bag ceremony serial Cut
 
 -- ---- values of members
 
@@ -100,6 +112,7 @@ abbrev pub is_shape : List (Member × Form) → Bool
 is_shape [] = false
 is_shape (m ∷ ms) = are_apart (codes "key" ∷ names_of (m ∷ ms))
 
+-- so the key is not among its names, and these are apart
 pub shape-parts : (members : List (Member × Form)) → is_shape members ≡ true
     → (is_among (names_of members) (codes "key") ≡ false) × (are_apart (names_of members) ≡ true)
 shape-parts [] e = absurd (true≢false (sym e))
@@ -147,17 +160,81 @@ shaped (act.Appoint place who day) is = ((next places-read place is.0, (next ini
 shaped (act.Replace place who day) is = ((next initials who is.1, (last days day is.2, tt)), refl, refl, refl)
 shaped (act.Release place day) is = ((last days day is.1, tt), refl, refl, refl)
 shaped (act.AddBox facility box place) is = ((next facilities facility tt, (number box is.0, (last places-read place is.1, tt))), refl, refl, refl)
-shaped (act.AddItem ceremony item at) is = ((number ceremony is.0, (next serials item is.1, (last moments at is.2, tt))), refl, refl, refl)
+shaped (act.Ceremony ceremony at (deed.AddItem item)) is = ((number ceremony is.0, (next serials item is.1, (last moments at is.2, tt))), refl, refl, refl)
 shaped (act.Plan ceremony facility day script) is =
     ((number ceremony is.0, (next facilities facility tt, (next days day is.1, (record { value = script; again = (scripts script is.2, is.2); stands = tt }, tt)))), refl, refl, refl)
-shaped (act.Open ceremony at) is = ((last moments at is.1, tt), refl, refl, refl)
-shaped (act.Close ceremony at) is = ((last moments at is.1, tt), refl, refl, refl)
-shaped (act.RecordSheet ceremony way who at) is =
+shaped (act.Ceremony ceremony at deed.Open) is = ((last moments at is.2, tt), refl, refl, refl)
+shaped (act.Ceremony ceremony at deed.Close) is = ((last moments at is.2, tt), refl, refl, refl)
+shaped (act.Ceremony ceremony at (deed.RecordSheet way who)) is =
     ((next ways way tt, (several initials initials-lack 32 who is.1.listed is.1.each, (last moments at is.2, tt))), refl, refl, refl)
-shaped (act.Sign ceremony step at) is = ((last moments at is.2, tt), refl, refl, refl)
-shaped (act.RecordException ceremony text pass at) is = ((next remarks text is.1, (truth pass, (last moments at is.2, tt))), refl, refl, refl)
-shaped (act.SetSafe ceremony safe state person at) is = ((truth state, (next initials person is.1, (last moments at is.2, tt))), refl, refl, refl)
-shaped (act.Seal ceremony serial items at) is = ((several serials items-lack 64 items is.2.listed is.2.each, (last moments at is.3, tt)), refl, refl, refl)
-shaped (act.Take ceremony serial at) is = ((last moments at is.2, tt), refl, refl, refl)
-shaped (act.Put ceremony serial to at) is = ((next destinations to is.2, (last moments at is.3, tt)), refl, refl, refl)
-shaped (act.Cut ceremony serial at) is = ((last moments at is.2, tt), refl, refl, refl)
+shaped (act.Ceremony ceremony at (deed.Sign step)) is = ((last moments at is.2, tt), refl, refl, refl)
+shaped (act.Ceremony ceremony at (deed.RecordException text pass)) is = ((next remarks text is.1, (truth pass, (last moments at is.2, tt))), refl, refl, refl)
+shaped (act.Ceremony ceremony at (deed.SetSafe safe state person)) is = ((truth state, (next initials person is.1, (last moments at is.2, tt))), refl, refl, refl)
+shaped (act.Ceremony ceremony at (deed.Seal serial items)) is = ((several serials items-lack 64 items is.1.1.listed is.1.1.each, (last moments at is.2, tt)), refl, refl, refl)
+shaped (act.Ceremony ceremony at (deed.Take serial)) is = ((last moments at is.2, tt), refl, refl, refl)
+shaped (act.Ceremony ceremony at (deed.Put serial to)) is = ((next destinations to is.1.1, (last moments at is.2, tt)), refl, refl, refl)
+shaped (act.Ceremony ceremony at (deed.Cut serial)) is = ((last moments at is.2, tt), refl, refl, refl)
+
+-- ---- what is read
+
+-- the parts of a path are values of their types
+abbrev pub IsPost : Post → Type 0
+IsPost (post.Collection path) = ⊤
+IsPost (post.Person who path) = IsInitials who
+IsPost (post.Place place path) = IsPlace place
+IsPost (post.Ceremony n path) = IsNumber MAX_CEREMONY n
+IsPost (post.Signature n step) = IsNumber MAX_CEREMONY n × IsNumber MAX_STEPS step
+IsPost (post.Safe n safe) = IsNumber MAX_CEREMONY n
+IsPost (post.Bag n serial path) = IsNumber MAX_CEREMONY n × IsSerial serial
+
+-- a text is read as the value
+abbrev pub IsReadBy : {V : Type 0} → (List ℕ → Option V) → V → Type 0
+IsReadBy read v = (text : List ℕ) × (read text ≡ Some v)
+
+-- the value is one that can be read by its form
+abbrev pub IsRead : (form : Form) → ValueOf form → Type 0
+IsRead (shapes.Text text_of read) v = IsReadBy read v
+IsRead shapes.Number n = IsNumber MAX_CEREMONY n
+IsRead shapes.Truth b = ⊤
+IsRead (shapes.Codes most read) codes = IsListed most codes × All (λ code. IsReadBy read code) codes
+
+-- what such values make is an act of values
+abbrev pub EachMade : (members : List (Member × Form)) → Makes members → Type 0
+EachMade [] does = IsAct does
+EachMade (m ∷ ms) make = (v : ValueOf m.1) → IsRead m.1 v → EachMade ms (make v)
+
+abbrev pub EachOf : Shape → Type 0
+EachOf (row members make) = EachMade members make
+
+-- what is read is a value, if the reader reads only values
+value-read : {V : Type 0} (IsValue : V → Type 0) (read : List ℕ → Option V) → ((text : List ℕ) → IfSome (read text) IsValue) → (v : V) → IsReadBy read v → IsValue v
+value-read IsValue read found v is = subst (λ o. IfSome o IsValue) is.1 (found is.0)
+
+module _ {V : Type 0} {IsValue : V → Type 0} {text_of : V → List ℕ} {read : List ℕ → Option V} (reader : Value IsValue text_of read) where
+  of : (v : V) → IsReadBy read v → IsValue v
+  of = value-read IsValue read reader.found
+
+  each-of : (vs : List V) → All (λ v. IsReadBy read v) vs → All IsValue vs
+  each-of vs all = All-weaker (λ v. IsReadBy read v) IsValue of vs all
+
+-- what is read behind a path of values makes an act of values
+pub parts-made : (p : Post) → IsPost p → EachOf (shape p)
+parts-made (post.Collection People) is = λ who w name n. (of initials who w, of names name n)
+parts-made (post.Collection Custodians) is = λ place p who w day d. (of places-read place p, of initials who w, of days day d)
+parts-made (post.Collection Boxes) is = λ facility _ box b place p. (b, of places-read place p)
+parts-made (post.Collection Items) is = λ n i item s at a. (i, of serials item s, of moments at a)
+parts-made (post.Collection Ceremonies) is = λ n i facility _ day d script s. (i, of days day d, value-read IsUtf8 script_of script-found script s)
+parts-made (post.Person who Roles) is = λ role _ since s until u. (is, of days since s, of days until u)
+parts-made (post.Person who Withdrawals) is = λ role _ day d. (is, of days day d)
+parts-made (post.Place place Replacement) is = λ who w day d. (is, of initials who w, of days day d)
+parts-made (post.Place place Release) is = λ day d. (is, of days day d)
+parts-made (post.Ceremony n Opening) is = λ at a. (is, tt, of moments at a)
+parts-made (post.Ceremony n Closing) is = λ at a. (is, tt, of moments at a)
+parts-made (post.Ceremony n Sheet) is = λ way _ who w at a. (is, record { listed = w.0; each = each-of initials who w.1 }, of moments at a)
+parts-made (post.Ceremony n Exceptions) is = λ text t pass _ at a. (is, of remarks text t, of moments at a)
+parts-made (post.Signature n step) is = λ at a. (is.0, is.1, of moments at a)
+parts-made (post.Safe n safe) is = λ state _ by b at a. (is, of initials by b, of moments at a)
+parts-made (post.Bag n serial Seal) is = λ items i at a. (is.0, (is.1, record { listed = i.0; each = each-of serials items i.1 }), of moments at a)
+parts-made (post.Bag n serial Take) is = λ at a. (is.0, is.1, of moments at a)
+parts-made (post.Bag n serial Put) is = λ to t at a. (is.0, (is.1, of destinations to t), of moments at a)
+parts-made (post.Bag n serial Cut) is = λ at a. (is.0, is.1, of moments at a)

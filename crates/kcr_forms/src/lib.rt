@@ -8,16 +8,14 @@
 
 mod act;
 pub mod forms;
-pub mod laws;
 mod lines;
 mod lists;
 mod members;
-mod parts;
 mod post;
 mod split;
 
 pub use act::act_at;
 pub use lines::act_of_lines;
 pub use members::{Members, required};
-pub use post::Post;
+pub use post::{BagPath, CeremonyPath, CollectionPath, PersonPath, PlacePath, Post};
 pub use split::split_at_byte;

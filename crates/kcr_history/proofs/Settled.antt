@@ -10,7 +10,8 @@ use Rattle.kcr_base.specs.Days.{day_of}
 use Rattle.kcr_base.proofs.RowsLemmas.{Shuffled, nothing, under, flipped, after, shuffled}
 use Rattle.kcr_base.proofs.ListLemmas.{all-more}
 use Rattle.kcr_history.specs.declared.commands.Act.{Act}
-use Rattle.kcr_history.specs.declared.commands.Act.TheVariants.{Open}
+use Rattle.kcr_history.specs.declared.commands.Act.TheVariants.{Ceremony}
+use Rattle.kcr_history.specs.declared.commands.Deed.TheVariants.{Open}
 use Rattle.kcr_history.specs.declared.row_types.MarkRow.{MarkRow}
 use Rattle.kcr_history.specs.History.{History, values_of_acts, greatest, max_with}
 use Rattle.kcr_history.specs.Ceremonies.{marked_moment, mark, opened_number, settled}
@@ -50,7 +51,7 @@ all_more (Some m) ms cs h = all-more (λ c. list_any (λ m. eqb m.0 c) ms) _ cs 
 
 marked_after : (act : Act) (ms : List (ℕ × ℕ)) (cs : List ℕ) → list_all (λ c. list_any (λ m. eqb m.0 c) ms) cs ≡ true
     → list_all (λ c. list_any (λ m. eqb m.0 c) (cons_option (marked_moment act) ms)) (cons_option (opened_number act) cs) ≡ true
-marked_after (Open ceremony at) ms cs h =
+marked_after (Ceremony ceremony at Open) ms cs h =
     and_from (eqb ceremony ceremony || list_any (λ m. eqb m.0 ceremony) ms) _ (rw (eq-eqb ceremony ceremony refl))
     (all_more (Some (ceremony, at)) ms cs h)
 marked_after act ms cs h = all_more (marked_moment act) ms cs h

@@ -5,9 +5,10 @@ use Rattle.kcr_base.specs.declared.place.Place.{Place}
 use Rattle.kcr_room.specs.declared.Way.{Way}
 use Rattle.kcr_room.specs.declared.Way.TheVariants as Ways
 use Rattle.kcr_history.specs.declared.commands.Act.{Act}
-use Rattle.kcr_history.specs.declared.commands.Act.TheVariants.{Enter, Train, Withdraw, Appoint, Replace, Release}
-use Rattle.kcr_history.specs.declared.commands.Act.TheVariants.{AddBox, AddItem, Plan, Open, Close, RecordSheet, Sign, RecordException}
-use Rattle.kcr_history.specs.declared.commands.Act.TheVariants.{SetSafe, Seal, Take, Put, Cut}
+use Rattle.kcr_history.specs.declared.commands.Deed.{Deed}
+use Rattle.kcr_history.specs.declared.commands.Act.TheVariants.{Enter, Train, Withdraw, Appoint, Replace, Release, AddBox, Plan, Ceremony}
+use Rattle.kcr_history.specs.declared.commands.Deed.TheVariants.{AddItem, Open, Close, RecordSheet, Sign, RecordException, SetSafe, Seal}
+use Rattle.kcr_history.specs.declared.commands.Deed.TheVariants.{Take, Put, Cut}
 use Rattle.kcr_history.specs.declared.commands.Command.{Command}
 use Rattle.kcr_history.specs.declared.views.AppointmentFilter.TheVariants as Appointments
 use Rattle.kcr_history.specs.declared.views.Asks.{Asks}
@@ -160,6 +161,19 @@ asks_sealed ceremony serial codes at = asks_items ceremony serial (Items.Codes c
 
 -- of people those that the command names; of trainings and appointments theirs, or in a room those that last to the day
 -- of the act; presence is read from the stays that last to its moment; a ceremony's own rows by its number
+abbrev pub asks_of_deed : ℕ → ℕ → Deed → Asks
+asks_of_deed ceremony at (AddItem item) = asks_to_add ceremony item at
+asks_of_deed ceremony at Open = asks_ceremonies All
+asks_of_deed ceremony at Close = asks_to_close ceremony at
+asks_of_deed ceremony at (RecordSheet way people) = asks_sheet ceremony way people at
+asks_of_deed ceremony at (Sign step) = asks_to_sign ceremony step at
+asks_of_deed ceremony at (RecordException text pass) = asks_to_except ceremony at
+asks_of_deed ceremony at (SetSafe safe state by) = asks_to_turn ceremony by at
+asks_of_deed ceremony at (Seal serial items) = asks_sealed ceremony serial items at
+asks_of_deed ceremony at (Take serial) = asks_bag ceremony serial at
+asks_of_deed ceremony at (Put serial to) = asks_bag ceremony serial at
+asks_of_deed ceremony at (Cut serial) = asks_items ceremony serial (Items.Bag serial) at
+
 abbrev pub asks_of_act : Act → Asks
 asks_of_act (Enter who name) = asks_person who
 asks_of_act (Train who role since until) = asks_to_train who
@@ -168,18 +182,8 @@ asks_of_act (Appoint place who day) = asks_to_appoint place who
 asks_of_act (Replace place who day) = asks_to_appoint place who
 asks_of_act (Release place day) = asks_to_release place
 asks_of_act (AddBox facility number place) = asks_boxes
-asks_of_act (AddItem ceremony item at) = asks_to_add ceremony item at
 asks_of_act (Plan number facility day script) = asks_ceremonies (Matching number)
-asks_of_act (Open ceremony at) = asks_ceremonies All
-asks_of_act (Close ceremony at) = asks_to_close ceremony at
-asks_of_act (RecordSheet ceremony way people at) = asks_sheet ceremony way people at
-asks_of_act (Sign ceremony step at) = asks_to_sign ceremony step at
-asks_of_act (RecordException ceremony text pass at) = asks_to_except ceremony at
-asks_of_act (SetSafe ceremony safe state by at) = asks_to_turn ceremony by at
-asks_of_act (Seal ceremony serial items at) = asks_sealed ceremony serial items at
-asks_of_act (Take ceremony serial at) = asks_bag ceremony serial at
-asks_of_act (Put ceremony serial to at) = asks_bag ceremony serial at
-asks_of_act (Cut ceremony serial at) = asks_items ceremony serial (Items.Bag serial) at
+asks_of_act (Ceremony ceremony at deed) = asks_of_deed ceremony at deed
 
 -- what the decision of a command reads
 abbrev pub asks_of : Command → Asks

@@ -9,8 +9,8 @@ use Rattle.kcr_base.specs.declared.place.Facility.TheVariants.{East}
 use Rattle.kcr_script.specs.declared.script.Step.{Step}
 use Rattle.kcr_script.specs.Reading.{script_of}
 use Rattle.kcr_history.specs.declared.commands.Act.{Act}
-use Rattle.kcr_history.specs.declared.commands.Act.TheVariants.{AddItem, Plan, Open, Close, Sign, RecordException, SetSafe}
-use Rattle.kcr_history.specs.declared.commands.Act.TheVariants.{Seal, Take, Put, Cut}
+use Rattle.kcr_history.specs.declared.commands.Act.TheVariants.{Plan, Ceremony}
+use Rattle.kcr_history.specs.declared.commands.Deed.TheVariants.{Open, Close, RecordSheet, Sign, RecordException}
 use Rattle.kcr_history.specs.History.{History, command_count, values_of_acts, last_value_of_acts, greatest}
 
 -- a planned ceremony
@@ -55,12 +55,12 @@ step_at steps (suc k) = slice_get steps k
 
 -- when the command opens the ceremony
 abbrev pub opening_moment : ℕ → Act → Option ℕ
-opening_moment ceremony (Open c at) = if c == ceremony then Some at else None
+opening_moment ceremony (Ceremony c at Open) = if c == ceremony then Some at else None
 opening_moment ceremony act = None
 
 -- when the command closes the ceremony
 abbrev pub closing_moment : ℕ → Act → Option ℕ
-closing_moment ceremony (Close c at) = if c == ceremony then Some at else None
+closing_moment ceremony (Ceremony c at Close) = if c == ceremony then Some at else None
 closing_moment ceremony act = None
 
 abbrev pub opened_at : History → ℕ → Option ℕ
@@ -75,17 +75,12 @@ is_ceremony_open A ceremony = is_some (opened_at A ceremony) && is_none (closed_
 
 -- MARKS
 
--- the ceremony and moment of an opening, signature, exception or custody command (items, safes, bags)
+-- the ceremony and moment of an opening, signature, exception or custody command (items, safes, bags): of whatever is
+-- done in a ceremony but its closing and its sheet
 abbrev pub marked_moment : Act → Option (ℕ × ℕ)
-marked_moment (Open c at) = Some (c, at)
-marked_moment (Sign c k at) = Some (c, at)
-marked_moment (RecordException c text pass at) = Some (c, at)
-marked_moment (AddItem c item at) = Some (c, at)
-marked_moment (SetSafe c safe state by at) = Some (c, at)
-marked_moment (Seal c serial items at) = Some (c, at)
-marked_moment (Take c serial at) = Some (c, at)
-marked_moment (Put c serial to at) = Some (c, at)
-marked_moment (Cut c serial at) = Some (c, at)
+marked_moment (Ceremony c at Close) = None
+marked_moment (Ceremony c at (RecordSheet way people)) = None
+marked_moment (Ceremony c at deed) = Some (c, at)
 marked_moment act = None
 
 -- the mark of the ceremony: the greatest moment of those, none if there is none
@@ -94,7 +89,7 @@ mark A ceremony = greatest (map (λ m. m.1) (filter (λ m. m.0 == ceremony) (val
 
 -- the ceremony that a command opens
 abbrev pub opened_number : Act → Option ℕ
-opened_number (Open ceremony at) = Some ceremony
+opened_number (Ceremony ceremony at Open) = Some ceremony
 opened_number act = None
 
 -- the marks of all ceremonies that were opened: no other has one
@@ -114,8 +109,8 @@ is_not_before t (Some m) = nat_le m t
 
 -- the command signs or passes a step of the ceremony
 abbrev pub does_step : ℕ → Act → Bool
-does_step ceremony (Sign c k at) = c == ceremony
-does_step ceremony (RecordException c text pass at) = c == ceremony && pass
+does_step ceremony (Ceremony c at (Sign k)) = c == ceremony
+does_step ceremony (Ceremony c at (RecordException text pass)) = c == ceremony && pass
 does_step ceremony act = false
 
 -- how many steps of the ceremony are signed or passed
@@ -128,7 +123,7 @@ next_step A ceremony = suc (steps_done A ceremony)
 
 -- the command states an exception in the ceremony
 abbrev pub is_exception : ℕ → Act → Bool
-is_exception ceremony (RecordException c text pass at) = c == ceremony
+is_exception ceremony (Ceremony c at (RecordException text pass)) = c == ceremony
 is_exception ceremony act = false
 
 abbrev pub exceptions_of : History → ℕ → ℕ

@@ -41,9 +41,10 @@ use Rattle.kcr_room.specs.Stays.{stays_by, is_crowded_in_by, first_lone_in_by}
 use Rattle.kcr_script.specs.declared.script.Step.{Step}
 use Rattle.kcr_script.specs.Reading.{script_of}
 use Rattle.kcr_history.specs.declared.commands.Act.{Act}
-use Rattle.kcr_history.specs.declared.commands.Act.TheVariants.{Enter, Train, Withdraw, Appoint, Replace, Release}
-use Rattle.kcr_history.specs.declared.commands.Act.TheVariants.{AddBox, AddItem, Plan, Open, Close, RecordSheet, Sign, RecordException}
-use Rattle.kcr_history.specs.declared.commands.Act.TheVariants.{SetSafe, Seal, Take, Put, Cut}
+use Rattle.kcr_history.specs.declared.commands.Deed.{Deed}
+use Rattle.kcr_history.specs.declared.commands.Act.TheVariants.{Enter, Train, Withdraw, Appoint, Replace, Release, AddBox, Plan, Ceremony}
+use Rattle.kcr_history.specs.declared.commands.Deed.TheVariants.{AddItem, Open, Close, RecordSheet, Sign, RecordException, SetSafe, Seal}
+use Rattle.kcr_history.specs.declared.commands.Deed.TheVariants.{Take, Put, Cut}
 use Rattle.kcr_history.specs.History.{History, has_command, values_of_acts}
 use Rattle.kcr_history.specs.Training.{is_person, trained, ever_trained, is_training, was_custodian, holder}
 use Rattle.kcr_history.specs.Ceremonies.{is_ceremony, facility_of, day_planned, steps_of, step_at, opened_at, is_ceremony_open}
@@ -189,31 +190,27 @@ exception_early facts ceremony pass at =
 -- THE CONDITIONS OF EACH KIND, after that of its key. First those of an act in a ceremony that ask nothing of who is in
 -- the room, trained or appointed: they are tested before the rows of people are read
 
-abbrev pub early_conditions : Facts → Act → List (Option Refusal)
-early_conditions facts (Close ceremony at) = close_early facts ceremony at
-early_conditions facts (RecordSheet ceremony way people at) = sheet_early facts ceremony people at
-early_conditions facts (Sign ceremony step at) = sign_early facts ceremony step at
-early_conditions facts (RecordException ceremony text pass at) = exception_early facts ceremony pass at
-early_conditions facts (AddItem ceremony item at) = add_item_early (status facts ceremony at) (facts.rest item)
-early_conditions facts (SetSafe ceremony safe state by at) =
+abbrev pub early_of_deed : Facts → ℕ → ℕ → Deed → List (Option Refusal)
+early_of_deed facts ceremony at Open = []
+early_of_deed facts ceremony at Close = close_early facts ceremony at
+early_of_deed facts ceremony at (RecordSheet way people) = sheet_early facts ceremony people at
+early_of_deed facts ceremony at (Sign step) = sign_early facts ceremony step at
+early_of_deed facts ceremony at (RecordException text pass) = exception_early facts ceremony pass at
+early_of_deed facts ceremony at (AddItem item) = add_item_early (status facts ceremony at) (facts.rest item)
+early_of_deed facts ceremony at (SetSafe safe state by) =
     safe_early (status facts ceremony at) (facts.is_safe_open (facts.facility ceremony)) safe state (facts.is_person by) by
-early_conditions facts (Seal ceremony serial items at) =
+early_of_deed facts ceremony at (Seal serial items) =
     seal_early (status facts ceremony at) (facts.spot serial) facts.rest items
-early_conditions facts (Take ceremony serial at) =
+early_of_deed facts ceremony at (Take serial) =
     take_early (status facts ceremony at) (facts.is_safe_open (facts.facility ceremony)) (facts.spot serial) serial
-early_conditions facts (Put ceremony serial to at) =
+early_of_deed facts ceremony at (Put serial to) =
     put_early (status facts ceremony at) (facts.is_safe_open (facts.facility ceremony))
     (facts.place_of_box (facts.facility ceremony)) (facts.spot serial) serial to
-early_conditions facts (Cut ceremony serial at) = cut_early (status facts ceremony at) (facts.spot serial) serial
-early_conditions facts (Enter who name) = []
-early_conditions facts (Train who role since until) = []
-early_conditions facts (Withdraw who role day) = []
-early_conditions facts (Appoint place who day) = []
-early_conditions facts (Replace place who day) = []
-early_conditions facts (Release place day) = []
-early_conditions facts (AddBox facility number place) = []
-early_conditions facts (Plan number facility day script) = []
-early_conditions facts (Open ceremony at) = []
+early_of_deed facts ceremony at (Cut serial) = cut_early (status facts ceremony at) (facts.spot serial) serial
+
+abbrev pub early_conditions : Facts → Act → List (Option Refusal)
+early_conditions facts (Ceremony ceremony at deed) = early_of_deed facts ceremony at deed
+early_conditions facts act = []
 
 -- the people whom a bag needs that comes from a box or goes into one, or the CA alone
 abbrev pub keepers_late : Facts → ℕ → ℕ → Option ℕ → List (Option Refusal)
@@ -222,6 +219,20 @@ keepers_late facts ceremony at box =
     (option_and_then (facts.place_of_box (facts.facility ceremony)) box)
 
 -- and then the others
+abbrev pub late_of_deed : Facts → ℕ → ℕ → Deed → List (Option Refusal)
+late_of_deed facts ceremony at Open = open_conditions facts ceremony at
+late_of_deed facts ceremony at Close = close_late facts ceremony at
+late_of_deed facts ceremony at (RecordSheet way people) =
+    named_twice_refusal people ∷ facts.room_conditions ceremony way people at
+late_of_deed facts ceremony at (AddItem item) = no_ca_refusal (facts.has_ca ceremony at) ∷ []
+late_of_deed facts ceremony at (SetSafe safe state by) = no_operator_refusal safe (facts.operator by ceremony at) ∷ []
+late_of_deed facts ceremony at (Seal serial items) = no_ca_refusal (facts.has_ca ceremony at) ∷ []
+late_of_deed facts ceremony at (Take serial) = keepers_late facts ceremony at (box_of (facts.spot serial))
+late_of_deed facts ceremony at (Put serial to) = keepers_late facts ceremony at (box_of_destination to)
+late_of_deed facts ceremony at (Cut serial) = no_ca_refusal (facts.has_ca ceremony at) ∷ []
+late_of_deed facts ceremony at (Sign step) = []
+late_of_deed facts ceremony at (RecordException text pass) = []
+
 abbrev pub late_conditions : Facts → Act → List (Option Refusal)
 late_conditions facts (Enter who name) = enter_conditions (facts.is_person who) facts.is_full
 late_conditions facts (Train who role since until) =
@@ -240,18 +251,7 @@ late_conditions facts (AddBox facility number place) =
     add_box_conditions (facts.has_box facility number) (facts.has_box_of place) facts.is_full
     (record { facility = facility; number = number; place = place })
 late_conditions facts (Plan number facility day script) = plan_conditions facts number script
-late_conditions facts (Open ceremony at) = open_conditions facts ceremony at
-late_conditions facts (Close ceremony at) = close_late facts ceremony at
-late_conditions facts (RecordSheet ceremony way people at) =
-    named_twice_refusal people ∷ facts.room_conditions ceremony way people at
-late_conditions facts (AddItem ceremony item at) = no_ca_refusal (facts.has_ca ceremony at) ∷ []
-late_conditions facts (SetSafe ceremony safe state by at) = no_operator_refusal safe (facts.operator by ceremony at) ∷ []
-late_conditions facts (Seal ceremony serial items at) = no_ca_refusal (facts.has_ca ceremony at) ∷ []
-late_conditions facts (Take ceremony serial at) = keepers_late facts ceremony at (box_of (facts.spot serial))
-late_conditions facts (Put ceremony serial to at) = keepers_late facts ceremony at (box_of_destination to)
-late_conditions facts (Cut ceremony serial at) = no_ca_refusal (facts.has_ca ceremony at) ∷ []
-late_conditions facts (Sign ceremony step at) = []
-late_conditions facts (RecordException ceremony text pass at) = []
+late_conditions facts (Ceremony ceremony at deed) = late_of_deed facts ceremony at deed
 
 abbrev pub conditions_over : Facts → Act → List (Option Refusal)
 conditions_over facts act = early_conditions facts act ++ late_conditions facts act
@@ -311,7 +311,7 @@ is_overfull Ways.Leave rows ceremony = false
 -- what the sheet with the rows of a request tells
 abbrev pub sheet_conditions : History → ℕ → Way → List (List ℕ) → ℕ → List (Option Refusal)
 sheet_conditions A ceremony way people at =
-    let rows = sheet_after (RecordSheet ceremony way people at) (sheet A) in
+    let rows = sheet_after (Ceremony ceremony at (RecordSheet way people)) (sheet A) in
     out_of_turn_refusal A ceremony way at people
     ∷ crowd_refusal rows ceremony
     ∷ lone_room_refusal rows ceremony

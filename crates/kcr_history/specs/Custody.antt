@@ -14,7 +14,8 @@ use Rattle.kcr_custody.specs.declared.Rest.{Rest}
 use Rattle.kcr_custody.specs.declared.Rest.TheVariants.{Loose, Within}
 use Rattle.kcr_custody.specs.Custody.{same_safe, spot_of_destination}
 use Rattle.kcr_history.specs.declared.commands.Act.{Act}
-use Rattle.kcr_history.specs.declared.commands.Act.TheVariants.{AddBox, AddItem, SetSafe, Seal, Take, Put, Cut}
+use Rattle.kcr_history.specs.declared.commands.Act.TheVariants.{AddBox, Ceremony}
+use Rattle.kcr_history.specs.declared.commands.Deed.TheVariants.{AddItem, SetSafe, Seal, Take, Put, Cut}
 use Rattle.kcr_history.specs.History.{History, last_value_of_acts, last_value_with_history}
 use Rattle.kcr_history.specs.Ceremonies.{facility_of}
 
@@ -22,10 +23,10 @@ use Rattle.kcr_history.specs.Ceremonies.{facility_of}
 
 -- where a command leaves the bag; `here` gives the facility of a ceremony
 abbrev pub spot_after : (ℕ → Facility) → List ℕ → Act → Option Spot
-spot_after here serial (Seal c s items at) = if same_text s serial then Some (Table (here c)) else None
-spot_after here serial (Take c s at) = if same_text s serial then Some (Table (here c)) else None
-spot_after here serial (Put c s to at) = if same_text s serial then Some (spot_of_destination (here c) to) else None
-spot_after here serial (Cut c s at) = if same_text s serial then Some Spent else None
+spot_after here serial (Ceremony c at (Seal s items)) = if same_text s serial then Some (Table (here c)) else None
+spot_after here serial (Ceremony c at (Take s)) = if same_text s serial then Some (Table (here c)) else None
+spot_after here serial (Ceremony c at (Put s to)) = if same_text s serial then Some (spot_of_destination (here c) to) else None
+spot_after here serial (Ceremony c at (Cut s)) = if same_text s serial then Some Spent else None
 spot_after here serial act = None
 
 -- where the bag is, `None` if no such bag was sealed
@@ -40,17 +41,17 @@ is_spent other = false
 
 -- the bag in which a seal puts the item
 abbrev pub sealed_in : List ℕ → Act → Option (List ℕ)
-sealed_in item (Seal c serial items at) = if list_any (same_text item) items then Some serial else None
+sealed_in item (Ceremony c at (Seal serial items)) = if list_any (same_text item) items then Some serial else None
 sealed_in item act = None
 
 -- the facility where the bag was cut
 abbrev pub cut_at : (ℕ → Facility) → List ℕ → Act → Option Facility
-cut_at here serial (Cut c s at) = if same_text s serial then Some (here c) else None
+cut_at here serial (Ceremony c at (Cut s)) = if same_text s serial then Some (here c) else None
 cut_at here serial act = None
 
 -- the facility where the item was added
 abbrev pub added_at : (ℕ → Facility) → List ℕ → Act → Option Facility
-added_at here item (AddItem c i at) = if same_text i item then Some (here c) else None
+added_at here item (Ceremony c at (AddItem i)) = if same_text i item then Some (here c) else None
 added_at here item act = None
 
 -- where an item is that was last sealed in this bag: within it, or loose where it was cut
@@ -70,7 +71,7 @@ rest A item =
 
 -- what a command says of the safe
 abbrev pub safe_state_after : (ℕ → Facility) → Facility → SafeNumber → Act → Option Bool
-safe_state_after here facility safe (SetSafe c s state by at) =
+safe_state_after here facility safe (Ceremony c at (SetSafe s state by)) =
     if same_facility (here c) facility && same_safe s safe then Some state else None
 safe_state_after here facility safe act = None
 

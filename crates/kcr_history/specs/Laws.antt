@@ -11,7 +11,8 @@ use Rattle.kcr_custody.specs.declared.Spot.TheVariants.{InBox}
 use Rattle.kcr_room.specs.Laws.{IsAllowed}
 use Rattle.kcr_room.specs.Room.{headcount_by}
 use Rattle.kcr_history.specs.declared.commands.Act.{Act}
-use Rattle.kcr_history.specs.declared.commands.Act.TheVariants.{Seal, Cut}
+use Rattle.kcr_history.specs.declared.commands.Act.TheVariants.{Ceremony}
+use Rattle.kcr_history.specs.declared.commands.Deed.TheVariants.{Seal, Cut}
 use Rattle.kcr_history.specs.History.{History, values_of_acts}
 use Rattle.kcr_history.specs.Ceremonies.{facility_of}
 use Rattle.kcr_history.specs.Room.{sheet}
@@ -77,9 +78,9 @@ has_its_box A other = true
 
 -- a seal takes items that are loose at its ceremony's facility, a cut a bag that lies on its table
 abbrev pub is_in_place : History → Act → Bool
-is_in_place A (Seal ceremony serial items at) =
+is_in_place A (Ceremony ceremony at (Seal serial items)) =
     list_all (λ item. is_loose_at (facility_of A ceremony) (rest A item)) items
-is_in_place A (Cut ceremony serial at) = is_on_table (facility_of A ceremony) (spot A serial)
+is_in_place A (Ceremony ceremony at (Cut serial)) = is_on_table (facility_of A ceremony) (spot A serial)
 is_in_place A act = true
 
 -- each command was in place by the history before it

@@ -7,7 +7,8 @@ use Rattle.kcr_base.specs.declared.refusal.Refusal.TheVariants.{Key, Short, Memo
 use Rattle.kcr_script.specs.declared.seat.Seat.{Seat}
 use Rattle.kcr_script.specs.declared.seat.Seat.TheVariants.{Staff}
 use Rattle.kcr_history.specs.declared.commands.Act.{Act}
-use Rattle.kcr_history.specs.declared.commands.Act.TheVariants.{Sign, RecordException}
+use Rattle.kcr_history.specs.declared.commands.Act.TheVariants.{Ceremony}
+use Rattle.kcr_history.specs.declared.commands.Deed.TheVariants.{Sign, RecordException}
 use Rattle.kcr_history.specs.declared.commands.ReplyData.{ReplyData}
 use Rattle.kcr_history.specs.declared.commands.Command.{Command}
 use Rattle.kcr_history.specs.declared.commands.Entry.{Entry}
@@ -35,9 +36,9 @@ pub record SeatRequest : Type 0 where
 
 -- the seats of a signature are its step's, those of a passing exception CA and IW; other commands need none
 abbrev pub seat_request : History → Act → Option SeatRequest
-seat_request A (Sign ceremony step at) =
+seat_request A (Ceremony ceremony at (Sign step)) =
     Some (record { ceremony = ceremony; at = at; seats = seats_at (steps_of A ceremony) step })
-seat_request A (RecordException ceremony text true at) =
+seat_request A (Ceremony ceremony at (RecordException text true)) =
     Some (record { ceremony = ceremony; at = at; seats = Staff Ca ∷ Staff Iw ∷ [] })
 seat_request A act = None
 
@@ -50,14 +51,14 @@ plain_reply A = record { accepted = length A + 1; exception = None; seating = No
 -- the reply to a command that is accepted now: its number; of a signature the step, of an exception its number in the
 -- ceremony and, if it passes a step, that step; the seating if there is one
 abbrev pub reply_to : History → Act → Option (List (List ℕ)) → ReplyData
-reply_to A (Sign ceremony step at) people = record (plain_reply A) { seating = people; step = Some step }
-reply_to A (RecordException ceremony text true at) people =
+reply_to A (Ceremony ceremony at (Sign step)) people = record (plain_reply A) { seating = people; step = Some step }
+reply_to A (Ceremony ceremony at (RecordException text true)) people =
     record (plain_reply A) {
       exception = Some (suc (exceptions_of A ceremony));
       seating = people;
       step = Some (next_step A ceremony);
     }
-reply_to A (RecordException ceremony text false at) people =
+reply_to A (Ceremony ceremony at (RecordException text false)) people =
     record (plain_reply A) { exception = Some (suc (exceptions_of A ceremony)) }
 reply_to A act people = plain_reply A
 

@@ -7,13 +7,14 @@ use Rattle.kcr_room.specs.declared.SheetRow.{SheetRow}
 use Rattle.kcr_room.specs.Room.{in_by, present_by}
 use Rattle.kcr_room.specs.Requests.{new_row}
 use Rattle.kcr_history.specs.declared.commands.Act.{Act}
-use Rattle.kcr_history.specs.declared.commands.Act.TheVariants.{RecordSheet}
+use Rattle.kcr_history.specs.declared.commands.Act.TheVariants.{Ceremony}
+use Rattle.kcr_history.specs.declared.commands.Deed.TheVariants.{RecordSheet}
 use Rattle.kcr_history.specs.History.{History}
 use Rattle.kcr_history.specs.Training.{trained}
 
 -- the sheet with the rows that a command adds: one for each of its people
 abbrev pub sheet_after : Act → List SheetRow → List SheetRow
-sheet_after (RecordSheet c way people at) rows = rows ++ map (new_row c way at) people
+sheet_after (Ceremony c at (RecordSheet way people)) rows = rows ++ map (new_row c way at) people
 sheet_after act rows = rows
 
 -- the sheet: person, way with ceremony, and moment, of all commands, in the order in which they were accepted

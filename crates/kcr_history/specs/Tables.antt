@@ -30,8 +30,8 @@ use Rattle.kcr_script.specs.declared.seat.Seat.{Seat}
 use Rattle.kcr_script.specs.declared.script.Step.{Step}
 use Rattle.kcr_script.specs.Reading.{script_of}
 use Rattle.kcr_history.specs.declared.commands.Act.{Act}
-use Rattle.kcr_history.specs.declared.commands.Act.TheVariants.{Enter, Train, Withdraw, Appoint, Replace, Release}
-use Rattle.kcr_history.specs.declared.commands.Act.TheVariants.{AddBox, AddItem, Plan, Sign, RecordException, Seal}
+use Rattle.kcr_history.specs.declared.commands.Act.TheVariants.{Enter, Train, Withdraw, Appoint, Replace, Release, AddBox, Plan, Ceremony}
+use Rattle.kcr_history.specs.declared.commands.Deed.TheVariants.{AddItem, Sign, RecordException, Seal}
 use Rattle.kcr_history.specs.declared.commands.Entry.{Entry}
 use Rattle.kcr_history.specs.declared.row_types.CeremonyState.{CeremonyState}
 use Rattle.kcr_history.specs.declared.row_types.CeremonyState.TheVariants as States
@@ -119,7 +119,7 @@ safes A = safe_row A East One ∷ safe_row A East Two ∷ safe_row A West One �
 -- BAGS: ONE FOR EACH SERIAL THAT WAS SEALED; ITEMS: ONE FOR EACH THAT WAS ADDED
 
 abbrev pub sealed_serial : Act → Option (List ℕ)
-sealed_serial (Seal c serial items at) = Some serial
+sealed_serial (Ceremony c at (Seal serial items)) = Some serial
 sealed_serial act = None
 
 abbrev pub bag_row : History → List ℕ → Bag
@@ -129,7 +129,7 @@ abbrev pub bags : History → List Bag
 bags A = map (bag_row A) (values_of_acts sealed_serial A)
 
 abbrev pub added_item : Act → Option (List ℕ)
-added_item (AddItem c item at) = Some item
+added_item (Ceremony c at (AddItem item)) = Some item
 added_item act = None
 
 abbrev pub item_row : History → List ℕ → Item
@@ -173,8 +173,8 @@ marks A = map (mark_row A) (values_of_acts opened_number A)
 
 -- what an accepted command does to step k of the ceremony, and when: it signs it, or passes over it
 abbrev pub step_done : ℕ → ℕ → Act → Option ℕ → Option (StepState × ℕ)
-step_done ceremony k (Sign c step at) said = if c == ceremony && step == k then Some (Signed, at) else None
-step_done ceremony k (RecordException c text pass at) (Some step) =
+step_done ceremony k (Ceremony c at (Sign step)) said = if c == ceremony && step == k then Some (Signed, at) else None
+step_done ceremony k (Ceremony c at (RecordException text pass)) (Some step) =
     if c == ceremony && step == k then Some (Passed, at) else None
 step_done ceremony k act said = None
 
@@ -222,8 +222,8 @@ steps A = map (step_row A) (step_keys A)
 -- SEATINGS: ONE FOR EACH SEAT OF EACH SIGNATURE AND PASSING EXCEPTION, AS ITS ANSWER SAYS
 
 abbrev pub ceremony_of_step : Act → Option ℕ
-ceremony_of_step (Sign c k at) = Some c
-ceremony_of_step (RecordException c text pass at) = Some c
+ceremony_of_step (Ceremony c at (Sign k)) = Some c
+ceremony_of_step (Ceremony c at (RecordException text pass)) = Some c
 ceremony_of_step act = None
 
 -- the rows of the people, counting the seats on from `seat`
@@ -244,7 +244,7 @@ seatings (entry ∷ A) =
 -- EXCEPTIONS: ONE FOR EACH COMMAND THAT STATES ONE, NUMBERED AND WITH THE STEP THAT IT PASSED, AS ITS ANSWER SAYS
 
 abbrev pub exception_row : Act → Option ℕ → Option ℕ → Option ExceptionRow
-exception_row (RecordException c text pass at) (Some number) passed =
+exception_row (Ceremony c at (RecordException text pass)) (Some number) passed =
     Some (record { ceremony = c; exception = number; text = text; at = at; passed = passed })
 exception_row act number passed = None
 

@@ -15,9 +15,10 @@ use Rattle.kcr_custody.specs.declared.SafeNumber.TheVariants.{One, Two}
 use Rattle.kcr_custody.specs.Destinations.{destination_text}
 use Rattle.kcr_room.specs.Room.{way_text}
 use Rattle.kcr_history.specs.declared.commands.Act.{Act}
-use Rattle.kcr_history.specs.declared.commands.Act.TheVariants.{Enter, Train, Withdraw, Appoint, Replace, Release}
-use Rattle.kcr_history.specs.declared.commands.Act.TheVariants.{AddBox, AddItem, Plan, Open, Close, RecordSheet, Sign, RecordException}
-use Rattle.kcr_history.specs.declared.commands.Act.TheVariants.{SetSafe, Seal, Take, Put, Cut}
+use Rattle.kcr_history.specs.declared.commands.Deed.{Deed}
+use Rattle.kcr_history.specs.declared.commands.Act.TheVariants.{Enter, Train, Withdraw, Appoint, Replace, Release, AddBox, Plan, Ceremony}
+use Rattle.kcr_history.specs.declared.commands.Deed.TheVariants.{AddItem, Open, Close, RecordSheet, Sign, RecordException, SetSafe, Seal}
+use Rattle.kcr_history.specs.declared.commands.Deed.TheVariants.{Take, Put, Cut}
 use Rattle.kcr_history.specs.declared.commands.ReplyData.{ReplyData}
 use Rattle.kcr_history.specs.Json.{quoted, member, object, array}
 
@@ -61,7 +62,20 @@ at_step ceremony step = at_ceremony ceremony (codes "steps/" ++ decimal step ++ 
 abbrev pub at_safe : ℕ → SafeNumber → List ℕ
 at_safe ceremony safe = at_ceremony ceremony (codes "safes/" ++ safe_text safe)
 
--- the path to which the act's command is posted
+-- the path to which the command of an act in a ceremony is posted, and that of any act
+abbrev pub deed_path : ℕ → Deed → List ℕ
+deed_path ceremony Open = at_ceremony ceremony (codes "opening")
+deed_path ceremony Close = at_ceremony ceremony (codes "closing")
+deed_path ceremony (RecordSheet way who) = at_ceremony ceremony (codes "sheet")
+deed_path ceremony (Sign step) = at_step ceremony step
+deed_path ceremony (RecordException text pass) = at_ceremony ceremony (codes "exceptions")
+deed_path ceremony (AddItem item) = codes "/items"
+deed_path ceremony (SetSafe safe is_open by) = at_safe ceremony safe
+deed_path ceremony (Seal serial items) = at_bag ceremony serial (codes "seal")
+deed_path ceremony (Take serial) = at_bag ceremony serial (codes "take")
+deed_path ceremony (Put serial to) = at_bag ceremony serial (codes "put")
+deed_path ceremony (Cut serial) = at_bag ceremony serial (codes "cut")
+
 abbrev pub path_text : Act → List ℕ
 path_text (Enter who name) = codes "/people"
 path_text (Train who role since until) = at_person who (codes "roles")
@@ -70,18 +84,8 @@ path_text (Appoint place who day) = codes "/custodians"
 path_text (Replace place who day) = at_place (place_text place) (codes "replacement")
 path_text (Release place day) = at_place (place_text place) (codes "release")
 path_text (AddBox facility number place) = codes "/boxes"
-path_text (AddItem ceremony item at) = codes "/items"
 path_text (Plan number facility day script) = codes "/ceremonies"
-path_text (Open ceremony at) = at_ceremony ceremony (codes "opening")
-path_text (Close ceremony at) = at_ceremony ceremony (codes "closing")
-path_text (RecordSheet ceremony way who at) = at_ceremony ceremony (codes "sheet")
-path_text (Sign ceremony step at) = at_step ceremony step
-path_text (RecordException ceremony text pass at) = at_ceremony ceremony (codes "exceptions")
-path_text (SetSafe ceremony safe is_open by at) = at_safe ceremony safe
-path_text (Seal ceremony serial items at) = at_bag ceremony serial (codes "seal")
-path_text (Take ceremony serial at) = at_bag ceremony serial (codes "take")
-path_text (Put ceremony serial to at) = at_bag ceremony serial (codes "put")
-path_text (Cut ceremony serial at) = at_bag ceremony serial (codes "cut")
+path_text (Ceremony ceremony at deed) = deed_path ceremony deed
 
 -- the value of a member: a text, a number, a truth value, a list of texts
 pub data MemberValue : Type 0 where
@@ -94,11 +98,17 @@ pub data MemberValue : Type 0 where
 abbrev pub word : Member → List ℕ → Member × MemberValue
 word name text = (name, Word text)
 
--- the moment of an act, its last member
-abbrev pub at_member : ℕ → List (Member × MemberValue)
-at_member at = word Members.At (moment_text at) ∷ []
+-- the members of the body of an act in a ceremony, but the key and the moment, in their order
+abbrev pub deed_members : ℕ → Deed → List (Member × MemberValue)
+deed_members ceremony (RecordSheet way who) = word Members.Way (way_text way) ∷ (Members.Who, Several who) ∷ []
+deed_members ceremony (RecordException text pass) = word Members.Text text ∷ (Members.Pass, Truth pass) ∷ []
+deed_members ceremony (AddItem item) = (Members.Ceremony, Whole ceremony) ∷ word Members.Item item ∷ []
+deed_members ceremony (SetSafe safe is_open by) = (Members.Open, Truth is_open) ∷ word Members.By by ∷ []
+deed_members ceremony (Seal serial items) = (Members.Items, Several items) ∷ []
+deed_members ceremony (Put serial to) = word Members.To (destination_text to) ∷ []
+deed_members ceremony deed = []
 
--- the members of an act's body but the key, in their order
+-- the members of an act's body but the key, in their order; the moment of what is done in a ceremony is its last
 abbrev pub members_of : Act → List (Member × MemberValue)
 members_of (Enter who name) = word Members.Who who ∷ word Members.Name name ∷ []
 members_of (Train who role since until) =
@@ -111,20 +121,10 @@ members_of (Release place day) = word Members.Day (day_text day) ∷ []
 members_of (AddBox facility number place) =
     word Members.Facility (facility_text facility) ∷ (Members.Box, Whole number)
     ∷ word Members.Place (place_text place) ∷ []
-members_of (AddItem ceremony item at) = (Members.Ceremony, Whole ceremony) ∷ word Members.Item item ∷ at_member at
 members_of (Plan number facility day script) =
     (Members.Number, Whole number) ∷ word Members.Facility (facility_text facility)
     ∷ word Members.Day (day_text day) ∷ word Members.Script script ∷ []
-members_of (Open ceremony at) = at_member at
-members_of (Close ceremony at) = at_member at
-members_of (RecordSheet ceremony way who at) = word Members.Way (way_text way) ∷ (Members.Who, Several who) ∷ at_member at
-members_of (Sign ceremony step at) = at_member at
-members_of (RecordException ceremony text pass at) = word Members.Text text ∷ (Members.Pass, Truth pass) ∷ at_member at
-members_of (SetSafe ceremony safe is_open by at) = (Members.Open, Truth is_open) ∷ word Members.By by ∷ at_member at
-members_of (Seal ceremony serial items at) = (Members.Items, Several items) ∷ at_member at
-members_of (Take ceremony serial at) = at_member at
-members_of (Put ceremony serial to at) = word Members.To (destination_text to) ∷ at_member at
-members_of (Cut ceremony serial at) = at_member at
+members_of (Ceremony ceremony at deed) = deed_members ceremony deed ++ word Members.At (moment_text at) ∷ []
 
 -- a value on a line
 abbrev pub value_text : MemberValue → List ℕ

@@ -2,7 +2,7 @@
 ghost use Rattle.std.specs.Prelude.{◌≡◌, [], ◌∷◌, IfOk};
 ghost use Rattle.kcr_history.specs.AsksByKind;
 
-use crate::commands::{Act, Command};
+use crate::commands::{Act, Command, Deed};
 use crate::lists::{InitialsList, ItemList};
 use crate::views::{
     AppointmentFilter, Asks, ItemFilter, Selection, StayFilter, StepFilter, TrainingFilter,
@@ -296,6 +296,33 @@ fn asks_sealed(
     Ok(asks_items(alloc, ceremony, serial, codes, at))
 }
 
+/// What an act in a ceremony asks for.
+fn asks_of_deed(
+    alloc: Global,
+    ceremony: CeremonyNumber,
+    at: Moment,
+    deed: &Deed,
+) -> Result<Asks, AllocError>
+    ensures { IfOk result (λ asks. asks ≡ AsksByKind.asks_of_deed ceremony at deed.now) }
+{
+    match deed {
+        Deed::Open => Ok(asks_ceremonies(Selection::All)),
+        Deed::Close => Ok(asks_to_close(alloc, ceremony, at)),
+        Deed::RecordSheet { way, who } => asks_sheet(alloc, ceremony, *way, who, at),
+        Deed::Sign { step } => Ok(asks_to_sign(alloc, ceremony, *step, at)),
+        Deed::RecordException { .. } => Ok(asks_to_except(alloc, ceremony, at)),
+        Deed::AddItem { item } => asks_to_add(alloc, ceremony, *item, at),
+        Deed::SetSafe { by, .. } => asks_to_turn(alloc, ceremony, *by, at),
+        Deed::Seal { serial, items } => asks_sealed(alloc, ceremony, *serial, items, at),
+        Deed::Take { serial } | Deed::Put { serial, .. } => {
+            Ok(asks_bag(alloc, ceremony, *serial, at))
+        }
+        Deed::Cut { serial } => {
+            Ok(asks_items(alloc, ceremony, *serial, ItemFilter::Bag(*serial), at))
+        }
+    }
+}
+
 /// What an act asks for.
 fn asks_of_act(alloc: Global, act: &Act) -> Result<Asks, AllocError>
     ensures { IfOk result (λ asks. asks ≡ AsksByKind.asks_of_act act.now) }
@@ -308,46 +335,8 @@ fn asks_of_act(alloc: Global, act: &Act) -> Result<Asks, AllocError>
         Act::Replace { place, who, .. } => asks_to_appoint(alloc, *place, *who),
         Act::Release { place, .. } => Ok(asks_to_release(*place)),
         Act::AddBox { .. } => Ok(asks_boxes()),
-        Act::AddItem { ceremony, item, at } => asks_to_add(alloc, *ceremony, *item, *at),
         Act::Plan { number, .. } => Ok(asks_ceremonies(Selection::Matching(number.get()))),
-        Act::Open { .. } => Ok(asks_ceremonies(Selection::All)),
-        Act::Close { ceremony, at } => Ok(asks_to_close(alloc, *ceremony, *at)),
-        Act::RecordSheet {
-            ceremony,
-            way,
-            who,
-            at,
-        } => asks_sheet(alloc, *ceremony, *way, who, *at),
-        Act::Sign { ceremony, step, at } => Ok(asks_to_sign(alloc, *ceremony, *step, *at)),
-        Act::RecordException { ceremony, at, .. } => Ok(asks_to_except(alloc, *ceremony, *at)),
-        Act::SetSafe {
-            ceremony,
-            by,
-            at,
-            ..
-        } => asks_to_turn(alloc, *ceremony, *by, *at),
-        Act::Seal {
-            ceremony,
-            serial,
-            items,
-            at,
-        } => { asks_sealed(alloc, *ceremony, *serial, items, *at) }
-        Act::Take {
-            ceremony,
-            serial,
-            at,
-        }
-        | Act::Put {
-            ceremony,
-            serial,
-            at,
-            ..
-        } => { Ok(asks_bag(alloc, *ceremony, *serial, *at)) }
-        Act::Cut {
-            ceremony,
-            serial,
-            at,
-        } => { Ok(asks_items(alloc, *ceremony, *serial, ItemFilter::Bag(*serial), *at)) }
+        Act::Ceremony { ceremony, at, deed } => asks_of_deed(alloc, *ceremony, *at, deed),
     }
 }
 

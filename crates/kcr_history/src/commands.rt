@@ -51,12 +51,6 @@ pub enum Act {
         number: BoxNumber,
         place: Place,
     },
-    /// Adds an item, loose at the ceremony's facility.
-    AddItem {
-        ceremony: CeremonyNumber,
-        item: ItemCode,
-        at: Moment,
-    },
     /// Plans a ceremony with the steps of its script, a CSV text.
     Plan {
         number: CeremonyNumber,
@@ -64,69 +58,62 @@ pub enum Act {
         day: Day,
         script: Text,
     },
-    /// Opens a planned ceremony.
-    Open {
+    /// Does something in a ceremony, at a moment.
+    Ceremony {
         ceremony: CeremonyNumber,
         at: Moment,
+        deed: Deed,
     },
-    /// Closes an open ceremony, for good.
-    Close {
-        ceremony: CeremonyNumber,
-        at: Moment,
-    },
-    /// Lists people who come into the room of a ceremony, or go out of it, all at one moment.
+}
+
+/// What a command does in a ceremony.
+#[derive(Drop)]
+pub enum Deed {
+    /// Opens the planned ceremony.
+    Open,
+    /// Closes the open ceremony, for good.
+    Close,
+    /// Lists people who come into the room, or go out of it, all at one moment.
     RecordSheet {
-        ceremony: CeremonyNumber,
         way: Way,
         who: People,
-        at: Moment,
     },
     /// Signs the next step: distinct people in the room fill its seats.
     Sign {
-        ceremony: CeremonyNumber,
         step: StepNumber,
-        at: Moment,
     },
     /// States a script exception. With `pass` it passes over the next step, and then a CA and an IW are needed.
     RecordException {
-        ceremony: CeremonyNumber,
         text: Remark,
         pass: bool,
-        at: Moment,
+    },
+    /// Adds an item, loose at the ceremony's facility.
+    AddItem {
+        item: ItemCode,
     },
     /// Opens or shuts a safe of the ceremony's facility.
     SetSafe {
-        ceremony: CeremonyNumber,
         safe: SafeNumber,
         is_open: bool,
         by: Initials,
-        at: Moment,
     },
     /// Seals loose items of the ceremony's facility into a bag with a new serial, on its table.
     Seal {
-        ceremony: CeremonyNumber,
         serial: Serial,
         items: Items,
-        at: Moment,
     },
     /// Takes a bag out of a safe, to the table.
     Take {
-        ceremony: CeremonyNumber,
         serial: Serial,
-        at: Moment,
     },
     /// Puts a bag from the table into safe 1 or into a box.
     Put {
-        ceremony: CeremonyNumber,
         serial: Serial,
         to: Destination,
-        at: Moment,
     },
     /// Cuts a bag on the table: its items are loose there, and the bag is spent.
     Cut {
-        ceremony: CeremonyNumber,
         serial: Serial,
-        at: Moment,
     },
 }
 

@@ -25,7 +25,7 @@ mod texts;
 mod views;
 
 pub use asks_by_kind::asks;
-pub use commands::{Act, Command, Entry, Reply, ReplyData};
+pub use commands::{Act, Command, Deed, Entry, Reply, ReplyData};
 pub use fitting::fits;
 pub use kcr_base::Text;
 pub use lists::{InitialsList, ItemList};

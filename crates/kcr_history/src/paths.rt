@@ -3,7 +3,7 @@ ghost use Rattle.std.specs.Prelude.{◌≡◌, IfOk, string_bytes};
 ghost use Rattle.kcr_base.specs.Place.{place_text};
 ghost use Rattle.kcr_history.specs.Texts;
 
-use crate::commands::Act;
+use crate::commands::{Act, Deed};
 use itoa::Buffer;
 use kcr_base::{CeremonyNumber, Initials, Place, Serial, StepNumber};
 use kcr_custody::SafeNumber;
@@ -81,6 +81,25 @@ fn at_safe(alloc: Global, ceremony: CeremonyNumber, safe: SafeNumber) -> Result<
     }
 }
 
+/// The path of an act in a ceremony.
+fn deed_path(alloc: Global, ceremony: CeremonyNumber, deed: &Deed) -> Result<String, AllocError>
+    ensures { IfOk result (λ text. string_bytes text ≡ Texts.deed_path ceremony deed.now) }
+{
+    match deed {
+        Deed::Open => at_ceremony(alloc, ceremony, "opening"),
+        Deed::Close => at_ceremony(alloc, ceremony, "closing"),
+        Deed::RecordSheet { .. } => at_ceremony(alloc, ceremony, "sheet"),
+        Deed::Sign { step } => at_step(alloc, ceremony, *step),
+        Deed::RecordException { .. } => at_ceremony(alloc, ceremony, "exceptions"),
+        Deed::AddItem { .. } => String::from_str(alloc, "/items"),
+        Deed::SetSafe { safe, .. } => at_safe(alloc, ceremony, *safe),
+        Deed::Seal { serial, .. } => at_bag(alloc, ceremony, serial, "seal"),
+        Deed::Take { serial } => at_bag(alloc, ceremony, serial, "take"),
+        Deed::Put { serial, .. } => at_bag(alloc, ceremony, serial, "put"),
+        Deed::Cut { serial } => at_bag(alloc, ceremony, serial, "cut"),
+    }
+}
+
 /// The path of a command's request, as `/ceremonies/61/steps/1/signature`. The error is out of memory.
 pub fn path_text(alloc: Global, act: &Act) -> Result<String, AllocError>
     ensures { IfOk result (λ text. string_bytes text ≡ Texts.path_text act.now) }
@@ -93,33 +112,7 @@ pub fn path_text(alloc: Global, act: &Act) -> Result<String, AllocError>
         Act::Replace { place, .. } => at_place(alloc, *place, "replacement"),
         Act::Release { place, .. } => at_place(alloc, *place, "release"),
         Act::AddBox { .. } => String::from_str(alloc, "/boxes"),
-        Act::AddItem { .. } => String::from_str(alloc, "/items"),
         Act::Plan { .. } => String::from_str(alloc, "/ceremonies"),
-        Act::Open { ceremony, .. } => at_ceremony(alloc, *ceremony, "opening"),
-        Act::Close { ceremony, .. } => at_ceremony(alloc, *ceremony, "closing"),
-        Act::RecordSheet { ceremony, .. } => at_ceremony(alloc, *ceremony, "sheet"),
-        Act::Sign { ceremony, step, .. } => at_step(alloc, *ceremony, *step),
-        Act::RecordException { ceremony, .. } => at_ceremony(alloc, *ceremony, "exceptions"),
-        Act::SetSafe { ceremony, safe, .. } => at_safe(alloc, *ceremony, *safe),
-        Act::Seal {
-            ceremony,
-            serial,
-            ..
-        } => at_bag(alloc, *ceremony, serial, "seal"),
-        Act::Take {
-            ceremony,
-            serial,
-            ..
-        } => at_bag(alloc, *ceremony, serial, "take"),
-        Act::Put {
-            ceremony,
-            serial,
-            ..
-        } => at_bag(alloc, *ceremony, serial, "put"),
-        Act::Cut {
-            ceremony,
-            serial,
-            ..
-        } => at_bag(alloc, *ceremony, serial, "cut"),
+        Act::Ceremony { ceremony, deed, .. } => deed_path(alloc, *ceremony, deed),
     }
 }

@@ -6,12 +6,12 @@ ghost use Rattle.kcr_base.specs.Moment.{moment_text};
 ghost use Rattle.kcr_base.specs.Place.{place_text};
 ghost use Rattle.kcr_base.specs.declared.refusal.Member.TheVariants as Members;
 ghost use Rattle.kcr_custody.specs.Destinations.{destination_text};
-ghost use Rattle.kcr_history.specs.Texts.{Word, members_of};
+ghost use Rattle.kcr_history.specs.Texts.{Word, deed_members, members_of};
 
-use crate::commands::Act;
+use crate::commands::{Act, Deed};
 use itoa::Buffer;
 use kcr_base::lists::{DistinctList, ListElement};
-use kcr_base::{Day, Member, Moment, Place};
+use kcr_base::{CeremonyNumber, Day, Member, Moment, Place};
 use kcr_custody::Destination;
 use std::alloc::AllocError;
 
@@ -85,6 +85,38 @@ fn tell_destination<W: Teller>(to: &mut W, destination: Destination) -> Result<(
     }
 }
 
+/// Writes the members of an act in a ceremony but its moment.
+fn tell_deed<W: Teller>(ceremony: CeremonyNumber, deed: &Deed, to: &mut W) -> Result<(), AllocError>
+    ensures { OnOk result (W.seen to.new ≡ fold W.adds (W.seen to.old) (deed_members ceremony deed.now)) }
+{
+    match deed {
+        Deed::RecordSheet { way, who } => {
+            to.text(Member::Way, way.text())?;
+            to.list(Member::Who, who)
+        }
+        Deed::RecordException { text, pass } => {
+            to.text(Member::Text, text.as_str())?;
+            to.truth(Member::Pass, *pass)
+        }
+        Deed::AddItem { item } => {
+            to.number(Member::Ceremony, ceremony.get())?;
+            to.text(Member::Item, item.as_str())
+        }
+        Deed::SetSafe { is_open, by, .. } => {
+            to.truth(Member::Open, *is_open)?;
+            to.text(Member::By, by.as_str())
+        }
+        Deed::Seal { items, .. } => to.list(Member::Items, items),
+        Deed::Put {
+            to: destination,
+            ..
+        } => tell_destination(to, *destination),
+        Deed::Open | Deed::Close | Deed::Sign { .. } | Deed::Take { .. } | Deed::Cut { .. } => Ok(
+            (),
+        ),
+    }
+}
+
 /// Writes the members of an act's body but the key, in the order in which the API lists them. The error is out of
 /// memory.
 pub fn tell<W: Teller>(act: &Act, to: &mut W) -> Result<(), AllocError>
@@ -128,11 +160,6 @@ pub fn tell<W: Teller>(act: &Act, to: &mut W) -> Result<(), AllocError>
             to.number(Member::Box, number.get())?;
             tell_place(to, *place)
         }
-        Act::AddItem { ceremony, item, at } => {
-            to.number(Member::Ceremony, ceremony.get())?;
-            to.text(Member::Item, item.as_str())?;
-            tell_moment(to, *at)
-        }
         Act::Plan {
             number,
             facility,
@@ -144,42 +171,9 @@ pub fn tell<W: Teller>(act: &Act, to: &mut W) -> Result<(), AllocError>
             tell_day(to, Member::Day, *day)?;
             to.text(Member::Script, script.as_str())
         }
-        Act::RecordSheet { way, who, at, .. } => {
-            to.text(Member::Way, way.text())?;
-            to.list(Member::Who, who)?;
+        Act::Ceremony { ceremony, at, deed } => {
+            tell_deed(*ceremony, deed, to)?;
             tell_moment(to, *at)
         }
-        Act::RecordException { text, pass, at, .. } => {
-            to.text(Member::Text, text.as_str())?;
-            to.truth(Member::Pass, *pass)?;
-            tell_moment(to, *at)
-        }
-        Act::SetSafe {
-            is_open,
-            by,
-            at,
-            ..
-        } => {
-            to.truth(Member::Open, *is_open)?;
-            to.text(Member::By, by.as_str())?;
-            tell_moment(to, *at)
-        }
-        Act::Seal { items, at, .. } => {
-            to.list(Member::Items, items)?;
-            tell_moment(to, *at)
-        }
-        Act::Put {
-            to: destination,
-            at,
-            ..
-        } => {
-            tell_destination(to, *destination)?;
-            tell_moment(to, *at)
-        }
-        Act::Open { at, .. }
-        | Act::Close { at, .. }
-        | Act::Sign { at, .. }
-        | Act::Take { at, .. }
-        | Act::Cut { at, .. } => tell_moment(to, *at),
     }
 }

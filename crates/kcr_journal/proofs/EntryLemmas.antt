@@ -14,7 +14,8 @@ use Rattle.kcr_history.specs.Machine.{IsRegister, IsReplyTo, seat_request}
 use Rattle.kcr_history.specs.Tables.{key_row}
 use Rattle.kcr_history.specs.Texts.{people_array, reply_text}
 use Rattle.kcr_history.specs.declared.commands.Act.{Act}
-use Rattle.kcr_history.specs.declared.commands.Act.TheVariants.{Sign, RecordException}
+use Rattle.kcr_history.specs.declared.commands.Act.TheVariants.{Ceremony}
+use Rattle.kcr_history.specs.declared.commands.Deed.TheVariants.{Sign, RecordException}
 use Rattle.kcr_history.specs.declared.commands.Entry.{Entry}
 use Rattle.kcr_history.specs.declared.commands.ReplyData.{ReplyData}
 use Rattle.kcr_people.specs.declared.Person.{Person}
@@ -27,21 +28,21 @@ use Rattle.kcr_journal.proofs.SeatedLemmas.{seated-initials}
 
 -- the reply has what the act's sentence tells: people with initials, and numbers
 abbrev pub IsToldOf : Act → ReplyData → Type 0
-IsToldOf (Sign c step at) reply =
+IsToldOf (Ceremony c at (Sign step)) reply =
     (n : ℕ) × (people : List (List ℕ)) × AllByRecursion IsInitials people
     × (reply ≡ record { accepted = n; exception = None; seating = Some people; step = Some step })
-IsToldOf (RecordException c text true at) reply =
+IsToldOf (Ceremony c at (RecordException text true)) reply =
     (n : ℕ) × (e : ℕ) × (k : ℕ) × (people : List (List ℕ)) × AllByRecursion IsInitials people
     × (reply ≡ record { accepted = n; exception = Some e; seating = Some people; step = Some k })
-IsToldOf (RecordException c text false at) reply =
+IsToldOf (Ceremony c at (RecordException text false)) reply =
     (n : ℕ) × (e : ℕ) × (reply ≡ record { accepted = n; exception = Some e; seating = None; step = None })
 IsToldOf act reply = Unit {0}
 
 told-of : (A : History) (act : Act) (reply : ReplyData) → AreValues A → IsReplyTo A act reply (seat_request A act) → IsToldOf act reply
-told-of A (Sign c step at) reply values h = (_, h.0, seated-initials A values c at _ h.0 h.1, h.2)
-told-of A (RecordException c text true at) reply values h =
+told-of A (Ceremony c at (Sign step)) reply values h = (_, h.0, seated-initials A values c at _ h.0 h.1, h.2)
+told-of A (Ceremony c at (RecordException text true)) reply values h =
     (_, _, _, h.0, seated-initials A values c at (Staff Ca ∷ Staff Iw ∷ []) h.0 h.1, h.2)
-told-of A (RecordException c text false at) reply values h = (_, _, h)
+told-of A (Ceremony c at (RecordException text false)) reply values h = (_, _, h)
 told-of A act reply values h = tt
 
 -- the line by the reply's text, and the line by the reply
@@ -56,12 +57,12 @@ by_reply rows act reply =
     (number_text reply.exception) (number_text reply.step)
 
 same-line : (rows : List Person) (act : Act) (reply : ReplyData) → IsToldOf act reply → by_text rows act reply ≡ by_reply rows act reply
-same-line rows (Sign c step at) reply (n, people, each, is) =
-    let P : ReplyData → Type 0 = λ a. by_text rows (Sign c step at) a ≡ by_reply rows (Sign c step at) a in
+same-line rows (Ceremony c at (Sign step)) reply (n, people, each, is) =
+    let P : ReplyData → Type 0 = λ a. by_text rows (Ceremony c at (Sign step)) a ≡ by_reply rows (Ceremony c at (Sign step)) a in
     subst P (sym is)
-    (ap (λ ps. line n (Sign c step at) (map (with_name rows) ps) [] []) (signed-people (decimal n) (decimal step) people (are-digits n) (are-digits step) each))
-same-line rows (RecordException c text true at) reply (n, e, k, people, each, is) =
-    let act : Act = RecordException c text true at in
+    (ap (λ ps. line n (Ceremony c at (Sign step)) (map (with_name rows) ps) [] []) (signed-people (decimal n) (decimal step) people (are-digits n) (are-digits step) each))
+same-line rows (Ceremony c at (RecordException text true)) reply (n, e, k, people, each, is) =
+    let act : Act = Ceremony c at (RecordException text true) in
     let P : ReplyData → Type 0 = λ a. by_text rows act a ≡ by_reply rows act a in
     let seats = people_array people in
     let free = people-colon people each in
@@ -69,8 +70,8 @@ same-line rows (RecordException c text true at) reply (n, e, k, people, each, is
     let exception = passing-number (decimal n) (decimal e) seats (decimal k) (are-digits n) (are-digits e) free (are-digits k) in
     let passes = passing-step (decimal n) (decimal e) seats (decimal k) (are-digits n) (are-digits e) free (are-digits k) in
     subst P (sym is) (λ i. line n act (map (with_name rows) (who i)) (exception i) (passes i))
-same-line rows (RecordException c text false at) reply (n, e, is) =
-    let act : Act = RecordException c text false at in
+same-line rows (Ceremony c at (RecordException text false)) reply (n, e, is) =
+    let act : Act = Ceremony c at (RecordException text false) in
     let P : ReplyData → Type 0 = λ a. by_text rows act a ≡ by_reply rows act a in
     subst P (sym is) (ap (λ number. line n act [] number []) (stated-number (decimal n) (decimal e) (are-digits n) (are-digits e)))
 same-line rows act reply told = refl

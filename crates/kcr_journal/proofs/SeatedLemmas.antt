@@ -13,7 +13,8 @@ use Rattle.kcr_history.specs.History.{History}
 use Rattle.kcr_history.specs.Room.{sheet, sheet_after, is_in}
 use Rattle.kcr_history.specs.Seating.{is_seating, eligible}
 use Rattle.kcr_history.specs.declared.commands.Act.{Act}
-use Rattle.kcr_history.specs.declared.commands.Act.TheVariants.{RecordSheet}
+use Rattle.kcr_history.specs.declared.commands.Act.TheVariants.{Ceremony}
+use Rattle.kcr_history.specs.declared.commands.Deed.TheVariants.{RecordSheet}
 use Rattle.kcr_room.specs.Requests.{new_row}
 use Rattle.kcr_room.specs.Room.{is_of, last_enters, last_onto, later_row}
 use Rattle.kcr_room.specs.declared.SheetRow.{SheetRow}
@@ -23,7 +24,7 @@ abbrev HasInitials : SheetRow → Type 0
 HasInitials row = IsInitials row.who
 
 rows-after : (act : Act) (rows : List SheetRow) → IsAct act → AllByRecursion HasInitials rows → AllByRecursion HasInitials (sheet_after act rows)
-rows-after (RecordSheet c way people at) rows is all =
+rows-after (Ceremony c at (RecordSheet way people)) rows is all =
     all-append HasInitials rows (map (new_row c way at) people) all
     (all-map HasInitials (new_row c way at) people (recursion_from_All IsInitials people is.1.each))
 rows-after act rows is all = all

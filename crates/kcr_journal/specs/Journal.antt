@@ -12,33 +12,16 @@ use Rattle.kcr_history.specs.Tables.{people}
 use Rattle.kcr_history.specs.declared.commands.Entry.{Entry}
 use Rattle.kcr_history.specs.declared.row_types.KeyRow.{KeyRow}
 use Rattle.kcr_history.specs.declared.commands.Act.{Act}
-use Rattle.kcr_history.specs.declared.commands.Act.TheVariants.{Enter, Train, Withdraw, Appoint, Replace, Release}
-use Rattle.kcr_history.specs.declared.commands.Act.TheVariants.{AddBox, AddItem, Plan, Open, Close, RecordSheet, Sign, RecordException}
-use Rattle.kcr_history.specs.declared.commands.Act.TheVariants.{SetSafe, Seal, Take, Put, Cut}
+use Rattle.kcr_history.specs.declared.commands.Act.TheVariants.{Enter, Train, Withdraw, Appoint, Replace, Plan, Ceremony}
+use Rattle.kcr_history.specs.declared.commands.Deed.TheVariants.{RecordSheet, Sign, RecordException, SetSafe}
 use Rattle.kcr_journal.specs.Lines.{line}
 use Rattle.kcr_journal.specs.Replies.{exception_in, passed_in, seated_in}
 
 -- the ceremony that a command names
 abbrev pub ceremony_of : Act → Option ℕ
-ceremony_of (Enter who name) = None
-ceremony_of (Train who role since until) = None
-ceremony_of (Withdraw who role day) = None
-ceremony_of (Appoint place who day) = None
-ceremony_of (Replace place who day) = None
-ceremony_of (Release place day) = None
-ceremony_of (AddBox facility number place) = None
-ceremony_of (AddItem ceremony item at) = Some ceremony
 ceremony_of (Plan ceremony facility day script) = Some ceremony
-ceremony_of (Open ceremony at) = Some ceremony
-ceremony_of (Close ceremony at) = Some ceremony
-ceremony_of (RecordSheet ceremony way who at) = Some ceremony
-ceremony_of (Sign ceremony step at) = Some ceremony
-ceremony_of (RecordException ceremony text pass at) = Some ceremony
-ceremony_of (SetSafe ceremony safe is_open by at) = Some ceremony
-ceremony_of (Seal ceremony serial items at) = Some ceremony
-ceremony_of (Take ceremony serial at) = Some ceremony
-ceremony_of (Put ceremony serial to at) = Some ceremony
-ceremony_of (Cut ceremony serial at) = Some ceremony
+ceremony_of (Ceremony ceremony at deed) = Some ceremony
+ceremony_of act = None
 
 -- the command names the ceremony that is asked for; if none is asked for, every command passes
 abbrev pub is_of_ceremony : Option ℕ → Act → Bool
@@ -52,20 +35,11 @@ named_people (Train who role since until) seated = who ∷ []
 named_people (Withdraw who role day) seated = who ∷ []
 named_people (Appoint place who day) seated = who ∷ []
 named_people (Replace place who day) seated = who ∷ []
-named_people (Release place day) seated = []
-named_people (AddBox facility number place) seated = []
-named_people (AddItem ceremony item at) seated = []
-named_people (Plan ceremony facility day script) seated = []
-named_people (Open ceremony at) seated = []
-named_people (Close ceremony at) seated = []
-named_people (RecordSheet ceremony way who at) seated = who
-named_people (Sign ceremony step at) seated = seated
-named_people (RecordException ceremony text pass at) seated = seated
-named_people (SetSafe ceremony safe is_open by at) seated = by ∷ []
-named_people (Seal ceremony serial items at) seated = []
-named_people (Take ceremony serial at) seated = []
-named_people (Put ceremony serial to at) seated = []
-named_people (Cut ceremony serial at) seated = []
+named_people (Ceremony ceremony at (RecordSheet way who)) seated = who
+named_people (Ceremony ceremony at (Sign step)) seated = seated
+named_people (Ceremony ceremony at (RecordException text pass)) seated = seated
+named_people (Ceremony ceremony at (SetSafe safe is_open by)) seated = by ∷ []
+named_people act seated = []
 
 -- a person with the name that the register has
 abbrev pub with_name : List Person → List ℕ → Person

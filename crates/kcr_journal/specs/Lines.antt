@@ -5,9 +5,7 @@ use Rattle.kcr_base.specs.Day.{day_text}
 use Rattle.kcr_base.specs.Moment.{moment_text}
 use Rattle.kcr_people.specs.declared.Person.{Person}
 use Rattle.kcr_history.specs.declared.commands.Act.{Act}
-use Rattle.kcr_history.specs.declared.commands.Act.TheVariants.{Enter, Train, Withdraw, Appoint, Replace, Release}
-use Rattle.kcr_history.specs.declared.commands.Act.TheVariants.{AddBox, AddItem, Plan, Open, Close, RecordSheet, Sign, RecordException}
-use Rattle.kcr_history.specs.declared.commands.Act.TheVariants.{SetSafe, Seal, Take, Put, Cut}
+use Rattle.kcr_history.specs.declared.commands.Act.TheVariants.{Enter, Train, Withdraw, Appoint, Replace, Release, AddBox, Plan, Ceremony}
 use Rattle.kcr_journal.specs.Sentences.{people_text, sentence}
 
 -- a number at the right of six columns
@@ -21,24 +19,14 @@ day_column day = day_text day ++ codes "          "
 -- the moment of an act, or its day, or a dash if it has neither, in twenty columns
 abbrev pub when_column : Act → List ℕ
 when_column (Enter who name) = codes "-                   "
+when_column (AddBox facility box place) = codes "-                   "
 when_column (Train who role since until) = day_column since
 when_column (Withdraw who role day) = day_column day
 when_column (Appoint place who day) = day_column day
 when_column (Replace place who day) = day_column day
 when_column (Release place day) = day_column day
-when_column (AddBox facility box place) = codes "-                   "
-when_column (AddItem ceremony item at) = moment_text at
 when_column (Plan ceremony facility day script) = day_column day
-when_column (Open ceremony at) = moment_text at
-when_column (Close ceremony at) = moment_text at
-when_column (RecordSheet ceremony way who at) = moment_text at
-when_column (Sign ceremony step at) = moment_text at
-when_column (RecordException ceremony text pass at) = moment_text at
-when_column (SetSafe ceremony safe is_open by at) = moment_text at
-when_column (Seal ceremony serial items at) = moment_text at
-when_column (Take ceremony serial at) = moment_text at
-when_column (Put ceremony serial to at) = moment_text at
-when_column (Cut ceremony serial at) = moment_text at
+when_column (Ceremony ceremony at deed) = moment_text at
 
 -- the line of a command with this number: its people, and the numbers of an exception and of the step that it passes
 abbrev pub line : ℕ → Act → List Person → List ℕ → List ℕ → List ℕ

@@ -17,9 +17,10 @@ use Rattle.kcr_room.specs.declared.Way.{Way}
 use Rattle.kcr_room.specs.declared.Way.TheVariants as way
 use Rattle.kcr_history.specs.Texts.{safe_text}
 use Rattle.kcr_history.specs.declared.commands.Act.{Act}
-use Rattle.kcr_history.specs.declared.commands.Act.TheVariants.{Enter, Train, Withdraw, Appoint, Replace, Release}
-use Rattle.kcr_history.specs.declared.commands.Act.TheVariants.{AddBox, AddItem, Plan, Open, Close, RecordSheet, Sign, RecordException}
-use Rattle.kcr_history.specs.declared.commands.Act.TheVariants.{SetSafe, Seal, Take, Put, Cut}
+use Rattle.kcr_history.specs.declared.commands.Deed.{Deed}
+use Rattle.kcr_history.specs.declared.commands.Act.TheVariants.{Enter, Train, Withdraw, Appoint, Replace, Release, AddBox, Plan, Ceremony}
+use Rattle.kcr_history.specs.declared.commands.Deed.TheVariants.{AddItem, Open, Close, RecordSheet, Sign, RecordException, SetSafe, Seal}
+use Rattle.kcr_history.specs.declared.commands.Deed.TheVariants.{Take, Put, Cut}
 
 -- texts, one behind the other
 abbrev pub joined : List (List ℕ) → List ℕ
@@ -152,6 +153,20 @@ cut_open ceremony serial =
 
 -- ALL ACTS. `exception` and `passes` are the numbers of an exception and of the step that it passes
 
+abbrev pub sentence_of_deed : ℕ → Deed → List ℕ → List ℕ → List ℕ → List ℕ
+sentence_of_deed ceremony Open people exception passes = opened ceremony
+sentence_of_deed ceremony Close people exception passes = closed ceremony
+sentence_of_deed ceremony (RecordSheet way who) people exception passes = moved ceremony way people
+sentence_of_deed ceremony (Sign step) people exception passes = signed ceremony step people
+sentence_of_deed ceremony (RecordException text pass) people exception passes =
+    stated ceremony text pass people exception passes
+sentence_of_deed ceremony (AddItem item) people exception passes = item_added ceremony item
+sentence_of_deed ceremony (SetSafe safe is_open by) people exception passes = turned ceremony safe is_open people
+sentence_of_deed ceremony (Seal serial items) people exception passes = sealed ceremony serial items
+sentence_of_deed ceremony (Take serial) people exception passes = taken ceremony serial
+sentence_of_deed ceremony (Put serial to) people exception passes = put_away ceremony serial to
+sentence_of_deed ceremony (Cut serial) people exception passes = cut_open ceremony serial
+
 abbrev pub sentence : Act → List ℕ → List ℕ → List ℕ → List ℕ
 sentence (Enter who name) people exception passes = entered people
 sentence (Train who role since until) people exception passes = trained people role since until
@@ -160,16 +175,5 @@ sentence (Appoint place who day) people exception passes = appointed place peopl
 sentence (Replace place who day) people exception passes = replaced place people day
 sentence (Release place day) people exception passes = released place day
 sentence (AddBox facility number place) people exception passes = box_added facility number place
-sentence (AddItem ceremony item at) people exception passes = item_added ceremony item
 sentence (Plan ceremony facility day script) people exception passes = planned ceremony facility day
-sentence (Open ceremony at) people exception passes = opened ceremony
-sentence (Close ceremony at) people exception passes = closed ceremony
-sentence (RecordSheet ceremony way who at) people exception passes = moved ceremony way people
-sentence (Sign ceremony step at) people exception passes = signed ceremony step people
-sentence (RecordException ceremony text pass at) people exception passes =
-    stated ceremony text pass people exception passes
-sentence (SetSafe ceremony safe is_open by at) people exception passes = turned ceremony safe is_open people
-sentence (Seal ceremony serial items at) people exception passes = sealed ceremony serial items
-sentence (Take ceremony serial at) people exception passes = taken ceremony serial
-sentence (Put ceremony serial to at) people exception passes = put_away ceremony serial to
-sentence (Cut ceremony serial at) people exception passes = cut_open ceremony serial
+sentence (Ceremony ceremony at deed) people exception passes = sentence_of_deed ceremony deed people exception passes

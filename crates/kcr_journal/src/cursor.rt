@@ -11,7 +11,6 @@ use crate::line::push_line;
 use crate::named::{is_of_ceremony, named_people};
 use crate::reply::{exception_in, passed_in};
 use kcr_base::{CeremonyNumber, Initials, Refusal};
-use kcr_forms::laws::acts_are_values;
 use kcr_history::{Act, KeyRow};
 use kcr_people::Person;
 use kcr_reading::{CommandCursor, Cursor, name_of};
@@ -67,11 +66,10 @@ pub fn kept_act(alloc: Global, paths: &RouteTable, row: &KeyRow) -> Result<Act, 
     ensures act { IfOk result (λ act. act_of row.now.command ≡ Some act) }
     ensures cause { IfErr result IsFault }
 {
-    let Some(act) = paths.read_act(alloc, row.command.as_bytes())? else {
-        return Err(Refusal::Disk);
-    };
-    acts_are_values(&act);
-    Ok(act)
+    match paths.read_act(alloc, row.command.as_bytes())? {
+        Some(act) => Ok(act),
+        None => Err(Refusal::Disk),
+    }
 }
 
 /// The line of a row, whose act and people these are.

@@ -16,3 +16,4 @@ mod when;
 
 pub use cursor::{JournalCursor, JournalLine, kept_act};
 pub use line::push_line;
+pub use reply::seated_in;

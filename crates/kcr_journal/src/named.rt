@@ -5,7 +5,7 @@ ghost use Rattle.kcr_journal.specs.Journal as said;
 
 use crate::reply::seated_in;
 use kcr_base::{CeremonyNumber, Initials};
-use kcr_history::Act;
+use kcr_history::{Act, Deed};
 use std::alloc::{AllocError, Global};
 
 /// The ceremony that a command names.
@@ -13,6 +13,11 @@ fn ceremony_of(act: &Act) -> Option<CeremonyNumber>
     ensures { result ≡ said.ceremony_of act.now }
 {
     match act {
+        Act::Plan {
+            number: ceremony,
+            ..
+        }
+        | Act::Ceremony { ceremony, .. } => Some(*ceremony),
         Act::Enter { .. }
         | Act::Train { .. }
         | Act::Withdraw { .. }
@@ -20,21 +25,6 @@ fn ceremony_of(act: &Act) -> Option<CeremonyNumber>
         | Act::Replace { .. }
         | Act::Release { .. }
         | Act::AddBox { .. } => None,
-        Act::Plan {
-            number: ceremony,
-            ..
-        }
-        | Act::AddItem { ceremony, .. }
-        | Act::Open { ceremony, .. }
-        | Act::Close { ceremony, .. }
-        | Act::RecordSheet { ceremony, .. }
-        | Act::Sign { ceremony, .. }
-        | Act::RecordException { ceremony, .. }
-        | Act::SetSafe { ceremony, .. }
-        | Act::Seal { ceremony, .. }
-        | Act::Take { ceremony, .. }
-        | Act::Put { ceremony, .. }
-        | Act::Cut { ceremony, .. } => Some(*ceremony),
     }
 }
 
@@ -74,19 +64,13 @@ pub(crate) fn named_people(
         | Act::Train { who, .. }
         | Act::Withdraw { who, .. }
         | Act::Appoint { who, .. }
-        | Act::Replace { who, .. }
-        | Act::SetSafe { by: who, .. } => one_person(alloc, *who),
-        Act::RecordSheet { who, .. } => who.as_slice().to_vec(alloc),
-        Act::Sign { .. } | Act::RecordException { .. } => seated_in(alloc, reply),
-        Act::Release { .. }
-        | Act::AddBox { .. }
-        | Act::AddItem { .. }
-        | Act::Plan { .. }
-        | Act::Open { .. }
-        | Act::Close { .. }
-        | Act::Seal { .. }
-        | Act::Take { .. }
-        | Act::Put { .. }
-        | Act::Cut { .. } => Ok(Vec::new(alloc)),
+        | Act::Replace { who, .. } => one_person(alloc, *who),
+        Act::Ceremony { deed, .. } => match deed {
+            Deed::RecordSheet { who, .. } => who.as_slice().to_vec(alloc),
+            Deed::Sign { .. } | Deed::RecordException { .. } => seated_in(alloc, reply),
+            Deed::SetSafe { by, .. } => one_person(alloc, *by),
+            _ => Ok(Vec::new(alloc)),
+        },
+        Act::Release { .. } | Act::AddBox { .. } | Act::Plan { .. } => Ok(Vec::new(alloc)),
     }
 }

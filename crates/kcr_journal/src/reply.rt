@@ -109,7 +109,7 @@ fn initials_among(alloc: Global, texts: &[&[u8]]) -> Result<Vec<Initials>, Alloc
 
 /// Who fills the seats: the initials between quotes. The error is out of memory.
 #[tactic(auto, unfolding(crate::specs::Replies::seated_in))]
-pub(crate) fn seated_in(alloc: Global, reply: &[u8]) -> Result<Vec<Initials>, AllocError>
+pub fn seated_in(alloc: Global, reply: &[u8]) -> Result<Vec<Initials>, AllocError>
     ensures { IfOk result (λ people. people.items ≡ told.seated_in reply.now) }
 {
     let texts = between_quotes(alloc, reply)?;

@@ -1,6 +1,6 @@
 //! The sentence of an act.
 ghost use Rattle.std.specs.Prelude.{◌≡◌, ◌++◌, OnOk};
-ghost use Rattle.kcr_journal.specs.Sentences.{sentence};
+ghost use Rattle.kcr_journal.specs.Sentences.{sentence, sentence_of_deed};
 
 use crate::ceremony_sentences::{
     push_closed, push_moved, push_opened, push_planned, push_signed, push_stated,
@@ -12,8 +12,39 @@ use crate::people_sentences::{
     push_appointed, push_box_added, push_entered, push_released, push_replaced, push_trained,
     push_withdrawn,
 };
-use kcr_history::Act;
+use kcr_base::CeremonyNumber;
+use kcr_history::{Act, Deed};
 use std::alloc::{AllocError, Global};
+
+/// Adds the sentence of an act in a ceremony.
+fn push_deed(
+    alloc: Global,
+    out: &mut Vec<u8>,
+    ceremony: CeremonyNumber,
+    deed: &Deed,
+    people: &str,
+    exception: &str,
+    passes: &str,
+) -> Result<(), AllocError>
+    ensures { OnOk result (out.new.items
+        ≡ out.old.items ++ sentence_of_deed ceremony deed.now people.now exception.now passes.now) }
+{
+    match deed {
+        Deed::Open => push_opened(out, ceremony),
+        Deed::Close => push_closed(out, ceremony),
+        Deed::RecordSheet { way, .. } => push_moved(out, ceremony, *way, people),
+        Deed::Sign { step } => push_signed(out, ceremony, *step, people),
+        Deed::RecordException { text, pass } => {
+            push_stated(out, ceremony, text, *pass, people, exception, passes)
+        }
+        Deed::AddItem { item } => push_item_added(out, ceremony, *item),
+        Deed::SetSafe { safe, is_open, .. } => push_turned(out, ceremony, *safe, *is_open, people),
+        Deed::Seal { serial, items } => push_sealed(alloc, out, ceremony, *serial, items),
+        Deed::Take { serial } => push_taken(out, ceremony, *serial),
+        Deed::Put { serial, to } => push_put_away(alloc, out, ceremony, *serial, *to),
+        Deed::Cut { serial } => push_cut_open(out, ceremony, *serial),
+    }
+}
 
 /// Adds the sentence of an act. `people` is who the command names, or who fills the seats; `exception` and `passes` are
 /// the numbers of an exception and of the step that it passes.
@@ -44,50 +75,14 @@ pub(crate) fn push_sentence(
             number,
             place,
         } => push_box_added(out, *facility, *number, *place),
-        Act::AddItem { ceremony, item, .. } => push_item_added(out, *ceremony, *item),
         Act::Plan {
             number,
             facility,
             day,
             ..
         } => push_planned(out, *number, *facility, *day),
-        Act::Open { ceremony, .. } => push_opened(out, *ceremony),
-        Act::Close { ceremony, .. } => push_closed(out, *ceremony),
-        Act::RecordSheet { ceremony, way, .. } => push_moved(out, *ceremony, *way, people),
-        Act::Sign { ceremony, step, .. } => push_signed(out, *ceremony, *step, people),
-        Act::RecordException {
-            ceremony,
-            text,
-            pass,
-            ..
-        } => push_stated(out, *ceremony, text, *pass, people, exception, passes),
-        Act::SetSafe {
-            ceremony,
-            safe,
-            is_open,
-            ..
-        } => push_turned(out, *ceremony, *safe, *is_open, people),
-        Act::Seal {
-            ceremony,
-            serial,
-            items,
-            ..
-        } => push_sealed(alloc, out, *ceremony, *serial, items),
-        Act::Take {
-            ceremony,
-            serial,
-            ..
-        } => push_taken(out, *ceremony, *serial),
-        Act::Put {
-            ceremony,
-            serial,
-            to,
-            ..
-        } => push_put_away(alloc, out, *ceremony, *serial, *to),
-        Act::Cut {
-            ceremony,
-            serial,
-            ..
-        } => push_cut_open(out, *ceremony, *serial),
+        Act::Ceremony { ceremony, deed, .. } => {
+            push_deed(alloc, out, *ceremony, deed, people, exception, passes)
+        }
     }
 }

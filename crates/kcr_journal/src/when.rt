@@ -36,16 +36,6 @@ pub(crate) fn push_when(out: &mut Vec<u8>, act: &Act) -> Result<(), AllocError>
         | Act::Replace { day, .. }
         | Act::Release { day, .. }
         | Act::Plan { day, .. } => push_day(out, *day),
-        Act::AddItem { at, .. }
-        | Act::Open { at, .. }
-        | Act::Close { at, .. }
-        | Act::RecordSheet { at, .. }
-        | Act::Sign { at, .. }
-        | Act::RecordException { at, .. }
-        | Act::SetSafe { at, .. }
-        | Act::Seal { at, .. }
-        | Act::Take { at, .. }
-        | Act::Put { at, .. }
-        | Act::Cut { at, .. } => push_moment(out, *at),
+        Act::Ceremony { at, .. } => push_moment(out, *at),
     }
 }

@@ -10,7 +10,8 @@ use Rattle.kcr_room.specs.Room.{headcount_by}
 use Rattle.kcr_room.specs.Requests.{is_out_of_turn_by, new_row}
 use Rattle.kcr_room.specs.Laws.{IsAllowed}
 use Rattle.kcr_history.specs.declared.commands.Act.{Act}
-use Rattle.kcr_history.specs.declared.commands.Act.TheVariants.{RecordSheet}
+use Rattle.kcr_history.specs.declared.commands.Act.TheVariants.{Ceremony}
+use Rattle.kcr_history.specs.declared.commands.Deed.TheVariants.{RecordSheet}
 use Rattle.kcr_history.specs.declared.commands.ReplyData.{ReplyData}
 use Rattle.kcr_history.specs.History.{History}
 use Rattle.kcr_history.specs.Room.{sheet}
@@ -38,7 +39,7 @@ own_room rows c k l t = (
 
 room_after : (A : History) (key : List ℕ) (act : Act) (answer : ReplyData) (c t : ℕ) → fault A act ≡ None → IsAllowed (headcount_by (sheet A) c t)
     → IsAllowed (headcount_by (sheet (one key act answer ∷ A)) c t)
-room_after A key (RecordSheet d way people at) answer c t f ih = by_ceremony (d == c) refl
+room_after A key (Ceremony d at (RecordSheet way people)) answer c t f ih = by_ceremony (d == c) refl
   where
     by_ceremony : (b : Bool) → (d == c) ≡ b → IsAllowed (headcount_by (sheet A ++ map (new_row d way at) people) c t)
     by_ceremony true e =

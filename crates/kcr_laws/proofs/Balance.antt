@@ -16,7 +16,8 @@ use Rattle.kcr_custody.specs.declared.Destination.TheVariants.{SafeOne, DepositB
 use Rattle.kcr_custody.specs.Balance.{all_differ}
 use Rattle.kcr_custody.specs.Custody.{unknown_item_refusal}
 use Rattle.kcr_history.specs.declared.commands.Act.{Act}
-use Rattle.kcr_history.specs.declared.commands.Act.TheVariants.{AddItem, Seal, Take, Put, Cut}
+use Rattle.kcr_history.specs.declared.commands.Act.TheVariants.{Ceremony}
+use Rattle.kcr_history.specs.declared.commands.Deed.TheVariants.{AddItem, Seal, Take, Put, Cut}
 use Rattle.kcr_history.specs.declared.commands.ReplyData.{ReplyData}
 use Rattle.kcr_history.specs.declared.commands.Entry.{Entry}
 use Rattle.kcr_history.specs.History.{History, values_of_acts, last_value_of_acts, last_value_with_history}
@@ -37,8 +38,8 @@ sealed_is A r serial = any-same (same_text serial) (λ k. same_text k serial) (v
 
 sealed_after : (A : History) (key : List ℕ) (act : Act) (answer : ReplyData) → IsRegister A → CanFollow A (one key act answer)
     → all_differ (values_of_acts sealed_serial A) ≡ true → all_differ (values_of_acts sealed_serial (one key act answer ∷ A)) ≡ true
-sealed_after A key (Seal c s items at) answer r a ih =
-    let f : fault A (Seal c s items at) ≡ None = a.no_fault in
+sealed_after A key (Ceremony c at (Seal s items)) answer r a ih =
+    let f : fault A (Ceremony c at (Seal s items)) ≡ None = a.no_fault in
     let free : is_some (spot A s) ≡ false = grind arith in
     grind (arith, sealed_is A r s, free, ih)
 sealed_after A key act answer r a ih = ih
@@ -60,7 +61,7 @@ has_rest A item = grind arith
 
 added_is_after : (A : History) (key : List ℕ) (act : Act) (answer : ReplyData) (item : List ℕ) → is_added A item ≡ is_some (added A item)
     → is_added (one key act answer ∷ A) item ≡ is_some (added (one key act answer ∷ A) item)
-added_is_after A key (AddItem c i at) answer item ih = grind (arith, same-turned item i, ih)
+added_is_after A key (Ceremony c at (AddItem i)) answer item ih = grind (arith, same-turned item i, ih)
 added_is_after A key act answer item ih = ih
 
 added_is : (A : History) (item : List ℕ) → is_added A item ≡ is_some (added A item)
@@ -74,9 +75,9 @@ rest_added A item g h = grind (arith, g, has_rest A item, added_is A item)
 sealed_added_after : (A : History) (key : List ℕ) (act : Act) (answer : ReplyData) (item : List ℕ) → CanFollow A (one key act answer)
     → (is_some (sealed A item) ≡ true → is_added A item ≡ true)
     → is_some (sealed (one key act answer ∷ A) item) ≡ true → is_added (one key act answer ∷ A) item ≡ true
-sealed_added_after A key (AddItem c i at) answer item a ih h = or_right (same_text item i) (is_added A item) (ih h)
-sealed_added_after A key (Seal c serial items at) answer item a ih h =
-    let f : fault A (Seal c serial items at) ≡ None = a.no_fault in
+sealed_added_after A key (Ceremony c at (AddItem i)) answer item a ih h = or_right (same_text item i) (is_added A item) (ih h)
+sealed_added_after A key (Ceremony c at (Seal serial items)) answer item a ih h =
+    let f : fault A (Ceremony c at (Seal serial items)) ≡ None = a.no_fault in
     let known : unknown_item_refusal (rest A) items ≡ None = grind arith in
     grind (arith, ih, rest_added A item ih, items_known A item items known)
 sealed_added_after A key act answer item a ih h = ih h
@@ -88,8 +89,8 @@ sealed_added A h item =
 
 added_after : (A : History) (key : List ℕ) (act : Act) (answer : ReplyData) → IsRegister A → CanFollow A (one key act answer)
     → all_differ (values_of_acts added_item A) ≡ true → all_differ (values_of_acts added_item (one key act answer ∷ A)) ≡ true
-added_after A key (AddItem c i at) answer r a ih =
-    let f : fault A (AddItem c i at) ≡ None = a.no_fault in
+added_after A key (Ceremony c at (AddItem i)) answer r a ih =
+    let f : fault A (Ceremony c at (AddItem i)) ≡ None = a.no_fault in
     let free : is_some (rest A i) ≡ false = grind arith in
     grind (arith, has_rest A i, free, added_is A i, ih)
 added_after A key act answer r a ih = ih
@@ -101,7 +102,7 @@ added_once = each_register (λ A. all_differ (values_of_acts added_item A) ≡ t
 sealed_there_after : (A : History) (key : List ℕ) (act : Act) (answer : ReplyData) (item serial : List ℕ)
     → (sealed A item ≡ Some serial → list_any (same_text serial) (values_of_acts sealed_serial A) ≡ true)
     → sealed (one key act answer ∷ A) item ≡ Some serial → list_any (same_text serial) (values_of_acts sealed_serial (one key act answer ∷ A)) ≡ true
-sealed_there_after A key (Seal c s items at) answer item serial ih h = grind (arith, same-itself serial, ih)
+sealed_there_after A key (Ceremony c at (Seal s items)) answer item serial ih h = grind (arith, same-itself serial, ih)
 sealed_there_after A key act answer item serial ih h = ih h
 
 sealed_there : (A : History) (item serial : List ℕ) → sealed A item ≡ Some serial → list_any (same_text serial) (values_of_acts sealed_serial A) ≡ true
@@ -128,8 +129,8 @@ kept_some A o h = grind arith
 -- PLACES OF BAGS
 
 in_place_after : (A : History) (act : Act) → fault A act ≡ None → is_in_place A act ≡ true
-in_place_after A (Seal c serial items at) f = grind arith
-in_place_after A (Cut c serial at) f = grind arith
+in_place_after A (Ceremony c at (Seal serial items)) f = grind arith
+in_place_after A (Ceremony c at (Cut serial)) f = grind arith
 in_place_after A act f = refl
 
 in_place : (A : History) → IsRegister A → were_in_place A ≡ true
@@ -143,11 +144,11 @@ box_still A entry (Some (Equipment facility)) h = refl
 box_still A entry (Some (InBox facility number)) h = still (added_box_place facility number entry.command.act) (place_of_box A facility number) h
 
 box_moved : (A : History) (act : Act) (serial : List ℕ) → fault A act ≡ None → has_its_box A (spot_after (facility_of A) serial act) ≡ true
-box_moved A (Seal c s items at) serial f = grind arith
-box_moved A (Take c s at) serial f = grind arith
-box_moved A (Cut c s at) serial f = grind arith
-box_moved A (Put c s SafeOne at) serial f = grind arith
-box_moved A (Put c s (DepositBox number) at) serial f = grind (arith, there (place_of_box A (facility_of A c) number))
+box_moved A (Ceremony c at (Seal s items)) serial f = grind arith
+box_moved A (Ceremony c at (Take s)) serial f = grind arith
+box_moved A (Ceremony c at (Cut s)) serial f = grind arith
+box_moved A (Ceremony c at (Put s SafeOne)) serial f = grind arith
+box_moved A (Ceremony c at (Put s (DepositBox number))) serial f = grind (arith, there (place_of_box A (facility_of A c) number))
 box_moved A act serial f = refl
 
 box_of_either : (A : History) (o p : Option Spot) → has_its_box A o ≡ true → has_its_box A p ≡ true → has_its_box A (option_or o p) ≡ true

@@ -13,7 +13,8 @@ use Rattle.kcr_room.specs.Moments.{IsFirstMoment, IsEver}
 use Rattle.kcr_room.specs.Room.{headcount_by}
 use Rattle.kcr_room.specs.Stays.{stays_by, first_lone_in_by, is_crowded_in_by}
 use Rattle.kcr_room.proofs.Moments.{first_lone-is_first, first_lone-by_rows, crowded-is_ever, crowded-by_rows}
-use Rattle.kcr_history.specs.declared.commands.Act.TheVariants.{RecordSheet}
+use Rattle.kcr_history.specs.declared.commands.Act.TheVariants.{Ceremony}
+use Rattle.kcr_history.specs.declared.commands.Deed.TheVariants.{RecordSheet}
 use Rattle.kcr_history.specs.History.{History}
 use Rattle.kcr_history.specs.Training.{is_person}
 use Rattle.kcr_history.specs.Ceremonies.{mark}
@@ -108,19 +109,19 @@ others_before A c way people at rest r e others =
 others_behind : (A : History) (c : ℕ) (way : Way) (rows : List SheetRow) (r : Refusal) → (0 == kind r) ≡ false → AreOther r (behind_room A c way rows)
 others_behind A c way rows r e = (other_when r _ _ e, (other_when r _ _ e, tt))
 
-pub crowd_fault : (A : History) (c : ℕ) (way : Way) (people : List (List ℕ)) (at : ℕ) → fault A (RecordSheet c way people at) ≡ Some Crowd
-    → IsEverCrowded (sheet_after (RecordSheet c way people at) (sheet A)) c
+pub crowd_fault : (A : History) (c : ℕ) (way : Way) (people : List (List ℕ)) (at : ℕ) → fault A (Ceremony c at (RecordSheet way people)) ≡ Some Crowd
+    → IsEverCrowded (sheet_after (Ceremony c at (RecordSheet way people)) (sheet A)) c
 crowd_fault A c way people at h =
-    let rows = sheet_after (RecordSheet c way people at) (sheet A) in
+    let rows = sheet_after (Ceremony c at (RecordSheet way people)) (sheet A) in
     crowd_told rows c
     (of_the_one Crowd (before_room A c way people at []) (crowd_refusal rows c) (lone_room_refusal rows c ∷ behind_room A c way rows)
     (others_before A c way people at [] Crowd refl tt)
     (other_of_some Crowd Lone (λ t. refl) (first_lone_in_by (stays_by rows) c), others_behind A c way rows Crowd refl) h)
 
-pub lone_fault : (A : History) (c : ℕ) (way : Way) (people : List (List ℕ)) (at t : ℕ) → fault A (RecordSheet c way people at) ≡ Some (Lone t)
-    → IsFirstAlone (sheet_after (RecordSheet c way people at) (sheet A)) c t
+pub lone_fault : (A : History) (c : ℕ) (way : Way) (people : List (List ℕ)) (at t : ℕ) → fault A (Ceremony c at (RecordSheet way people)) ≡ Some (Lone t)
+    → IsFirstAlone (sheet_after (Ceremony c at (RecordSheet way people)) (sheet A)) c t
 lone_fault A c way people at t h =
-    let rows = sheet_after (RecordSheet c way people at) (sheet A) in
+    let rows = sheet_after (Ceremony c at (RecordSheet way people)) (sheet A) in
     lone_told rows c t
     (of_the_one (Lone t) (before_room A c way people at (crowd_refusal rows c ∷ [])) (lone_room_refusal rows c) (behind_room A c way rows)
     (others_before A c way people at (crowd_refusal rows c ∷ []) (Lone t) refl (other_when (Lone t) _ _ refl, tt)) (others_behind A c way rows (Lone t) refl) h)

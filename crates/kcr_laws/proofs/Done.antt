@@ -7,7 +7,8 @@ use Rattle.std.proofs.lemmas.Bool.Decides.{nat_tests}
 use Rattle.kcr_base.specs.Rows.{option_or}
 use Rattle.kcr_base.proofs.ListLemmas.{none-there}
 use Rattle.kcr_history.specs.declared.commands.Act.{Act}
-use Rattle.kcr_history.specs.declared.commands.Act.TheVariants.{Sign, RecordException}
+use Rattle.kcr_history.specs.declared.commands.Act.TheVariants.{Ceremony}
+use Rattle.kcr_history.specs.declared.commands.Deed.TheVariants.{Sign, RecordException}
 use Rattle.kcr_history.specs.declared.commands.Entry.{Entry}
 use Rattle.kcr_history.specs.declared.row_types.StepState.TheVariants.{Signed, Passed}
 use Rattle.kcr_history.specs.History.{History}
@@ -25,7 +26,7 @@ pub count-cons : {X : Type 0} (p : X → Bool) (x : X) (xs : List X) → length 
 count-cons p x xs = grind arith
 
 -- the step that an accepted command does is the next one
-pub next_signed : (A : History) (d k at : ℕ) → fault A (Sign d k at) ≡ None → k ≡ suc (steps_done A d)
+pub next_signed : (A : History) (d k at : ℕ) → fault A (Ceremony d at (Sign k)) ≡ None → k ≡ suc (steps_done A d)
 next_signed A d k at f = grind (arith, nat_tests)
 
 -- a command that does the step after the n steps done so far tells of it, and of no other
@@ -47,10 +48,10 @@ pub result_after : (A : History) (act : Act) (said : Option ℕ) (c k : ℕ) →
     → said ≡ (reply_to A act people).step
     → is_some (step_result A c k) ≡ (nat_le 1 k && nat_le k (steps_done A c))
     → is_some (option_or (step_done c k act said) (step_result A c k)) ≡ (nat_le 1 k && nat_le k (one_more (does_step c act) (steps_done A c)))
-result_after A (Sign d step at) said c k f people e ih = done_at A d c k step (d == c) refl (next_signed A d step at f) (step_result A c k) (Signed, at) ih
-result_after A (RecordException d text true at) said c k f people e ih =
+result_after A (Ceremony d at (Sign step)) said c k f people e ih = done_at A d c k step (d == c) refl (next_signed A d step at f) (step_result A c k) (Signed, at) ih
+result_after A (Ceremony d at (RecordException text true)) said c k f people e ih =
     rw e (done_at A d c k (next_step A d) (d == c && true) (grind arith) refl (step_result A c k) (Passed, at) ih)
-result_after A (RecordException d text false at) said c k f people e ih = rw (e, and_right (d == c) false refl) ih
+result_after A (Ceremony d at (RecordException text false)) said c k f people e ih = rw (e, and_right (d == c) false refl) ih
 result_after A act said c k f people e ih = ih
 
 pub no_step_done : (k : ℕ) → (nat_le 1 k && nat_le k 0) ≡ false

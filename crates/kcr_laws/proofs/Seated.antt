@@ -19,7 +19,9 @@ use Rattle.kcr_base.proofs.ListLemmas.{any-same, still}
 use Rattle.kcr_script.specs.declared.seat.Seat.{Seat}
 use Rattle.kcr_script.specs.declared.seat.Seat.TheVariants.{Staff, AnyCo, AnyRksh, Co, Rksh}
 use Rattle.kcr_history.specs.declared.commands.Act.{Act}
-use Rattle.kcr_history.specs.declared.commands.Act.TheVariants.{AddItem, Plan, Open, RecordSheet, Sign, RecordException, SetSafe, Seal, Take, Put, Cut}
+use Rattle.kcr_history.specs.declared.commands.Act.TheVariants.{Plan, Ceremony}
+use Rattle.kcr_history.specs.declared.commands.Deed.TheVariants.{AddItem, Open, RecordSheet, Sign, RecordException, SetSafe, Seal, Take}
+use Rattle.kcr_history.specs.declared.commands.Deed.TheVariants.{Put, Cut}
 use Rattle.kcr_history.specs.declared.commands.ReplyData.{ReplyData}
 use Rattle.kcr_history.specs.declared.commands.Entry.{Entry}
 use Rattle.kcr_history.specs.History.{History, values_of_acts, greatest, max_with}
@@ -91,7 +93,7 @@ still_past A entry (Some m) h =
 opened_after : (A : History) (key : List ℕ) (act : Act) (answer : ReplyData) (c : ℕ)
     → (is_some (opened_at A c) ≡ true → was_opened c (values_of_acts opened_number A) ≡ true)
     → is_some (opened_at (one key act answer ∷ A) c) ≡ true → was_opened c (values_of_acts opened_number (one key act answer ∷ A)) ≡ true
-opened_after A key (Open d at) answer c ih h = grind (arith, ih)
+opened_after A key (Ceremony d at Open) answer c ih h = grind (arith, ih)
 opened_after A key act answer c ih h = ih h
 
 opened_there : (A : History) (c : ℕ) → is_some (opened_at A c) ≡ true → was_opened c (values_of_acts opened_number A) ≡ true
@@ -104,15 +106,15 @@ abbrev IsKnown : History → Act → ℕ × ℕ → Type 0
 IsKnown A act m = (is_ceremony A m.0 ≡ true) × (was_opened m.0 (cons_option (opened_number act) (values_of_acts opened_number A)) ≡ true)
 
 marks_known : (A : History) (act : Act) → fault A act ≡ None → MatchOption (marked_moment act) (Unit {0}) (IsKnown A act)
-marks_known A (Open c at) f = (grind arith, or_left (c == c) _ (eq-eqb c c refl))
-marks_known A (Sign c k at) f = (grind arith, opened_there A c (grind arith))
-marks_known A (RecordException c text pass at) f = (grind arith, opened_there A c (grind arith))
-marks_known A (AddItem c item at) f = (grind arith, opened_there A c (grind arith))
-marks_known A (SetSafe c safe state by at) f = (grind arith, opened_there A c (grind arith))
-marks_known A (Seal c serial items at) f = (grind arith, opened_there A c (grind arith))
-marks_known A (Take c serial at) f = (grind arith, opened_there A c (grind arith))
-marks_known A (Put c serial to at) f = (grind arith, opened_there A c (grind arith))
-marks_known A (Cut c serial at) f = (grind arith, opened_there A c (grind arith))
+marks_known A (Ceremony c at Open) f = (grind arith, or_left (c == c) _ (eq-eqb c c refl))
+marks_known A (Ceremony c at (Sign k)) f = (grind arith, opened_there A c (grind arith))
+marks_known A (Ceremony c at (RecordException text pass)) f = (grind arith, opened_there A c (grind arith))
+marks_known A (Ceremony c at (AddItem item)) f = (grind arith, opened_there A c (grind arith))
+marks_known A (Ceremony c at (SetSafe safe state by)) f = (grind arith, opened_there A c (grind arith))
+marks_known A (Ceremony c at (Seal serial items)) f = (grind arith, opened_there A c (grind arith))
+marks_known A (Ceremony c at (Take serial)) f = (grind arith, opened_there A c (grind arith))
+marks_known A (Ceremony c at (Put serial to)) f = (grind arith, opened_there A c (grind arith))
+marks_known A (Ceremony c at (Cut serial)) f = (grind arith, opened_there A c (grind arith))
 marks_known A act f = tt
 
 -- the same, if the history has one command more, and it has this moment
@@ -157,9 +159,9 @@ behind at t (Some m) h k = grind (arith, nat_tests)
 -- everybody was if the sheet says so at a past moment
 same_in : (A : History) (key : List ℕ) (act : Act) (answer : ReplyData) (who : List ℕ) (c t : ℕ) → fault A act ≡ None → at_most t (mark A c) ≡ true
     → is_in (one key act answer ∷ A) who c t ≡ is_in A who c t
-same_in A key (RecordSheet d way people at) answer who c t f k = by_ceremony (d == c) refl
+same_in A key (Ceremony d at (RecordSheet way people)) answer who c t f k = by_ceremony (d == c) refl
   where
-    by_ceremony : (b : Bool) → (d == c) ≡ b → is_in (one key (RecordSheet d way people at) answer ∷ A) who c t ≡ is_in A who c t
+    by_ceremony : (b : Bool) → (d == c) ≡ b → is_in (one key (Ceremony d at (RecordSheet way people)) answer ∷ A) who c t ≡ is_in A who c t
     by_ceremony true e =
         let later = behind at t (mark A d) (grind arith) (ap (λ z. at_most t (mark A z)) (eqb-true d c e) ∙ k) in
         in_before (sheet A) d way at people who c t later
@@ -227,15 +229,15 @@ same_seats A entry c k f p = ap (λ o. seats_at (unwrap_or (option_map (λ (plan
 -- a seating that was recorded before is one still
 old_seated : (A : History) (entry : Entry) (act : Act) (people : Option (List (List ℕ))) → fault A entry.command.act ≡ None → is_past_if A (marked_moment act) ≡ true
     → is_seated A (seat_request A act) people ≡ true → is_seated (entry ∷ A) (seat_request (entry ∷ A) act) people ≡ true
-old_seated A entry (Sign c k at) None f past h = absurd (true≢false (sym h))
-old_seated A entry (Sign c k at) (Some people) f past h =
+old_seated A entry (Ceremony c at (Sign k)) None f past h = absurd (true≢false (sym h))
+old_seated A entry (Ceremony c at (Sign k)) (Some people) f past h =
     let p = and_parts (is_ceremony A c) (at_most at (mark A c) && was_opened c (values_of_acts opened_number A)) past in
     seating_mono A (entry ∷ A) c at (eligible_still A entry c at f past) (seats_at (steps_of (entry ∷ A) c) k) people
     (ap (λ seats. is_seating A c at seats people) (same_seats A entry c k f p.0) ∙ h)
-old_seated A entry (RecordException c text true at) None f past h = absurd (true≢false (sym h))
-old_seated A entry (RecordException c text true at) (Some people) f past h =
+old_seated A entry (Ceremony c at (RecordException text true)) None f past h = absurd (true≢false (sym h))
+old_seated A entry (Ceremony c at (RecordException text true)) (Some people) f past h =
     seating_mono A (entry ∷ A) c at (eligible_still A entry c at f past) (Staff Ca ∷ Staff Iw ∷ []) people h
-old_seated A entry (RecordException c text false at) people f past h = refl
+old_seated A entry (Ceremony c at (RecordException text false)) people f past h = refl
 old_seated A entry act people f past h = refl
 
 -- THE NEW SEATING
@@ -243,13 +245,13 @@ old_seated A entry act people f past h = refl
 -- a signature and an exception leave everybody as eligible as before, so the people of their answer are a seating
 new_seated : (A : History) (key : List ℕ) (act : Act) (answer : ReplyData) → IsReplyTo A act answer (seat_request A act)
     → is_seated (one key act answer ∷ A) (seat_request (one key act answer ∷ A) act) answer.seating ≡ true
-new_seated A key (Sign c k at) answer w =
-    let B = one key (Sign c k at) answer ∷ A in
+new_seated A key (Ceremony c at (Sign k)) answer w =
+    let B = one key (Ceremony c at (Sign k)) answer ∷ A in
     rw w.2 (seating_mono A B c at (eligible_mono A B c at (λ who. refl) refl (λ who role h. h) (λ place. refl)) (seats_at (steps_of A c) k) w.0 w.1)
-new_seated A key (RecordException c text true at) answer w =
-    let B = one key (RecordException c text true at) answer ∷ A in
+new_seated A key (Ceremony c at (RecordException text true)) answer w =
+    let B = one key (Ceremony c at (RecordException text true)) answer ∷ A in
     rw w.2 (seating_mono A B c at (eligible_mono A B c at (λ who. refl) refl (λ who role h. h) (λ place. refl)) (Staff Ca ∷ Staff Iw ∷ []) w.0 w.1)
-new_seated A key (RecordException c text false at) answer w = refl
+new_seated A key (Ceremony c at (RecordException text false)) answer w = refl
 new_seated A key act answer w = refl
 
 -- EVERY SEATING

@@ -1,7 +1,8 @@
 -- The machine leads to the registers whose recorded seatings are the first ones, and to no others.
 use Rattle.std.proofs.Common.{ℕ, true, false, List, [], ◌∷◌, None, MatchOption, ap, inl, inr}
 use Rattle.kcr_history.specs.declared.commands.Act.{Act}
-use Rattle.kcr_history.specs.declared.commands.Act.TheVariants.{Sign, RecordException}
+use Rattle.kcr_history.specs.declared.commands.Act.TheVariants.{Ceremony}
+use Rattle.kcr_history.specs.declared.commands.Deed.TheVariants.{Sign, RecordException}
 use Rattle.kcr_history.specs.declared.commands.ReplyData.{ReplyData}
 use Rattle.kcr_history.specs.declared.commands.Command.{Command}
 use Rattle.kcr_history.specs.History.{History}
@@ -18,21 +19,21 @@ IsSeated A key act answer =
     (λ s. seats A x s (Accepts answer) (with_command A x answer))
 
 seated_first : (A : History) (key : List ℕ) (act : Act) (answer : ReplyData) → IsSeated A key act answer → IsSeatedFirst A (seat_request A act) answer.seating
-seated_first A key (Sign c k at) answer (inl w) = rw (same_reply _ _ w.2.0) w.1
-seated_first A key (Sign c k at) answer (inr w) = absurd (other_outcome _ _ w.2.0)
-seated_first A key (RecordException c text true at) answer (inl w) = rw (same_reply _ _ w.2.0) w.1
-seated_first A key (RecordException c text true at) answer (inr w) = absurd (other_outcome _ _ w.2.0)
-seated_first A key (RecordException c text false at) answer h = tt
+seated_first A key (Ceremony c at (Sign k)) answer (inl w) = rw (same_reply _ _ w.2.0) w.1
+seated_first A key (Ceremony c at (Sign k)) answer (inr w) = absurd (other_outcome _ _ w.2.0)
+seated_first A key (Ceremony c at (RecordException text true)) answer (inl w) = rw (same_reply _ _ w.2.0) w.1
+seated_first A key (Ceremony c at (RecordException text true)) answer (inr w) = absurd (other_outcome _ _ w.2.0)
+seated_first A key (Ceremony c at (RecordException text false)) answer h = tt
 seated_first A key act answer h = tt
 
 first_seated : (A : History) (key : List ℕ) (act : Act) (answer : ReplyData) → IsReplyTo A act answer (seat_request A act)
     → IsSeatedFirst A (seat_request A act) answer.seating → IsSeated A key act answer
-first_seated A key (Sign c k at) answer h first =
-    inl (h.0, rw h.2 at first, (ap Accepts h.2, ap (with_command A (record { key = key; act = Sign c k at })) h.2))
-first_seated A key (RecordException c text true at) answer h first =
-    inl (h.0, rw h.2 at first, (ap Accepts h.2, ap (with_command A (record { key = key; act = RecordException c text true at })) h.2))
-first_seated A key (RecordException c text false at) answer h first =
-    (ap Accepts h, ap (with_command A (record { key = key; act = RecordException c text false at })) h)
+first_seated A key (Ceremony c at (Sign k)) answer h first =
+    inl (h.0, rw h.2 at first, (ap Accepts h.2, ap (with_command A (record { key = key; act = Ceremony c at (Sign k) })) h.2))
+first_seated A key (Ceremony c at (RecordException text true)) answer h first =
+    inl (h.0, rw h.2 at first, (ap Accepts h.2, ap (with_command A (record { key = key; act = Ceremony c at (RecordException text true) })) h.2))
+first_seated A key (Ceremony c at (RecordException text false)) answer h first =
+    (ap Accepts h, ap (with_command A (record { key = key; act = Ceremony c at (RecordException text false) })) h)
 first_seated A key act answer h first = (ap Accepts h, ap (with_command A (record { key = key; act = act })) h)
 
 step_first : (A : History) (key : List ℕ) (act : Act) (answer : ReplyData)

@@ -7,7 +7,8 @@ use Rattle.std.proofs.lemmas.Bool.Decides.{nat_tests}
 use Rattle.kcr_base.specs.Refuse.{before_mark_refusal}
 use Rattle.kcr_base.specs.declared.refusal.Refusal.{Refusal}
 use Rattle.kcr_base.specs.declared.refusal.Refusal.TheVariants.{Short}
-use Rattle.kcr_history.specs.declared.commands.Act.TheVariants.{Sign}
+use Rattle.kcr_history.specs.declared.commands.Act.TheVariants.{Ceremony}
+use Rattle.kcr_history.specs.declared.commands.Deed.TheVariants.{Sign}
 use Rattle.kcr_history.specs.declared.commands.ReplyData.{ReplyData}
 use Rattle.kcr_history.specs.History.{History, entry_of}
 use Rattle.kcr_history.specs.Ceremonies.{Planned, plan_of, is_ceremony, steps_of, step_at, is_ceremony_open, mark, next_step, is_not_before, next}
@@ -43,10 +44,10 @@ timely at None h = refl
 timely at (Some m) h = grind (arith, nat_tests)
 
 -- if the step is next, and there is room for a command, nothing but want of people refuses the signature
-pub next_no_fault : (A : History) (c k at : ℕ) → is_full A ≡ false → next A c k at ≡ true → fault A (Sign c k at) ≡ None
+pub next_no_fault : (A : History) (c k at : ℕ) → is_full A ≡ false → next A c k at ≡ true → fault A (Ceremony c at (Sign k)) ≡ None
 next_no_fault A c k at room h = grind (arith, room, next_known A c k at h, in_time at (mark A c))
 
-pub no_fault_next : (A : History) (c k at : ℕ) → fault A (Sign c k at) ≡ None → next A c k at ≡ true
+pub no_fault_next : (A : History) (c k at : ℕ) → fault A (Ceremony c at (Sign k)) ≡ None → next A c k at ≡ true
 no_fault_next A c k at f = grind (arith, timely at (mark A c))
 
 pub room_left : (A : History) → length A < 4000000000 → is_full A ≡ false
@@ -60,9 +61,9 @@ sitting_of A c k at = record { ceremony = c; at = at; seats = seats_at (steps_of
 
 -- what a signature under a new key tells of which no condition has the refusal
 signed_parts : (A : History) (key : List ℕ) (c k at : ℕ) (outcome : Outcome) (A' : History) → entry_of A key ≡ None
-    → ((r : Refusal) → fault A (Sign c k at) ≡ Some r → outcome ≢ Refuses r)
-    → machine A (signature key c k at) outcome A' → (fault A (Sign c k at) ≡ None) × seats A (signature key c k at) (sitting_of A c k at) outcome A'
-signed_parts A key c k at outcome A' new other h = by_fault (fault A (Sign c k at)) other (rw new at h)
+    → ((r : Refusal) → fault A (Ceremony c at (Sign k)) ≡ Some r → outcome ≢ Refuses r)
+    → machine A (signature key c k at) outcome A' → (fault A (Ceremony c at (Sign k)) ≡ None) × seats A (signature key c k at) (sitting_of A c k at) outcome A'
+signed_parts A key c k at outcome A' new other h = by_fault (fault A (Ceremony c at (Sign k))) other (rw new at h)
   where
     by_fault : (f : Option Refusal) → ((r : Refusal) → f ≡ Some r → outcome ≢ Refuses r) → DecidesNew A (signature key c k at) f outcome A'
         → (f ≡ None) × seats A (signature key c k at) (sitting_of A c k at) outcome A'
@@ -72,7 +73,7 @@ signed_parts A key c k at outcome A' new other h = by_fault (fault A (Sign c k a
 -- what an accepted signature tells
 accepted_parts : (A : History) (key : List ℕ) (c k at : ℕ) (answer : ReplyData) (A' : History) → entry_of A key ≡ None
     → machine A (signature key c k at) (Accepts answer) A'
-    → (fault A (Sign c k at) ≡ None) × seats A (signature key c k at) (sitting_of A c k at) (Accepts answer) A'
+    → (fault A (Ceremony c at (Sign k)) ≡ None) × seats A (signature key c k at) (sitting_of A c k at) (Accepts answer) A'
 accepted_parts A key c k at answer A' new h = signed_parts A key c k at (Accepts answer) A' new (λ r f. other_outcome answer r) h
 
 pub signed_next : (A : History) (key : List ℕ) (c k at : ℕ) → entry_of A key ≡ None → IsAccepted A (signature key c k at)
@@ -88,7 +89,7 @@ signed_next A key c k at new a =
 pub next_signed : (A : History) (key : List ℕ) (c k at : ℕ) → entry_of A key ≡ None → length A < 4000000000 → next A c k at ≡ true → CanFill A c k at
     → IsAccepted A (signature key c k at)
 next_signed A key c k at new l n (people, seating) = elim (first_or_none A c at (seats_at (steps_of A c) k)) [
-  | inl w ↦ (reply_to A (Sign c k at) (Some w.0), rw (new, next_no_fault A c k at (room_left A l) n) (inl (w.0, w.1, (refl, refl))))
+  | inl w ↦ (reply_to A (Ceremony c at (Sign k)) (Some w.0), rw (new, next_no_fault A c k at (room_left A l) n) (inl (w.0, w.1, (refl, refl))))
   | inr none ↦ absurd (none people seating)
 ]
 
@@ -106,13 +107,13 @@ first_recorded A key c k at answer A' new h = by_seats (accepted_parts A key c k
 -- WANT OF PEOPLE
 
 -- no condition of a signature tells of want of people
-never_short : (A : History) (c k at : ℕ) (p : List ℕ) → fault A (Sign c k at) ≢ Some (Short p)
+never_short : (A : History) (c k at : ℕ) (p : List ℕ) → fault A (Ceremony c at (Sign k)) ≢ Some (Short p)
 never_short A c k at p h = grind arith
 
 -- what a signature that is refused for want of people tells
 short_parts : (A : History) (key : List ℕ) (c k at : ℕ) (p : List ℕ) (A' : History) → entry_of A key ≡ None
     → machine A (signature key c k at) (Refuses (Short p)) A'
-    → (fault A (Sign c k at) ≡ None) × seats A (signature key c k at) (sitting_of A c k at) (Refuses (Short p)) A'
+    → (fault A (Ceremony c at (Sign k)) ≡ None) × seats A (signature key c k at) (sitting_of A c k at) (Refuses (Short p)) A'
 short_parts A key c k at p A' new h =
     signed_parts A key c k at (Refuses (Short p)) A' new (λ r f e. never_short A c k at p (f ∙ ap Some (sym (same_refusal (Short p) r e)))) h
 

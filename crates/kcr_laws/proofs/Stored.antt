@@ -14,7 +14,8 @@ use Rattle.kcr_custody.specs.declared.Spot.{Spot}
 use Rattle.kcr_custody.specs.declared.Spot.TheVariants.{Table, Spent}
 use Rattle.kcr_custody.specs.Custody.{is_box, spot_of_destination, unknown_bag_refusal, unknown_item_refusal}
 use Rattle.kcr_history.specs.declared.commands.Act.{Act}
-use Rattle.kcr_history.specs.declared.commands.Act.TheVariants.{AddBox, Seal, Take, Put, Cut}
+use Rattle.kcr_history.specs.declared.commands.Act.TheVariants.{AddBox, Ceremony}
+use Rattle.kcr_history.specs.declared.commands.Deed.TheVariants.{Seal, Take, Put, Cut}
 use Rattle.kcr_history.specs.History.{History, values_of_acts}
 use Rattle.kcr_history.specs.Ceremonies.{facility_of}
 use Rattle.kcr_history.specs.Custody.{spot_after, spot, rest, added_box_place, place_of_box}
@@ -43,10 +44,10 @@ is_sealed A s = list_any (λ k. same_text k s) (values_of_acts sealed_serial A)
 
 pub sealed_after : (A : History) (act : Act) (s : List ℕ) → fault A act ≡ None → is_sealed A s ≡ is_some (spot A s)
     → list_any (λ k. same_text k s) (cons_option (sealed_serial act) (values_of_acts sealed_serial A)) ≡ is_some (option_or (spot_after (facility_of A) s act) (spot A s))
-sealed_after A (Seal c serial codes at) s f ih = grind (arith, ih)
-sealed_after A (Take c t at) s f ih = moved_there t s (Table (facility_of A c)) (spot A s) (is_sealed A s) (bag_known A t s (grind arith)) ih
-sealed_after A (Put c t to at) s f ih = moved_there t s (spot_of_destination (facility_of A c) to) (spot A s) (is_sealed A s) (bag_known A t s (grind arith)) ih
-sealed_after A (Cut c t at) s f ih = moved_there t s Spent (spot A s) (is_sealed A s) (bag_known A t s (grind arith)) ih
+sealed_after A (Ceremony c at (Seal serial codes)) s f ih = grind (arith, ih)
+sealed_after A (Ceremony c at (Take t)) s f ih = moved_there t s (Table (facility_of A c)) (spot A s) (is_sealed A s) (bag_known A t s (grind arith)) ih
+sealed_after A (Ceremony c at (Put t to)) s f ih = moved_there t s (spot_of_destination (facility_of A c) to) (spot A s) (is_sealed A s) (bag_known A t s (grind arith)) ih
+sealed_after A (Ceremony c at (Cut t)) s f ih = moved_there t s Spent (spot A s) (is_sealed A s) (bag_known A t s (grind arith)) ih
 sealed_after A act s f ih = ih
 
 -- a bag is somewhere if and only if it was sealed

@@ -9,7 +9,8 @@ use Rattle.kcr_base.specs.declared.refusal.Refusal.TheVariants.{Short}
 use Rattle.kcr_room.specs.declared.SheetRow.{SheetRow}
 use Rattle.kcr_room.specs.Room.{headcount_by}
 use Rattle.kcr_history.specs.declared.commands.Act.{Act}
-use Rattle.kcr_history.specs.declared.commands.Act.TheVariants.{Appoint, Replace, Release, Sign}
+use Rattle.kcr_history.specs.declared.commands.Act.TheVariants.{Appoint, Replace, Release, Ceremony}
+use Rattle.kcr_history.specs.declared.commands.Deed.TheVariants.{Sign}
 use Rattle.kcr_history.specs.declared.commands.ReplyData.{ReplyData}
 use Rattle.kcr_history.specs.declared.commands.Command.{Command}
 use Rattle.kcr_history.specs.History.{History, last_value_of_acts}
@@ -23,7 +24,7 @@ use Rattle.kcr_history.specs.Machine.{Accepts, Refuses, with_command, machine}
 
 -- the command under a key that signs the step of the ceremony at the moment
 abbrev pub signature : List ℕ → ℕ → ℕ → ℕ → Command
-signature key ceremony step at = record { key = key; act = Sign ceremony step at }
+signature key ceremony step at = record { key = key; act = Ceremony ceremony at (Sign step) }
 
 -- the machine accepts the command, with some reply, as the history's next one
 abbrev pub IsAccepted : History → Command → Type 0

@@ -13,7 +13,8 @@ ghost use Rattle.kcr_room.specs.Moments.{IsFirstMoment, IsEver};
 ghost use Rattle.kcr_room.specs.Room.{headcount_by};
 ghost use Rattle.kcr_room.specs.Stays.{stays_by, first_lone_in_by, is_crowded_in_by};
 ghost use Rattle.kcr_history.specs.declared.commands.Act.{Act};
-ghost use Rattle.kcr_history.specs.declared.commands.Act.TheVariants.{RecordSheet};
+ghost use Rattle.kcr_history.specs.declared.commands.Act.TheVariants.{Ceremony};
+ghost use Rattle.kcr_history.specs.declared.commands.Deed.TheVariants.{RecordSheet};
 ghost use Rattle.kcr_history.specs.declared.commands.ReplyData.{ReplyData};
 ghost use Rattle.kcr_history.specs.declared.commands.Command.{Command};
 ghost use Rattle.kcr_history.specs.declared.commands.Entry.{Entry};
@@ -155,8 +156,8 @@ pub fn sheets_are_refused_at_a_crowded_moment()
     ensures holds { (A : History) (act : Act) (ceremony : ℕ) →
         crowd_refusal (sheet_after act (sheet A)) ceremony ≡ Some Crowd ↔ IsEverCrowded (sheet_after act (sheet A)) ceremony }
     ensures refused { (A : History) (ceremony : ℕ) (way : Way) (people : List (List ℕ)) (at : ℕ) →
-        fault A (RecordSheet ceremony way people at) ≡ Some Crowd
-        → IsEverCrowded (sheet_after (RecordSheet ceremony way people at) (sheet A)) ceremony }
+        fault A (Ceremony ceremony at (RecordSheet way people)) ≡ Some Crowd
+        → IsEverCrowded (sheet_after (Ceremony ceremony at (RecordSheet way people)) (sheet A)) ceremony }
 {}
 
 /// The refusal `lone_room_refusal` holds of a sheet request with a moment if and only if that is the first one at which exactly one
@@ -169,8 +170,8 @@ pub fn sheets_are_refused_at_a_lone_moment()
     ensures never { (A : History) (act : Act) (ceremony : ℕ) →
         lone_room_refusal (sheet_after act (sheet A)) ceremony ≡ None ↔ IsNeverAlone (sheet_after act (sheet A)) ceremony }
     ensures refused { (A : History) (ceremony : ℕ) (way : Way) (people : List (List ℕ)) (at t : ℕ) →
-        fault A (RecordSheet ceremony way people at) ≡ Some (Lone t)
-        → IsFirstAlone (sheet_after (RecordSheet ceremony way people at) (sheet A)) ceremony t }
+        fault A (Ceremony ceremony at (RecordSheet way people)) ≡ Some (Lone t)
+        → IsFirstAlone (sheet_after (Ceremony ceremony at (RecordSheet way people)) (sheet A)) ceremony t }
 {}
 
 /// In every register the refusal `held` holds of an appointment exactly where on its day or a later one somebody holds

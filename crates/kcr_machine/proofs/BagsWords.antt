@@ -23,7 +23,8 @@ use Rattle.kcr_custody.specs.declared.SafeRow.{SafeRow}
 use Rattle.kcr_custody.specs.declared.Spot.TheVariants.{Spent}
 use Rattle.kcr_custody.specs.Custody.{spot_by, rest_by, is_open_by, is_open_row, is_box, place_of_box_by}
 use Rattle.kcr_history.specs.declared.commands.Act.{Act}
-use Rattle.kcr_history.specs.declared.commands.Act.TheVariants.{AddBox, AddItem, Seal}
+use Rattle.kcr_history.specs.declared.commands.Act.TheVariants.{AddBox, Ceremony}
+use Rattle.kcr_history.specs.declared.commands.Deed.TheVariants.{AddItem, Seal}
 use Rattle.kcr_history.specs.declared.views.ItemFilter.TheVariants as Items
 use Rattle.kcr_history.specs.History.{History, values_of_acts, last_value_of_acts, last_value_with_history}
 use Rattle.kcr_history.specs.Ceremonies.{facility_of}
@@ -59,7 +60,7 @@ added A k = last_value_with_history (λ before. added_at (facility_of before) k)
 -- an item was added somewhere exactly where it was added
 added_after : (A : History) (act : Act) (k : List ℕ) → is_added A k ≡ is_some (added A k)
     → list_any (λ i. same_text i k) (cons_option (added_item act) (values_of_acts added_item A)) ≡ is_some (option_or (added_at (facility_of A) k act) (added A k))
-added_after A (AddItem c item at) k ih = grind arith
+added_after A (Ceremony c at (AddItem item)) k ih = grind arith
 added_after A act k ih = ih
 
 added_somewhere : (A : History) (k : List ℕ) → is_added A k ≡ is_some (added A k)
@@ -82,8 +83,8 @@ sealed_added (entry ∷ A) h k s =
   where
     by_act : (act : Act) → fault A act ≡ None → (is_some (last_bag A k) ≡ true → is_some (added A k) ≡ true) → is_some (sealed_in k act) ≡ true
         → is_some (added A k) ≡ true
-    by_act (Seal c serial codes at) f ih e =
-        let r = items_known A k codes (none_holds (conditions A (Seal c serial codes at)) f).1.0 (some-where (list_any (same_text k) codes) serial e) in
+    by_act (Ceremony c at (Seal serial codes)) f ih e =
+        let r = items_known A k codes (none_holds (conditions A (Ceremony c at (Seal serial codes))) f).1.0 (some-where (list_any (same_text k) codes) serial e) in
         grind (arith, some_rest (last_bag A k) (added A k) (rest_in A))
     by_act act f ih e = absurd (false≢true e)
 

@@ -15,7 +15,8 @@ use Rattle.kcr_base.proofs.RefuseLemmas.{none_holds, unmet, met}
 use Rattle.kcr_base.proofs.RowsLemmas.{filter-order}
 use Rattle.kcr_base.proofs.ListLemmas.{any-same, some_if, none-there, any-map}
 use Rattle.kcr_history.specs.declared.commands.Act.{Act}
-use Rattle.kcr_history.specs.declared.commands.Act.TheVariants.{Open, Close, Plan, Sign, RecordException}
+use Rattle.kcr_history.specs.declared.commands.Act.TheVariants.{Plan, Ceremony}
+use Rattle.kcr_history.specs.declared.commands.Deed.TheVariants.{Open, Close, Sign, RecordException}
 use Rattle.kcr_history.specs.declared.commands.ReplyData.{ReplyData}
 use Rattle.kcr_history.specs.declared.row_types.CeremonyRow.{CeremonyRow}
 use Rattle.kcr_history.specs.declared.row_types.CeremonyState.TheVariants as States
@@ -78,7 +79,7 @@ busy-shown A c rows p =
     (λ other. not (eqb other c) && same_facility (facility_of A other) (facility_of A c) && is_ceremony_open A other)
     (values_of_acts planned_number A) (λ other. ap (λ b. not (eqb other c) && same_facility (facility_of A other) (facility_of A c) && b) (open-state A other))
 
-pub open-late : (A : History) (c at : ℕ) → LateShown A (Open c at)
+pub open-late : (A : History) (c at : ℕ) → LateShown A (Ceremony c at Open)
 open-late A c at view v =
     rw (row-shown A c view.ceremonies.items v.ceremonies) (grind (arith, busy-shown A c view.ceremonies.items v.ceremonies))
 
@@ -90,8 +91,8 @@ closed-opened (entry ∷ A) h c e =
     (closed-opened A h.1 c) e
   where
     by_act : (act : Act) → fault A act ≡ None → is_some (closing_moment c act) ≡ true → is_some (opened_at A c) ≡ true
-    by_act (Close d at) f e =
-        let open_now = met (is_ceremony_open A d) Refusals.State (none_holds (conditions A (Close d at)) f).1.0 in
+    by_act (Ceremony d at Close) f e =
+        let open_now = met (is_ceremony_open A d) Refusals.State (none_holds (conditions A (Ceremony d at Close)) f).1.0 in
         subst (λ c. is_some (opened_at A c) ≡ true) (eqb-true d c (some-where (eqb d c) at e)) (open-opened A d open_now)
     by_act act f e = absurd (false≢true e)
 
@@ -109,15 +110,15 @@ ceremony-put A B c row own other known =
     (values_of_acts planned_number A) (planned-number A c ∙ known)
 
 -- the tables with one that is opened
-module _ (A : History) (h : IsRegister A) (key : List ℕ) (answer : ReplyData) (c at : ℕ) (f : fault A (Open c at) ≡ None) where
+module _ (A : History) (h : IsRegister A) (key : List ℕ) (answer : ReplyData) (c at : ℕ) (f : fault A (Ceremony c at Open) ≡ None) where
   abbrev opened_now : History
-  opened_now = with_command A (command_of key (Open c at)) answer
+  opened_now = with_command A (command_of key (Ceremony c at Open)) answer
 
   known : is_ceremony A c ≡ true
-  known = met (is_ceremony A c) (Unknown (Things.Ceremony c)) (none_holds (conditions A (Open c at)) f).0
+  known = met (is_ceremony A c) (Unknown (Things.Ceremony c)) (none_holds (conditions A (Ceremony c at Open)) f).0
 
   fresh : is_some (opened_at A c) ≡ false
-  fresh = unmet (is_some (opened_at A c)) Refusals.State (assumption (none_holds (conditions A (Open c at)) f))
+  fresh = unmet (is_some (opened_at A c)) Refusals.State (assumption (none_holds (conditions A (Ceremony c at Open)) f))
 
   abbrev open_row : CeremonyRow
   open_row = record (ceremony_row A c) { state = States.Open; opened = Some at }
@@ -130,16 +131,16 @@ module _ (A : History) (h : IsRegister A) (key : List ℕ) (answer : ReplyData) 
 
   marks-first : put same_mark first_mark (marks A) ≡ marks opened_now
   marks-first =
-      put-first same_mark (mark_row A) (mark_row opened_now) first_mark (λ k e. rw (mark-after A (entry_as key (Open c at) answer) k, turned c k e) refl)
+      put-first same_mark (mark_row A) (mark_row opened_now) first_mark (λ k e. rw (mark-after A (entry_as key (Ceremony c at Open) answer) k, turned c k e) refl)
       (values_of_acts opened_number A) (opened-number A c ∙ fresh)
       ∙ ap (λ row. row ∷ map (mark_row opened_now) (values_of_acts opened_number A)) own
     where
       own : first_mark ≡ mark_row opened_now c
-      own = rw (mark-after A (entry_as key (Open c at) answer) c, eq-eqb c c refl, none-there (mark A c) (marked-opened A h c ∙ fresh)) refl
+      own = rw (mark-after A (entry_as key (Ceremony c at Open) answer) c, eq-eqb c c refl, none-there (mark A c) (marked-opened A h c ∙ fresh)) refl
 
-  pub open-leads : (view : View) → IsPermutation (ceremonies A) view.ceremonies.items → entry_of A key ≡ None → Leads A view (command_of key (Open c at)) answer
+  pub open-leads : (view : View) → IsPermutation (ceremonies A) view.ceremonies.items → entry_of A key ≡ None → Leads A view (command_of key (Ceremony c at Open)) answer
   open-leads view v k =
-      rw (row-shown A c view.ceremonies.items v, known) (rw (ceremonies-opened, marks-first, new_key A (command_of key (Open c at)) answer k) refl)
+      rw (row-shown A c view.ceremonies.items v, known) (rw (ceremonies-opened, marks-first, new_key A (command_of key (Ceremony c at Open)) answer k) refl)
 
 -- CLOSING
 
@@ -158,7 +159,7 @@ table-shown A facility rows p =
 
 -- THE KIND
 
-pub close-early : (A : History) → IsRegister A → (c at : ℕ) → EarlyShown A (Close c at)
+pub close-early : (A : History) → IsRegister A → (c at : ℕ) → EarlyShown A (Ceremony c at Close)
 close-early A h c at view v =
     rw (
       known-shown A c view.ceremonies.items v.ceremonies,
@@ -166,7 +167,7 @@ close-early A h c at view v =
       mark-shown A h c view.marks.items v.marks,
     ) refl
 
-pub close-late : (A : History) → IsRegister A → (c at : ℕ) → LateShown A (Close c at)
+pub close-late : (A : History) → IsRegister A → (c at : ℕ) → LateShown A (Ceremony c at Close)
 close-late A h c at view v =
     rw (
       facility-shown A c view.ceremonies.items v.ceremonies,
@@ -178,12 +179,12 @@ close-late A h c at view v =
     ) refl
 
 -- the tables with one that is closed
-module _ (A : History) (key : List ℕ) (answer : ReplyData) (c at : ℕ) (f : fault A (Close c at) ≡ None) where
+module _ (A : History) (key : List ℕ) (answer : ReplyData) (c at : ℕ) (f : fault A (Ceremony c at Close) ≡ None) where
   abbrev closed_now : History
-  closed_now = with_command A (command_of key (Close c at)) answer
+  closed_now = with_command A (command_of key (Ceremony c at Close)) answer
 
   to_close : is_ceremony A c ≡ true
-  to_close = met (is_ceremony A c) (Unknown (Things.Ceremony c)) (none_holds (conditions A (Close c at)) f).0
+  to_close = met (is_ceremony A c) (Unknown (Things.Ceremony c)) (none_holds (conditions A (Ceremony c at Close)) f).0
 
   abbrev closed_row : CeremonyRow
   closed_row = record (ceremony_row A c) { state = States.Closed; closed = Some at }
@@ -192,9 +193,9 @@ module _ (A : History) (key : List ℕ) (answer : ReplyData) (c at : ℕ) (f : f
   ceremonies-closed = ceremony-put A closed_now c closed_row (rw (eq-eqb c c refl) refl) (λ k e. rw (turned c k e) refl) to_close
 
   pub close-leads : (view : View) → Shown (is_of_number c) (ceremonies A) view.ceremonies.items → entry_of A key ≡ None
-      → Leads A view (command_of key (Close c at)) answer
+      → Leads A view (command_of key (Ceremony c at Close)) answer
   close-leads view v k =
-      rw (ceremony-shown A c view.ceremonies.items v, to_close) (rw (ceremonies-closed, new_key A (command_of key (Close c at)) answer k) refl)
+      rw (ceremony-shown A c view.ceremonies.items v, to_close) (rw (ceremonies-closed, new_key A (command_of key (Ceremony c at Close)) answer k) refl)
 
 -- PLANNING
 
@@ -215,10 +216,10 @@ done-planned (entry ∷ A) h c k e =
         subst (λ c. is_ceremony A c ≡ true) (eqb-true d c (and_parts (eqb d c) (eqb step k) e).0) (met (is_ceremony A d) (Unknown (Things.Ceremony d)) f)
 
     by_act : (act : Act) (said : Option ℕ) → fault A act ≡ None → is_some (step_done c k act said) ≡ true → is_ceremony A c ≡ true
-    by_act (Sign d step at) said f e = own d step (none_holds (conditions A (Sign d step at)) f).0 (some-where (eqb d c && eqb step k) (Signed, at) e)
-    by_act (RecordException d text pass at) (Some step) f e =
-        own d step (none_holds (conditions A (RecordException d text pass at)) f).0 (some-where (eqb d c && eqb step k) (Passed, at) e)
-    by_act (RecordException d text pass at) None f e = absurd (false≢true e)
+    by_act (Ceremony d at (Sign step)) said f e = own d step (none_holds (conditions A (Ceremony d at (Sign step))) f).0 (some-where (eqb d c && eqb step k) (Signed, at) e)
+    by_act (Ceremony d at (RecordException text pass)) (Some step) f e =
+        own d step (none_holds (conditions A (Ceremony d at (RecordException text pass))) f).0 (some-where (eqb d c && eqb step k) (Passed, at) e)
+    by_act (Ceremony d at (RecordException text pass)) None f e = absurd (false≢true e)
     by_act act said f e = absurd (false≢true e)
 
 -- what implies that a ceremony was planned is not so of one that was not

@@ -16,7 +16,8 @@ use Rattle.kcr_custody.specs.declared.SafeNumber.{SafeNumber}
 use Rattle.kcr_custody.specs.declared.Destination.{Destination}
 use Rattle.kcr_custody.specs.Custody.{rest_by, spot_by, is_open_by, place_of_box_by, is_box, is_loose_at, safe_of_destination, unknown_item_refusal, no_ca_refusal}
 use Rattle.kcr_custody.specs.Custody.{add_item_early, safe_early, seal_early, take_early, put_early, cut_early, keepers_conditions}
-use Rattle.kcr_history.specs.declared.commands.Act.TheVariants.{Seal, Take, Put, Cut, AddItem, AddBox, SetSafe}
+use Rattle.kcr_history.specs.declared.commands.Act.TheVariants.{AddBox, Ceremony}
+use Rattle.kcr_history.specs.declared.commands.Deed.TheVariants.{Seal, Take, Put, Cut, AddItem, SetSafe}
 use Rattle.kcr_history.specs.declared.views.View.{View}
 use Rattle.kcr_history.specs.History.{History, has_command}
 use Rattle.kcr_history.specs.Ceremonies.{facility_of}
@@ -83,23 +84,23 @@ add_box-late A facility number place view v =
 
 -- WHOEVER IS IN THE ROOM
 
-pub add_item-early : (A : History) → IsRegister A → (c : ℕ) (item : List ℕ) (at : ℕ) → EarlyShown A (AddItem c item at)
+pub add_item-early : (A : History) → IsRegister A → (c : ℕ) (item : List ℕ) (at : ℕ) → EarlyShown A (Ceremony c at (AddItem item))
 add_item-early A h c item at view v =
     ap (λ now. first_of (add_item_early now (rest_by view.items.items item))) (status-shown A h c at view v.ceremonies v.marks)
     ∙ rw (rest-coded A h (item ∷ []) view.items.items v.items item (inl refl)) refl
 
-pub turn-early : (A : History) → IsRegister A → (c : ℕ) (safe : SafeNumber) (state : Bool) (by : List ℕ) (at : ℕ) → EarlyShown A (SetSafe c safe state by at)
+pub turn-early : (A : History) → IsRegister A → (c : ℕ) (safe : SafeNumber) (state : Bool) (by : List ℕ) (at : ℕ) → EarlyShown A (Ceremony c at (SetSafe safe state by))
 turn-early A h c safe state by at view v =
     ap (λ now. first_of (safe_early now (is_open_by view.safes.items now.facility) safe state (is_person_by view.people.items by) by))
     (status-shown A h c at view v.ceremonies v.marks)
     ∙ rw (person-shown A by view.people.items v.people, open-shown A view.safes.items v.safes (facility_of A c) safe) refl
 
-pub cut-early : (A : History) → IsRegister A → (c : ℕ) (t : List ℕ) (at : ℕ) → EarlyShown A (Cut c t at)
+pub cut-early : (A : History) → IsRegister A → (c : ℕ) (t : List ℕ) (at : ℕ) → EarlyShown A (Ceremony c at (Cut t))
 cut-early A h c t at view v =
     ap (λ now. first_of (cut_early now (spot_by view.bags.items t) t)) (status-shown A h c at view v.ceremonies v.marks)
     ∙ rw (spot-shown A h t view.bags.items v.bags) refl
 
-pub seal-early : (A : History) → IsRegister A → (c : ℕ) (t : List ℕ) (codes : List (List ℕ)) (at : ℕ) → EarlyShown A (Seal c t codes at)
+pub seal-early : (A : History) → IsRegister A → (c : ℕ) (t : List ℕ) (codes : List (List ℕ)) (at : ℕ) → EarlyShown A (Ceremony c at (Seal t codes))
 seal-early A h c t codes at view v =
     let same = rest-coded A h codes view.items.items v.items in
     ap (λ now. first_of (seal_early now (spot_by view.bags.items t) (rest_by view.items.items) codes)) (status-shown A h c at view v.ceremonies v.marks)
@@ -109,7 +110,7 @@ seal-early A h c t codes at view v =
       loose-shown A view.items.items codes same (facility_of A c),
     ) refl
 
-pub take-early : (A : History) → IsRegister A → (c : ℕ) (t : List ℕ) (at : ℕ) → EarlyShown A (Take c t at)
+pub take-early : (A : History) → IsRegister A → (c : ℕ) (t : List ℕ) (at : ℕ) → EarlyShown A (Ceremony c at (Take t))
 take-early A h c t at view v =
     let here = facility_of A c in
     ap (λ now. first_of (take_early now (is_open_by view.safes.items now.facility) (spot_by view.bags.items t) t))
@@ -119,7 +120,7 @@ take-early A h c t at view v =
       functions-same (is_open_by view.safes.items here) (is_open A here) (open-shown A view.safes.items v.safes here),
     ) refl
 
-pub put-early : (A : History) → IsRegister A → (c : ℕ) (t : List ℕ) (to : Destination) (at : ℕ) → EarlyShown A (Put c t to at)
+pub put-early : (A : History) → IsRegister A → (c : ℕ) (t : List ℕ) (to : Destination) (at : ℕ) → EarlyShown A (Ceremony c at (Put t to))
 put-early A h c t to at view v =
     let here = facility_of A c in
     ap (λ now. first_of (put_early now (is_open_by view.safes.items now.facility) (place_of_box_by view.boxes.items now.facility)
@@ -139,7 +140,7 @@ pub ca-late : (A : History) → IsRegister A → (c at : ℕ) (view : View) → 
     → first_of (no_ca_refusal (has_trained_present_by view Ca c at) ∷ []) ≡ first_of (no_ca_refusal (has_trained_present A Ca c at) ∷ [])
 ca-late A h c at view room ts ws = ap (λ has_ca. first_of (no_ca_refusal has_ca ∷ [])) (attended-shown A h view c at room ts ws Ca)
 
-pub turn-late : (A : History) → IsRegister A → (c : ℕ) (safe : SafeNumber) (state : Bool) (by : List ℕ) (at : ℕ) → LateShown A (SetSafe c safe state by at)
+pub turn-late : (A : History) → IsRegister A → (c : ℕ) (safe : SafeNumber) (state : Bool) (by : List ℕ) (at : ℕ) → LateShown A (Ceremony c at (SetSafe safe state by))
 turn-late A h c safe state by at view v =
     rw (
       in-shown A c at view.stays.items v.stays.room by,
@@ -160,7 +161,7 @@ keepers-late A h c t at view v o p same =
       same,
     ) refl
 
-pub take-late : (A : History) → IsRegister A → (c : ℕ) (t : List ℕ) (at : ℕ) → LateShown A (Take c t at)
+pub take-late : (A : History) → IsRegister A → (c : ℕ) (t : List ℕ) (at : ℕ) → LateShown A (Ceremony c at (Take t))
 take-late A h c t at view v =
     keepers-late A h c t at view v _ _
     (rw (
@@ -170,7 +171,7 @@ take-late A h c t at view v =
           (place-shown A h view.boxes.items v.boxes (facility_of A c)),
     ) refl)
 
-pub put-late : (A : History) → IsRegister A → (c : ℕ) (t : List ℕ) (to : Destination) (at : ℕ) → LateShown A (Put c t to at)
+pub put-late : (A : History) → IsRegister A → (c : ℕ) (t : List ℕ) (to : Destination) (at : ℕ) → LateShown A (Ceremony c at (Put t to))
 put-late A h c t to at view v =
     keepers-late A h c t at view v _ _
     (rw (

@@ -23,7 +23,8 @@ use Rattle.kcr_custody.specs.declared.Destination.{Destination}
 use Rattle.kcr_custody.specs.Balance.{same_bag, same_item, same_box}
 use Rattle.kcr_custody.specs.Custody.{is_on_table, safe_of, is_within, lies_in, sealed_item, loose_items, sealed_items, spot_of_destination, same_safe, unknown_bag_refusal}
 use Rattle.kcr_history.specs.declared.commands.Act.{Act}
-use Rattle.kcr_history.specs.declared.commands.Act.TheVariants.{Seal, Take, Put, Cut, AddItem, SetSafe, AddBox}
+use Rattle.kcr_history.specs.declared.commands.Act.TheVariants.{AddBox, Ceremony}
+use Rattle.kcr_history.specs.declared.commands.Deed.TheVariants.{Seal, Take, Put, Cut, AddItem, SetSafe}
 use Rattle.kcr_history.specs.declared.commands.ReplyData.{ReplyData}
 use Rattle.kcr_history.specs.History.{History, values_of_acts, last_value_of_acts, last_value_with_history, has_command}
 use Rattle.kcr_history.specs.Ceremonies.{facility_of}
@@ -85,13 +86,13 @@ put-safe West One state last = refl
 put-safe West Two state last = refl
 
 safes-put : (A : History) (key : List ℕ) (answer : ReplyData) (c : ℕ) (safe : SafeNumber) (state : Bool) (by : List ℕ) (at : ℕ)
-    → put same_safe_row (row_of (facility_of A c) safe state) (safes A) ≡ safes (with_command A (command_of key (SetSafe c safe state by at)) answer)
+    → put same_safe_row (row_of (facility_of A c) safe state) (safes A) ≡ safes (with_command A (command_of key (Ceremony c at (SetSafe safe state by))) answer)
 safes-put A key answer c safe state by at =
     put-safe (facility_of A c) safe state (λ facility safe. last_value_with_history (λ before. safe_state_after (facility_of before) facility safe) A)
 
-pub turn-leads : (A : History) → IsRegister A → (c : ℕ) (safe : SafeNumber) (state : Bool) (by : List ℕ) (at : ℕ) → LeadsOn A (SetSafe c safe state by at)
+pub turn-leads : (A : History) → IsRegister A → (c : ℕ) (safe : SafeNumber) (state : Bool) (by : List ℕ) (at : ℕ) → LeadsOn A (Ceremony c at (SetSafe safe state by))
 turn-leads A h c safe state by at key view answer v k f =
-    let act = SetSafe c safe state by at in
+    let act = Ceremony c at (SetSafe safe state by) in
     rw (
       facility-shown A c view.ceremonies.items v.ceremonies,
       safes-put A key answer c safe state by at,
@@ -114,21 +115,21 @@ no_bag_yet A k h = grind arith
 
 -- its row is put in front, and the others stay
 items-added : (A : History) → IsRegister A → (key : List ℕ) (answer : ReplyData) (c : ℕ) (item : List ℕ) (at : ℕ) → is_some (rest A item) ≡ false
-    → put same_item (record { code = item; rest = Loose (facility_of A c) }) (items A) ≡ items (with_command A (command_of key (AddItem c item at)) answer)
+    → put same_item (record { code = item; rest = Loose (facility_of A c) }) (items A) ≡ items (with_command A (command_of key (Ceremony c at (AddItem item))) answer)
 items-added A h key answer c item at free =
     put-first same_item (item_row A) (item_row B) (record { code = item; rest = Loose (facility_of A c) }) (λ k e. rw (same-turned item k ∙ e) refl)
     (values_of_acts added_item A) (added_rest A h item ∙ free)
     ∙ ap (λ row. row ∷ map (item_row B) (values_of_acts added_item A)) own
   where
     B : History
-    B = with_command A (command_of key (AddItem c item at)) answer
+    B = with_command A (command_of key (Ceremony c at (AddItem item))) answer
 
     own : record { code = item; rest = Loose (facility_of A c) } ≡ item_row B item
     own = rw (no_bag_yet A item free, same-itself item) refl
 
-pub add_item-leads : (A : History) → IsRegister A → (c : ℕ) (item : List ℕ) (at : ℕ) → LeadsOn A (AddItem c item at)
+pub add_item-leads : (A : History) → IsRegister A → (c : ℕ) (item : List ℕ) (at : ℕ) → LeadsOn A (Ceremony c at (AddItem item))
 add_item-leads A h c item at key view answer v k f =
-    let act = AddItem c item at in
+    let act = Ceremony c at (AddItem item) in
     rw (
       facility-shown A c view.ceremonies.items v.ceremonies,
       items-added A h key answer c item at (unmet (is_some (rest A item)) Taken (none_holds (conditions A act) f).1.0),
@@ -192,7 +193,7 @@ stored_there facility to = grind arith
 
 sealed_spot_after : (A : History) (act : Act) (k s : List ℕ) → (last_value_of_acts (sealed_in k) A ≡ Some s → is_some (spot A s) ≡ true)
     → option_or (sealed_in k act) (last_value_of_acts (sealed_in k) A) ≡ Some s → is_some (option_or (spot_after (facility_of A) s act) (spot A s)) ≡ true
-sealed_spot_after A (Seal c serial codes at) k s ih e = grind (arith, same-itself s)
+sealed_spot_after A (Ceremony c at (Seal serial codes)) k s ih e = grind (arith, same-itself s)
 sealed_spot_after A act k s ih e = still (spot_after (facility_of A) s act) (spot A s) (ih e)
 
 -- a bag that an item was sealed in is somewhere
@@ -203,18 +204,18 @@ sealed_spot (entry ∷ A) k s e = sealed_spot_after A entry.command.act k s (sea
 -- an item's row, in the new bag or as it was
 sealed_row : (A : History) (key : List ℕ) (c : ℕ) (serial : List ℕ) (codes : List (List ℕ)) (at : ℕ) (answer : ReplyData) → is_some (spot A serial) ≡ false
     → (k : List ℕ)
-    → cond (list_any (same_text k) codes) (sealed_item serial k) (item_row A k) ≡ item_row (then_act A key (Seal c serial codes at) answer) k
+    → cond (list_any (same_text k) codes) (sealed_item serial k) (item_row A k) ≡ item_row (then_act A key (Ceremony c at (Seal serial codes)) answer) k
 sealed_row A key c serial codes at answer n k = grind (arith, same-itself serial, same-is serial, sealed_spot A k)
 
 items-seal : (A : History) → IsRegister A → (key : List ℕ) (c : ℕ) (serial : List ℕ) (codes : List (List ℕ)) (at : ℕ) (answer : ReplyData)
-    → fault A (Seal c serial codes at) ≡ None
-    → put_all same_item (sealed_items serial codes) (items A) ≡ items (then_act A key (Seal c serial codes at) answer)
+    → fault A (Ceremony c at (Seal serial codes)) ≡ None
+    → put_all same_item (sealed_items serial codes) (items A) ≡ items (then_act A key (Ceremony c at (Seal serial codes)) answer)
 items-seal A h key c serial codes at answer n =
-    let met = none_holds (conditions A (Seal c serial codes at)) n in
+    let met = none_holds (conditions A (Ceremony c at (Seal serial codes))) n in
     put-rows same_item (λ c k. same_text k c) (sealed_item serial) (λ c k. refl) (values_of_acts added_item A) codes
     (λ code i. added_rest A h code ∙ items_known A code codes met.1.0 (in-listed code codes i))
     (λ c k i j e. ap (sealed_item serial) (sym (same-is k c e))) (item_row A) (λ c k. refl)
-    ∙ map-same (λ k. cond (list_any (same_text k) codes) (sealed_item serial k) (item_row A k)) (item_row (then_act A key (Seal c serial codes at) answer))
+    ∙ map-same (λ k. cond (list_any (same_text k) codes) (sealed_item serial k) (item_row A k)) (item_row (then_act A key (Ceremony c at (Seal serial codes)) answer))
     (values_of_acts added_item A)
     (sealed_row A key c serial codes at answer (unmet (is_some (spot A serial)) Taken (assumption met)))
 
@@ -226,7 +227,7 @@ itemed code rest = record { code = code; rest = rest }
 -- an item's row, loose where its bag was cut or as it was
 cut_row : (A : History) (key : List ℕ) (c : ℕ) (t : List ℕ) (at : ℕ) (answer : ReplyData) → is_spent (spot A t) ≡ false → (k : List ℕ)
     → cond (is_within t (unwrap_or (rest A k) (Loose East))) (itemed k (Loose (facility_of A c))) (item_row A k)
-    ≡ item_row (then_act A key (Cut c t at) answer) k
+    ≡ item_row (then_act A key (Ceremony c at (Cut t)) answer) k
 cut_row A key c t at answer n k = grind (arith, same-itself t, same-is t, same-turned t)
 
 abbrev itemed_loose : Facility → List ℕ → Item
@@ -254,9 +255,9 @@ module _ (A : History) (t : List ℕ) (rows : List Item) (p : Shown (lies_in t) 
       (filter-in (lies_in t) (item_row A k) (items A) (map-in (item_row A) k (values_of_acts added_item A) i) e))))
 
 -- so they lead to the table after the cut
-items-cut : (A : History) (key : List ℕ) (c : ℕ) (t : List ℕ) (at : ℕ) (answer : ReplyData) → fault A (Cut c t at) ≡ None
+items-cut : (A : History) (key : List ℕ) (c : ℕ) (t : List ℕ) (at : ℕ) (answer : ReplyData) → fault A (Ceremony c at (Cut t)) ≡ None
     → (rows : List Item) → Shown (lies_in t) (items A) rows
-    → put_all same_item (loose_items rows t (facility_of A c)) (items A) ≡ items (then_act A key (Cut c t at) answer)
+    → put_all same_item (loose_items rows t (facility_of A c)) (items A) ≡ items (then_act A key (Ceremony c at (Cut t)) answer)
 items-cut A key c t at answer n rows p =
     let here = facility_of A c in
     let all = values_of_acts added_item A in
@@ -265,15 +266,15 @@ items-cut A key c t at answer n rows p =
     ∙ put-rows same_item (λ c k. same_text k c) (itemed_loose here) (λ c k. refl) all codes
     (λ code i. in-any (λ k. same_text k code) code all (code-in A t rows p code i).0 (same-itself code))
     (λ c k i j e. ap (itemed_loose here) (sym (same-is k c e))) (item_row A) (λ c k. refl)
-    ∙ map-same-in (λ k. cond (list_any (same_text k) codes) (itemed_loose here k) (item_row A k)) (item_row (then_act A key (Cut c t at) answer)) all
+    ∙ map-same-in (λ k. cond (list_any (same_text k) codes) (itemed_loose here k) (item_row A k)) (item_row (then_act A key (Ceremony c at (Cut t)) answer)) all
     (λ k i. ap (λ b. cond b (itemed_loose here k) (item_row A k)) (lies-told A t rows p k i)
-    ∙ cut_row A key c t at answer (on_table here (spot A t) (assumption (none_holds (conditions A (Cut c t at)) n))) k)
+    ∙ cut_row A key c t at answer (on_table here (spot A t) (assumption (none_holds (conditions A (Ceremony c at (Cut t))) n))) k)
 
 -- THE CHANGES
 
-pub take-leads : (A : History) → IsRegister A → (c : ℕ) (t : List ℕ) (at : ℕ) → LeadsOn A (Take c t at)
+pub take-leads : (A : History) → IsRegister A → (c : ℕ) (t : List ℕ) (at : ℕ) → LeadsOn A (Ceremony c at (Take t))
 take-leads A h c t at key view answer v k f =
-    let act = Take c t at in
+    let act = Ceremony c at (Take t) in
     let here = facility_of A c in
     let n = none_holds (conditions A act) f in
     rw (
@@ -285,9 +286,9 @@ take-leads A h c t at key view answer v k f =
     )
     refl
 
-pub put-leads : (A : History) → IsRegister A → (c : ℕ) (t : List ℕ) (to : Destination) (at : ℕ) → LeadsOn A (Put c t to at)
+pub put-leads : (A : History) → IsRegister A → (c : ℕ) (t : List ℕ) (to : Destination) (at : ℕ) → LeadsOn A (Ceremony c at (Put t to))
 put-leads A h c t to at key view answer v k f =
-    let act = Put c t to at in
+    let act = Ceremony c at (Put t to) in
     let here = facility_of A c in
     let n = none_holds (conditions A act) f in
     rw (
@@ -308,9 +309,9 @@ items-changed rows rest t = all_changed-rows PutItem same_item (λ rows t. recor
 abbrev with_bag : Bag → ℕ → ℕ → Tables → Tables
 with_bag bag c at t = changed (PutMark (record { ceremony = c; at = at })) (changed (PutBag bag) t)
 
-pub seal-leads : (A : History) → IsRegister A → (c : ℕ) (t : List ℕ) (codes : List (List ℕ)) (at : ℕ) → LeadsOn A (Seal c t codes at)
+pub seal-leads : (A : History) → IsRegister A → (c : ℕ) (t : List ℕ) (codes : List (List ℕ)) (at : ℕ) → LeadsOn A (Ceremony c at (Seal t codes))
 seal-leads A h c t codes at key view answer v k f =
-    let act = Seal c t codes at in
+    let act = Ceremony c at (Seal t codes) in
     let here = facility_of A c in
     let n = none_holds (conditions A act) f in
     let tell = PutKey (new_key_row (command_of key act) answer) ∷ [] in
@@ -325,9 +326,9 @@ seal-leads A h c t codes at key view answer v k f =
     )
     (rw (same-itself t) refl)
 
-pub cut-leads : (A : History) → IsRegister A → (c : ℕ) (t : List ℕ) (at : ℕ) → LeadsOn A (Cut c t at)
+pub cut-leads : (A : History) → IsRegister A → (c : ℕ) (t : List ℕ) (at : ℕ) → LeadsOn A (Ceremony c at (Cut t))
 cut-leads A h c t at key view answer v k f =
-    let act = Cut c t at in
+    let act = Ceremony c at (Cut t) in
     let here = facility_of A c in
     let tell = PutKey (new_key_row (command_of key act) answer) ∷ [] in
     let bag : Bag = record { serial = t; spot = Spent } in

@@ -7,8 +7,9 @@ use Rattle.kcr_base.specs.Same.{same_text}
 use Rattle.kcr_base.specs.declared.refusal.Refusal.{Refusal}
 use Rattle.kcr_base.specs.declared.refusal.Refusal.TheVariants.{Key, Short, Memory, Disk}
 use Rattle.kcr_history.specs.declared.commands.Act.{Act}
-use Rattle.kcr_history.specs.declared.commands.Act.TheVariants.{Enter, Train, Withdraw, Appoint, Replace, Release, AddBox, AddItem, Plan, Open, Close, RecordSheet}
-use Rattle.kcr_history.specs.declared.commands.Act.TheVariants.{SetSafe, Sign, RecordException, Seal, Take, Put, Cut}
+use Rattle.kcr_history.specs.declared.commands.Act.TheVariants.{Enter, Train, Withdraw, Appoint, Replace, Release, AddBox, Plan, Ceremony}
+use Rattle.kcr_history.specs.declared.commands.Deed.TheVariants.{AddItem, Open, Close, RecordSheet, SetSafe, Sign, RecordException, Seal}
+use Rattle.kcr_history.specs.declared.commands.Deed.TheVariants.{Take, Put, Cut}
 use Rattle.kcr_history.specs.declared.commands.ReplyData.{ReplyData}
 use Rattle.kcr_history.specs.declared.commands.Command.{Command}
 use Rattle.kcr_history.specs.declared.commands.Entry.{Entry}
@@ -51,16 +52,16 @@ use Rattle.kcr_machine.proofs.StepRows.{sign-there, stated-shown}
 -- THE REFUSALS OF BOTH STAGES by the rows are the history's
 
 early-shown : (A : History) → IsRegister A → (act : Act) → EarlyShown A act
-early-shown A h (Close ceremony at) view v = close-early A h ceremony at view v
-early-shown A h (AddItem c item at) view v = add_item-early A h c item at view v
-early-shown A h (RecordSheet c way all at) view v = sheet-early A h c way all at view v
-early-shown A h (SetSafe c safe state by at) view v = turn-early A h c safe state by at view v
-early-shown A h (Sign ceremony step at) view v = sign-early A h ceremony step at view v
-early-shown A h (RecordException ceremony text pass at) view v = except-early A h ceremony text pass at view v
-early-shown A h (Seal ceremony serial items at) view v = seal-early A h ceremony serial items at view v
-early-shown A h (Take ceremony serial at) view v = take-early A h ceremony serial at view v
-early-shown A h (Put ceremony serial to at) view v = put-early A h ceremony serial to at view v
-early-shown A h (Cut ceremony serial at) view v = cut-early A h ceremony serial at view v
+early-shown A h (Ceremony ceremony at Close) view v = close-early A h ceremony at view v
+early-shown A h (Ceremony c at (AddItem item)) view v = add_item-early A h c item at view v
+early-shown A h (Ceremony c at (RecordSheet way all)) view v = sheet-early A h c way all at view v
+early-shown A h (Ceremony c at (SetSafe safe state by)) view v = turn-early A h c safe state by at view v
+early-shown A h (Ceremony ceremony at (Sign step)) view v = sign-early A h ceremony step at view v
+early-shown A h (Ceremony ceremony at (RecordException text pass)) view v = except-early A h ceremony text pass at view v
+early-shown A h (Ceremony ceremony at (Seal serial items)) view v = seal-early A h ceremony serial items at view v
+early-shown A h (Ceremony ceremony at (Take serial)) view v = take-early A h ceremony serial at view v
+early-shown A h (Ceremony ceremony at (Put serial to)) view v = put-early A h ceremony serial to at view v
+early-shown A h (Ceremony ceremony at (Cut serial)) view v = cut-early A h ceremony serial at view v
 early-shown A h act view v = refl
 
 -- of an act that is cleared
@@ -74,17 +75,17 @@ late-shown A h (Replace place who day) view v e = replace-late A h place who day
 late-shown A h (Release place day) view v e = release-late A h place day view v
 late-shown A h (AddBox facility number place) view v e = add_box-late A facility number place view v
 late-shown A h (Plan number facility day script) view v e = plan-late A number facility day script view v
-late-shown A h (Open ceremony at) view v e = open-late A ceremony at view v
-late-shown A h (Close ceremony at) view v e = close-late A h ceremony at view v
-late-shown A h (Seal ceremony serial items at) view v e = ca-late A h ceremony at view v.stays.room v.trainings v.withdrawals
-late-shown A h (Take ceremony serial at) view v e = take-late A h ceremony serial at view v
-late-shown A h (Put ceremony serial to at) view v e = put-late A h ceremony serial to at view v
-late-shown A h (Cut ceremony serial at) view v e = ca-late A h ceremony at view v.stays.room v.trainings v.withdrawals
-late-shown A h (AddItem c item at) view v e = ca-late A h c at view v.stays.room v.trainings v.withdrawals
-late-shown A h (RecordSheet c way all at) view v e = sheet-late A h (sheet-made A h) c way all at e view v
-late-shown A h (SetSafe c safe state by at) view v e = turn-late A h c safe state by at view v
-late-shown A h (Sign ceremony step at) view v e = refl
-late-shown A h (RecordException ceremony text pass at) view v e = refl
+late-shown A h (Ceremony ceremony at Open) view v e = open-late A ceremony at view v
+late-shown A h (Ceremony ceremony at Close) view v e = close-late A h ceremony at view v
+late-shown A h (Ceremony ceremony at (Seal serial items)) view v e = ca-late A h ceremony at view v.stays.room v.trainings v.withdrawals
+late-shown A h (Ceremony ceremony at (Take serial)) view v e = take-late A h ceremony serial at view v
+late-shown A h (Ceremony ceremony at (Put serial to)) view v e = put-late A h ceremony serial to at view v
+late-shown A h (Ceremony ceremony at (Cut serial)) view v e = ca-late A h ceremony at view v.stays.room v.trainings v.withdrawals
+late-shown A h (Ceremony c at (AddItem item)) view v e = ca-late A h c at view v.stays.room v.trainings v.withdrawals
+late-shown A h (Ceremony c at (RecordSheet way all)) view v e = sheet-late A h (sheet-made A h) c way all at e view v
+late-shown A h (Ceremony c at (SetSafe safe state by)) view v e = turn-late A h c safe state by at view v
+late-shown A h (Ceremony ceremony at (Sign step)) view v e = refl
+late-shown A h (Ceremony ceremony at (RecordException text pass)) view v e = refl
 
 -- a first refusal among the early ones is the first of all; behind those, if none holds, it is the first of the others
 early_first : (os xs : List (Option Refusal)) (r : Refusal) → first_of os ≡ Some r → first_of (os ++ xs) ≡ Some r
@@ -115,11 +116,11 @@ fault-shown A h act view last e v none =
 -- the seats that an act needs by the rows are those by the history
 sitting-shown : (A : History) → IsRegister A → (act : Act) (view : View) → IsViewOf (asks_of_act act) (tables A) view
     → fault A act ≡ None → seat_request_by view act ≡ seat_request A act
-sitting-shown A h (Sign c k at) view v none =
+sitting-shown A h (Ceremony c at (Sign k)) view v none =
     ap (λ seats. Some (record { ceremony = c; at = at; seats = seats }))
     (seats-shown A h c k view v.steps.step (sign-there A c k at none))
-sitting-shown A h (RecordException c text true at) view v none = refl
-sitting-shown A h (RecordException c text false at) view v none = refl
+sitting-shown A h (Ceremony c at (RecordException text true)) view v none = refl
+sitting-shown A h (Ceremony c at (RecordException text false)) view v none = refl
 sitting-shown A h act view v none = refl
 
 -- the seats that lack people by the rows are a least shortage of the history
@@ -129,8 +130,8 @@ Lacks A s refusal = (positions : List ℕ) × IsLeast A s.ceremony s.at s.seats 
 -- the rows tell of no more steps done than a script has
 not_overdone-shown : (A : History) → IsRegister A → (act : Act) (view : View) → IsViewOf (early_asks (asks_of_act act)) (tables A) view
     → has_too_many_steps view act ≡ false
-not_overdone-shown A h (Sign c k at) view v = not_overdone A h _ view v.steps
-not_overdone-shown A h (RecordException c text pass at) view v = not_overdone A h _ view v.steps
+not_overdone-shown A h (Ceremony c at (Sign k)) view v = not_overdone A h _ view v.steps
+not_overdone-shown A h (Ceremony c at (RecordException text pass)) view v = not_overdone A h _ view v.steps
 not_overdone-shown A h act view v = refl
 
 -- ANSWERS
@@ -138,10 +139,10 @@ not_overdone-shown A h act view v = refl
 -- the answer by the rows is the one by the history
 answer-shown : (A : History) → IsRegister A → (act : Act) (view : View) → IsViewOf (asks_of_act act) (tables A) view → (last : ℕ) → last ≡ length A
     → (people : Option (List (List ℕ))) → IsSeatedFor view (seat_request_by view act) people → reply_by view last act people ≡ reply_to A act people
-answer-shown A h (Sign c k at) view v last e people g = rw e refl
-answer-shown A h (RecordException c text true at) view v last e people g =
+answer-shown A h (Ceremony c at (Sign k)) view v last e people g = rw e refl
+answer-shown A h (Ceremony c at (RecordException text true)) view v last e people g =
     rw (e, stated-shown A h c view.exceptions.items v.exceptions, done-shown A h (the_next c) view v.steps) refl
-answer-shown A h (RecordException c text false at) view v last e people g = rw (e, stated-shown A h c view.exceptions.items v.exceptions, g) refl
+answer-shown A h (Ceremony c at (RecordException text false)) view v last e people g = rw (e, stated-shown A h c view.exceptions.items v.exceptions, g) refl
 answer-shown A h act view v last e people g = rw (e, g) refl
 
 -- CHANGES
@@ -159,22 +160,22 @@ leads A h key (Replace place who day) view seats answer v k f g e = same-tables 
 leads A h key (Release place day) view seats answer v k f g e = same-tables _ _ (release-leads A h place day key view answer v k f)
 leads A h key (AddBox facility number place) view seats answer v k f g e = same-tables _ _ (add_box-leads A facility number place key view answer v k f)
 leads A h key (Plan number facility day script) view seats answer v k f g e = same-tables _ _ (plan-leads A h key answer number facility day script f view k)
-leads A h key (Open ceremony at) view seats answer v k f g e = same-tables _ _ (open-leads A h key answer ceremony at f view v.ceremonies k)
-leads A h key (Close ceremony at) view seats answer v k f g e = same-tables _ _ (close-leads A key answer ceremony at f view v.ceremonies k)
-leads A h key (Seal c serial codes at) view seats answer v k f g e = same-tables _ _ (seal-leads A h c serial codes at key view answer v k f)
-leads A h key (Take c serial at) view seats answer v k f g e = same-tables _ _ (take-leads A h c serial at key view answer v k f)
-leads A h key (Put c serial to at) view seats answer v k f g e = same-tables _ _ (put-leads A h c serial to at key view answer v k f)
-leads A h key (Cut c serial at) view seats answer v k f g e = same-tables _ _ (cut-leads A h c serial at key view answer v k f)
-leads A h key (AddItem c item at) view seats answer v k f g e = same-tables _ _ (add_item-leads A h c item at key view answer v k f)
-leads A h key (RecordSheet c way all at) view seats answer v k f g e =
-    let n = none_holds (conditions A (RecordSheet c way all at)) f in
+leads A h key (Ceremony ceremony at Open) view seats answer v k f g e = same-tables _ _ (open-leads A h key answer ceremony at f view v.ceremonies k)
+leads A h key (Ceremony ceremony at Close) view seats answer v k f g e = same-tables _ _ (close-leads A key answer ceremony at f view v.ceremonies k)
+leads A h key (Ceremony c at (Seal serial codes)) view seats answer v k f g e = same-tables _ _ (seal-leads A h c serial codes at key view answer v k f)
+leads A h key (Ceremony c at (Take serial)) view seats answer v k f g e = same-tables _ _ (take-leads A h c serial at key view answer v k f)
+leads A h key (Ceremony c at (Put serial to)) view seats answer v k f g e = same-tables _ _ (put-leads A h c serial to at key view answer v k f)
+leads A h key (Ceremony c at (Cut serial)) view seats answer v k f g e = same-tables _ _ (cut-leads A h c serial at key view answer v k f)
+leads A h key (Ceremony c at (AddItem item)) view seats answer v k f g e = same-tables _ _ (add_item-leads A h c item at key view answer v k f)
+leads A h key (Ceremony c at (RecordSheet way all)) view seats answer v k f g e =
+    let n = none_holds (conditions A (Ceremony c at (RecordSheet way all))) f in
     sheet-leads A (sheet-made A h) key c way all at (named_once all (assumption n)) view answer v k (assumption n)
-leads A h key (SetSafe c safe state by at) view seats answer v k f g e = same-tables _ _ (turn-leads A h c safe state by at key view answer v k f)
-leads A h key (Sign c k at) view None answer v q f g e = absurd g
-leads A h key (Sign c k at) view (Some seats) answer v q f g e = same-tables _ _ (sign-leads A h c k at seats key view answer v q f e)
-leads A h key (RecordException c text true at) view None answer v q f g e = absurd g
-leads A h key (RecordException c text true at) view (Some seats) answer v q f g e = same-tables _ _ (pass-leads A h c text at seats key view answer v q f e)
-leads A h key (RecordException c text false at) view seats answer v q f g e = same-tables _ _ (state-leads A h c text at key view answer v q f e)
+leads A h key (Ceremony c at (SetSafe safe state by)) view seats answer v k f g e = same-tables _ _ (turn-leads A h c safe state by at key view answer v k f)
+leads A h key (Ceremony c at (Sign k)) view None answer v q f g e = absurd g
+leads A h key (Ceremony c at (Sign k)) view (Some seats) answer v q f g e = same-tables _ _ (sign-leads A h c k at seats key view answer v q f e)
+leads A h key (Ceremony c at (RecordException text true)) view None answer v q f g e = absurd g
+leads A h key (Ceremony c at (RecordException text true)) view (Some seats) answer v q f g e = same-tables _ _ (pass-leads A h c text at seats key view answer v q f e)
+leads A h key (Ceremony c at (RecordException text false)) view seats answer v q f g e = same-tables _ _ (state-leads A h c text at key view answer v q f e)
 
 -- ACCEPTED
 
@@ -318,14 +319,14 @@ some o x is = subst IsSome (sym is) refl
 -- an answer by rows is one of the act's kind
 of-kind : (view : View) (last : ℕ) (act : Act) (answer : ReplyData) → answer ≡ reply_by view last act answer.seating
     → IsSeatedFor view (seat_request_by view act) answer.seating → IsReplyDataOf act answer
-of-kind view last (Sign c k at) answer next seated =
+of-kind view last (Ceremony c at (Sign k)) answer next seated =
     (ap (λ (a : ReplyData). a.exception) next, seated-some view _ answer.seating seated, ap (λ (a : ReplyData). a.step) next)
-of-kind view last (RecordException c text true at) answer next seated = (
+of-kind view last (Ceremony c at (RecordException text true)) answer next seated = (
   some answer.exception _ (ap (λ (a : ReplyData). a.exception) next),
   seated-some view _ answer.seating seated,
   some answer.step _ (ap (λ (a : ReplyData). a.step) next),
 )
-of-kind view last (RecordException c text false at) answer next seated =
+of-kind view last (Ceremony c at (RecordException text false)) answer next seated =
     (some answer.exception _ (ap (λ (a : ReplyData). a.exception) next), seated, ap (λ (a : ReplyData). a.step) next)
 of-kind view last act answer next seated =
     (ap (λ (a : ReplyData). a.exception) next, seated, ap (λ (a : ReplyData). a.step) next)

@@ -13,7 +13,8 @@ use Rattle.kcr_script.specs.declared.seat.Seat.{Seat}
 use Rattle.kcr_script.specs.declared.script.Step.{Step}
 use Rattle.kcr_script.proofs.ScriptReading.{HasForm, steps_have_form}
 use Rattle.kcr_history.specs.declared.commands.Act.{Act}
-use Rattle.kcr_history.specs.declared.commands.Act.TheVariants.{Plan, Sign, RecordException}
+use Rattle.kcr_history.specs.declared.commands.Act.TheVariants.{Plan, Ceremony}
+use Rattle.kcr_history.specs.declared.commands.Deed.TheVariants.{Sign, RecordException}
 use Rattle.kcr_history.specs.declared.commands.ReplyData.{ReplyData}
 use Rattle.kcr_history.specs.declared.row_types.SeatingRow.{SeatingRow}
 use Rattle.kcr_history.specs.declared.views.StepFilter.{StepFilter}
@@ -116,15 +117,15 @@ next-of A d c k e q = e ∙ ap (λ z. suc (steps_done A z)) (eqb-true d c q)
 by_act : (A : History) (act : Act) (answer : ReplyData) (c : ℕ) → fault A act ≡ None
     → IsReplyTo A act answer (seat_request A act) → last_seated (seatings A) c ≡ steps_done A c
     → last_seated (pushed_onto (seating_rows (ceremony_of_step act) answer.step answer.seating) (seatings A)) c ≡ one_more (does_step c act) (steps_done A c)
-by_act A (Sign d k at) answer c f (people, seated, e) ih =
+by_act A (Ceremony d at (Sign k)) answer c f (people, seated, e) ih =
     rw e (seated-after c d k (steps_done A c) (d == c) people (seatings A) refl
     (some_people A d at (seats_at (steps_of A d) k) people seated (some_seats (steps_of A d) k (each_form A d) (sign-there A d k at f)))
     (next-of A d c k (next_signed A d k at f)) ih)
-by_act A (RecordException d text true at) answer c f (people, seated, e) ih =
+by_act A (Ceremony d at (RecordException text true)) answer c f (people, seated, e) ih =
     let two : 1 ≤ length staff = omega arith in
-    rw e (seated-after c d (next_step A d) (steps_done A c) (does_step c (RecordException d text true at)) people (seatings A) (grind arith)
+    rw e (seated-after c d (next_step A d) (steps_done A c) (does_step c (Ceremony d at (RecordException text true))) people (seatings A) (grind arith)
     (some_people A d at staff people seated two) (next-of A d c (next_step A d) refl) ih)
-by_act A (RecordException d text false at) answer c f e ih = rw e (ih ∙ grind arith)
+by_act A (Ceremony d at (RecordException text false)) answer c f e ih = rw e (ih ∙ grind arith)
 by_act A act answer c f e ih = ih
 
 -- the last step that has a seating is as many steps as are done

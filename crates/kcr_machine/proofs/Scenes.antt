@@ -12,7 +12,8 @@ use Rattle.kcr_base.proofs.RefuseLemmas.{none_holds, met}
 use Rattle.kcr_base.proofs.ListLemmas.{some_if}
 use Rattle.kcr_custody.specs.Custody.{not_ready_refusal}
 use Rattle.kcr_history.specs.declared.commands.Act.{Act}
-use Rattle.kcr_history.specs.declared.commands.Act.TheVariants.{AddItem, Open, Sign, RecordException, SetSafe, Seal, Take, Put, Cut}
+use Rattle.kcr_history.specs.declared.commands.Act.TheVariants.{Ceremony}
+use Rattle.kcr_history.specs.declared.commands.Deed.TheVariants.{AddItem, Open, Sign, RecordException, SetSafe, Seal, Take, Put, Cut}
 use Rattle.kcr_history.specs.declared.commands.Entry.{Entry}
 use Rattle.kcr_history.specs.declared.row_types.CeremonyRow.{CeremonyRow}
 use Rattle.kcr_history.specs.declared.row_types.MarkRow.{MarkRow}
@@ -63,9 +64,9 @@ opened-planned (entry ∷ A) h c e =
     (opened-planned A h.1 c) e
   where
     by_act : (act : Act) → fault A act ≡ None → is_some (opening_moment c act) ≡ true → is_ceremony A c ≡ true
-    by_act (Open d at) f e =
+    by_act (Ceremony d at Open) f e =
         subst (λ c. is_ceremony A c ≡ true) (eqb-true d c (some-where (eqb d c) at e))
-        (met (is_ceremony A d) (Unknown (Things.Ceremony d)) (none_holds (conditions A (Open d at)) f).0)
+        (met (is_ceremony A d) (Unknown (Things.Ceremony d)) (none_holds (conditions A (Ceremony d at Open)) f).0)
     by_act act f e = absurd (false≢true e)
 
 -- the state of a row tells whether the ceremony is open
@@ -114,14 +115,14 @@ in_time : (A : History) (c at : ℕ) → not_ready_refusal (ceremony_status_at A
 in_time A c at h = let n = none_ready A c at h in (met (is_ceremony_open A c) State n.0, n.1.0)
 
 pub ready : (A : History) (act : Act) → fault A act ≡ None → IsReady A (marked_moment act) (opened_number act)
-ready A (Sign c k at) f = let n = none_holds (conditions A (Sign c k at)) f in (met (is_ceremony_open A c) State (assumption n), assumption n)
-ready A (RecordException c text pass at) f = let n = none_holds (conditions A (RecordException c text pass at)) f in (met (is_ceremony_open A c) State (assumption n), assumption n)
-ready A (AddItem c item at) f = let n = none_holds (conditions A (AddItem c item at)) f in in_time A c at (assumption n)
-ready A (SetSafe c safe state by at) f = let n = none_holds (conditions A (SetSafe c safe state by at)) f in in_time A c at (assumption n)
-ready A (Seal c serial items at) f = let n = none_holds (conditions A (Seal c serial items at)) f in in_time A c at (assumption n)
-ready A (Take c serial at) f = let n = none_holds (conditions A (Take c serial at)) f in in_time A c at (assumption n)
-ready A (Put c serial to at) f = let n = none_holds (conditions A (Put c serial to at)) f in in_time A c at (assumption n)
-ready A (Cut c serial at) f = let n = none_holds (conditions A (Cut c serial at)) f in in_time A c at (assumption n)
+ready A (Ceremony c at (Sign k)) f = let n = none_holds (conditions A (Ceremony c at (Sign k))) f in (met (is_ceremony_open A c) State (assumption n), assumption n)
+ready A (Ceremony c at (RecordException text pass)) f = let n = none_holds (conditions A (Ceremony c at (RecordException text pass))) f in (met (is_ceremony_open A c) State (assumption n), assumption n)
+ready A (Ceremony c at (AddItem item)) f = let n = none_holds (conditions A (Ceremony c at (AddItem item))) f in in_time A c at (assumption n)
+ready A (Ceremony c at (SetSafe safe state by)) f = let n = none_holds (conditions A (Ceremony c at (SetSafe safe state by))) f in in_time A c at (assumption n)
+ready A (Ceremony c at (Seal serial items)) f = let n = none_holds (conditions A (Ceremony c at (Seal serial items))) f in in_time A c at (assumption n)
+ready A (Ceremony c at (Take serial)) f = let n = none_holds (conditions A (Ceremony c at (Take serial))) f in in_time A c at (assumption n)
+ready A (Ceremony c at (Put serial to)) f = let n = none_holds (conditions A (Ceremony c at (Put serial to))) f in in_time A c at (assumption n)
+ready A (Ceremony c at (Cut serial)) f = let n = none_holds (conditions A (Ceremony c at (Cut serial))) f in in_time A c at (assumption n)
 ready A act f = tt
 
 pub open-opened : (A : History) (c : ℕ) → is_ceremony_open A c ≡ true → is_some (opened_at A c) ≡ true
@@ -135,7 +136,7 @@ mark_stays A c (Some new) r ih = grind (arith, open-opened A new.0 r.0)
 
 marked_opened_after : (A : History) (act : Act) (c : ℕ) → fault A act ≡ None → is_some (mark A c) ≡ is_some (opened_at A c)
     → is_some (mark_with (marked_moment act) c (mark A c)) ≡ is_some (option_or (opening_moment c act) (opened_at A c))
-marked_opened_after A (Open d at) c f ih = grind arith
+marked_opened_after A (Ceremony d at Open) c f ih = grind arith
 marked_opened_after A act c f ih = mark_stays A c (marked_moment act) (ready A act f) ih
 
 pub marked-opened : (A : History) → IsRegister A → (c : ℕ) → is_some (mark A c) ≡ is_some (opened_at A c)
@@ -146,7 +147,7 @@ marked-opened (entry ∷ A) h c =
 -- a ceremony has a row of marks if it was opened
 opened_after : (act : Act) (c : ℕ) (numbers : List ℕ) (o : Option ℕ) → list_any (λ k. eqb k c) numbers ≡ is_some o
     → list_any (λ k. eqb k c) (cons_option (opened_number act) numbers) ≡ is_some (option_or (opening_moment c act) o)
-opened_after (Open d at) c numbers o ih = grind arith
+opened_after (Ceremony d at Open) c numbers o ih = grind arith
 opened_after act c numbers o ih = ih
 
 pub opened-number : (A : History) (c : ℕ) → list_any (λ k. eqb k c) (values_of_acts opened_number A) ≡ is_some (opened_at A c)

@@ -30,7 +30,8 @@ use Rattle.kcr_room.proofs.Orders.{refusal-order}
 use Rattle.kcr_room.proofs.Refusals.{same_refusal}
 use Rattle.kcr_room.proofs.Lasting.{later-lasting}
 use Rattle.kcr_history.specs.declared.commands.Act.{Act}
-use Rattle.kcr_history.specs.declared.commands.Act.TheVariants.{RecordSheet}
+use Rattle.kcr_history.specs.declared.commands.Act.TheVariants.{Ceremony}
+use Rattle.kcr_history.specs.declared.commands.Deed.TheVariants.{RecordSheet}
 use Rattle.kcr_history.specs.History.{History}
 use Rattle.kcr_history.specs.Training.{is_person}
 use Rattle.kcr_history.specs.Ceremonies.{closed_at as closed_at, is_ceremony_open, mark}
@@ -163,7 +164,7 @@ twice-first : (l n r : Option Refusal) (xs : List (Option Refusal)) → l ≡ No
     → first_of (n ∷ r ∷ []) ≡ first_of (n ∷ xs)
 twice-first l n r xs later h = grind arith
 
-pub sheet-early : (A : History) → IsRegister A → (c : ℕ) (way : Way) (all : List (List ℕ)) (at : ℕ) → EarlyShown A (RecordSheet c way all at)
+pub sheet-early : (A : History) → IsRegister A → (c : ℕ) (way : Way) (all : List (List ℕ)) (at : ℕ) → EarlyShown A (Ceremony c at (RecordSheet way all))
 sheet-early A h c way all at view v =
     rw (
       known-shown A c view.ceremonies.items v.ceremonies,
@@ -175,13 +176,13 @@ sheet-early A h c way all at view v =
 
 -- by the rows of a view a request is refused by its room as by the history, if it may be looked at
 pub sheet-late : (A : History) → IsRegister A → IsSheet (sheet A) → (c : ℕ) (way : Way) (all : List (List ℕ)) (at : ℕ)
-    → first_of (early_conditions (by_history A) (RecordSheet c way all at)) ≡ None
-    → (view : View) → IsViewOf (asks_of_act (RecordSheet c way all at)) (tables A) view
-    → late_refusal_by view (is_full A) (RecordSheet c way all at) ≡ first_of (late_conditions (by_history A) (RecordSheet c way all at))
+    → first_of (early_conditions (by_history A) (Ceremony c at (RecordSheet way all))) ≡ None
+    → (view : View) → IsViewOf (asks_of_act (Ceremony c at (RecordSheet way all))) (tables A) view
+    → late_refusal_by view (is_full A) (Ceremony c at (RecordSheet way all)) ≡ first_of (late_conditions (by_history A) (Ceremony c at (RecordSheet way all)))
 sheet-late A h s c way all at cleared view v = rw (mark-shown A h c view.marks.items v.marks) (by_mark (mark A c) refl)
   where
-    n : NoneHolds (early_conditions (by_history A) (RecordSheet c way all at))
-    n = none_holds (early_conditions (by_history A) (RecordSheet c way all at)) cleared
+    n : NoneHolds (early_conditions (by_history A) (Ceremony c at (RecordSheet way all)))
+    n = none_holds (early_conditions (by_history A) (Ceremony c at (RecordSheet way all))) cleared
 
     by_mark : (o : Option ℕ) → mark A c ≡ o
         → first_of (named_twice_refusal all ∷ room_refusal view.stays.items view.stay_count (is_full A) o c way all at ∷ []) ≡ first_of (named_twice_refusal all ∷ sheet_conditions A c way all at)
@@ -208,8 +209,8 @@ made-by A h c way all at a is f s = by_mark (mark A c) refl
         turns_keep (sheet A) c m (is_full A) way all at a (none_holds (rows_refusal (sheet A) c m (is_full A) way all at ∷ []) none).0 s
 
 made_after : (A : History) (act : Act) → IsRegister A → fault A act ≡ None → IsSheet (sheet A) → IsSheet (sheet_after act (sheet A))
-made_after A (RecordSheet c way all at) h f s =
-    let n = none_holds (conditions A (RecordSheet c way all at)) f in
+made_after A (Ceremony c at (RecordSheet way all)) h f s =
+    let n = none_holds (conditions A (Ceremony c at (RecordSheet way all))) f in
     made-by A h c way all at (named_once all (assumption n)) (met (is_ceremony_open A c) State (assumption n))
     (no_first (not_later A c at ∷ sheet_conditions A c way all at) (assumption n)) s
 made_after A act h f s = s

@@ -23,7 +23,8 @@ use Rattle.kcr_base.proofs.SameLemmas.{same-is, same-itself, same-turned}
 use Rattle.kcr_room.specs.Laws.{IsSheet}
 use Rattle.kcr_room.proofs.Keeping.{none-found}
 use Rattle.kcr_room.proofs.Sheets.{last_reaches, earlier-last, same-turns, added, rows-added}
-use Rattle.kcr_history.specs.declared.commands.Act.TheVariants.{RecordSheet}
+use Rattle.kcr_history.specs.declared.commands.Act.TheVariants.{Ceremony}
+use Rattle.kcr_history.specs.declared.commands.Deed.TheVariants.{RecordSheet}
 use Rattle.kcr_history.specs.declared.commands.ReplyData.{ReplyData}
 use Rattle.kcr_history.specs.declared.commands.Command.{Command}
 use Rattle.kcr_history.specs.declared.views.Change.{Change}
@@ -234,11 +235,11 @@ all_changed-stays rows rest t = all_changed-rows PutStay same_stay (λ rows t. r
 -- if it is the turn of each of the people, the rows that a request puts lead to the tables after it
 pub sheet-leads : (A : History) → IsSheet (sheet A) → (key : List ℕ) (c : ℕ) (way : Way) (all : List (List ℕ)) (at : ℕ) → are_apart all ≡ true
     → (view : View) (answer : ReplyData)
-    → IsViewOf (asks_of_act (RecordSheet c way all at)) (tables A) view → entry_of A key ≡ None → out_of_turn_refusal A c way at all ≡ None
-    → SameTables (changed_with (sheet_changes_by view c way all at) (command_of key (RecordSheet c way all at)) answer (tables A))
-    (tables (with_command A (command_of key (RecordSheet c way all at)) answer))
+    → IsViewOf (asks_of_act (Ceremony c at (RecordSheet way all))) (tables A) view → entry_of A key ≡ None → out_of_turn_refusal A c way at all ≡ None
+    → SameTables (changed_with (sheet_changes_by view c way all at) (command_of key (Ceremony c at (RecordSheet way all))) answer (tables A))
+    (tables (with_command A (command_of key (Ceremony c at (RecordSheet way all))) answer))
 sheet-leads A s key c way all at a view answer v k f =
-    let x : Command = command_of key (RecordSheet c way all at) in
+    let x : Command = command_of key (Ceremony c at (RecordSheet way all)) in
     let news = map (new_row c way at) all in
     let stays = changed_stays view.stays.items c way all at in
     let rest = PutKey (new_key_row x answer) ∷ [] in

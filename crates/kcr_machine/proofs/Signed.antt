@@ -15,7 +15,8 @@ use Rattle.kcr_people.specs.People.{lasts_beyond}
 use Rattle.kcr_script.specs.declared.seat.Seat.{Seat}
 use Rattle.kcr_seats.specs.Seating as Search
 use Rattle.kcr_history.specs.declared.commands.Act.{Act}
-use Rattle.kcr_history.specs.declared.commands.Act.TheVariants.{Sign, RecordException}
+use Rattle.kcr_history.specs.declared.commands.Act.TheVariants.{Ceremony}
+use Rattle.kcr_history.specs.declared.commands.Deed.TheVariants.{Sign, RecordException}
 use Rattle.kcr_history.specs.declared.commands.Command.{Command}
 use Rattle.kcr_history.specs.declared.row_types.StepState.{StepState}
 use Rattle.kcr_history.specs.declared.row_types.StepState.TheVariants.{Signed, Passed}
@@ -63,7 +64,7 @@ named c k = record { ceremony = c; step = Some k }
 abbrev pub the_next : ℕ → StepFilter
 the_next c = record { ceremony = c; step = None }
 
-pub sign-early : (A : History) → IsRegister A → (c k at : ℕ) → EarlyShown A (Sign c k at)
+pub sign-early : (A : History) → IsRegister A → (c k at : ℕ) → EarlyShown A (Ceremony c at (Sign k))
 sign-early A h c k at view v =
     rw (
       known-shown A c view.ceremonies.items v.ceremonies,
@@ -73,7 +74,7 @@ sign-early A h c k at view v =
       done-shown A h (named c k) view v.steps,
     )
 
-pub except-early : (A : History) → IsRegister A → (c : ℕ) (text : List ℕ) (pass : Bool) (at : ℕ) → EarlyShown A (RecordException c text pass at)
+pub except-early : (A : History) → IsRegister A → (c : ℕ) (text : List ℕ) (pass : Bool) (at : ℕ) → EarlyShown A (Ceremony c at (RecordException text pass))
 except-early A h c text pass at view v =
     rw (
       known-shown A c view.ceremonies.items v.ceremonies,
@@ -123,7 +124,7 @@ pub record IsShown (A : History) (view : View) (s : SeatRequest) : Type 0 where
       → on_seat (by_view A view s) (slice_get s.seats k) who ≡ on_seat (fits A (facility_of A s.ceremony) (day_of s.at)) (slice_get s.seats k) who
 
 -- the sitting of an act is shown so
-sign-sitting : (A : History) → IsRegister A → (c k at : ℕ) (view : View) → IsViewOf (asks_of_act (Sign c k at)) (tables A) view
+sign-sitting : (A : History) → IsRegister A → (c k at : ℕ) (view : View) → IsViewOf (asks_of_act (Ceremony c at (Sign k))) (tables A) view
     → IsShown A view (record { ceremony = c; at = at; seats = seats_at (steps_of A c) k })
 sign-sitting A h c k at view v =
     record {
@@ -133,7 +134,7 @@ sign-sitting A h c k at view v =
     }
 
 pass-sitting : (A : History) → IsRegister A → (c : ℕ) (text : List ℕ) (at : ℕ) (view : View)
-    → IsViewOf (asks_of_act (RecordException c text true at)) (tables A) view → IsShown A view (record { ceremony = c; at = at; seats = staff })
+    → IsViewOf (asks_of_act (Ceremony c at (RecordException text true))) (tables A) view → IsShown A view (record { ceremony = c; at = at; seats = staff })
 pass-sitting A h c text at view v =
     record {
       facility = facility-shown A c view.ceremonies.items v.ceremonies;
@@ -143,9 +144,9 @@ pass-sitting A h c text at view v =
 
 pub sitting-is : (A : History) → IsRegister A → (act : Act) (view : View) → IsViewOf (asks_of_act act) (tables A) view → (s : SeatRequest)
     → seat_request A act ≡ Some s → IsShown A view s
-sitting-is A h (Sign c k at) view v s e = subst (IsShown A view) (same_Some _ s e) (sign-sitting A h c k at view v)
-sitting-is A h (RecordException c text true at) view v s e = subst (IsShown A view) (same_Some _ s e) (pass-sitting A h c text at view v)
-sitting-is A h (RecordException c text false at) view v s e = absurd (none-some s e)
+sitting-is A h (Ceremony c at (Sign k)) view v s e = subst (IsShown A view) (same_Some _ s e) (sign-sitting A h c k at view v)
+sitting-is A h (Ceremony c at (RecordException text true)) view v s e = subst (IsShown A view) (same_Some _ s e) (pass-sitting A h c text at view v)
+sitting-is A h (Ceremony c at (RecordException text false)) view v s e = absurd (none-some s e)
 sitting-is A h act view v s e = absurd (none-some s e)
 
 -- the people whom the search names are the first seating, and the seats that it names a least shortage
@@ -197,9 +198,9 @@ seats-changed A h view c k at state people p inside l rest =
     ∙ ap (λ t. all_changed rest (changed (mark_change c at) t)) (put-seats c k 0 people t (λ j m. fresh-seats A h c k j l)))
 
 -- a signature
-pub sign-leads : (A : History) → IsRegister A → (c k at : ℕ) (people : List (List ℕ)) → SeatsLeadOn A (Sign c k at) (Some people)
+pub sign-leads : (A : History) → IsRegister A → (c k at : ℕ) (people : List (List ℕ)) → SeatsLeadOn A (Ceremony c at (Sign k)) (Some people)
 sign-leads A h c k at people key view answer v absent f e =
-    let x : Command = command_of key (Sign c k at) in
+    let x : Command = command_of key (Ceremony c at (Sign k)) in
     let inside = sign-there A c k at f in
     let s = put-step A h (entry_as key x.act answer) c k at Signed (λ d j. refl) (λ d. refl) refl inside in
     seats-changed A h view c k at Signed people v.steps.step inside (omega (arith, next_signed A c k at f)) (PutKey (new_key_row x answer) ∷ [])
@@ -214,9 +215,9 @@ put-exception A h c text at passed =
     (fresh-exception A h c (suc (exceptions_of A c)) (omega arith))
 
 -- an exception that passes a step
-pub pass-leads : (A : History) → IsRegister A → (c : ℕ) (text : List ℕ) (at : ℕ) (people : List (List ℕ)) → SeatsLeadOn A (RecordException c text true at) (Some people)
+pub pass-leads : (A : History) → IsRegister A → (c : ℕ) (text : List ℕ) (at : ℕ) (people : List (List ℕ)) → SeatsLeadOn A (Ceremony c at (RecordException text true)) (Some people)
 pass-leads A h c text at people key view answer v absent f e =
-    let x : Command = command_of key (RecordException c text true at) in
+    let x : Command = command_of key (Ceremony c at (RecordException text true)) in
     let k = next_step A c in
     let inside = pass-there A c text at f in
     let tell = PutKey (new_key_row x answer) ∷ [] in
@@ -234,9 +235,9 @@ pass-leads A h c text at people key view answer v absent f e =
     ) (rw s refl))
 
 -- an exception that passes no step
-pub state-leads : (A : History) → IsRegister A → (c : ℕ) (text : List ℕ) (at : ℕ) → SeatsLeadOn A (RecordException c text false at) None
+pub state-leads : (A : History) → IsRegister A → (c : ℕ) (text : List ℕ) (at : ℕ) → SeatsLeadOn A (Ceremony c at (RecordException text false)) None
 state-leads A h c text at key view answer v absent f e =
-    let x : Command = command_of key (RecordException c text false at) in
+    let x : Command = command_of key (Ceremony c at (RecordException text false)) in
     rw (
       stated-shown A h c view.exceptions.items v.exceptions,
       put-exception A h c text at None,

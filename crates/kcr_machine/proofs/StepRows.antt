@@ -16,7 +16,8 @@ use Rattle.kcr_script.specs.Reading.{script_of}
 use Rattle.kcr_script.specs.declared.script.Step.{Step}
 use Rattle.kcr_script.proofs.ScriptReading.{script_has_steps}
 use Rattle.kcr_history.specs.declared.commands.Act.{Act}
-use Rattle.kcr_history.specs.declared.commands.Act.TheVariants.{Plan, Sign, RecordException}
+use Rattle.kcr_history.specs.declared.commands.Act.TheVariants.{Plan, Ceremony}
+use Rattle.kcr_history.specs.declared.commands.Deed.TheVariants.{Sign, RecordException}
 use Rattle.kcr_history.specs.declared.commands.ReplyData.{ReplyData}
 use Rattle.kcr_history.specs.declared.row_types.ExceptionRow.{ExceptionRow}
 use Rattle.kcr_history.specs.declared.row_types.StepRow.{StepRow}
@@ -64,23 +65,23 @@ is_within : (steps : List Step) (n : ℕ) → is_some (step_at steps (suc n)) �
 is_within steps n h = grind (arith, slice_get_past steps n)
 
 -- the step of a signature or of a passing exception that has no fault is in the script
-pub sign-there : (A : History) (c k at : ℕ) → fault A (Sign c k at) ≡ None → is_some (step_at (steps_of A c) k) ≡ true
+pub sign-there : (A : History) (c k at : ℕ) → fault A (Ceremony c at (Sign k)) ≡ None → is_some (step_at (steps_of A c) k) ≡ true
 sign-there A c k at f =
-    there (step_at (steps_of A c) k) (unmet (is_none (step_at (steps_of A c) k)) (Unknown (Things.Step k)) (none_holds (conditions A (Sign c k at)) f).1.0)
+    there (step_at (steps_of A c) k) (unmet (is_none (step_at (steps_of A c) k)) (Unknown (Things.Step k)) (none_holds (conditions A (Ceremony c at (Sign k))) f).1.0)
 
-pub pass-there : (A : History) (c : ℕ) (text : List ℕ) (at : ℕ) → fault A (RecordException c text true at) ≡ None
+pub pass-there : (A : History) (c : ℕ) (text : List ℕ) (at : ℕ) → fault A (Ceremony c at (RecordException text true)) ≡ None
     → is_some (step_at (steps_of A c) (next_step A c)) ≡ true
 pass-there A c text at f =
     there (step_at (steps_of A c) (next_step A c))
-    (unmet (is_none (step_at (steps_of A c) (next_step A c))) (Order (next_step A c)) (assumption (none_holds (conditions A (RecordException c text true at)) f)))
+    (unmet (is_none (step_at (steps_of A c) (next_step A c))) (Order (next_step A c)) (assumption (none_holds (conditions A (Ceremony c at (RecordException text true))) f)))
 
 next-there : (A : History) (act : Act) (c : ℕ) → fault A act ≡ None → does_step c act ≡ true → is_some (step_at (steps_of A c) (next_step A c)) ≡ true
-next-there A (Sign d k at) c f e =
+next-there A (Ceremony d at (Sign k)) c f e =
     subst (λ c. is_some (step_at (steps_of A c) (next_step A c)) ≡ true) (eqb-true d c e)
     (subst (λ k. is_some (step_at (steps_of A d) k) ≡ true) (next_signed A d k at f) (sign-there A d k at f))
-next-there A (RecordException d text true at) c f e =
+next-there A (Ceremony d at (RecordException text true)) c f e =
     subst (λ c. is_some (step_at (steps_of A c) (next_step A c)) ≡ true) (eqb-true d c (grind arith)) (pass-there A d text at f)
-next-there A (RecordException d text false at) c f e = absurd (grind arith)
+next-there A (Ceremony d at (RecordException text false)) c f e = absurd (grind arith)
 next-there A act c f e = absurd (false≢true e)
 
 one_below : (b : Bool) (n : ℕ) (ss : List Step) → (b ≡ true → is_some (step_at ss (suc n)) ≡ true) → n ≤ length ss → one_more b n ≤ length ss
@@ -193,8 +194,8 @@ stated-exceptions (entry ∷ A) h c =
     by_act : (act : Act) (answer : ReplyData) (people : Option (List (List ℕ))) → answer ≡ reply_to A act people → exception_count_by (exceptions A) c ≡ exceptions_of A c
         → exception_count_by (exceptions (record { command = record { key = entry.command.key; act = act }; reply = answer } ∷ A)) c
         ≡ one_more (is_exception c act) (exceptions_of A c)
-    by_act (RecordException d text true at) answer people e ih = rw e (grind arith)
-    by_act (RecordException d text false at) answer people e ih = rw e (grind arith)
+    by_act (Ceremony d at (RecordException text true)) answer people e ih = rw e (grind arith)
+    by_act (Ceremony d at (RecordException text false)) answer people e ih = rw e (grind arith)
     by_act act answer people e ih = ih
 
 -- THE ROWS THAT A VIEW SHOWS
@@ -287,9 +288,9 @@ fresh-seats (entry ∷ A) h c k j l =
 
     by_act : (act : Act) (people : Option (List (List ℕ))) → fault A act ≡ None → one_more (does_step c act) (steps_done A c) < k
         → list_any (is_seat_of c k j) (seating_rows (ceremony_of_step act) (reply_to A act people).step (reply_to A act people).seating) ≡ false
-    by_act (Sign d s at) people f l = rows_of d s people (other d s (next_signed A d s at f) l)
-    by_act (RecordException d text true at) people f l = rows_of d (next_step A d) people (other d (next_step A d) refl (grind arith))
-    by_act (RecordException d text false at) people f l = refl
+    by_act (Ceremony d at (Sign s)) people f l = rows_of d s people (other d s (next_signed A d s at f) l)
+    by_act (Ceremony d at (RecordException text true)) people f l = rows_of d (next_step A d) people (other d (next_step A d) refl (grind arith))
+    by_act (Ceremony d at (RecordException text false)) people f l = refl
     by_act act people f l = refl
 
 -- EXCEPTIONS
@@ -308,6 +309,6 @@ fresh-exception (entry ∷ A) h c j l =
     by_act : (act : Act) (answer : ReplyData) (people : Option (List (List ℕ))) → answer ≡ reply_to A act people
         → one_more (is_exception c act) (exceptions_of A c) < j → (exceptions_of A c < j → list_any (is_numbered c j) (exceptions A) ≡ false)
         → list_any (is_numbered c j) (exceptions (record { command = record { key = entry.command.key; act = act }; reply = answer } ∷ A)) ≡ false
-    by_act (RecordException d text true at) answer people e l ih = rw e (grind arith)
-    by_act (RecordException d text false at) answer people e l ih = rw e (grind arith)
+    by_act (Ceremony d at (RecordException text true)) answer people e l ih = rw e (grind arith)
+    by_act (Ceremony d at (RecordException text false)) answer people e l ih = rw e (grind arith)
     by_act act answer people e l ih = ih l

@@ -6,7 +6,8 @@ use Rattle.kcr_base.specs.declared.limits.TheConstants.{MAX_COMMANDS}
 use Rattle.kcr_base.specs.declared.refusal.Refusal.{Refusal}
 use Rattle.kcr_base.specs.declared.refusal.Refusal.TheVariants.{Key, Memory}
 use Rattle.kcr_history.specs.declared.commands.Act.{Act}
-use Rattle.kcr_history.specs.declared.commands.Act.TheVariants.{Sign, RecordException}
+use Rattle.kcr_history.specs.declared.commands.Act.TheVariants.{Ceremony}
+use Rattle.kcr_history.specs.declared.commands.Deed.TheVariants.{Sign, RecordException}
 use Rattle.kcr_history.specs.declared.commands.ReplyData.{ReplyData}
 use Rattle.kcr_history.specs.declared.commands.Command.{Command}
 use Rattle.kcr_history.specs.declared.row_types.KeyRow.{KeyRow}
@@ -37,11 +38,11 @@ IsRowRepeat row x result =
 -- the reply is one of an act of this kind: that of a signature has its step and who is seated, that of an exception
 -- the exception's number, and of one that passes a step also the step and who is seated; any other has its number alone
 abbrev pub IsReplyDataOf : Act → ReplyData → Type 0
-IsReplyDataOf (Sign ceremony step at) reply =
+IsReplyDataOf (Ceremony ceremony at (Sign step)) reply =
     (reply.exception ≡ None) × IsSome reply.seating × (reply.step ≡ Some step)
-IsReplyDataOf (RecordException ceremony text true at) reply =
+IsReplyDataOf (Ceremony ceremony at (RecordException text true)) reply =
     IsSome reply.exception × IsSome reply.seating × IsSome reply.step
-IsReplyDataOf (RecordException ceremony text false at) reply =
+IsReplyDataOf (Ceremony ceremony at (RecordException text false)) reply =
     IsSome reply.exception × (reply.seating ≡ None) × (reply.step ≡ None)
 IsReplyDataOf act reply = (reply.exception ≡ None) × (reply.seating ≡ None) × (reply.step ≡ None)
 

@@ -15,7 +15,7 @@ pub use decision::{check_early, decide_new, decide_repeat};
 pub use kcr_audit::audit;
 // All rows, as `decide` and `audit` take them. What `kcr_history` calls a view is the part of them in `asked`.
 pub use kcr_history::{
-    Act, Asks, Change, Command, Finding, FullView as View, Reply, Selection, Verdict, asks,
+    Act, Asks, Change, Command, Deed, Finding, FullView as View, Reply, Selection, Verdict, asks,
     command_text,
 };
 pub use laws::{decisions_are_fixed, sheets_are_tested_alike};

@@ -1,6 +1,6 @@
 -- The first refusal of an act is one that its kind may get.
-use Rattle.std.proofs.Common.{◌≡◌, ◌≢◌, ◌⊎◌, inl, inr, ℕ, zero, suc, Bool, true, false, List, [], ◌∷◌, take, drop, Option, Some, None, Result, Ok, Err, refl, sym, subst, arith}
-use Rattle.std.specs.Prelude.{IfErr, IsErrAnd}
+use Rattle.std.proofs.Common.{◌≡◌, ◌≢◌, ◌⊎◌, inl, inr, ℕ, zero, suc, Bool, true, false, List, [], ◌∷◌, take, drop, Option, Some, None, Result, Ok, Err, refl, sym, subst, ap, ◌∙◌, arith}
+use Rattle.std.specs.Prelude.{IfErr, MatchOption}
 use Rattle.std.proofs.lemmas.Option.{none-some}
 use Rattle.std.specs.Prelude.{find, ◌||◌}
 use Rattle.kcr_base.specs.Refuse.{first_of, not_after_mark_refusal}
@@ -10,11 +10,15 @@ use Rattle.kcr_room.specs.declared.Stay.{Stay}
 use Rattle.kcr_room.specs.declared.Way.{Way}
 use Rattle.kcr_room.specs.Requests.{stays_from_moment, turn_refusal, is_out_of_turn_in, occupancy_refusal, is_overfull}
 use Rattle.kcr_history.specs.declared.commands.Act.{Act}
-use Rattle.kcr_history.specs.declared.commands.Act.TheVariants.{Enter, Train, Withdraw, Appoint, Replace, Release, AddBox, AddItem, Plan, Open}
-use Rattle.kcr_history.specs.declared.commands.Act.TheVariants.{Close, RecordSheet, SetSafe, Sign, RecordException, Seal, Take, Put, Cut}
+use Rattle.kcr_history.specs.declared.commands.Deed.{Deed}
+use Rattle.kcr_history.specs.declared.commands.Act.TheVariants.{Enter, Train, Withdraw, Appoint, Replace, Release, AddBox, Plan, Ceremony}
+use Rattle.kcr_history.specs.declared.commands.Deed.TheVariants.{AddItem, Open, Close, RecordSheet, SetSafe, Sign, RecordException, Seal}
+use Rattle.kcr_history.specs.declared.commands.Deed.TheVariants.{Take, Put, Cut}
 use Rattle.kcr_history.specs.declared.views.View.{View}
-use Rattle.kcr_history.specs.Conditions.{Facts, early_conditions, late_conditions}
-use Rattle.kcr_rules.specs.ByRows.{late_refusal_by, by_rows, HasRefusal, IsCheckResult}
+use Rattle.kcr_history.specs.Conditions.{Facts, early_of_deed, late_conditions}
+use Rattle.kcr_rules.specs.declared.effects.Effect.{Effect}
+use Rattle.kcr_rules.specs.ByRows.{late_refusal_by, by_rows, has_too_many_steps, seat_request_by}
+use Rattle.kcr_rules.specs.ByRows.{IsCheckResult, IsEffectResult, IsRefusalOf, IsUnseatedFor}
 use Rattle.kcr_rules.specs.CeremonyStatus.{mark_by}
 use Rattle.kcr_rules.specs.Refusals.{may_refuse}
 use Rattle.kcr_rules.specs.SheetRows.{room_refusal}
@@ -39,38 +43,37 @@ alone (Some s) r h = h
 
 -- THE TWO STAGES
 
-own-early : (facts : Facts) (act : Act) (r : Refusal) → first_of (early_conditions facts act) ≡ Some r → may_refuse act r ≡ true
-own-early facts (Close ceremony at) r h =
-    halves (may_refuse (Close ceremony at)) 2 (early_conditions facts (Close ceremony at)) (λ r h. grind (arith, h)) (λ r h. grind (arith, h)) r h
-own-early facts (AddItem ceremony item at) r h =
-    halves (may_refuse (AddItem ceremony item at)) 2 (early_conditions facts (AddItem ceremony item at)) (λ r h. grind (arith, h)) (λ r h. grind (arith, h)) r h
-own-early facts (RecordSheet ceremony way people at) r h =
-    halves (may_refuse (RecordSheet ceremony way people at)) 3 (early_conditions facts (RecordSheet ceremony way people at)) (λ r h. grind (arith, h)) (λ r h. grind (arith, h)) r h
-own-early facts (SetSafe ceremony safe state by at) r h =
-    halves (may_refuse (SetSafe ceremony safe state by at)) 3 (early_conditions facts (SetSafe ceremony safe state by at)) (λ r h. grind (arith, h)) (λ r h. grind (arith, h)) r h
-own-early facts (Sign ceremony step at) r h =
-    halves (may_refuse (Sign ceremony step at)) 3 (early_conditions facts (Sign ceremony step at)) (λ r h. grind (arith, h)) (λ r h. grind (arith, h)) r h
-own-early facts (RecordException ceremony text true at) r h =
-    halves (may_refuse (RecordException ceremony text true at)) 3 (early_conditions facts (RecordException ceremony text true at)) (λ r h. grind (arith, h)) (λ r h. grind (arith, h)) r h
-own-early facts (RecordException ceremony text false at) r h =
-    halves (may_refuse (RecordException ceremony text false at)) 3 (early_conditions facts (RecordException ceremony text false at)) (λ r h. grind (arith, h)) (λ r h. grind (arith, h)) r h
-own-early facts (Seal ceremony serial items at) r h =
-    halves (may_refuse (Seal ceremony serial items at)) 3 (early_conditions facts (Seal ceremony serial items at)) (λ r h. grind (arith, h)) (λ r h. grind (arith, h)) r h
-own-early facts (Take ceremony serial at) r h =
-    halves (may_refuse (Take ceremony serial at)) 3 (early_conditions facts (Take ceremony serial at)) (λ r h. grind (arith, h)) (λ r h. grind (arith, h)) r h
-own-early facts (Put ceremony serial to at) r h =
-    thirds (may_refuse (Put ceremony serial to at)) 3 1 (early_conditions facts (Put ceremony serial to at)) (λ r h. grind (arith, h)) (λ r h. grind (arith, h))
+own-early : (facts : Facts) (c at : ℕ) (deed : Deed) (r : Refusal) → first_of (early_of_deed facts c at deed) ≡ Some r → may_refuse (Ceremony c at deed) r ≡ true
+own-early facts c at Open r h = absurd (none-some r h)
+own-early facts c at Close r h = halves (may_refuse (Ceremony c at Close)) 2 (early_of_deed facts c at Close) (λ r h. grind (arith, h)) (λ r h. grind (arith, h)) r h
+own-early facts c at (AddItem item) r h =
+    halves (may_refuse (Ceremony c at (AddItem item))) 2 (early_of_deed facts c at (AddItem item)) (λ r h. grind (arith, h)) (λ r h. grind (arith, h)) r h
+own-early facts c at (RecordSheet way people) r h =
+    halves (may_refuse (Ceremony c at (RecordSheet way people))) 3 (early_of_deed facts c at (RecordSheet way people)) (λ r h. grind (arith, h)) (λ r h. grind (arith, h)) r h
+own-early facts c at (SetSafe safe state by) r h =
+    halves (may_refuse (Ceremony c at (SetSafe safe state by))) 3 (early_of_deed facts c at (SetSafe safe state by)) (λ r h. grind (arith, h)) (λ r h. grind (arith, h)) r h
+own-early facts c at (Sign step) r h =
+    halves (may_refuse (Ceremony c at (Sign step))) 3 (early_of_deed facts c at (Sign step)) (λ r h. grind (arith, h)) (λ r h. grind (arith, h)) r h
+own-early facts c at (RecordException text true) r h =
+    halves (may_refuse (Ceremony c at (RecordException text true))) 3 (early_of_deed facts c at (RecordException text true)) (λ r h. grind (arith, h)) (λ r h. grind (arith, h)) r h
+own-early facts c at (RecordException text false) r h =
+    halves (may_refuse (Ceremony c at (RecordException text false))) 3 (early_of_deed facts c at (RecordException text false)) (λ r h. grind (arith, h)) (λ r h. grind (arith, h)) r h
+own-early facts c at (Seal serial items) r h =
+    halves (may_refuse (Ceremony c at (Seal serial items))) 3 (early_of_deed facts c at (Seal serial items)) (λ r h. grind (arith, h)) (λ r h. grind (arith, h)) r h
+own-early facts c at (Take serial) r h =
+    halves (may_refuse (Ceremony c at (Take serial))) 3 (early_of_deed facts c at (Take serial)) (λ r h. grind (arith, h)) (λ r h. grind (arith, h)) r h
+own-early facts c at (Put serial to) r h =
+    thirds (may_refuse (Ceremony c at (Put serial to))) 3 1 (early_of_deed facts c at (Put serial to)) (λ r h. grind (arith, h)) (λ r h. grind (arith, h))
     (λ r h. grind (arith, h)) r h
-own-early facts (Cut ceremony serial at) r h =
-    halves (may_refuse (Cut ceremony serial at)) 3 (early_conditions facts (Cut ceremony serial at)) (λ r h. grind (arith, h)) (λ r h. grind (arith, h)) r h
-own-early facts act r h = absurd (none-some r h)
+own-early facts c at (Cut serial) r h =
+    halves (may_refuse (Ceremony c at (Cut serial))) 3 (early_of_deed facts c at (Cut serial)) (λ r h. grind (arith, h)) (λ r h. grind (arith, h)) r h
 
 own-room : (stays : List Stay) (entered : ℕ) (full : Bool) (mark : Option ℕ) (c : ℕ) (way : Way) (people : List (List ℕ)) (at : ℕ) (r : Refusal)
-    → room_refusal stays entered full mark c way people at ≡ Some r → may_refuse (RecordSheet c way people at) r ≡ true
+    → room_refusal stays entered full mark c way people at ≡ Some r → may_refuse (Ceremony c at (RecordSheet way people)) r ≡ true
 own-room stays entered full None c way people at r h = grind (arith, h)
 own-room stays entered full (Some m) c way people at r h =
     let after = stays_from_moment stays c way people at in
-    thirds (may_refuse (RecordSheet c way people at)) 1 1
+    thirds (may_refuse (Ceremony c at (RecordSheet way people))) 1 1
     (not_after_mark_refusal at (Some m) ∷ turn_refusal (find (is_out_of_turn_in stays c way at) people)
     ∷ occupancy_refusal after c (full || is_overfull entered way people) ∷ [])
     (λ r h. grind (arith, h)) (λ r h. grind (arith, h)) (λ r h. grind (arith, h)) r h
@@ -92,19 +95,19 @@ own-late view full (AddBox facility number place) r h =
     (λ r h. grind (arith, h)) (λ r h. grind (arith, h)) r h
 own-late view full (Plan number facility day script) r h =
     halves (may_refuse (Plan number facility day script)) 1 (late_conditions (by_rows view full) (Plan number facility day script)) (λ r h. grind (arith, h)) (λ r h. grind (arith, h)) r h
-own-late view full (Open ceremony at) r h =
-    halves (may_refuse (Open ceremony at)) 3 (late_conditions (by_rows view full) (Open ceremony at)) (λ r h. grind (arith, h)) (λ r h. grind (arith, h)) r h
-own-late view full (Close ceremony at) r h =
-    halves (may_refuse (Close ceremony at)) 2 (late_conditions (by_rows view full) (Close ceremony at)) (λ r h. grind (arith, h)) (λ r h. grind (arith, h)) r h
-own-late view full (AddItem ceremony item at) r h = grind (arith, h)
-own-late view full (RecordSheet ceremony way people at) r h =
-    halves (may_refuse (RecordSheet ceremony way people at)) 1 (late_conditions (by_rows view full) (RecordSheet ceremony way people at)) (λ r h. grind (arith, h))
+own-late view full (Ceremony ceremony at Open) r h =
+    halves (may_refuse (Ceremony ceremony at Open)) 3 (late_conditions (by_rows view full) (Ceremony ceremony at Open)) (λ r h. grind (arith, h)) (λ r h. grind (arith, h)) r h
+own-late view full (Ceremony ceremony at Close) r h =
+    halves (may_refuse (Ceremony ceremony at Close)) 2 (late_conditions (by_rows view full) (Ceremony ceremony at Close)) (λ r h. grind (arith, h)) (λ r h. grind (arith, h)) r h
+own-late view full (Ceremony ceremony at (AddItem item)) r h = grind (arith, h)
+own-late view full (Ceremony ceremony at (RecordSheet way people)) r h =
+    halves (may_refuse (Ceremony ceremony at (RecordSheet way people))) 1 (late_conditions (by_rows view full) (Ceremony ceremony at (RecordSheet way people))) (λ r h. grind (arith, h))
     (λ r h. own-room view.stays.items view.stay_count full (mark_by view.marks.items ceremony) ceremony way people at r (alone _ r h)) r h
-own-late view full (SetSafe ceremony safe state by at) r h = grind (arith, h)
-own-late view full (Seal ceremony serial items at) r h = grind (arith, h)
-own-late view full (Take ceremony serial at) r h = grind (arith, h)
-own-late view full (Put ceremony serial to at) r h = grind (arith, h)
-own-late view full (Cut ceremony serial at) r h = grind (arith, h)
+own-late view full (Ceremony ceremony at (SetSafe safe state by)) r h = grind (arith, h)
+own-late view full (Ceremony ceremony at (Seal serial items)) r h = grind (arith, h)
+own-late view full (Ceremony ceremony at (Take serial)) r h = grind (arith, h)
+own-late view full (Ceremony ceremony at (Put serial to)) r h = grind (arith, h)
+own-late view full (Ceremony ceremony at (Cut serial)) r h = grind (arith, h)
 own-late view full act r h = absurd (none-some r h)
 
 -- RESULTS
@@ -120,20 +123,32 @@ by_memory P memory r other = elim (is_memory r) [
   | inr ne ↦ other ne
 ]
 
--- so is a refusal that is handed on
-pub handed : {Y : Type 0} (P : Refusal → Bool) (e : Refusal) (result : Result Y Refusal) → P e ≡ true → IsErrAnd result (λ s. s ≡ e)
-    → IfErr result (λ s. P s ≡ true)
-handed P e (Ok y) p is = tt
-handed P e (Err s) p is = subst (λ q. P q ≡ true) (sym is) p
+-- an act whose seats are not filled is refused for that, or because the rows are impossible
+own-unseated : (view : View) (act : Act) (r : Refusal) → IsUnseatedFor view (seat_request_by view act) r → may_refuse act r ≡ true
+own-unseated view (Ceremony c at (Sign step)) r (inl short) = subst (λ q. may_refuse (Ceremony c at (Sign step)) q ≡ true) (sym short.2) refl
+own-unseated view (Ceremony c at (Sign step)) r (inr crowd) = subst (λ q. may_refuse (Ceremony c at (Sign step)) q ≡ true) (sym crowd.0) refl
+own-unseated view (Ceremony c at (RecordException text true)) r (inl short) =
+    subst (λ q. may_refuse (Ceremony c at (RecordException text true)) q ≡ true) (sym short.2) refl
+own-unseated view (Ceremony c at (RecordException text true)) r (inr crowd) =
+    subst (λ q. may_refuse (Ceremony c at (RecordException text true)) q ≡ true) (sym crowd.0) refl
+own-unseated view act r u = absurd u
 
-pub has-kind : (view : View) (full : Bool) (act : Act) (r : Refusal) → HasRefusal view full act r → may_refuse act r ≡ true
-has-kind view full act r has = by_memory (may_refuse act) refl r (λ ne. own-late view full act r (has ne))
+own : (view : View) (full : Bool) (act : Act) (r : Refusal) → IsRefusalOf view full act r → may_refuse act r ≡ true
+own view full act r is = by_late (late_refusal_by view full act) refl is
+  where
+    by_late : (o : Option Refusal) → late_refusal_by view full act ≡ o → MatchOption o (IsUnseatedFor view (seat_request_by view act) r) (λ told. r ≡ told)
+        → may_refuse act r ≡ true
+    by_late None e u = own-unseated view act r u
+    by_late (Some told) e same = own-late view full act r (e ∙ ap Some (sym same))
 
--- what the first stage tells of an act that signs nothing and states no exception
-pub check-kind : {X : Type 0} (view : View) (full : Bool) (act : Act) (result : Result X Refusal) → ((ceremony step at : ℕ) → act ≡ Sign ceremony step at → ⊥)
-    → ((ceremony : ℕ) (text : List ℕ) (pass : Bool) (at : ℕ) → act ≡ RecordException ceremony text pass at → ⊥)
-    → IsCheckResult view full act result → IfErr result (λ r. may_refuse act r ≡ true)
-check-kind view full act (Ok x) s e is = tt
-check-kind view full (Sign ceremony step at) (Err r) s e is = absurd (s ceremony step at refl)
-check-kind view full (RecordException ceremony text pass at) (Err r) s e is = absurd (e ceremony text pass at refl)
-check-kind view full act (Err r) s e is = own-early (by_rows view full) act r (is refl)
+pub effect-kind : (view : View) (full : Bool) (act : Act) (result : Result Effect Refusal) → IsEffectResult view full act result
+    → IfErr result (λ r. may_refuse act r ≡ true)
+effect-kind view full act (Ok acted) is = tt
+effect-kind view full act (Err r) is = by_memory (may_refuse act) refl r (λ ne. own view full act r (is ne))
+
+-- what the first stage tells of an act in a ceremony, if the rows have no more steps done than a script has
+pub check_kind : {X : Type 0} (view : View) (full : Bool) (c at : ℕ) (deed : Deed) (result : Result X Refusal)
+    → has_too_many_steps view (Ceremony c at deed) ≡ false → IsCheckResult view full (Ceremony c at deed) result
+    → IfErr result (λ r. may_refuse (Ceremony c at deed) r ≡ true)
+check_kind view full c at deed (Ok x) few is = tt
+check_kind view full c at deed (Err r) few is = own-early (by_rows view full) c at deed r (is few)

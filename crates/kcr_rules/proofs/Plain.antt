@@ -1,14 +1,28 @@
 -- An act that needs no seats and states no exception comes to its changes alone.
-use Rattle.std.proofs.Common.{◌≡◌, ℕ, Bool, List, None, refl}
+use Rattle.std.proofs.Common.{◌≡◌, None, Result, Ok, Err, refl, sym, subst, ◌∙◌}
+use Rattle.std.specs.Prelude.{Vec}
+use Rattle.std.specs.Global.{Global}
+use Rattle.kcr_base.specs.declared.refusal.Refusal.{Refusal}
 use Rattle.kcr_history.specs.declared.commands.Act.{Act}
-use Rattle.kcr_history.specs.declared.commands.Act.TheVariants.{Sign, RecordException}
-use Rattle.kcr_history.specs.declared.views.View.{View}
+use Rattle.kcr_history.specs.declared.views.Change.{Change}
+use Rattle.kcr_rules.specs.declared.context.DecisionContext.{DecisionContext}
 use Rattle.kcr_rules.specs.declared.effects.Effect.{Effect}
-use Rattle.kcr_rules.specs.ByRows.{HasChanges, IsEffect}
+use Rattle.kcr_rules.specs.ByRows.{IsChangesResult, IsEffectResult, IsSeatedFor, alone, all_changes_by, changes_by}
+use Rattle.kcr_rules.specs.ByRows.{seat_request_by, exception_by, reply_step_by}
 
-pub plain-acted : (view : View) (full : Bool) (act : Act) (acted : Effect) → ((ceremony step at : ℕ) → act ≡ Sign ceremony step at → ⊥)
-    → ((ceremony : ℕ) (text : List ℕ) (pass : Bool) (at : ℕ) → act ≡ RecordException ceremony text pass at → ⊥)
-    → HasChanges view full act acted.changes.items → acted.exception ≡ None → acted.seating ≡ None → acted.step ≡ None → IsEffect view full act acted
-plain-acted view full (Sign ceremony step at) acted s e h x p k = absurd (s ceremony step at refl)
-plain-acted view full (RecordException ceremony text pass at) acted s e h x p k = absurd (e ceremony text pass at refl)
-plain-acted view full act acted s e h x p k = record { fine = h.0; seated = p; changes = h.1; exception = x; step = k }
+pub plain_acts : (premises : DecisionContext) (act : Act) (changes : Result (Vec Change Global) Refusal) (result : Result Effect Refusal)
+    → result ≡ alone changes → IsChangesResult premises act changes → seat_request_by premises.view.now act ≡ None
+    → exception_by premises.view.now act ≡ None → reply_step_by premises.view.now act ≡ None
+    → all_changes_by premises.view.now act None ≡ changes_by premises.view.now act
+    → IsEffectResult premises.view.now premises.is_full act result
+plain_acts premises act (Ok changes) result is has seats exception step all =
+    subst (IsEffectResult premises.view.now premises.is_full act) (sym is)
+    (record {
+      fine = has.0;
+      seated = subst (λ o. IsSeatedFor premises.view.now o None) (sym seats) refl;
+      changes = has.1 ∙ sym all;
+      exception = sym exception;
+      step = sym step;
+    })
+plain_acts premises act (Err refusal) result is has seats exception step all =
+    subst (IsEffectResult premises.view.now premises.is_full act) (sym is) (λ other. rw (has other) refl)

@@ -1,6 +1,6 @@
 -- The decision of an act, by the rows of a view.
 use Rattle.std.specs.Prelude.{◌≡◌, ◌≢◌, suc, ℕ, Bool, true, false, nat_lt, List, [], ◌∷◌, ◌++◌, map, Option, Some}
-use Rattle.std.specs.Prelude.{None, option_map, is_some, is_none, MatchOption, MatchResult, Result, Vec}
+use Rattle.std.specs.Prelude.{None, option_map, is_some, is_none, MatchOption, MatchResult, Result, Ok, Err, Vec}
 use Rattle.std.specs.List.{list_any}
 use Rattle.std.specs.Global.{Global}
 use Rattle.kcr_base.specs.Days.{day_of}
@@ -18,9 +18,10 @@ use Rattle.kcr_people.specs.People.{withdrawn_rows, open_row_by, end_of, nobody}
 use Rattle.kcr_custody.specs.declared.CeremonyStatus.{CeremonyStatus}
 use Rattle.kcr_custody.specs.Custody.{is_box, place_of_box_by, is_open_by, spot_by, rest_by}
 use Rattle.kcr_history.specs.declared.commands.Act.{Act}
-use Rattle.kcr_history.specs.declared.commands.Act.TheVariants.{Enter, Train, Withdraw, Appoint, Replace, Release}
-use Rattle.kcr_history.specs.declared.commands.Act.TheVariants.{AddBox, AddItem, Plan, Open, Close, RecordSheet, SetSafe}
-use Rattle.kcr_history.specs.declared.commands.Act.TheVariants.{Sign, RecordException, Seal, Take, Put, Cut}
+use Rattle.kcr_history.specs.declared.commands.Deed.{Deed}
+use Rattle.kcr_history.specs.declared.commands.Act.TheVariants.{Enter, Train, Withdraw, Appoint, Replace, Release, AddBox, Plan, Ceremony}
+use Rattle.kcr_history.specs.declared.commands.Deed.TheVariants.{AddItem, Open, Close, RecordSheet, SetSafe, Sign, RecordException, Seal}
+use Rattle.kcr_history.specs.declared.commands.Deed.TheVariants.{Take, Put, Cut}
 use Rattle.kcr_history.specs.declared.row_types.MarkRow.{MarkRow}
 use Rattle.kcr_history.specs.declared.row_types.StepState.TheVariants.{Signed, Passed}
 use Rattle.kcr_history.specs.declared.views.Change.{Change}
@@ -114,6 +115,20 @@ new_appointment place who day = record { place = place; who = who; since = day; 
 
 -- the rows that an act puts; a withdrawal puts one for each training that it bears on, a replacement and a release end
 -- the place's open appointment; of an exception that passes no step the mark and its own row
+abbrev pub changes_of_deed : View → ℕ → ℕ → Deed → List Change
+changes_of_deed view ceremony at Open = opening_changes ceremony at (ceremony_by view.ceremonies.items ceremony)
+changes_of_deed view ceremony at Close = closing_changes at (ceremony_by view.ceremonies.items ceremony)
+changes_of_deed view ceremony at (AddItem item) = add_item_changes_by view ceremony item at
+changes_of_deed view ceremony at (RecordSheet way people) = sheet_changes_by view ceremony way people at
+changes_of_deed view ceremony at (SetSafe safe state by) = turn_changes_by view ceremony safe state at
+changes_of_deed view ceremony at (RecordException text pass) =
+    mark_change ceremony at ∷ exception_change view ceremony text at None ∷ []
+changes_of_deed view ceremony at (Seal serial items) = seal_changes_by view ceremony serial items at
+changes_of_deed view ceremony at (Take serial) = take_changes_by view ceremony serial at
+changes_of_deed view ceremony at (Put serial to) = put_changes_by view ceremony serial to at
+changes_of_deed view ceremony at (Cut serial) = cut_changes_by view ceremony serial at
+changes_of_deed view ceremony at (Sign step) = []
+
 abbrev pub changes_by : View → Act → List Change
 changes_by view (Enter who name) = PutPerson (record { who = who; name = name }) ∷ []
 changes_by view (Train who role since until) =
@@ -129,27 +144,16 @@ changes_by view (Release place day) =
 changes_by view (AddBox facility number place) =
     PutBox (record { facility = facility; number = number; place = place }) ∷ []
 changes_by view (Plan number facility day script) = plan_changes number facility day script
-changes_by view (Open ceremony at) = opening_changes ceremony at (ceremony_by view.ceremonies.items ceremony)
-changes_by view (Close ceremony at) = closing_changes at (ceremony_by view.ceremonies.items ceremony)
-changes_by view (AddItem ceremony item at) = add_item_changes_by view ceremony item at
-changes_by view (RecordSheet ceremony way people at) = sheet_changes_by view ceremony way people at
-changes_by view (SetSafe ceremony safe state by at) = turn_changes_by view ceremony safe state at
-changes_by view (RecordException ceremony text pass at) =
-    mark_change ceremony at ∷ exception_change view ceremony text at None ∷ []
-changes_by view (Seal ceremony serial items at) = seal_changes_by view ceremony serial items at
-changes_by view (Take ceremony serial at) = take_changes_by view ceremony serial at
-changes_by view (Put ceremony serial to at) = put_changes_by view ceremony serial to at
-changes_by view (Cut ceremony serial at) = cut_changes_by view ceremony serial at
-changes_by view (Sign ceremony step at) = []
+changes_by view (Ceremony ceremony at deed) = changes_of_deed view ceremony at deed
 
 -- SEATS AND ANSWERS: a signature fills the seats of its step, an exception that passes a step those of two of the
 -- staff; other acts need no seats, and are answered their number alone
 
 -- the seats that an act needs
 abbrev pub seat_request_by : View → Act → Option SeatRequest
-seat_request_by view (Sign ceremony step at) =
+seat_request_by view (Ceremony ceremony at (Sign step)) =
     Some (record { ceremony = ceremony; at = at; seats = seats_by (step_by view.steps.items ceremony step) })
-seat_request_by view (RecordException ceremony text true at) = Some (record { ceremony = ceremony; at = at; seats = staff })
+seat_request_by view (Ceremony ceremony at (RecordException text true)) = Some (record { ceremony = ceremony; at = at; seats = staff })
 seat_request_by view act = None
 
 -- the people who are seated: by the rows if seats are needed, else none
@@ -165,29 +169,29 @@ IsUnseatedFor view (Some s) refusal = IsUnseatedBy view s refusal
 
 -- the rows that an act puts, with those of the people who are seated
 abbrev pub all_changes_by : View → Act → Option (List (List ℕ)) → List Change
-all_changes_by view (Sign ceremony step at) (Some people) = seat_changes view Signed ceremony step at people
-all_changes_by view (RecordException ceremony text true at) (Some people) =
+all_changes_by view (Ceremony ceremony at (Sign step)) (Some people) = seat_changes view Signed ceremony step at people
+all_changes_by view (Ceremony ceremony at (RecordException text true)) (Some people) =
     seat_changes view Passed ceremony (next_step_by view.seatings.items ceremony) at people
     ++ exception_change view ceremony text at (Some (next_step_by view.seatings.items ceremony)) ∷ []
 all_changes_by view act people = changes_by view act
 
 -- the number of the exception that an act states
 abbrev pub exception_by : View → Act → Option ℕ
-exception_by view (RecordException ceremony text pass at) = Some (suc (exception_count_by view.exceptions.items ceremony))
+exception_by view (Ceremony ceremony at (RecordException text pass)) = Some (suc (exception_count_by view.exceptions.items ceremony))
 exception_by view act = None
 
 -- the step that an act signs or passes
 abbrev pub reply_step_by : View → Act → Option ℕ
-reply_step_by view (Sign ceremony step at) = Some step
-reply_step_by view (RecordException ceremony text true at) = Some (next_step_by view.seatings.items ceremony)
+reply_step_by view (Ceremony ceremony at (Sign step)) = Some step
+reply_step_by view (Ceremony ceremony at (RecordException text true)) = Some (next_step_by view.seatings.items ceremony)
 reply_step_by view act = None
 
 -- THE FIRST STAGE
 
 -- the rows tell of more steps done than a script has, which no register's rows do
 abbrev pub has_too_many_steps : View → Act → Bool
-has_too_many_steps view (Sign ceremony step at) = nat_lt MAX_STEPS (last_seated view.seatings.items ceremony)
-has_too_many_steps view (RecordException ceremony text pass at) = nat_lt MAX_STEPS (last_seated view.seatings.items ceremony)
+has_too_many_steps view (Ceremony ceremony at (Sign step)) = nat_lt MAX_STEPS (last_seated view.seatings.items ceremony)
+has_too_many_steps view (Ceremony ceremony at (RecordException text pass)) = nat_lt MAX_STEPS (last_seated view.seatings.items ceremony)
 has_too_many_steps view act = false
 
 -- nothing that is read first refuses the act
@@ -233,6 +237,11 @@ abbrev pub IsChangesResult : DecisionContext → Act → Result (Vec Change Glob
 IsChangesResult premises act result =
     MatchResult result (λ changes. HasChanges premises.view.now premises.is_full act changes.items)
     (λ refusal. HasRefusal premises.view.now premises.is_full act refusal)
+
+-- what an act comes to that needs no seats and states no exception: its changes alone, or its refusal
+abbrev pub alone : Result (Vec Change Global) Refusal → Result Effect Refusal
+alone (Ok changes) = Ok (record { changes = changes; exception = None; seating = None; step = None })
+alone (Err refusal) = Err refusal
 
 -- the same of any act, which may seat people or state an exception
 abbrev pub IsEffectResult : View → Bool → Act → Result Effect Refusal → Type 0

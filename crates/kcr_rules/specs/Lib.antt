@@ -5,6 +5,5 @@ pub mod CeremonyRows
 pub mod CustodyRows
 pub mod RoomRows
 pub mod SheetRows
-pub mod Kinds
 pub mod ByRows
 pub mod Refusals

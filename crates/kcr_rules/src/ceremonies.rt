@@ -7,6 +7,7 @@ ghost use Rattle.kcr_custody.specs.Custody;
 ghost use Rattle.kcr_script.specs.Fault.{IfRow};
 ghost use Rattle.kcr_script.specs.Reading.{script_of};
 ghost use Rattle.kcr_history.specs.declared.commands.Act.TheVariants as Kinds;
+ghost use Rattle.kcr_history.specs.declared.commands.Deed.TheVariants as Deeds;
 ghost use Rattle.kcr_history.specs.declared.views.Change.TheVariants.{PutStep};
 ghost use Rattle.kcr_rules.specs.ByRows.{IsChangesResult};
 ghost use Rattle.kcr_rules.specs.CeremonyRows;
@@ -88,7 +89,7 @@ impl DecisionContext<'_> {
 
     /// Opens a planned ceremony.
     pub fn open(&self, ceremony: u32, at: Moment) -> Result<Vec<Change>, Refusal>
-        ensures { IsChangesResult self.now (Kinds.Open ceremony at) result }
+        ensures { IsChangesResult self.now (Kinds.Ceremony ceremony at Deeds.Open) result }
     {
         let row = known_ceremony(self.view, ceremony)?;
         if at.day() < row.day {

@@ -1,78 +1,45 @@
 //! The first stage: what refuses an act whoever is in the room, over the rows of a view. No stay, training, withdrawal or
 //! appointment is looked at.
-ghost use Rattle.std.specs.Prelude.{◌≡◌, IfErr, IsTrue, true};
+ghost use Rattle.std.specs.Prelude.{IfErr, IsTrue};
+ghost use Rattle.kcr_history.specs.declared.commands.Act.TheVariants.{Ceremony};
 ghost use Rattle.kcr_rules.specs.ByRows.{IsCheckResult};
-ghost use Rattle.kcr_rules.specs.Kinds.{is_on_bag, is_in_room};
 ghost use Rattle.kcr_rules.specs.Refusals.{may_refuse};
 
 use crate::context::DecisionContext;
-use kcr_base::Refusal;
-use kcr_history::{Act, View};
+use kcr_base::{Moment, Refusal};
+use kcr_history::{Act, Deed, View};
 use kcr_room::SheetRequest;
 use std::alloc::Global;
 
 impl DecisionContext<'_> {
-    /// An act on a bag.
-    fn check_bag_act(&self, act: &Act) -> Result<(), Refusal>
-        requires kind { is_on_bag act.now ≡ true }
-        ensures { IsCheckResult self.now.view.now self.now.is_full act.now result }
+    /// An act in a ceremony.
+    #[tactic(auto, using(crate::proofs::OwnRefusals::check_kind))]
+    fn check_deed(&self, ceremony: u32, at: Moment, deed: &Deed) -> Result<(), Refusal>
+        ensures told { IsCheckResult self.now.view.now self.now.is_full (Ceremony ceremony at deed.now) result }
+        ensures kind { IfErr result (λ refusal. IsTrue (may_refuse (Ceremony ceremony at deed.now) refusal)) }
     {
-        match act {
-            Act::Seal {
-                ceremony,
-                serial,
-                items,
-                at,
-            } => self.check_seal(ceremony.get(), *serial, items, *at),
-            Act::Take {
-                ceremony,
-                serial,
-                at,
-            } => self.check_take(ceremony.get(), *serial, *at),
-            Act::Put {
-                ceremony,
-                serial,
-                to,
-                at,
-            } => self.check_put(ceremony.get(), *serial, *to, *at),
-            Act::Cut {
-                ceremony,
-                serial,
-                at,
-            } => self.check_cut(ceremony.get(), *serial, *at),
-            _ => unreachable!(),
-        }
-    }
-
-    /// An act on the room, on safes, items or bags.
-    fn check_room_act(&self, act: &Act) -> Result<(), Refusal>
-        requires kind { is_in_room act.now ≡ true }
-        ensures { IsCheckResult self.now.view.now self.now.is_full act.now result }
-    {
-        match act {
-            Act::AddItem { ceremony, item, at } => self.check_add_item(ceremony.get(), *item, *at),
-            Act::RecordSheet {
-                ceremony,
-                way,
-                who,
-                at,
-            } => {
+        match deed {
+            Deed::Open => Ok(()),
+            Deed::Close => self.check_close(ceremony, at),
+            Deed::RecordSheet { way, who } => {
                 let request = SheetRequest {
-                    ceremony: ceremony.get(),
+                    ceremony,
                     way: *way,
                     people: who.as_slice(),
-                    at: *at,
+                    at,
                 };
                 self.check_request(&request)
             }
-            Act::SetSafe {
-                ceremony,
-                by,
-                safe,
-                is_open,
-                at,
-            } => self.check_set_safe(ceremony.get(), *by, *safe, *is_open, *at),
-            _ => self.check_bag_act(act),
+            Deed::Sign { step } => self.check_sign(ceremony, step.get(), at),
+            Deed::RecordException { text: _, pass } => self.check_exception(ceremony, *pass, at),
+            Deed::AddItem { item } => self.check_add_item(ceremony, *item, at),
+            Deed::SetSafe { safe, is_open, by } => {
+                self.check_set_safe(ceremony, *by, *safe, *is_open, at)
+            }
+            Deed::Seal { serial, items } => self.check_seal(ceremony, *serial, items, at),
+            Deed::Take { serial } => self.check_take(ceremony, *serial, at),
+            Deed::Put { serial, to } => self.check_put(ceremony, *serial, *to, at),
+            Deed::Cut { serial } => self.check_cut(ceremony, *serial, at),
         }
     }
 }
@@ -93,14 +60,7 @@ pub fn check(alloc: Global, view: &View, full: bool, act: &Act) -> Result<(), Re
         is_full: full,
     };
     match act {
-        Act::Sign { ceremony, step, at } => premises.check_sign(ceremony.get(), step.get(), *at),
-        Act::RecordException {
-            ceremony,
-            text: _,
-            pass,
-            at,
-        } => premises.check_exception(ceremony.get(), *pass, *at),
-        Act::Close { ceremony, at } => premises.check_close(ceremony.get(), *at),
+        Act::Ceremony { ceremony, at, deed } => premises.check_deed(ceremony.get(), *at, deed),
         Act::Enter { .. }
         | Act::Train { .. }
         | Act::Withdraw { .. }
@@ -108,8 +68,6 @@ pub fn check(alloc: Global, view: &View, full: bool, act: &Act) -> Result<(), Re
         | Act::Replace { .. }
         | Act::Release { .. }
         | Act::AddBox { .. }
-        | Act::Plan { .. }
-        | Act::Open { .. } => Ok(()),
-        _ => premises.check_room_act(act),
+        | Act::Plan { .. } => Ok(()),
     }
 }

@@ -3,6 +3,7 @@ ghost use Rattle.std.specs.Prelude.{◌≡◌, suc};
 ghost use Rattle.std.specs.List.{list_any};
 ghost use Rattle.kcr_base.specs.Refuse.{IsTestResult};
 ghost use Rattle.kcr_history.specs.declared.commands.Act.TheVariants as Kinds;
+ghost use Rattle.kcr_history.specs.declared.commands.Deed.TheVariants as Deeds;
 ghost use Rattle.kcr_rules.specs.ByRows;
 ghost use Rattle.kcr_rules.specs.ByRows.{IsChangesResult, IsCheckResult};
 ghost use Rattle.kcr_history.specs.Views.{is_step_at};
@@ -72,7 +73,7 @@ impl DecisionContext<'_> {
     /// A ceremony may be closed once it is finished. Refused: 12 without the ceremony, 20 if it is not open, 22 before
     /// its mark, 27 full.
     pub fn check_close(&self, ceremony: u32, at: Moment) -> Result<(), Refusal>
-        ensures { IsCheckResult self.now.view.now self.now.is_full (Kinds.Close ceremony at) result }
+        ensures { IsCheckResult self.now.view.now self.now.is_full (Kinds.Ceremony ceremony at Deeds.Close) result }
     {
         let Some(row) = ceremony_row(self.view, ceremony) else {
             return Err(Refusal::Unknown {
@@ -88,7 +89,7 @@ impl DecisionContext<'_> {
 
     /// The ceremony is finished: its steps, its room, the safes and the table, in this order.
     fn check_finished(&self, ceremony: u32, at: Moment) -> Result<(), Refusal>
-        ensures { IsTestResult (ByRows.late_refusal_by self.now.view.now self.now.is_full (Kinds.Close ceremony at)) result }
+        ensures { IsTestResult (ByRows.late_refusal_by self.now.view.now self.now.is_full (Kinds.Ceremony ceremony at Deeds.Close)) result }
     {
         let here = self.facility(ceremony);
         if has_next_step(self.view, ceremony) {
@@ -110,7 +111,7 @@ impl DecisionContext<'_> {
 
     /// Closes an open ceremony.
     pub fn close(&self, ceremony: u32, at: Moment) -> Result<Vec<Change>, Refusal>
-        ensures { IsChangesResult self.now (Kinds.Close ceremony at) result }
+        ensures { IsChangesResult self.now (Kinds.Ceremony ceremony at Deeds.Close) result }
     {
         self.check_finished(ceremony, at)?;
         let Some(row) = ceremony_row(self.view, ceremony) else {

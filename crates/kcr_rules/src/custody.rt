@@ -4,6 +4,7 @@ ghost use Rattle.kcr_base.specs.Refuse.{first_of};
 ghost use Rattle.kcr_base.specs.declared.place.Role.TheVariants.{Ca};
 ghost use Rattle.kcr_custody.specs.Custody;
 ghost use Rattle.kcr_history.specs.declared.commands.Act.TheVariants as Kinds;
+ghost use Rattle.kcr_history.specs.declared.commands.Deed.TheVariants as Deeds;
 ghost use Rattle.kcr_history.specs.declared.views.Change.TheVariants.{PutBag, PutItem, PutMark};
 ghost use Rattle.kcr_history.specs.declared.views.View.{View};
 ghost use Rattle.kcr_rules.specs.ByRows.{IsChangesResult, IsCheckResult, IsTested};
@@ -80,7 +81,7 @@ impl DecisionContext<'_> {
         items: &Items,
         at: Moment,
     ) -> Result<(), Refusal>
-        ensures { IsCheckResult self.now.view.now self.now.is_full (Kinds.Seal ceremony serial items.now at) result }
+        ensures { IsCheckResult self.now.view.now self.now.is_full (Kinds.Ceremony ceremony at (Deeds.Seal serial items.now)) result }
     {
         let status = self.ceremony_status(ceremony, at);
         let view = self.view;
@@ -95,7 +96,7 @@ impl DecisionContext<'_> {
         items: &Items,
         at: Moment,
     ) -> Result<Vec<Change>, Refusal>
-        ensures { IsChangesResult self.now (Kinds.Seal ceremony serial items.now at) result }
+        ensures { IsChangesResult self.now (Kinds.Ceremony ceremony at (Deeds.Seal serial items.now)) result }
     {
         self.check_ca(ceremony, at)?;
         let here = self.facility(ceremony);
@@ -105,7 +106,7 @@ impl DecisionContext<'_> {
 
     /// A bag may be taken out of a safe. Refused: 12 without the ceremony or the bag, 20, 22, 27, 28, 29.
     pub fn check_take(&self, ceremony: u32, serial: Serial, at: Moment) -> Result<(), Refusal>
-        ensures { IsCheckResult self.now.view.now self.now.is_full (Kinds.Take ceremony serial at) result }
+        ensures { IsCheckResult self.now.view.now self.now.is_full (Kinds.Ceremony ceremony at (Deeds.Take serial)) result }
     {
         let status = self.ceremony_status(ceremony, at);
         kcr_custody::check_take(&status, &self.view.safes, &self.view.bags, serial)
@@ -113,7 +114,7 @@ impl DecisionContext<'_> {
 
     /// Takes a bag out of a safe.
     pub fn take(&self, ceremony: u32, serial: Serial, at: Moment) -> Result<Vec<Change>, Refusal>
-        ensures { IsChangesResult self.now (Kinds.Take ceremony serial at) result }
+        ensures { IsChangesResult self.now (Kinds.Ceremony ceremony at (Deeds.Take serial)) result }
     {
         let here = self.facility(ceremony);
         let place = kcr_custody::place_for_take(&self.view.boxes, &self.view.bags, here, serial);
@@ -134,7 +135,7 @@ impl DecisionContext<'_> {
         to: Destination,
         at: Moment,
     ) -> Result<(), Refusal>
-        ensures { IsCheckResult self.now.view.now self.now.is_full (Kinds.Put ceremony serial to at) result }
+        ensures { IsCheckResult self.now.view.now self.now.is_full (Kinds.Ceremony ceremony at (Deeds.Put serial to)) result }
     {
         let status = self.ceremony_status(ceremony, at);
         let view = self.view;
@@ -149,7 +150,7 @@ impl DecisionContext<'_> {
         to: Destination,
         at: Moment,
     ) -> Result<Vec<Change>, Refusal>
-        ensures { IsChangesResult self.now (Kinds.Put ceremony serial to at) result }
+        ensures { IsChangesResult self.now (Kinds.Ceremony ceremony at (Deeds.Put serial to)) result }
     {
         let here = self.facility(ceremony);
         let place = kcr_custody::place_for_put(&self.view.boxes, here, &to);
@@ -163,7 +164,7 @@ impl DecisionContext<'_> {
 
     /// A bag may be cut open. Refused: 12 without the ceremony or the bag, 20, 22, 27, 29.
     pub fn check_cut(&self, ceremony: u32, serial: Serial, at: Moment) -> Result<(), Refusal>
-        ensures { IsCheckResult self.now.view.now self.now.is_full (Kinds.Cut ceremony serial at) result }
+        ensures { IsCheckResult self.now.view.now self.now.is_full (Kinds.Ceremony ceremony at (Deeds.Cut serial)) result }
     {
         let status = self.ceremony_status(ceremony, at);
         kcr_custody::check_cut(&status, &self.view.bags, serial)
@@ -171,7 +172,7 @@ impl DecisionContext<'_> {
 
     /// Cuts a bag open.
     pub fn cut(&self, ceremony: u32, serial: Serial, at: Moment) -> Result<Vec<Change>, Refusal>
-        ensures { IsChangesResult self.now (Kinds.Cut ceremony serial at) result }
+        ensures { IsChangesResult self.now (Kinds.Ceremony ceremony at (Deeds.Cut serial)) result }
     {
         self.check_ca(ceremony, at)?;
         let here = self.facility(ceremony);

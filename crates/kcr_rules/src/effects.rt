@@ -1,12 +1,12 @@
 //! Deciding an act by its premises: one method for each kind of act, and the choice among them.
-ghost use Rattle.std.specs.Prelude.{◌≡◌, true, false, IfErr, IsTrue, OnOk};
-ghost use Rattle.kcr_rules.specs.ByRows.{IsChangesResult, IsCleared, IsEffectResult};
-ghost use Rattle.kcr_rules.specs.Kinds.{is_on_bag, is_in_room, is_on_ceremony, is_plain};
+ghost use Rattle.std.specs.Prelude.{◌≡◌, false, IfErr, IsTrue, OnOk};
+ghost use Rattle.kcr_history.specs.declared.commands.Act.TheVariants.{Ceremony};
+ghost use Rattle.kcr_rules.specs.ByRows.{IsCleared, IsEffectResult, alone};
 ghost use Rattle.kcr_rules.specs.Refusals.{may_refuse};
 
 use crate::context::DecisionContext;
-use kcr_base::Refusal;
-use kcr_history::{Act, Change, InitialsList, View};
+use kcr_base::{Moment, Refusal};
+use kcr_history::{Act, Change, Deed, InitialsList, View};
 use kcr_room::SheetRequest;
 use std::alloc::Global;
 
@@ -23,112 +23,85 @@ pub struct Effect {
     pub step: Option<u32>,
 }
 
-impl DecisionContext<'_> {
-    /// The rows that an act on a bag puts, or its first refusal.
-    fn bag_changes(&self, act: &Act) -> Result<Vec<Change>, Refusal>
-        requires kind { is_on_bag act.now ≡ true }
-        ensures { IsChangesResult self.now act.now result }
-    {
-        match act {
-            Act::Seal {
-                ceremony,
-                serial,
-                items,
-                at,
-            } => self.seal(ceremony.get(), *serial, items, *at),
-            Act::Take {
-                ceremony,
-                serial,
-                at,
-            } => self.take(ceremony.get(), *serial, *at),
-            Act::Put {
-                ceremony,
-                serial,
-                to,
-                at,
-            } => self.put(ceremony.get(), *serial, *to, *at),
-            Act::Cut {
-                ceremony,
-                serial,
-                at,
-            } => self.cut(ceremony.get(), *serial, *at),
-            _ => unreachable!(),
-        }
+/// What an act comes to that needs no seats and states no exception: its changes alone, or its refusal.
+fn plain(changes: Result<Vec<Change>, Refusal>) -> Result<Effect, Refusal>
+    ensures { result ≡ alone changes }
+{
+    match changes {
+        Ok(changes) => Ok(Effect {
+            changes,
+            exception: None,
+            seating: None,
+            step: None,
+        }),
+        Err(refusal) => Err(refusal),
     }
+}
 
-    /// The rows that an act on the room, on safes or on items puts, or its first refusal.
-    fn room_changes(&self, act: &Act) -> Result<Vec<Change>, Refusal>
-        requires kind { is_in_room act.now ≡ true }
-        ensures { IsChangesResult self.now act.now result }
+impl DecisionContext<'_> {
+    /// The effect of an act in a ceremony, or its first refusal.
+    #[tactic(auto, using(crate::proofs::Plain::plain_acts))]
+    fn deed_effect(&self, ceremony: u32, at: Moment, deed: &Deed) -> Result<Effect, Refusal>
+        requires cleared { IsCleared self.now.view.now self.now.is_full (Ceremony ceremony at deed.now) }
+        ensures { IsEffectResult self.now.view.now self.now.is_full (Ceremony ceremony at deed.now) result }
     {
-        match act {
-            Act::AddItem { ceremony, item, at } => self.add_item(ceremony.get(), *item, *at),
-            Act::RecordSheet {
-                ceremony,
-                way,
-                who,
-                at,
-            } => {
+        match deed {
+            Deed::Open => plain(self.open(ceremony, at)),
+            Deed::Close => plain(self.close(ceremony, at)),
+            Deed::RecordSheet { way, who } => {
                 let request = SheetRequest {
-                    ceremony: ceremony.get(),
+                    ceremony,
                     way: *way,
                     people: who.as_slice(),
-                    at: *at,
+                    at,
                 };
-                self.record_sheet(&request)
+                plain(self.record_sheet(&request))
             }
-            Act::SetSafe {
-                ceremony,
-                by,
-                safe,
-                is_open,
-                at,
-            } => self.set_safe(ceremony.get(), *by, *safe, *is_open, *at),
-            _ => self.bag_changes(act),
+            Deed::Sign { step } => self.sign(ceremony, step.get(), at),
+            Deed::RecordException { text, pass } => {
+                self.record_exception(ceremony, text, *pass, at)
+            }
+            Deed::AddItem { item } => plain(self.add_item(ceremony, *item, at)),
+            Deed::SetSafe { safe, is_open, by } => {
+                plain(self.set_safe(ceremony, *by, *safe, *is_open, at))
+            }
+            Deed::Seal { serial, items } => plain(self.seal(ceremony, *serial, items, at)),
+            Deed::Take { serial } => plain(self.take(ceremony, *serial, at)),
+            Deed::Put { serial, to } => plain(self.put(ceremony, *serial, *to, at)),
+            Deed::Cut { serial } => plain(self.cut(ceremony, *serial, at)),
         }
     }
 
-    /// The rows that an act on ceremonies or boxes puts, or its first refusal.
-    fn ceremony_changes(&self, act: &Act) -> Result<Vec<Change>, Refusal>
-        requires kind { is_on_ceremony act.now ≡ true }
-        ensures { IsChangesResult self.now act.now result }
+    /// The effect of an act, or its first refusal.
+    #[tactic(auto, using(crate::proofs::Plain::plain_acts))]
+    fn effect(&self, act: &Act) -> Result<Effect, Refusal>
+        requires cleared { IsCleared self.now.view.now self.now.is_full act.now }
+        ensures { IsEffectResult self.now.view.now self.now.is_full act.now result }
     {
         match act {
-            Act::AddBox {
-                facility,
-                number,
-                place,
-            } => self.add_box(*facility, number.get(), *place),
-            Act::Plan {
-                number,
-                facility,
-                day,
-                script,
-            } => self.plan(number.get(), *facility, *day, script),
-            Act::Open { ceremony, at } => self.open(ceremony.get(), *at),
-            Act::Close { ceremony, at } => self.close(ceremony.get(), *at),
-            _ => self.room_changes(act),
-        }
-    }
-
-    /// The rows that an act puts that needs no seats and states no exception, or its first refusal.
-    fn changes_of(&self, act: &Act) -> Result<Vec<Change>, Refusal>
-        requires kind { is_plain act.now ≡ true }
-        ensures { IsChangesResult self.now act.now result }
-    {
-        match act {
-            Act::Enter { who, name } => self.enter(*who, name),
+            Act::Enter { who, name } => plain(self.enter(*who, name)),
             Act::Train {
                 who,
                 role,
                 since,
                 until,
-            } => self.train(*who, *role, *since, *until),
-            Act::Withdraw { who, role, day } => self.withdraw(*who, *role, *day),
-            Act::Appoint { place, who, day } => self.appoint(*place, *who, *day),
-            Act::Replace { place, who, day } => self.replace(*place, *who, *day),
-            Act::Release { place, day } => self.release(*place, *day),
-            _ => self.ceremony_changes(act),
+            } => plain(self.train(*who, *role, *since, *until)),
+            Act::Withdraw { who, role, day } => plain(self.withdraw(*who, *role, *day)),
+            Act::Appoint { place, who, day } => plain(self.appoint(*place, *who, *day)),
+            Act::Replace { place, who, day } => plain(self.replace(*place, *who, *day)),
+            Act::Release { place, day } => plain(self.release(*place, *day)),
+            Act::AddBox {
+                facility,
+                number,
+                place,
+            } => plain(self.add_box(*facility, number.get(), *place)),
+            Act::Plan {
+                number,
+                facility,
+                day,
+                script,
+            } => plain(self.plan(number.get(), *facility, *day, script)),
+            Act::Ceremony { ceremony, at, deed } => self.deed_effect(ceremony.get(), *at, deed),
         }
     }
 }
@@ -152,19 +125,5 @@ pub fn evaluate(alloc: Global, view: &View, full: bool, act: &Act) -> Result<Eff
         view,
         is_full: full,
     };
-    match act {
-        Act::Sign { ceremony, step, at } => premises.sign(ceremony.get(), step.get(), *at),
-        Act::RecordException {
-            ceremony,
-            text,
-            pass,
-            at,
-        } => premises.record_exception(ceremony.get(), text, *pass, *at),
-        _ => Ok(Effect {
-            changes: premises.changes_of(act)?,
-            exception: None,
-            seating: None,
-            step: None,
-        }),
-    }
+    premises.effect(act)
 }

@@ -26,3 +26,5 @@ mod steps;
 
 pub use checks::check;
 pub use effects::{Effect, evaluate};
+pub use signing::STAFF;
+pub use steps::{seats_of, step_row};

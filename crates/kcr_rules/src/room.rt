@@ -1,6 +1,7 @@
 //! Acts in the room of a ceremony, over the rows of a view: a safe opened or shut, an item added.
 ghost use Rattle.std.specs.Prelude.{◌≡◌, IfOk};
 ghost use Rattle.kcr_history.specs.declared.commands.Act.TheVariants as Kinds;
+ghost use Rattle.kcr_history.specs.declared.commands.Deed.TheVariants as Deeds;
 ghost use Rattle.kcr_rules.specs.RoomRows;
 ghost use Rattle.kcr_rules.specs.ByRows.{IsChangesResult, IsCheckResult};
 
@@ -22,7 +23,7 @@ impl DecisionContext<'_> {
         is_open: bool,
         at: Moment,
     ) -> Result<(), Refusal>
-        ensures { IsCheckResult self.now.view.now self.now.is_full (Kinds.SetSafe ceremony safe is_open by at) result }
+        ensures { IsCheckResult self.now.view.now self.now.is_full (Kinds.Ceremony ceremony at (Deeds.SetSafe safe is_open by)) result }
     {
         let status = self.ceremony_status(ceremony, at);
         let is_known = kcr_people::queries::is_person(&self.view.people, by);
@@ -56,7 +57,7 @@ impl DecisionContext<'_> {
         is_open: bool,
         at: Moment,
     ) -> Result<Vec<Change>, Refusal>
-        ensures { IsChangesResult self.now (Kinds.SetSafe ceremony safe is_open by at) result }
+        ensures { IsChangesResult self.now (Kinds.Ceremony ceremony at (Deeds.SetSafe safe is_open by)) result }
     {
         let keeper = self.safe_operator(by, ceremony, at)?;
         kcr_custody::check_operator(safe, &keeper)?;
@@ -70,7 +71,7 @@ impl DecisionContext<'_> {
 
     /// An item may be added. Refused: 12 without the ceremony, 13, 20, 22, 27.
     pub fn check_add_item(&self, ceremony: u32, item: ItemCode, at: Moment) -> Result<(), Refusal>
-        ensures { IsCheckResult self.now.view.now self.now.is_full (Kinds.AddItem ceremony item at) result }
+        ensures { IsCheckResult self.now.view.now self.now.is_full (Kinds.Ceremony ceremony at (Deeds.AddItem item)) result }
     {
         let status = self.ceremony_status(ceremony, at);
         kcr_custody::check_add_item(&status, &self.view.items, item)
@@ -83,7 +84,7 @@ impl DecisionContext<'_> {
         item: ItemCode,
         at: Moment,
     ) -> Result<Vec<Change>, Refusal>
-        ensures { IsChangesResult self.now (Kinds.AddItem ceremony item at) result }
+        ensures { IsChangesResult self.now (Kinds.Ceremony ceremony at (Deeds.AddItem item)) result }
     {
         self.check_ca(ceremony, at)?;
         let row = Item {

@@ -6,6 +6,7 @@ ghost use Rattle.kcr_room.specs.Requests;
 ghost use Rattle.kcr_room.specs.declared.SheetRequest.{SheetRequest};
 ghost use Rattle.kcr_history.specs.declared.views.View.{View};
 ghost use Rattle.kcr_history.specs.declared.commands.Act.TheVariants as Kinds;
+ghost use Rattle.kcr_history.specs.declared.commands.Deed.TheVariants as Deeds;
 ghost use Rattle.kcr_history.specs.declared.views.Change.TheVariants.{PutSheet, PutStay};
 ghost use Rattle.kcr_rules.specs.ByRows.{IsChangesResult, IsCheckResult};
 ghost use Rattle.kcr_rules.specs.CeremonyStatus.{mark_by};
@@ -77,7 +78,7 @@ impl DecisionContext<'_> {
     /// is not open, 22 if the moment is not later than its mark.
     pub fn check_request(&self, request: &SheetRequest<'_>) -> Result<(), Refusal>
         ensures { let asked : SheetRequest = request.now in IsCheckResult self.now.view.now self.now.is_full
-            (Kinds.RecordSheet asked.ceremony asked.way asked.people.now asked.at) result }
+            (Kinds.Ceremony asked.ceremony asked.at (Deeds.RecordSheet asked.way asked.people.now)) result }
     {
         let row = known_ceremony(self.view, request.ceremony)?;
         if let Some(who) = first_unknown(&self.view.people, request.people) {
@@ -122,7 +123,7 @@ impl DecisionContext<'_> {
     /// Lists people who come into the room of a ceremony, or go out of it: the rows to put, or the first refusal.
     pub fn record_sheet(&self, request: &SheetRequest<'_>) -> Result<Vec<Change>, Refusal>
         ensures { let asked : SheetRequest = request.now in
-            IsChangesResult self.now (Kinds.RecordSheet asked.ceremony asked.way asked.people.now asked.at) result }
+            IsChangesResult self.now (Kinds.Ceremony asked.ceremony asked.at (Deeds.RecordSheet asked.way asked.people.now)) result }
     {
         if let Some(who) = first_twice(request.people) {
             return Err(Refusal::Turn { who });

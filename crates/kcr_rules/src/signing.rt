@@ -1,8 +1,7 @@
 //! Signatures of steps and script exceptions, over the rows of a view.
 ghost use Rattle.kcr_history.specs.declared.commands.Act.TheVariants as Kinds;
-ghost use Rattle.std.specs.Prelude.{IfErr, IsTrue};
+ghost use Rattle.kcr_history.specs.declared.commands.Deed.TheVariants as Deeds;
 ghost use Rattle.kcr_rules.specs.ByRows.{IsCleared, IsEffectResult};
-ghost use Rattle.kcr_rules.specs.Refusals.{may_refuse};
 
 use crate::changes::only;
 use crate::context::DecisionContext;
@@ -13,13 +12,12 @@ use kcr_history::{Change, MarkRow, StepState};
 use kcr_script::Seat;
 
 /// The seats of an exception that passes a step.
-const STAFF: [Seat; 2] = [Seat::Staff(Role::Ca), Seat::Staff(Role::Iw)];
+pub const STAFF: [Seat; 2] = [Seat::Staff(Role::Ca), Seat::Staff(Role::Iw)];
 
 impl DecisionContext<'_> {
     /// Signs a step.
     pub fn sign(&self, ceremony: u32, step: u32, at: Moment) -> Result<Effect, Refusal>
-        ensures acts { IsEffectResult self.now.view.now self.now.is_full (Kinds.Sign ceremony step at) result }
-        ensures kind { IfErr result (λ refusal. IsTrue (may_refuse (Kinds.Sign ceremony step at) refusal)) }
+        ensures { IsEffectResult self.now.view.now self.now.is_full (Kinds.Ceremony ceremony at (Deeds.Sign step)) result }
     {
         let seats = seats_of(step_row(&self.view.steps, ceremony, step));
         let people = self.seat(ceremony, at, seats)?;
@@ -40,10 +38,8 @@ impl DecisionContext<'_> {
         pass: bool,
         at: Moment,
     ) -> Result<Effect, Refusal>
-        requires cleared { IsCleared self.now.view.now self.now.is_full (Kinds.RecordException ceremony text.now pass at) }
-        ensures acts { IsEffectResult self.now.view.now self.now.is_full (Kinds.RecordException ceremony text.now pass at) result }
-        ensures kind { IfErr result
-            (λ refusal. IsTrue (may_refuse (Kinds.RecordException ceremony text.now pass at) refusal)) }
+        requires cleared { IsCleared self.now.view.now self.now.is_full (Kinds.Ceremony ceremony at (Deeds.RecordException text.now pass)) }
+        ensures { IsEffectResult self.now.view.now self.now.is_full (Kinds.Ceremony ceremony at (Deeds.RecordException text.now pass)) result }
     {
         let exception = self.exception_number(ceremony);
         if !pass {

@@ -5,6 +5,7 @@ ghost use Rattle.std.specs.Prelude.{None, Some, nat_lt, MatchResult, IfErr, IfOk
 ghost use Rattle.kcr_base.specs.declared.limits.TheConstants.{MAX_EXCEPTIONS, MAX_STEPS};
 ghost use Rattle.kcr_base.specs.declared.refusal.Refusal.TheVariants.{Disk};
 ghost use Rattle.kcr_history.specs.declared.commands.Act.TheVariants as Kinds;
+ghost use Rattle.kcr_history.specs.declared.commands.Deed.TheVariants as Deeds;
 ghost use Rattle.kcr_history.specs.Tables.{seat_rows};
 ghost use Rattle.kcr_history.specs.Views;
 ghost use Rattle.kcr_history.specs.declared.views.Change.TheVariants as Changes;
@@ -136,11 +137,11 @@ impl DecisionContext<'_> {
     /// is not open, 22 before its mark, 23 if another step is next, 27 full; 34 if `next_step` is.
     pub fn check_sign(&self, ceremony: u32, step: u32, at: Moment) -> Result<(), Refusal>
         ensures first { MatchResult result
-            (λ _. early_refusal_by self.now.view.now self.now.is_full (Kinds.Sign ceremony step at) ≡ None)
+            (λ _. early_refusal_by self.now.view.now self.now.is_full (Kinds.Ceremony ceremony at (Deeds.Sign step)) ≡ None)
             (λ refusal. nat_lt MAX_STEPS (Views.last_seated self.now.view.now.seatings.items ceremony) ≡ false
-            → early_refusal_by self.now.view.now self.now.is_full (Kinds.Sign ceremony step at) ≡ Some refusal) }
+            → early_refusal_by self.now.view.now self.now.is_full (Kinds.Ceremony ceremony at (Deeds.Sign step)) ≡ Some refusal) }
         ensures few { OnOk result (nat_lt MAX_STEPS (Views.last_seated self.now.view.now.seatings.items ceremony) ≡ false) }
-        ensures kind { IfErr result (λ refusal. IsTrue (may_refuse (Kinds.Sign ceremony step at) refusal)) }
+        ensures kind { IfErr result (λ refusal. IsTrue (may_refuse (Kinds.Ceremony ceremony at (Deeds.Sign step)) refusal)) }
     {
         let row = known_ceremony(self.view, ceremony)?;
         if step_row(&self.view.steps, ceremony, step).is_none() {
@@ -164,12 +165,12 @@ impl DecisionContext<'_> {
     /// `MAX_EXCEPTIONS` exceptions or the register is full; 34 if `next_step` is.
     pub fn check_exception(&self, ceremony: u32, pass: bool, at: Moment) -> Result<(), Refusal>
         ensures first { (text : List ℕ) → MatchResult result
-            (λ _. early_refusal_by self.now.view.now self.now.is_full (Kinds.RecordException ceremony text pass at) ≡ None)
+            (λ _. early_refusal_by self.now.view.now self.now.is_full (Kinds.Ceremony ceremony at (Deeds.RecordException text pass)) ≡ None)
             (λ refusal. nat_lt MAX_STEPS (Views.last_seated self.now.view.now.seatings.items ceremony) ≡ false
-            → early_refusal_by self.now.view.now self.now.is_full (Kinds.RecordException ceremony text pass at) ≡ Some refusal) }
+            → early_refusal_by self.now.view.now self.now.is_full (Kinds.Ceremony ceremony at (Deeds.RecordException text pass)) ≡ Some refusal) }
         ensures few { OnOk result (nat_lt MAX_STEPS (Views.last_seated self.now.view.now.seatings.items ceremony) ≡ false) }
         ensures kind { (text : List ℕ)
-            → IfErr result (λ refusal. IsTrue (may_refuse (Kinds.RecordException ceremony text pass at) refusal)) }
+            → IfErr result (λ refusal. IsTrue (may_refuse (Kinds.Ceremony ceremony at (Deeds.RecordException text pass)) refusal)) }
     {
         let row = known_ceremony(self.view, ceremony)?;
         check_running(self.view, ceremony, row.state, at)?;

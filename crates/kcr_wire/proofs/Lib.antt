@@ -12,5 +12,6 @@ pub mod Again
 pub mod Sent
 pub mod BodiesRead
 pub mod RequestsAgain
+mod ReadCommands
 pub mod BodyPieces
 mod AfterLemmas

@@ -92,6 +92,7 @@ module _ {K : Type 0} (P : K → Type 0) where
   first-of None b h g = g
   first-of (Some key) b h g = h
 
+  -- what holds of each route holds of one that a search finds
   pub seek-key : (n : ℕ) (rs : RowsOf K) (path : List ℕ) → AllKeys rs → IfSome (seek n rs path) P
   unfolding seek
   seek-key n rs [] h = own-key rs h

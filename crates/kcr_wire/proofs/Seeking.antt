@@ -88,6 +88,7 @@ module _ {K : Type 0} where
   is_literal [] rs = true
   is_literal (b ∷ w) rs = (no_rows (step param_token rs) && no_rows (step catch_all_token rs)) && is_literal w (step b rs)
 
+  -- a search passes bytes that no parameter could take
   pub seek-literal : (w rest : List ℕ) (rs : RowsOf K) → is_literal w rs ≡ true → seek 0 rs (w ++ rest) ≡ seek 0 (walked w rs) rest
   unfolding seek
   seek-literal [] rest rs h = refl

@@ -1,10 +1,12 @@
--- The path of an act is a path of the register, and asks for what the act needs.
-use Rattle.std.proofs.Common.{◌≡◌, ℕ, ◌<◌, List, [], ◌∷◌, ◌++◌, codes, Option, Some, None, Ok, refl, sym, ap, ◌∙◌, subst, arith, All, append_assoc}
+-- The path of an act is a path of the register, and asks for what the act needs. What any path asks for has values as its
+-- parts.
+use Rattle.std.proofs.Common.{◌≡◌, ℕ, ◌<◌, List, [], ◌∷◌, ◌++◌, codes, Option, Some, None, Ok, IfSome, IfOk, refl, sym, ap, ◌∙◌, subst, arith, All, append_assoc}
+use Rattle.std.specs.Bool.{⊤}
 use Rattle.std.specs.Fmt.{decimal}
 use Rattle.std.specs.Option.{option_map, option_and_then, ok_or}
 use Rattle.std.proofs.lemmas.List.Elements.{All-cons, All-weaker}
 use Rattle.matchit.specs.Router.{RouteOf}
-use Rattle.matchit.specs.Params.{walk}
+use Rattle.matchit.specs.Params.{named, walk}
 use Rattle.matchit.specs.Seek.{first, seek}
 use Rattle.matchit.proofs.OnLiterals.{matchit_on_literals}
 use Rattle.kcr_base.specs.Initials.{IsInitials}
@@ -12,24 +14,40 @@ use Rattle.kcr_base.specs.Key.{IsKeyByte}
 use Rattle.kcr_base.specs.Number.{IsNumber}
 use Rattle.kcr_base.specs.Place.{IsPlace, place_text}
 use Rattle.kcr_base.specs.Serial.{IsSerial}
+use Rattle.kcr_base.specs.declared.limits.TheConstants.{MAX_CEREMONY, MAX_STEPS}
 use Rattle.kcr_base.specs.declared.place.Place.{Place}
+use Rattle.kcr_base.specs.declared.refusal.Refusal.{Refusal}
 use Rattle.kcr_base.specs.declared.refusal.Refusal.TheVariants as refusal
 use Rattle.kcr_custody.specs.declared.SafeNumber.{SafeNumber}
 use Rattle.kcr_custody.specs.declared.SafeNumber.TheVariants.{One, Two}
+use Rattle.kcr_history.specs.declared.questions.Question.TheVariants as question
 use Rattle.kcr_history.specs.Texts.{at_person, at_place, at_ceremony, at_bag, at_step, at_safe, safe_text, path_text}
 use Rattle.kcr_history.specs.declared.commands.Act.{Act}
-use Rattle.kcr_history.specs.declared.commands.Act.TheVariants.{Enter, Train, Withdraw, Appoint, Replace, Release, AddBox, AddItem, Plan, Open, Close, RecordSheet}
-use Rattle.kcr_history.specs.declared.commands.Act.TheVariants.{Sign, RecordException, SetSafe, Seal, Take, Put, Cut}
+use Rattle.kcr_history.specs.declared.commands.Act.TheVariants as act
+use Rattle.kcr_history.specs.declared.commands.Deed.TheVariants as deed
 use Rattle.kcr_forms.specs.Acts.{IsAct}
-use Rattle.kcr_forms.specs.Forms.{initials_of, place_of, ceremony_of, step_of, serial_of, safe_of}
-use Rattle.kcr_forms.proofs.Posts.{post_of}
+use Rattle.kcr_forms.specs.Forms.{initials_of, place_of, ceremony_of, step_of, serial_of, safe_of, day_of, moment_of}
+use Rattle.kcr_forms.proofs.Posts.{post_of, IsPost}
+use Rattle.kcr_forms.proofs.Readers.{any, mapped, chained}
 use Rattle.kcr_forms.specs.declared.post.Post.{Post}
 use Rattle.kcr_forms.specs.declared.post.Post.TheVariants as post
+use Rattle.kcr_forms.specs.declared.post.CollectionPath.{CollectionPath}
+use Rattle.kcr_forms.specs.declared.post.CollectionPath.TheVariants.{People, Custodians, Boxes, Items, Ceremonies}
+use Rattle.kcr_forms.specs.declared.post.PersonPath.{PersonPath}
+use Rattle.kcr_forms.specs.declared.post.PersonPath.TheVariants.{Roles, Withdrawals}
+use Rattle.kcr_forms.specs.declared.post.PlacePath.{PlacePath}
+use Rattle.kcr_forms.specs.declared.post.PlacePath.TheVariants.{Replacement, Release}
+use Rattle.kcr_forms.specs.declared.post.CeremonyPath.{CeremonyPath}
+use Rattle.kcr_forms.specs.declared.post.CeremonyPath.TheVariants.{Opening, Closing, Sheet, Exceptions}
+use Rattle.kcr_forms.specs.declared.post.BagPath.{BagPath}
+use Rattle.kcr_forms.specs.declared.post.BagPath.TheVariants.{Seal, Take, Put, Cut}
 use Rattle.kcr_forms.proofs.Formed.{initials, places-read, ceremonies, steps, serials, safes}
 use Rattle.kcr_wire.specs.Routes.{table, add_all, add}
-use Rattle.kcr_wire.specs.Endpoints.{Parts, parts_in, endpoint_of, target_at, target_of, with_parts}
+use Rattle.kcr_wire.specs.Endpoints.{Parts, path_of, ascii_in, parts_in, part_as, ceremony_in, serial_in, after_of, endpoint_of, target_at, target_of, with_parts}
 use Rattle.kcr_wire.specs.declared.route.Route.{Route}
 use Rattle.kcr_wire.specs.declared.route.Route.TheVariants as route
+use Rattle.kcr_wire.specs.declared.question.Inquiry.{Inquiry}
+use Rattle.kcr_wire.specs.declared.question.Inquiry.TheVariants as inquiry
 use Rattle.kcr_wire.specs.declared.endpoint.Endpoint.{Endpoint}
 use Rattle.kcr_wire.specs.declared.endpoint.Endpoint.TheVariants as target
 use Rattle.kcr_wire.proofs.Bytes.{IsWord, literal, initials-word, serial-word, number-word, place-word, word-slash, word-below}
@@ -75,34 +93,45 @@ unfoldable in_table : Unit {0}
 unfolding matchit_on_literals table add_all add
 in_table = tt
 
-lists-in : NoneIn (codes "/people") route.People × NoneIn (codes "/custodians") route.Custodians × NoneIn (codes "/boxes") route.Boxes
-    × NoneIn (codes "/items") route.Items × NoneIn (codes "/ceremonies") route.Ceremonies
-unfolding in_table
-lists-in = (refl, refl, refl, refl, refl)
+-- the route to a collection
+abbrev CollectionIn : List ℕ → CollectionPath → Type 0
+CollectionIn path kind = NoneIn path (route.Collection kind)
 
-people-in : OneIn (codes "/people/") (codes "who") (codes "roles") route.Roles × OneIn (codes "/people/") (codes "who") (codes "withdrawals") route.Withdrawals
+collections-in : CollectionIn (codes "/people") People × CollectionIn (codes "/custodians") Custodians × CollectionIn (codes "/boxes") Boxes
+    × CollectionIn (codes "/items") Items × CollectionIn (codes "/ceremonies") Ceremonies
+unfolding in_table
+collections-in = (refl, refl, refl, refl, refl)
+
+-- the route on a person
+abbrev PersonIn : List ℕ → PersonPath → Type 0
+PersonIn back kind = OneIn (codes "/people/") (codes "who") back (route.Person kind)
+
+people-in : PersonIn (codes "roles") Roles × PersonIn (codes "withdrawals") Withdrawals
 unfolding in_table
 people-in = (refl, refl)
 
-places-in : OneIn (codes "/custodians/") (codes "place") (codes "replacement") route.Replacement
-    × OneIn (codes "/custodians/") (codes "place") (codes "release") route.Release
+-- the route on a place
+abbrev PlaceIn : List ℕ → PlacePath → Type 0
+PlaceIn back kind = OneIn (codes "/custodians/") (codes "place") back (route.Place kind)
+
+places-in : PlaceIn (codes "replacement") Replacement × PlaceIn (codes "release") Release
 unfolding in_table
 places-in = (refl, refl)
 
 -- the route on a ceremony
-abbrev CeremonyIn : List ℕ → Route → Type 0
-CeremonyIn back r = OneIn (codes "/ceremonies/") (codes "ceremony") back r
+abbrev CeremonyIn : List ℕ → CeremonyPath → Type 0
+CeremonyIn back kind = OneIn (codes "/ceremonies/") (codes "ceremony") back (route.Ceremony kind)
 
-ceremonies-in : CeremonyIn (codes "opening") route.Opening × CeremonyIn (codes "closing") route.Closing × CeremonyIn (codes "sheet") route.Sheet
-    × CeremonyIn (codes "exceptions") route.Exceptions
+ceremonies-in : CeremonyIn (codes "opening") Opening × CeremonyIn (codes "closing") Closing × CeremonyIn (codes "sheet") Sheet
+    × CeremonyIn (codes "exceptions") Exceptions
 unfolding in_table
 ceremonies-in = (refl, refl, refl, refl)
 
 -- the route on a bag
-abbrev BagIn : List ℕ → Route → Type 0
-BagIn back r = TwoIn (codes "bags/") (codes "serial") back r
+abbrev BagIn : List ℕ → BagPath → Type 0
+BagIn back kind = TwoIn (codes "bags/") (codes "serial") back (route.Bag kind)
 
-bags-in : BagIn (codes "seal") route.Seal × BagIn (codes "take") route.Take × BagIn (codes "put") route.Put × BagIn (codes "cut") route.Cut
+bags-in : BagIn (codes "seal") Seal × BagIn (codes "take") Take × BagIn (codes "put") Put × BagIn (codes "cut") Cut
 unfolding in_table
 bags-in = (refl, refl, refl, refl)
 
@@ -110,7 +139,7 @@ step-in : TwoIn (codes "steps/") (codes "step") (codes "signature") route.Signat
 unfolding in_table
 step-in = refl
 
-safes-in : (safe : SafeNumber) → LastIn (codes "safes/") (safe_text safe) (codes "safe") route.Safes
+safes-in : (safe : SafeNumber) → LastIn (codes "safes/") (safe_text safe) (codes "safe") route.Safe
 unfolding in_table
 safes-in One = refl
 safes-in Two = refl
@@ -138,10 +167,11 @@ number : (n : ℕ) → IsNumber 9999 n → IsWord (decimal n)
 number n is = number-word 9999 n (omega arith) is
 
 -- no part in braces
-list-path : (path : List ℕ) → IsPath 20 path → (r : Route) (p : Post) → ((parts : Parts) → endpoint_of r parts ≡ Some (target.Post p)) → NoneIn path r → IsPathTo path p
-list-path path is r p asks is_in = record {
+collection : (path : List ℕ) → IsPath 20 path → (kind : CollectionPath) → CollectionIn path kind → IsPathTo path (post.Collection kind)
+collection path is kind is_in = record {
   is = wider (omega arith) is;
-  asks = by-route path r path [] (target.Post p) (first table path) (literal-route sight path table (r, (path, [])) is_in) (λ text places named. asks (walk path text path places 0 0));
+  asks = by-route path (route.Collection kind) path [] (target.Post (post.Collection kind)) (first table path)
+      (literal-route sight path table (route.Collection kind, (path, [])) is_in) (λ text places named. refl);
 }
 
 -- one part in braces
@@ -161,25 +191,26 @@ module _ {V : Type 0} (front name : List ℕ) (front_is : IsPath 20 front) (read
             ∙ asks w ∙ ap (option_map (λ v. target.Post (make v))) same));
       }
 
-person : (who : List ℕ) → IsInitials who → (make : List ℕ → Post) (r : Route)
-    → ((w : List ℕ) → endpoint_of r ((codes "who", w) ∷ []) ≡ option_map (λ v. target.Post (make v)) (initials_of w))
-    → (back : List ℕ) → IsPath 20 back → OneIn (codes "/people/") (codes "who") back r → IsPathTo (at_person who back) (make who)
-person who is = one-path (codes "/people/") (codes "who") (words (codes "/people/") refl) initials_of who who (initials-word who is) (initials.again who is)
+person : (who : List ℕ) → IsInitials who → (kind : PersonPath) (back : List ℕ) → IsPath 20 back → PersonIn back kind → IsPathTo (at_person who back) (post.Person who kind)
+person who is kind =
+    one-path (codes "/people/") (codes "who") (words (codes "/people/") refl) initials_of who who (initials-word who is) (initials.again who is)
+    (λ who. post.Person who kind) (route.Person kind) (λ w. refl)
 
-place-path : (place : Place) → IsPlace place → (make : Place → Post) (r : Route)
-    → ((w : List ℕ) → endpoint_of r ((codes "place", w) ∷ []) ≡ option_map (λ v. target.Post (make v)) (place_of w))
-    → (back : List ℕ) → IsPath 20 back → OneIn (codes "/custodians/") (codes "place") back r → IsPathTo (at_place (place_text place) back) (make place)
-place-path place is =
+place-path : (place : Place) → IsPlace place → (kind : PlacePath) (back : List ℕ) → IsPath 20 back → PlaceIn back kind
+    → IsPathTo (at_place (place_text place) back) (post.Place place kind)
+place-path place is kind =
     one-path (codes "/custodians/") (codes "place") (words (codes "/custodians/") refl) place_of (place_text place) place (place-word place is) (places-read.again place is)
+    (λ place. post.Place place kind) (route.Place kind) (λ w. refl)
 
 -- the paths of ceremonies begin so
 in_ceremonies : IsPath 20 (codes "/ceremonies/")
 in_ceremonies = words (codes "/ceremonies/") refl
 
 module _ (n : ℕ) (is : IsNumber 9999 n) where
-  ceremony : (make : ℕ → Post) (r : Route) → ((w : List ℕ) → endpoint_of r ((codes "ceremony", w) ∷ []) ≡ option_map (λ v. target.Post (make v)) (ceremony_of w))
-      → (back : List ℕ) → IsPath 20 back → CeremonyIn back r → IsPathTo (at_ceremony n back) (make n)
-  ceremony = one-path (codes "/ceremonies/") (codes "ceremony") in_ceremonies ceremony_of (decimal n) n (number n is) (ceremonies.again n is)
+  ceremony : (kind : CeremonyPath) (back : List ℕ) → IsPath 20 back → CeremonyIn back kind → IsPathTo (at_ceremony n back) (post.Ceremony n kind)
+  ceremony kind =
+      one-path (codes "/ceremonies/") (codes "ceremony") in_ceremonies ceremony_of (decimal n) n (number n is) (ceremonies.again n is)
+      (λ n. post.Ceremony n kind) (route.Ceremony kind) (λ w. refl)
 
   -- two parts in braces, the first of them a ceremony
   module _ {V : Type 0} (middle name : List ℕ) (middle_is : IsPath 20 middle) (read : List ℕ → Option V) (w : List ℕ) (v : V) (word : IsWord w) (same : read w ≡ Some v)
@@ -224,10 +255,10 @@ module _ (n : ℕ) (is : IsNumber 9999 n) where
               (word-slash (decimal n) (number n is).bytes) (omega arith) middle small text (codes "ceremony") name w places named) ∙ both));
         }
 
-  bag : (serial : List ℕ) → IsSerial serial → (make : ℕ → List ℕ → Post) (r : Route)
-      → ((n w : List ℕ) → endpoint_of r ((codes "ceremony", n) ∷ (codes "serial", w) ∷ []) ≡ with_parts (λ n v. target.Post (make n v)) (ceremony_of n) (serial_of w))
-      → (back : List ℕ) → IsPath 20 back → BagIn back r → IsPathTo (at_bag n serial back) (make n serial)
-  bag serial is_serial = two-path (codes "bags/") (codes "serial") (words (codes "bags/") refl) serial_of serial serial (serial-word serial is_serial) (serials.again serial is_serial)
+  bag : (serial : List ℕ) → IsSerial serial → (kind : BagPath) (back : List ℕ) → IsPath 20 back → BagIn back kind → IsPathTo (at_bag n serial back) (post.Bag n serial kind)
+  bag serial is_serial kind =
+      two-path (codes "bags/") (codes "serial") (words (codes "bags/") refl) serial_of serial serial (serial-word serial is_serial) (serials.again serial is_serial)
+      (λ n serial. post.Bag n serial kind) (route.Bag kind) (λ n w. refl)
 
   step : (k : ℕ) → IsNumber 400 k → IsPathTo (at_step n k) (post.Signature n k)
   step k is_step =
@@ -238,7 +269,7 @@ module _ (n : ℕ) (is : IsNumber 9999 n) where
   safe-path : (safe : SafeNumber) → IsWord (safe_text safe) → IsPath 20 (codes "safes/" ++ safe_text safe) → IsPathTo (at_safe n safe) (post.Safe n safe)
   safe-path safe word last_is =
       last-path (codes "safes/") (codes "safe") (words (codes "safes/") refl) safe_of (safe_text safe) safe word (safes.again safe tt)
-      post.Safe route.Safes (λ n w. refl) (wider (omega arith) last_is) (safes-in safe)
+      post.Safe route.Safe (λ n w. refl) (wider (omega arith) last_is) (safes-in safe)
 
   safe : (safe : SafeNumber) → IsPathTo (at_safe n safe) (post.Safe n safe)
   safe One = safe-path One (record { some = omega arith; short = omega arith; bytes = literal (codes "1") refl }) (words (codes "safes/1") refl)
@@ -247,27 +278,25 @@ module _ (n : ℕ) (is : IsNumber 9999 n) where
 -- ---- each act
 
 act-read : (act : Act) → IsAct act → IsPathTo (path_text act) (post_of act)
-act-read (Enter who name) is = list-path (codes "/people") (words (codes "/people") refl) route.People post.People (λ parts. refl) lists-in.0
-act-read (Train who role since until) is = person who is.0 post.Roles route.Roles (λ w. refl) (codes "roles") (words (codes "roles") refl) people-in.0
-act-read (Withdraw who role day) is = person who is.0 post.Withdrawals route.Withdrawals (λ w. refl) (codes "withdrawals") (words (codes "withdrawals") refl) people-in.1
-act-read (Appoint place who day) is = list-path (codes "/custodians") (words (codes "/custodians") refl) route.Custodians post.Custodians (λ parts. refl) lists-in.1
-act-read (Replace place who day) is =
-    place-path place is.0 post.Replacement route.Replacement (λ w. refl) (codes "replacement") (words (codes "replacement") refl) places-in.0
-act-read (Release place day) is = place-path place is.0 post.Release route.Release (λ w. refl) (codes "release") (words (codes "release") refl) places-in.1
-act-read (AddBox facility box place) is = list-path (codes "/boxes") (words (codes "/boxes") refl) route.Boxes post.Boxes (λ parts. refl) lists-in.2
-act-read (AddItem n item at) is = list-path (codes "/items") (words (codes "/items") refl) route.Items post.Items (λ parts. refl) lists-in.3
-act-read (Plan n facility day script) is = list-path (codes "/ceremonies") (words (codes "/ceremonies") refl) route.Ceremonies post.Ceremonies (λ parts. refl) lists-in.4
-act-read (Open n at) is = ceremony n is.0 post.Opening route.Opening (λ w. refl) (codes "opening") (words (codes "opening") refl) ceremonies-in.0
-act-read (Close n at) is = ceremony n is.0 post.Closing route.Closing (λ w. refl) (codes "closing") (words (codes "closing") refl) ceremonies-in.1
-act-read (RecordSheet n way who at) is = ceremony n is.0 post.Sheet route.Sheet (λ w. refl) (codes "sheet") (words (codes "sheet") refl) ceremonies-in.2
-act-read (Sign n k at) is = step n is.0 k is.1
-act-read (RecordException n text pass at) is =
-    ceremony n is.0 post.Exceptions route.Exceptions (λ w. refl) (codes "exceptions") (words (codes "exceptions") refl) ceremonies-in.3
-act-read (SetSafe n which state by at) is = safe n is.0 which
-act-read (Seal n serial items at) is = bag n is.0 serial is.1 post.Seal route.Seal (λ n w. refl) (codes "seal") (words (codes "seal") refl) bags-in.0
-act-read (Take n serial at) is = bag n is.0 serial is.1 post.Take route.Take (λ n w. refl) (codes "take") (words (codes "take") refl) bags-in.1
-act-read (Put n serial to at) is = bag n is.0 serial is.1 post.Put route.Put (λ n w. refl) (codes "put") (words (codes "put") refl) bags-in.2
-act-read (Cut n serial at) is = bag n is.0 serial is.1 post.Cut route.Cut (λ n w. refl) (codes "cut") (words (codes "cut") refl) bags-in.3
+act-read (act.Enter who name) is = collection (codes "/people") (words (codes "/people") refl) People collections-in.0
+act-read (act.Train who role since until) is = person who is.0 Roles (codes "roles") (words (codes "roles") refl) people-in.0
+act-read (act.Withdraw who role day) is = person who is.0 Withdrawals (codes "withdrawals") (words (codes "withdrawals") refl) people-in.1
+act-read (act.Appoint place who day) is = collection (codes "/custodians") (words (codes "/custodians") refl) Custodians collections-in.1
+act-read (act.Replace place who day) is = place-path place is.0 Replacement (codes "replacement") (words (codes "replacement") refl) places-in.0
+act-read (act.Release place day) is = place-path place is.0 Release (codes "release") (words (codes "release") refl) places-in.1
+act-read (act.AddBox facility box place) is = collection (codes "/boxes") (words (codes "/boxes") refl) Boxes collections-in.2
+act-read (act.Ceremony n at (deed.AddItem item)) is = collection (codes "/items") (words (codes "/items") refl) Items collections-in.3
+act-read (act.Plan n facility day script) is = collection (codes "/ceremonies") (words (codes "/ceremonies") refl) Ceremonies collections-in.4
+act-read (act.Ceremony n at deed.Open) is = ceremony n is.0 Opening (codes "opening") (words (codes "opening") refl) ceremonies-in.0
+act-read (act.Ceremony n at deed.Close) is = ceremony n is.0 Closing (codes "closing") (words (codes "closing") refl) ceremonies-in.1
+act-read (act.Ceremony n at (deed.RecordSheet way who)) is = ceremony n is.0 Sheet (codes "sheet") (words (codes "sheet") refl) ceremonies-in.2
+act-read (act.Ceremony n at (deed.Sign k)) is = step n is.0 k is.1
+act-read (act.Ceremony n at (deed.RecordException text pass)) is = ceremony n is.0 Exceptions (codes "exceptions") (words (codes "exceptions") refl) ceremonies-in.3
+act-read (act.Ceremony n at (deed.SetSafe which state by)) is = safe n is.0 which
+act-read (act.Ceremony n at (deed.Seal serial items)) is = bag n is.0 serial is.1.0 Seal (codes "seal") (words (codes "seal") refl) bags-in.0
+act-read (act.Ceremony n at (deed.Take serial)) is = bag n is.0 serial is.1 Take (codes "take") (words (codes "take") refl) bags-in.1
+act-read (act.Ceremony n at (deed.Put serial to)) is = bag n is.0 serial is.1.0 Put (codes "put") (words (codes "put") refl) bags-in.2
+act-read (act.Ceremony n at (deed.Cut serial)) is = bag n is.0 serial is.1 Cut (codes "cut") (words (codes "cut") refl) bags-in.3
 
 -- the path of an act is short, and has the bytes of a path
 pub act-path : (act : Act) → IsAct act → IsPath 200 (path_text act)
@@ -280,3 +309,72 @@ act-target act is =
     let read = act-read act is in
     ap (λ (o : Option (List ℕ)). ok_or (option_and_then target_at o) refusal.Path) (whole-path (path_text act) read.is.bytes)
     ∙ ap (λ (o : Option Endpoint). ok_or o refusal.Path) read.asks
+
+-- ---- the parts of what a path asks for
+
+-- they are values of their types
+abbrev pub IsEndpoint : Endpoint → Type 0
+IsEndpoint (target.Post p) = IsPost p
+IsEndpoint (target.Ask inquiry) = ⊤
+
+part-is : {V : Type 0} (IsValue : V → Type 0) (read : List ℕ → Option V) → ((text : List ℕ) → IfSome (read text) IsValue)
+    → (name : List ℕ) (parts : Parts) → IfSome (part_as read name parts) IsValue
+part-is IsValue read found name parts = chained (λ _. ⊤) IsValue read (λ text _. found text) (named name parts) (any (named name parts))
+
+both-are : {A B : Type 0} (P : A → Type 0) (Q : B → Type 0) (make : A → B → Endpoint) → ((a : A) (b : B) → P a → Q b → IsEndpoint (make a b))
+    → (part : Option A) (other : Option B) → IfSome part P → IfSome other Q → IfSome (with_parts make part other) IsEndpoint
+both-are P Q make is None other p q = tt
+both-are P Q make is (Some a) None p q = tt
+both-are P Q make is (Some a) (Some b) p q = is a b p q
+
+-- the same of what asks for something
+asked : {A : Type 0} (make : A → Inquiry) (part : Option A) → IfSome (option_map (λ a. target.Ask (make a)) part) IsEndpoint
+asked make None = tt
+asked make (Some a) = tt
+
+ceremony-is : (parts : Parts) → IfSome (ceremony_in parts) (IsNumber MAX_CEREMONY)
+ceremony-is = part-is (IsNumber MAX_CEREMONY) ceremony_of ceremonies.found (codes "ceremony")
+
+serial-is : (parts : Parts) → IfSome (serial_in parts) IsSerial
+serial-is = part-is IsSerial serial_of serials.found (codes "serial")
+
+endpoint-is : (r : Route) (parts : Parts) → IfSome (endpoint_of r parts) IsEndpoint
+endpoint-is (route.Collection path) parts = tt
+endpoint-is (route.Person path) parts =
+    mapped IsInitials IsEndpoint (λ who. target.Post (post.Person who path)) (λ who is. is) (part_as initials_of (codes "who") parts)
+    (part-is IsInitials initials_of initials.found (codes "who") parts)
+endpoint-is (route.Place path) parts =
+    mapped IsPlace IsEndpoint (λ place. target.Post (post.Place place path)) (λ place is. is) (part_as place_of (codes "place") parts)
+    (part-is IsPlace place_of places-read.found (codes "place") parts)
+endpoint-is (route.Ceremony path) parts =
+    mapped (IsNumber MAX_CEREMONY) IsEndpoint (λ n. target.Post (post.Ceremony n path)) (λ n is. is) (ceremony_in parts) (ceremony-is parts)
+endpoint-is route.Signature parts =
+    both-are (IsNumber MAX_CEREMONY) (IsNumber MAX_STEPS) (λ n step. target.Post (post.Signature n step)) (λ n step is is_step. (is, is_step))
+    (ceremony_in parts) (part_as step_of (codes "step") parts) (ceremony-is parts) (part-is (IsNumber MAX_STEPS) step_of steps.found (codes "step") parts)
+endpoint-is route.Safe parts =
+    let safe = part_as safe_of (codes "safe") parts in
+    both-are (IsNumber MAX_CEREMONY) (λ _. ⊤) (λ n safe. target.Post (post.Safe n safe)) (λ n safe is _. is) (ceremony_in parts) safe (ceremony-is parts) (any safe)
+endpoint-is (route.Bag path) parts =
+    both-are (IsNumber MAX_CEREMONY) IsSerial (λ n serial. target.Post (post.Bag n serial path)) (λ n serial is is_serial. (is, is_serial))
+    (ceremony_in parts) (serial_in parts) (ceremony-is parts) (serial-is parts)
+endpoint-is route.CustodiansOn parts = asked (λ day. inquiry.Question (question.Custodians day)) (part_as day_of (codes "day") parts)
+endpoint-is route.BagShown parts = asked (λ serial. inquiry.Question (question.Bag serial)) (serial_in parts)
+endpoint-is route.Room parts =
+    let at = part_as moment_of (codes "at") parts in
+    both-are (λ _. ⊤) (λ _. ⊤) (λ n at. target.Ask (inquiry.Question (question.Room n at))) (λ n at _ _. tt) (ceremony_in parts) at (any (ceremony_in parts)) (any at)
+endpoint-is route.Script parts = asked inquiry.Script (ceremony_in parts)
+endpoint-is route.Attendance parts = asked inquiry.Attendance (ceremony_in parts)
+endpoint-is route.Custody parts = tt
+endpoint-is route.Commands parts = asked inquiry.Commands (part_as after_of (codes "after") parts)
+
+ok-if : {A : Type 0} (P : A → Type 0) (o : Option A) (e : Refusal) → IfSome o P → IfOk (ok_or o e) P
+ok-if P None e h = tt
+ok-if P (Some a) e h = h
+
+-- what a target asks for has such parts
+pub target-is : (text : List ℕ) → IfOk (target_of text) IsEndpoint
+unfolding target_of
+target-is text =
+    let at : (path : List ℕ) → IfSome (target_at path) IsEndpoint =
+    λ path. chained (λ _. ⊤) IsEndpoint (λ found. endpoint_of found.value (parts_in found path)) (λ found _. endpoint-is found.value (parts_in found path)) (first table path) (any (first table path)) in
+    ok-if IsEndpoint (option_and_then target_at (ascii_in (path_of text))) refusal.Path (chained (λ _. ⊤) IsEndpoint target_at (λ path _. at path) (ascii_in (path_of text)) (any (ascii_in (path_of text))))

@@ -127,6 +127,7 @@ abbrev pub names_in : List ℕ → List (ℕ × ℕ) → List (List ℕ)
 names_in text places = map (λ (place : ℕ × ℕ). part_of text place.0 place.1) places
 
 module _ (front w : List ℕ) (small : All (λ b. b < 256) front) (lacks : All (λ b. eqb b 47 ≡ false) w) where
+  -- one parameter takes the bytes between its slashes
   pub one-taken : (back text rest name : List ℕ) (places : List (ℕ × ℕ)) → names_in text places ≡ name ∷ []
       → walk (front ++ 256 ∷ 47 ∷ back) text (front ++ (w ++ 47 ∷ rest)) places 0 0 ≡ (name, w) ∷ []
   one-taken back text rest name [] e = cc
@@ -146,11 +147,13 @@ module _ (front w : List ℕ) (small : All (λ b. b < 256) front) (lacks : All (
         walk-two front middle back text w v rest first second small short small_middle lacks ends ∙ (λ i. (one i, w) ∷ (two i, v) ∷ [])
     two-named back v rest ends (first ∷ second ∷ third ∷ places) e = cc
 
+    -- two parameters take theirs
     pub two-taken : (back v rest : List ℕ) → All (λ b. eqb b 47 ≡ false) v → (places : List (ℕ × ℕ)) → names_in text places ≡ name ∷ other ∷ []
         → walk (front ++ 256 ∷ 47 ∷ (middle ++ 256 ∷ 47 ∷ back)) text (front ++ (w ++ 47 ∷ (middle ++ (v ++ 47 ∷ rest)))) places 0 0
         ≡ (name, w) ∷ (other, v) ∷ []
     two-taken back v rest v_lacks = two-named (47 ∷ back) v (47 ∷ rest) (stop-before (tokens_before front middle) back (bytes_before front middle w) v rest v_lacks)
 
+    -- the last parameter takes the rest of the path
     pub last-taken : (v : List ℕ) (places : List (ℕ × ℕ)) → names_in text places ≡ name ∷ other ∷ []
         → walk (front ++ 256 ∷ 47 ∷ (middle ++ 256 ∷ [])) text (front ++ (w ++ 47 ∷ (middle ++ v))) places 0 0 ≡ (name, w) ∷ (other, v) ∷ []
     last-taken v places e =

@@ -11,12 +11,11 @@ use Rattle.matchit.specs.Router.{RouteOf}
 use Rattle.matchit.specs.Seek.{first}
 use Rattle.matchit.specs.declared.params.Params.{Params}
 use Rattle.kcr_base.specs.declared.limits.TheConstants.{MAX_COMMANDS}
-use Rattle.kcr_base.specs.declared.place.Place.{Place}
 use Rattle.kcr_base.specs.declared.refusal.Refusal.{Refusal}
 use Rattle.kcr_base.specs.declared.refusal.Refusal.TheVariants as refusal
 use Rattle.kcr_forms.specs.Forms.{number_by_text, initials_of, day_of, moment_of, serial_of, ceremony_of, step_of}
 use Rattle.kcr_forms.specs.Forms.{safe_of, place_of}
-use Rattle.kcr_forms.specs.declared.post.Post.{Post}
+use Rattle.kcr_forms.specs.declared.post.CollectionPath.TheVariants.{People}
 use Rattle.kcr_forms.specs.declared.post.Post.TheVariants as post
 use Rattle.kcr_history.specs.declared.questions.Question.TheVariants as question
 use Rattle.kcr_wire.specs.Routes.{table}
@@ -69,46 +68,23 @@ after_of text = number_by_text decimal 0 MAX_COMMANDS text
 abbrev pub with_parts : {A B : Type 0} → (A → B → Endpoint) → Option A → Option B → Option Endpoint
 with_parts make part other = option_and_then (λ a. option_map (make a) other) part
 
--- a path on a person
-abbrev pub on_person : (List ℕ → Post) → Parts → Option Endpoint
-on_person make parts = option_map (λ who. target.Post (make who)) (part_as initials_of (codes "who") parts)
-
--- a path on a place
-abbrev pub on_place : (Place → Post) → Parts → Option Endpoint
-on_place make parts = option_map (λ place. target.Post (make place)) (part_as place_of (codes "place") parts)
-
--- a path on a ceremony
-abbrev pub on_ceremony : (ℕ → Post) → Parts → Option Endpoint
-on_ceremony make parts = option_map (λ n. target.Post (make n)) (ceremony_in parts)
-
--- a path on something in a ceremony
-abbrev pub in_ceremony : {V : Type 0} → (ℕ → V → Post) → Option V → Parts → Option Endpoint
-in_ceremony make other parts = with_parts (λ n v. target.Post (make n v)) (ceremony_in parts) other
-
 -- what a path of this route asks for, if each of its parts is of its form
 abbrev pub endpoint_of : Route → Parts → Option Endpoint
-endpoint_of route.People parts = Some (target.Post post.People)
-endpoint_of route.Roles parts = on_person post.Roles parts
-endpoint_of route.Withdrawals parts = on_person post.Withdrawals parts
-endpoint_of route.Custodians parts = Some (target.Post post.Custodians)
-endpoint_of route.Replacement parts = on_place post.Replacement parts
-endpoint_of route.Release parts = on_place post.Release parts
-endpoint_of route.Boxes parts = Some (target.Post post.Boxes)
-endpoint_of route.Items parts = Some (target.Post post.Items)
-endpoint_of route.Ceremonies parts = Some (target.Post post.Ceremonies)
-endpoint_of route.Opening parts = on_ceremony post.Opening parts
-endpoint_of route.Closing parts = on_ceremony post.Closing parts
-endpoint_of route.Sheet parts = on_ceremony post.Sheet parts
-endpoint_of route.Signature parts = in_ceremony post.Signature (part_as step_of (codes "step") parts) parts
-endpoint_of route.Exceptions parts = on_ceremony post.Exceptions parts
-endpoint_of route.Safes parts = in_ceremony post.Safe (part_as safe_of (codes "safe") parts) parts
-endpoint_of route.Seal parts = in_ceremony post.Seal (serial_in parts) parts
-endpoint_of route.Take parts = in_ceremony post.Take (serial_in parts) parts
-endpoint_of route.Put parts = in_ceremony post.Put (serial_in parts) parts
-endpoint_of route.Cut parts = in_ceremony post.Cut (serial_in parts) parts
+endpoint_of (route.Collection path) parts = Some (target.Post (post.Collection path))
+endpoint_of (route.Person path) parts =
+    option_map (λ who. target.Post (post.Person who path)) (part_as initials_of (codes "who") parts)
+endpoint_of (route.Place path) parts =
+    option_map (λ place. target.Post (post.Place place path)) (part_as place_of (codes "place") parts)
+endpoint_of (route.Ceremony path) parts = option_map (λ n. target.Post (post.Ceremony n path)) (ceremony_in parts)
+endpoint_of route.Signature parts =
+    with_parts (λ n step. target.Post (post.Signature n step)) (ceremony_in parts) (part_as step_of (codes "step") parts)
+endpoint_of route.Safe parts =
+    with_parts (λ n safe. target.Post (post.Safe n safe)) (ceremony_in parts) (part_as safe_of (codes "safe") parts)
+endpoint_of (route.Bag path) parts =
+    with_parts (λ n serial. target.Post (post.Bag n serial path)) (ceremony_in parts) (serial_in parts)
 endpoint_of route.CustodiansOn parts =
     option_map (λ day. target.Ask (inquiry.Question (question.Custodians day))) (part_as day_of (codes "day") parts)
-endpoint_of route.Bag parts = option_map (λ serial. target.Ask (inquiry.Question (question.Bag serial))) (serial_in parts)
+endpoint_of route.BagShown parts = option_map (λ serial. target.Ask (inquiry.Question (question.Bag serial))) (serial_in parts)
 endpoint_of route.Room parts =
     with_parts (λ n at. target.Ask (inquiry.Question (question.Room n at))) (ceremony_in parts)
     (part_as moment_of (codes "at") parts)
@@ -128,7 +104,7 @@ target_of target = ok_or (option_and_then target_at (ascii_in (path_of target)))
 
 -- the methods that a path takes
 abbrev pub allow_of_endpoint : Endpoint → Allow
-allow_of_endpoint (target.Post post.People) = allow.GetHeadPost
+allow_of_endpoint (target.Post (post.Collection People)) = allow.GetHeadPost
 allow_of_endpoint (target.Post _) = allow.Post
 allow_of_endpoint (target.Ask _) = allow.GetHead
 

@@ -5,6 +5,7 @@ use Rattle.kcr_wire.specs.Endpoints.{target_of}
 use Rattle.kcr_base.specs.declared.refusal.Refusal.{Refusal}
 use Rattle.kcr_base.specs.declared.refusal.Refusal.TheVariants as refusal
 use Rattle.kcr_history.specs.declared.questions.Question.TheVariants as question
+use Rattle.kcr_forms.specs.declared.post.CollectionPath.TheVariants.{People}
 use Rattle.kcr_forms.specs.declared.post.Post.TheVariants as post
 use Rattle.kcr_wire.specs.declared.question.Inquiry.{Inquiry}
 use Rattle.kcr_wire.specs.declared.question.Inquiry.TheVariants as inquiry
@@ -14,7 +15,7 @@ use Rattle.kcr_wire.specs.declared.endpoint.Endpoint.TheVariants as target
 -- the question or the report that a path is asked for, or that it takes commands alone
 abbrev pub inquiry_of : Endpoint → Result Inquiry Refusal
 inquiry_of (target.Ask asked) = Ok asked
-inquiry_of (target.Post post.People) = Ok (inquiry.Question question.People)
+inquiry_of (target.Post (post.Collection People)) = Ok (inquiry.Question question.People)
 inquiry_of (target.Post _) = Err refusal.Method
 
 -- the inquiry that a target is

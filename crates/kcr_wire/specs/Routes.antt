@@ -1,52 +1,64 @@
 -- The routes, and what a router that took them in their order holds.
-use Rattle.std.specs.Prelude.{ℕ, List, [], ◌∷◌, codes, Result, Ok, Err, Bool, true, false, ◌&&◌, Option, Some}
-use Rattle.std.specs.Prelude.{None}
+use Rattle.std.specs.Prelude.{ℕ, List, [], ◌∷◌, map, codes, Result, Ok, Err, Bool, true, false, ◌&&◌, Option, Some, None}
+use Rattle.std.specs.Borrow.{Bor}
 use Rattle.matchit.specs.Rows.{RowsOf}
 use Rattle.matchit.specs.Route.{parse_route, Scan}
 use Rattle.matchit.specs.Router.{RouteOf, route_from, nearest}
 use Rattle.matchit.specs.Order.{placed}
 use Rattle.matchit.specs.declared.error.InsertError.{InsertError}
+use Rattle.kcr_forms.specs.declared.post.CollectionPath.TheVariants.{People, Custodians, Boxes, Items, Ceremonies}
+use Rattle.kcr_forms.specs.declared.post.PersonPath.TheVariants.{Roles, Withdrawals}
+use Rattle.kcr_forms.specs.declared.post.PlacePath.TheVariants.{Replacement, Release}
+use Rattle.kcr_forms.specs.declared.post.CeremonyPath.TheVariants.{Opening, Closing, Sheet, Exceptions}
+use Rattle.kcr_forms.specs.declared.post.BagPath.TheVariants.{Seal, Take, Put, Cut}
 use Rattle.kcr_wire.specs.declared.route.Route.{Route}
-use Rattle.kcr_wire.specs.declared.route.Route.TheVariants.{People, Roles, Withdrawals, Custodians, Replacement}
-use Rattle.kcr_wire.specs.declared.route.Route.TheVariants.{Release, Boxes, Items, Ceremonies, Opening, Closing, Sheet}
-use Rattle.kcr_wire.specs.declared.route.Route.TheVariants.{Signature, Exceptions, Safes, Seal, Take, Put, Cut}
-use Rattle.kcr_wire.specs.declared.route.Route.TheVariants.{CustodiansOn, Bag, Room, Script, Attendance, Custody, Commands}
+use Rattle.kcr_wire.specs.declared.route.Route.TheVariants.{Collection, Person, Place, Ceremony, Signature, Safe, Bag}
+use Rattle.kcr_wire.specs.declared.route.Route.TheVariants.{CustodiansOn, BagShown, Room, Script, Attendance, Custody, Commands}
 
--- a route as `matchit` reads it
-abbrev pub route_text : Route → List ℕ
-route_text People = codes "/people"
-route_text Roles = codes "/people/{who}/roles"
-route_text Withdrawals = codes "/people/{who}/withdrawals"
-route_text Custodians = codes "/custodians"
-route_text Replacement = codes "/custodians/{place}/replacement"
-route_text Release = codes "/custodians/{place}/release"
-route_text Boxes = codes "/boxes"
-route_text Items = codes "/items"
-route_text Ceremonies = codes "/ceremonies"
-route_text Opening = codes "/ceremonies/{ceremony}/opening"
-route_text Closing = codes "/ceremonies/{ceremony}/closing"
-route_text Sheet = codes "/ceremonies/{ceremony}/sheet"
-route_text Signature = codes "/ceremonies/{ceremony}/steps/{step}/signature"
-route_text Exceptions = codes "/ceremonies/{ceremony}/exceptions"
-route_text Safes = codes "/ceremonies/{ceremony}/safes/{safe}"
-route_text Seal = codes "/ceremonies/{ceremony}/bags/{serial}/seal"
-route_text Take = codes "/ceremonies/{ceremony}/bags/{serial}/take"
-route_text Put = codes "/ceremonies/{ceremony}/bags/{serial}/put"
-route_text Cut = codes "/ceremonies/{ceremony}/bags/{serial}/cut"
-route_text CustodiansOn = codes "/custodians/{day}"
-route_text Bag = codes "/bags/{serial}"
-route_text Room = codes "/ceremonies/{ceremony}/room/{at}"
-route_text Script = codes "/ceremonies/{ceremony}/script"
-route_text Attendance = codes "/ceremonies/{ceremony}/attendance.csv"
-route_text Custody = codes "/custody"
-route_text Commands = codes "/commands/{after}"
+-- a route as `matchit` reads it, and what it stands for
+abbrev pub Row : Type 0
+Row = List ℕ × Route
 
 -- the routes in the order in which the router takes them
-abbrev pub all_routes : List Route
+abbrev pub all_routes : List Row
 all_routes =
-    People ∷ Roles ∷ Withdrawals ∷ Custodians ∷ Replacement ∷ Release ∷ Boxes ∷ Items ∷ Ceremonies ∷ Opening ∷ Closing
-    ∷ Sheet ∷ Signature ∷ Exceptions ∷ Safes ∷ Seal ∷ Take ∷ Put ∷ Cut ∷ CustodiansOn ∷ Bag ∷ Room
-    ∷ Script ∷ Attendance ∷ Custody ∷ Commands ∷ []
+    (codes "/people", Collection People)
+    ∷ (codes "/people/{who}/roles", Person Roles)
+    ∷ (codes "/people/{who}/withdrawals", Person Withdrawals)
+    ∷ (codes "/custodians", Collection Custodians)
+    ∷ (codes "/custodians/{place}/replacement", Place Replacement)
+    ∷ (codes "/custodians/{place}/release", Place Release)
+    ∷ (codes "/boxes", Collection Boxes)
+    ∷ (codes "/items", Collection Items)
+    ∷ (codes "/ceremonies", Collection Ceremonies)
+    ∷ (codes "/ceremonies/{ceremony}/opening", Ceremony Opening)
+    ∷ (codes "/ceremonies/{ceremony}/closing", Ceremony Closing)
+    ∷ (codes "/ceremonies/{ceremony}/sheet", Ceremony Sheet)
+    ∷ (codes "/ceremonies/{ceremony}/steps/{step}/signature", Signature)
+    ∷ (codes "/ceremonies/{ceremony}/exceptions", Ceremony Exceptions)
+    ∷ (codes "/ceremonies/{ceremony}/safes/{safe}", Safe)
+    ∷ (codes "/ceremonies/{ceremony}/bags/{serial}/seal", Bag Seal)
+    ∷ (codes "/ceremonies/{ceremony}/bags/{serial}/take", Bag Take)
+    ∷ (codes "/ceremonies/{ceremony}/bags/{serial}/put", Bag Put)
+    ∷ (codes "/ceremonies/{ceremony}/bags/{serial}/cut", Bag Cut)
+    ∷ (codes "/custodians/{day}", CustodiansOn)
+    ∷ (codes "/bags/{serial}", BagShown)
+    ∷ (codes "/ceremonies/{ceremony}/room/{at}", Room)
+    ∷ (codes "/ceremonies/{ceremony}/script", Script)
+    ∷ (codes "/ceremonies/{ceremony}/attendance.csv", Attendance)
+    ∷ (codes "/custody", Custody)
+    ∷ (codes "/commands/{after}", Commands)
+    ∷ []
+
+-- a row of a table in the code, and what it tells
+abbrev pub CodeRow : Type 0
+CodeRow = Bor (List ℕ) × Route
+
+abbrev pub row_of : CodeRow → Row
+row_of row = (row.0.now, row.1)
+
+abbrev pub rows_of : List CodeRow → List Row
+rows_of rows = map row_of rows
 
 -- what a router holds
 abbrev pub RouterState : Type 0
@@ -58,11 +70,11 @@ added (Ok s) route held = placed ((route_from s route).pattern, route_from s rou
 added (Err e) route held = held
 
 -- one more route
-unfoldable pub add : RouterState → Route → RouterState
-add held route = added (parse_route (route_text route)) route held
+unfoldable pub add : RouterState → Row → RouterState
+add held row = added (parse_route row.0) row.1 held
 
 -- several routes, one after the other
-unfoldable pub add_all : RouterState → List Route → RouterState
+unfoldable pub add_all : RouterState → List Row → RouterState
 add_all held [] = held
 add_all held (r ∷ rest) = add_all (add held r) rest
 
@@ -77,11 +89,11 @@ fits (Ok s) held = is_free (nearest s.pattern held)
 fits (Err e) held = false
 
 -- a route can be added
-unfoldable pub can_add : RouterState → Route → Bool
-can_add held route = fits (parse_route (route_text route)) held
+unfoldable pub can_add : RouterState → Row → Bool
+can_add held row = fits (parse_route row.0) held
 
 -- each route can be added to those before it
-unfoldable pub can_add_all : RouterState → List Route → Bool
+unfoldable pub can_add_all : RouterState → List Row → Bool
 can_add_all held [] = true
 can_add_all held (r ∷ rest) = can_add held r && can_add_all (add held r) rest
 

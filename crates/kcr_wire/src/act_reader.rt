@@ -65,6 +65,7 @@ impl RouteTable {
 
     /// The act whose text this is, or `None` if it is the text of none. The error is out of memory.
     pub fn read_act(&self, alloc: Global, text: &[u8]) -> Result<Option<Act>, AllocError>
+        ensures act { IfOk result (λ found. found ≡ act_of text.now) }
         ensures found { IfOk result (λ found. IfSome found (λ act. command_text act ≡ text.now)) }
         ensures only { IfOk result (λ found. (act : Act) → IsAct act → command_text act ≡ text.now → found ≡ Some act) }
     {

@@ -15,6 +15,7 @@ pub struct After {
 
 impl Model for After {
     ghost use Rattle.std.specs.Prelude.{ℕ, ◌≤◌};
+    ghost use Rattle.kcr_base.specs.declared.limits.TheConstants.{MAX_COMMANDS};
 
     ghost Value = { ℕ };
 

@@ -1,5 +1,6 @@
 //! Commands, read off the target and the body of a POST.
-ghost use Rattle.std.specs.Prelude.{◌≡◌, IfErr};
+ghost use Rattle.std.specs.Prelude.{◌≡◌, IfErr, IfOk};
+ghost use Rattle.kcr_forms.specs.Acts.{IsAct};
 ghost use Rattle.kcr_forms.specs.OrMemory.{OrMemory};
 ghost use Rattle.kcr_wire.specs.Commands.{command_of, posted};
 ghost use Rattle.kcr_wire.specs.Endpoints.{allow_of, if_method, refusal_alone};
@@ -30,10 +31,11 @@ impl RouteTable {
     /// is known and takes no POST), `Json`, `Form` with the first member that is missing or not of its
     /// form. `Memory` may come in the place of any answer. `target` is the whole target of the request
     /// line; its query is cut off. Members that the command does not name are ignored, and of a member
-    /// given twice the last one counts.
+    /// given twice the last one counts. The parts of the command are values of their types.
     #[tactic(auto, unfolding(crate::specs::Commands::command_of, crate::specs::Endpoints::allow_of))]
     pub fn read_command(&self, alloc: Global, target: &[u8], body: &[u8]) -> Result<Command, Unread>
         ensures command { OrMemory (refusal_alone result) (command_of target.now body.now) }
+        ensures values { IfOk result (λ command. IsAct command.act) }
         ensures allow { IfErr result (λ e. e.allow ≡ if_method e.refusal (allow_of target.now)) }
     {
         match self.resolve(target) {

@@ -13,7 +13,7 @@ use crate::question::Inquiry;
 use crate::route::{Route, router};
 use kcr_base::{CeremonyNumber, Day, Initials, Moment, Place, Refusal, Serial, StepNumber};
 use kcr_custody::SafeNumber;
-use kcr_forms::Post;
+use kcr_forms::{CollectionPath, Post};
 use kcr_history::Question;
 use matchit::{Params, Router};
 use std::alloc::Global;
@@ -140,29 +140,19 @@ fn read_parts(route: Route, parts: &Params<'_, '_>) -> Option<Endpoint>
     ensures { result ≡ endpoint_of route (parts_of parts.now) }
 {
     let target = match route {
-        Route::People => Endpoint::Post(Post::People),
-        Route::Roles => Endpoint::Post(Post::Roles(initials_in(parts)?)),
-        Route::Withdrawals => Endpoint::Post(Post::Withdrawals(initials_in(parts)?)),
-        Route::Custodians => Endpoint::Post(Post::Custodians),
-        Route::Replacement => Endpoint::Post(Post::Replacement(place_in(parts)?)),
-        Route::Release => Endpoint::Post(Post::Release(place_in(parts)?)),
-        Route::Boxes => Endpoint::Post(Post::Boxes),
-        Route::Items => Endpoint::Post(Post::Items),
-        Route::Ceremonies => Endpoint::Post(Post::Ceremonies),
-        Route::Opening => Endpoint::Post(Post::Opening(ceremony_in(parts)?)),
-        Route::Closing => Endpoint::Post(Post::Closing(ceremony_in(parts)?)),
-        Route::Sheet => Endpoint::Post(Post::Sheet(ceremony_in(parts)?)),
+        Route::Collection(path) => Endpoint::Post(Post::Collection(path)),
+        Route::Person(path) => Endpoint::Post(Post::Person(initials_in(parts)?, path)),
+        Route::Place(path) => Endpoint::Post(Post::Place(place_in(parts)?, path)),
+        Route::Ceremony(path) => Endpoint::Post(Post::Ceremony(ceremony_in(parts)?, path)),
         Route::Signature => Endpoint::Post(Post::Signature(ceremony_in(parts)?, step_in(parts)?)),
-        Route::Exceptions => Endpoint::Post(Post::Exceptions(ceremony_in(parts)?)),
-        Route::Safes => Endpoint::Post(Post::Safe(ceremony_in(parts)?, safe_in(parts)?)),
-        Route::Seal => Endpoint::Post(Post::Seal(ceremony_in(parts)?, serial_in(parts)?)),
-        Route::Take => Endpoint::Post(Post::Take(ceremony_in(parts)?, serial_in(parts)?)),
-        Route::Put => Endpoint::Post(Post::Put(ceremony_in(parts)?, serial_in(parts)?)),
-        Route::Cut => Endpoint::Post(Post::Cut(ceremony_in(parts)?, serial_in(parts)?)),
+        Route::Safe => Endpoint::Post(Post::Safe(ceremony_in(parts)?, safe_in(parts)?)),
+        Route::Bag(path) => {
+            Endpoint::Post(Post::Bag(ceremony_in(parts)?, serial_in(parts)?, path))
+        }
         Route::CustodiansOn => Endpoint::Ask(Inquiry::Question(Question::Custodians(day_in(
             parts,
         )?))),
-        Route::Bag => Endpoint::Ask(Inquiry::Question(Question::Bag(serial_in(parts)?))),
+        Route::BagShown => Endpoint::Ask(Inquiry::Question(Question::Bag(serial_in(parts)?))),
         Route::Room => Endpoint::Ask(Inquiry::Question(Question::Room(
             ceremony_in(parts)?,
             moment_in(parts)?,
@@ -227,7 +217,7 @@ impl Endpoint {
         ensures { result ≡ allow_of_endpoint self.now }
     {
         match self {
-            Endpoint::Post(Post::People) => Allow::GetHeadPost,
+            Endpoint::Post(Post::Collection(CollectionPath::People)) => Allow::GetHeadPost,
             Endpoint::Post(_) => Allow::Post,
             Endpoint::Ask(_) => Allow::GetHead,
         }

@@ -17,7 +17,6 @@ mod body_members;
 mod body_text;
 pub mod command;
 pub mod endpoint;
-pub mod laws;
 pub mod method;
 pub mod question;
 pub mod request;

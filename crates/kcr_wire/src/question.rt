@@ -7,7 +7,7 @@ use crate::after::After;
 use crate::endpoint::{Endpoint, RouteTable};
 use crate::unread::Unread;
 use kcr_base::{CeremonyNumber, Refusal};
-use kcr_forms::Post;
+use kcr_forms::{CollectionPath, Post};
 use kcr_history::Question;
 
 /// What a GET or HEAD asks for: a question, whose answer is a value, or a report, whose answer is a
@@ -32,7 +32,9 @@ fn inquiry_of(endpoint: Endpoint) -> Result<Inquiry, Refusal>
 {
     match endpoint {
         Endpoint::Ask(inquiry) => Ok(inquiry),
-        Endpoint::Post(Post::People) => Ok(Inquiry::Question(Question::People)),
+        Endpoint::Post(Post::Collection(CollectionPath::People)) => Ok(Inquiry::Question(
+            Question::People,
+        )),
         Endpoint::Post(_) => Err(Refusal::Method),
     }
 }

@@ -1,7 +1,8 @@
 -- Histories of the examples that the machine reaches are registers.
 use Rattle.std.proofs.Common.{ℕ, List, [], ◌∷◌, codes, refl}
 use Rattle.kcr_history.specs.declared.commands.Act.{Act}
-use Rattle.kcr_history.specs.declared.commands.Act.TheVariants.{AddItem, Cut, Seal, Sign}
+use Rattle.kcr_history.specs.declared.commands.Act.TheVariants.{Ceremony}
+use Rattle.kcr_history.specs.declared.commands.Deed.TheVariants.{AddItem, Cut, Seal, Sign}
 use Rattle.kcr_history.specs.Machine.{IsRegister}
 use Rattle.kcr_laws.proofs.Accepted.{answers_keep}
 use Rattle.kcr_worked.specs.Examples.{AA, BB, HSM4, bag_7, bag_8, clock, come, leave, accepted_from, script_of_one}
@@ -18,7 +19,7 @@ two_seats_opened =
 signing : List (Act × List ℕ)
 signing =
     (come (AA ∷ BB ∷ []) (clock 20 5 0), codes "{\"accepted\":17}")
-    ∷ (Sign 61 1 (clock 20 10 0), codes "{\"accepted\":18,\"seating\":[\"BB\",\"AA\"],\"step\":1}")
+    ∷ (Ceremony 61 (clock 20 10 0) (Sign 1), codes "{\"accepted\":18,\"seating\":[\"BB\",\"AA\"],\"step\":1}")
     ∷ []
 
 -- the history after two people signed a step is that of a register
@@ -37,11 +38,11 @@ one_seat_opened =
 sealing : List (Act × List ℕ)
 sealing =
     (come (AA ∷ BB ∷ []) (clock 20 5 0), codes "{\"accepted\":17}")
-    ∷ (AddItem 61 HSM4 (clock 20 6 0), codes "{\"accepted\":18}")
-    ∷ (Seal 61 bag_7 (HSM4 ∷ []) (clock 20 7 0), codes "{\"accepted\":19}")
-    ∷ (Cut 61 bag_7 (clock 20 8 0), codes "{\"accepted\":20}")
-    ∷ (Seal 61 bag_8 (HSM4 ∷ []) (clock 20 9 0), codes "{\"accepted\":21}")
-    ∷ (Sign 61 1 (clock 20 10 0), codes "{\"accepted\":22,\"seating\":[\"AA\"],\"step\":1}")
+    ∷ (Ceremony 61 (clock 20 6 0) (AddItem HSM4), codes "{\"accepted\":18}")
+    ∷ (Ceremony 61 (clock 20 7 0) (Seal bag_7 (HSM4 ∷ [])), codes "{\"accepted\":19}")
+    ∷ (Ceremony 61 (clock 20 8 0) (Cut bag_7), codes "{\"accepted\":20}")
+    ∷ (Ceremony 61 (clock 20 9 0) (Seal bag_8 (HSM4 ∷ [])), codes "{\"accepted\":21}")
+    ∷ (Ceremony 61 (clock 20 10 0) (Sign 1), codes "{\"accepted\":22,\"seating\":[\"AA\"],\"step\":1}")
     ∷ (leave (AA ∷ BB ∷ []) (clock 20 15 0), codes "{\"accepted\":23}")
     ∷ []
 

@@ -6,8 +6,8 @@ use Rattle.kcr_base.specs.declared.place.Place.TheVariants.{Co}
 use Rattle.kcr_base.specs.declared.place.Role.TheVariants.{Ca, Iw}
 use Rattle.kcr_room.specs.declared.Way.TheVariants as Ways
 use Rattle.kcr_history.specs.declared.commands.Act.{Act}
-use Rattle.kcr_history.specs.declared.commands.Act.TheVariants.{Enter, Train, Appoint, AddItem, Plan, Open, RecordSheet}
-use Rattle.kcr_history.specs.declared.commands.Act.TheVariants.{Sign, Seal, Cut}
+use Rattle.kcr_history.specs.declared.commands.Act.TheVariants.{Enter, Train, Appoint, Plan, Ceremony}
+use Rattle.kcr_history.specs.declared.commands.Deed.TheVariants.{AddItem, Open, RecordSheet, Sign, Seal, Cut}
 use Rattle.kcr_history.specs.History.{History}
 use Rattle.kcr_history.specs.Machine.{reply_to, with_command}
 use Rattle.kcr_laws.specs.Runs.{new_command}
@@ -96,7 +96,7 @@ opening_acts script =
     ∷ Appoint (Co East 5) EE new_year
     ∷ Appoint (Co West 3) WC new_year
     ∷ Plan 61 East that_day script
-    ∷ Open 61 (clock 20 0 0)
+    ∷ Ceremony 61 (clock 20 0 0) Open
     ∷ []
 
 abbrev pub opened_with : List ℕ → History
@@ -104,10 +104,10 @@ opened_with script = with_acts [] (opening_acts script)
 
 -- people come into the room of ceremony 61, or go out of it
 abbrev pub come : List (List ℕ) → ℕ → Act
-come people at = RecordSheet 61 Ways.Enter people at
+come people at = Ceremony 61 at (RecordSheet Ways.Enter people)
 
 abbrev pub leave : List (List ℕ) → ℕ → Act
-leave people at = RecordSheet 61 Ways.Leave people at
+leave people at = Ceremony 61 at (RecordSheet Ways.Leave people)
 
 -- the ceremony opened, with these people in its room since 20:05:00
 abbrev pub opened_with_people : List ℕ → List (List ℕ) → History
@@ -116,7 +116,7 @@ opened_with_people script people = with_act (opened_with script) (come people (c
 -- after AA and BB have signed the only step, BB as CA and AA as IW
 abbrev pub signed_by_two : History
 signed_by_two =
-    with_act (opened_with_people (script_of_one (codes "CA;IW")) (AA ∷ BB ∷ [])) (Sign 61 1 (clock 20 10 0))
+    with_act (opened_with_people (script_of_one (codes "CA;IW")) (AA ∷ BB ∷ [])) (Ceremony 61 (clock 20 10 0) (Sign 1))
     (Some (BB ∷ AA ∷ []))
 
 -- two bags
@@ -136,12 +136,12 @@ bag_on_table =
     with_act
     (with_act
     (with_acts (opened_with_people (script_of_one (codes "IW")) (AA ∷ BB ∷ []))
-    (AddItem 61 HSM4 (clock 20 6 0)
-    ∷ Seal 61 bag_7 (HSM4 ∷ []) (clock 20 7 0)
-    ∷ Cut 61 bag_7 (clock 20 8 0)
-    ∷ Seal 61 bag_8 (HSM4 ∷ []) (clock 20 9 0)
+    (Ceremony 61 (clock 20 6 0) (AddItem HSM4)
+    ∷ Ceremony 61 (clock 20 7 0) (Seal bag_7 (HSM4 ∷ []))
+    ∷ Ceremony 61 (clock 20 8 0) (Cut bag_7)
+    ∷ Ceremony 61 (clock 20 9 0) (Seal bag_8 (HSM4 ∷ []))
     ∷ []))
-    (Sign 61 1 (clock 20 10 0)) (Some (AA ∷ [])))
+    (Ceremony 61 (clock 20 10 0) (Sign 1)) (Some (AA ∷ [])))
     (leave (AA ∷ BB ∷ []) (clock 20 15 0)) None
 
 -- a person, and nothing else

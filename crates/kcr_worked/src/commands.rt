@@ -2,7 +2,8 @@
 //! sixteen commands had been accepted.
 ghost use Rattle.std.specs.Prelude.{◌≡◌, [], ◌∷◌, codes, Some, None};
 ghost use Rattle.kcr_base.specs.Day.{day_text};
-ghost use Rattle.kcr_history.specs.declared.commands.Act.TheVariants.{Sign};
+ghost use Rattle.kcr_history.specs.declared.commands.Act.TheVariants.{Ceremony};
+ghost use Rattle.kcr_history.specs.declared.commands.Deed.TheVariants.{Sign};
 ghost use Rattle.kcr_history.specs.History.{History};
 ghost use Rattle.kcr_history.specs.Ceremonies.{steps_of};
 ghost use Rattle.kcr_history.specs.Seating.{IsFirst, IsLeast};
@@ -26,7 +27,7 @@ pub fn opening()
 pub fn signature_of_a_step()
     ensures { AreAnswered (opened_with (script_of_one (codes "CA;IW")))
         ((come (AA ∷ BB ∷ []) (clock 20 5 0), codes "{\"accepted\":17}")
-        ∷ (Sign 61 1 (clock 20 10 0), codes "{\"accepted\":18,\"seating\":[\"BB\",\"AA\"],\"step\":1}")
+        ∷ (Ceremony 61 (clock 20 10 0) (Sign 1), codes "{\"accepted\":18,\"seating\":[\"BB\",\"AA\"],\"step\":1}")
         ∷ [])
         signed_by_two }
 {}
@@ -71,15 +72,15 @@ pub fn rules_of_the_room()
 pub fn first_seatings()
     ensures one_seat { AreAnswered (opened_with (script_of_one (codes "CO")))
         ((come (EE ∷ EB ∷ EA ∷ []) (clock 20 5 0), codes "{\"accepted\":17}")
-        ∷ (Sign 61 1 (clock 20 10 0), codes "{\"accepted\":18,\"seating\":[\"EA\"],\"step\":1}")
+        ∷ (Ceremony 61 (clock 20 10 0) (Sign 1), codes "{\"accepted\":18,\"seating\":[\"EA\"],\"step\":1}")
         ∷ [])
-        (with_act (opened_with_people (script_of_one (codes "CO")) (EE ∷ EB ∷ EA ∷ [])) (Sign 61 1 (clock 20 10 0))
+        (with_act (opened_with_people (script_of_one (codes "CO")) (EE ∷ EB ∷ EA ∷ [])) (Ceremony 61 (clock 20 10 0) (Sign 1))
         (Some (EA ∷ []))) }
     ensures two_seats { AreAnswered (opened_with (script_of_one (codes "CO;CO/1")))
         ((come (EA ∷ EB ∷ EE ∷ []) (clock 20 5 0), codes "{\"accepted\":17}")
-        ∷ (Sign 61 1 (clock 20 10 0), codes "{\"accepted\":18,\"seating\":[\"EB\",\"EA\"],\"step\":1}")
+        ∷ (Ceremony 61 (clock 20 10 0) (Sign 1), codes "{\"accepted\":18,\"seating\":[\"EB\",\"EA\"],\"step\":1}")
         ∷ [])
-        (with_act (opened_with_people (script_of_one (codes "CO;CO/1")) (EA ∷ EB ∷ EE ∷ [])) (Sign 61 1 (clock 20 10 0))
+        (with_act (opened_with_people (script_of_one (codes "CO;CO/1")) (EA ∷ EB ∷ EE ∷ [])) (Ceremony 61 (clock 20 10 0) (Sign 1))
         (Some (EB ∷ EA ∷ []))) }
     ensures not_the_second { let A : History = opened_with_people (script_of_one (codes "CO")) (EE ∷ EB ∷ EA ∷ []) in
         IsFirst A 61 (clock 20 10 0) (seats_at (steps_of A 61) 1) (EB ∷ []) → ⊥ }
@@ -101,9 +102,9 @@ pub fn least_shortages()
 /// Where two shortages are least, the machine may name either.
 pub fn run_with_a_choice()
     ensures first_seat { AreAnswered (opened_with_people (script_of_one (codes "CA;IW;CO")) (CC ∷ EA ∷ []))
-        ((Sign 61 1 (clock 20 10 0), codes "{\"number\":32,\"refusal\":\"short\",\"seats\":[1]}") ∷ [])
+        ((Ceremony 61 (clock 20 10 0) (Sign 1), codes "{\"number\":32,\"refusal\":\"short\",\"seats\":[1]}") ∷ [])
         (opened_with_people (script_of_one (codes "CA;IW;CO")) (CC ∷ EA ∷ [])) }
     ensures second_seat { AreAnswered (opened_with_people (script_of_one (codes "CA;IW;CO")) (CC ∷ EA ∷ []))
-        ((Sign 61 1 (clock 20 10 0), codes "{\"number\":32,\"refusal\":\"short\",\"seats\":[2]}") ∷ [])
+        ((Ceremony 61 (clock 20 10 0) (Sign 1), codes "{\"number\":32,\"refusal\":\"short\",\"seats\":[2]}") ∷ [])
         (opened_with_people (script_of_one (codes "CA;IW;CO")) (CC ∷ EA ∷ [])) }
 {}

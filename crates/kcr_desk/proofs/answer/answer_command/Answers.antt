@@ -19,7 +19,7 @@ returns-in-Ok g c =
       end.0,
       end.1,
       (
-        (λ none. record { values = c.acts_are_values.ensures; step = end.2.step none; breaks = end.2.breaks none; tried = end.2.tried none }),
+        (λ none. record { values = c.requires; step = end.2.step none; breaks = end.2.breaks none; tried = end.2.tried none }),
         (λ some. (end.2.broken some).1),
       ),
     ))
@@ -43,7 +43,7 @@ returns-in-Err g c =
       end.0,
       end.1,
       (
-        (λ none. record { values = c.acts_are_values.ensures; step = end.2.step none; breaks = end.2.breaks none; tried = end.2.tried none }),
+        (λ none. record { values = c.requires; step = end.2.step none; breaks = end.2.breaks none; tried = end.2.tried none }),
         (λ some. (end.2.broken some).1),
       ),
     ))

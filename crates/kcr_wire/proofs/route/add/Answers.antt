@@ -6,8 +6,8 @@ use Rattle.kcr_wire.proofs.route.add.Goals.{in-OutOfMemory, in_default}
 
 pub prove-unreachable-requires : goal.prove-unreachable-requires
 prove-unreachable-requires c =
-    let memory : c.in-Err.error ≡ OutOfMemory = only-memory c.args.route _ _ c.pattern.result.now _ c.pattern.ensures c.requires c.in-Err.ensures in
+    let memory : c.in-Err.error ≡ OutOfMemory = only-memory c.args.pattern.now c.args.route _ _ _ c.requires c.in-Err.ensures in
     elim c.match-matches.branch [ in-OutOfMemory w ↦ search rules | in_default w ↦ search rules ]
 
 pub returns-in-Ok : goal.returns-in-Ok
-returns-in-Ok c = add-inserted c.args.route _ _ c.pattern.result.now c.pattern.ensures c.in-Ok.ensures
+returns-in-Ok c = add-inserted c.args.pattern.now c.args.route _ _ c.in-Ok.ensures

@@ -1,20 +1,20 @@
 use Rattle.std.proofs.Common.{sym, ◌∙◌, ◌+◌, arith, subst, true, ◌≡◌, drop}
-use Rattle.kcr_wire.specs.Routes.{RouterState, can_add_all}
+use Rattle.kcr_wire.specs.Routes.{RouterState, rows_of, can_add_all}
 use Rattle.kcr_wire.proofs.Tables.{add_all-turn, add_all-end, can_add_all-turn}
 use Rattle.kcr_wire.proofs.route.router_of.Goals as goal
 
 pub add-requires : goal.add-requires
-add-requires c = (can_add_all-turn c.loop-route.router c.args.routes.now c.loop-route.route-index _ (omega arith) c.loop-route.invariant.1).0
+add-requires c = (can_add_all-turn c.loop-pattern.router c.args.routes.now c.loop-pattern.pattern-index _ (omega arith) c.loop-pattern.invariant.1).0
 
-pub loop-route-preserved : goal.loop-route-preserved
-loop-route-preserved c =
+pub loop-pattern-preserved : goal.loop-pattern-preserved
+loop-pattern-preserved c =
     let routes = c.args.routes.now in
-    let i = c.loop-route.route-index in
-    let can = can_add_all-turn c.loop-route.router routes i _ (omega arith) c.loop-route.invariant.1 in
+    let i = c.loop-pattern.pattern-index in
+    let can = can_add_all-turn c.loop-pattern.router routes i _ (omega arith) c.loop-pattern.invariant.1 in
     let is = c.in_ok-add.ensures in (
-      add_all-turn routes i _ c.loop-route.router c.add.new.router (omega arith) is ∙ c.loop-route.invariant.0,
-      subst (λ (held : RouterState). can_add_all held (drop (i + 1) routes) ≡ true) (sym is) can.1,
+      add_all-turn routes i _ c.loop-pattern.router c.add.new.router (omega arith) is ∙ c.loop-pattern.invariant.0,
+      subst (λ (held : RouterState). can_add_all held (rows_of (drop (i + 1) routes)) ≡ true) (sym is) can.1,
     )
 
 pub returns : goal.returns
-returns c = sym (add_all-end c.loop-route.router c.args.routes.now c.loop-route.route-index c.loop-route-test.false) ∙ c.loop-route.invariant.0
+returns c = sym (add_all-end c.loop-pattern.router c.args.routes.now c.loop-pattern.pattern-index c.loop-pattern-test.false) ∙ c.loop-pattern.invariant.0

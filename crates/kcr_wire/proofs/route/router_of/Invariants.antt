@@ -1,7 +1,8 @@
 use Rattle.std.proofs.Common.{◌≡◌, [], true, drop}
-use Rattle.kcr_wire.specs.Routes.{add_all, can_add_all}
+use Rattle.kcr_wire.specs.Routes.{rows_of, add_all, can_add_all}
 use Rattle.kcr_wire.proofs.route.router_of.Given as goal
 
-abbrev pub invariant-loop-route : goal.invariant-loop-route
-invariant-loop-route l =
-    (add_all l.router (drop l.route-index l.routes) ≡ add_all [] l.routes) × (can_add_all l.router (drop l.route-index l.routes) ≡ true)
+abbrev pub invariant-loop-pattern : goal.invariant-loop-pattern
+invariant-loop-pattern l =
+    (add_all l.router (rows_of (drop l.pattern-index l.routes)) ≡ add_all [] (rows_of l.routes))
+    × (can_add_all l.router (rows_of (drop l.pattern-index l.routes)) ≡ true)

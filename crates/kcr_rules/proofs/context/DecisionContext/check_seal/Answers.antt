@@ -1,14 +1,15 @@
 use Rattle.std.proofs.Common.{refl, subst}
 use Rattle.kcr_base.specs.Refuse.{IsTestResult}
 use Rattle.kcr_custody.specs.Custody.{seal_refusal}
-use Rattle.kcr_history.specs.declared.commands.Act.TheVariants.{Seal}
+use Rattle.kcr_history.specs.declared.commands.Act.TheVariants.{Ceremony}
+use Rattle.kcr_history.specs.declared.commands.Deed.TheVariants.{Seal}
 use Rattle.kcr_rules.proofs.Checked.{checked}
 use Rattle.kcr_rules.proofs.context.DecisionContext.check_seal.Goals as goal
 
 pub returns : goal.returns
 returns c =
     let a = c.args in
-    checked a.self.now.view.now a.self.now.is_full (Seal a.ceremony a.serial a.items.now a.at) c.check_seal.result refl
+    checked a.self.now.view.now a.self.now.is_full (Ceremony a.ceremony a.at (Seal a.serial a.items.now)) c.check_seal.result refl
     (subst (λ o. IsTestResult o c.check_seal.result)
     (λ i. seal_refusal (c.ceremony_status-status.ensures i) (c.deref.ensures.value i) (c.deref-2.ensures.value i) a.serial (c.as_slice.ensures.value i))
     c.check_seal.ensures)
