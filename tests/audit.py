@@ -14,7 +14,8 @@ with, and each of four is asked, with the answer that the rules give:
 - the anchor: whether the export up to 74 still has the digest
 
 If the file can be opened, `tools/differences.py` lists the rows that differ from those of a new file which got its
-commands: as many as SQL finds. `tools/check.py` says of a stored seating that is not the first whether it is one.
+commands: as many as SQL finds. `kcr verify` and `tools/check.py` say of a stored seating that is not the first whether
+it is one.
 
 With names only the tests with these names run. The last line is `N passed, M failed`, and the status is 0 where none
 failed.
@@ -190,7 +191,6 @@ def compared(kept, file):
 # What is said of a file
 
 NOTHING, SAME, OTHER = NOTHING_FOUND, "the same digest", "another digest, or none"
-DISK = (b"", b"refused: 34 disk\n", 1)
 FOREIGN, VERSION = (b"", b"open: foreign\n", 1), (b"", b"open: version\n", 1)
 EVERY_ROW = (set(), (LAST, LAST))  # the comparison finds nothing
 
@@ -200,14 +200,20 @@ def verified(count=LAST):
     return b"verified: %d commands\n" % count, b"", 0
 
 
+def invalid(key):
+    """A refusal by an invalid row, with its table and its key."""
+    return b"", f"refused: 34 disk\ninvalid: {key}\n".encode(), 1
+
+
 def finding(text):
     """A finding of `audit`, or of `verify` that has no row."""
     return f"finding: {text}\n".encode(), b"", 1
 
 
-def told(kind, number, expected, found):
-    """A finding of `verify` about an accepted command: what the rules give, and what is stored."""
-    return finding(f"{kind} {number}\n{kind}: expected {expected}; found {found}")
+def told(kind, number, expected, found, word=""):
+    """A finding of `verify` about an accepted command: what the rules give, what is stored, and of other people in a
+    stored reply whether they are a seating."""
+    return finding(f"{kind} {number}\n{kind}: expected {expected}; found {found}{word}")
 
 
 def reply(number, *seating):
@@ -410,16 +416,18 @@ tampering("one_alone", "by sheet and stays all but one go out a second early",
 # Replies: an export has none, so the anchor cannot tell
 
 tampering("seating_and_reply", "two people of a seating change places, in the reply too", compare=({26}, (LAST, LAST)),
-          verify=told("reply", 26, reply(26, "AA", "BB"), reply(26, "BB", "AA")), seated="a seating, but not the first",
+          verify=told("reply", 26, reply(26, "AA", "BB"), reply(26, "BB", "AA"), "; a seating"),
+          seated="a seating, but not the first",
           make=["UPDATE seatings SET who = CASE who WHEN 'AA' THEN 'BB' ELSE 'AA' END WHERE ceremony = 1 AND step = 1",
                 f"UPDATE keys SET reply = '{reply(26, 'BB', 'AA')}' WHERE accepted = 26"])
 tampering("another_seated", "another person who fits has the seat, in the reply too", compare=({26}, (LAST, LAST)),
-          verify=told("reply", 26, reply(26, "AA", "BB"), reply(26, "DD", "BB")), seated="a seating, but not the first",
+          verify=told("reply", 26, reply(26, "AA", "BB"), reply(26, "DD", "BB"), "; a seating"),
+          seated="a seating, but not the first",
           make=["UPDATE seatings SET who = 'DD' WHERE ceremony = 1 AND step = 1 AND seat = 1",
                 f"UPDATE keys SET reply = '{reply(26, 'DD', 'BB')}' WHERE accepted = 26"])
 tampering("visitor_and_reply", "a visitor sits in a seat, in the reply too", audit=finding("seating 1 1"),
-          compare=({26}, (LAST, LAST)), verify=told("reply", 26, reply(26, "AA", "BB"), reply(26, "VV", "BB")),
-          seated="no seating",
+          compare=({26}, (LAST, LAST)), seated="no seating",
+          verify=told("reply", 26, reply(26, "AA", "BB"), reply(26, "VV", "BB"), "; no seating"),
           make=["UPDATE seatings SET who = 'VV' WHERE ceremony = 1 AND step = 1 AND seat = 1",
                 f"UPDATE keys SET reply = '{reply(26, 'VV', 'BB')}' WHERE accepted = 26"])
 tampering("reply", "a reply has another number", compare=({50}, (LAST, LAST)),
@@ -463,14 +471,16 @@ tampering("emptied", "the register is empty", audit=(NOTHING[0], b"note: FILE ha
 
 # Invalid rows, and databases that are no register
 
-tampering("seats_spelled", "the seats of a step have another spelling", audit=DISK, verify=DISK,
+tampering("seats_spelled", "the seats of a step have another spelling", audit=invalid("steps 1,2"),
+          verify=invalid("steps 1,2"),
           lists=["table steps", "row: expected 1,2,'Use keys','CA;IW;CO*2',1,1739478000 (2025-02-13T20:20:00Z); "
                  "found 1,2,'Use keys','CA;IW;CO;CO',1,1739478000 (2025-02-13T20:20:00Z)"],
           make=["UPDATE steps SET seats = 'CA;IW;CO;CO' WHERE ceremony = 1 AND step = 2"])
-tampering("line_break", "a name has a line break", audit=DISK, verify=DISK,
+tampering("line_break", "a name has a line break", audit=invalid("people 'BB'"), verify=invalid("people 'BB'"),
           lists=["table people", "row: expected 'BB','Bob Berg'; found 'BB','Bob'||char(10)||'Berg'"],
           make=["UPDATE people SET name = 'Bob' || char(10) || 'Berg' WHERE who = 'BB'"])
-tampering("no_such_day", "a ceremony is on a day after 2099", audit=DISK, verify=DISK,
+tampering("no_such_day", "a ceremony is on a day after 2099", audit=invalid("ceremonies 1"),
+          verify=invalid("ceremonies 1"),
           lists=["table ceremonies", "row: expected 1,'EAST',20132 (2025-02-13),2,1739476800 (2025-02-13T20:00:00Z),"
                  "1739478660 (2025-02-13T20:31:00Z); found 1,'EAST',99999 (2243-10-16),2,"
                  "1739476800 (2025-02-13T20:00:00Z),1739478660 (2025-02-13T20:31:00Z)"],

@@ -5,8 +5,9 @@
 
 Shown are, over kept streams of tests/files: that each of the six findings of the audit is found, by one changed cell
 where one suffices; that a verification and a rebuild find a changed cell, a row more and a row less of each table, and
-each kind of change among the accepted commands; and that an invalid row is refused (34) by whatever
-reads it, in a stream and in a report too. With names only the tests with these names run.
+each kind of change among the accepted commands; what they say of other people in a stored reply; and that an invalid
+row is refused (34) by whatever reads it, in a stream and in a report too, and told by its table and its key. With names
+only the tests with these names run.
 
 The last line is `N passed, M failed`, and the status is 0 where none failed.
 """
@@ -19,7 +20,8 @@ import re
 
 import kcr
 from kcr import HERE, NOTHING_FOUND, call, change, copy, dated, expect, opened
-from program import FOREIGN, differed, filled, made_anew, refused, stream, verified
+from program import (FOREIGN, differed, filled, made_anew, made_older, officers_and_staff, refused, stream,
+                     verified)
 
 MOMENTS = 1_739_476_800  # 2025-02-13T20:00:00Z
 
@@ -100,13 +102,13 @@ CHANGES = [
 ]
 
 
-def quoted_rows(file, table):
+def quoted_rows(file, table, where="1", columns=None):
     """The rows of a table in the order of its key, which its first columns are, as sqlite3 prints them in its mode
-    `quote`, with dates."""
+    `quote`, with dates: all that pass a test, or of each its first columns."""
     with opened(file) as database:
         names = [f'"{name}"' for _, name, *_ in database.execute(f"PRAGMA table_info({table})")]
-        shown = ", ".join(f"quote({name})" for name in names)
-        rows = database.execute(f"SELECT {shown} FROM {table} ORDER BY {', '.join(names)}").fetchall()
+        shown = ", ".join(f"quote({name})" for name in names[:columns])
+        rows = database.execute(f"SELECT {shown} FROM {table} WHERE {where} ORDER BY {', '.join(names)}").fetchall()
         return [",".join(dated(table, place, text) for place, text in enumerate(row)) for row in rows]
 
 
@@ -186,34 +188,116 @@ def changed_commands(program, room):
         verified(program, fresh, kept_commands(finding, last))
 
 
+def other_people(program, room):
+    """If a stored reply names other people, the line ends with whether they fill the seats of the command. It does not
+    if the reply names nobody or the same people, or if the command has no seats."""
+    requests, file = officers_and_staff(), room / "register"
+    absent = [kcr.person(b"pGG", b"GG", b"N"),
+              kcr.post(b"/people/GG/roles", b"rGG", b'"role":"CA","from":"2025-01-01","until":"2025-12-31"')]
+    call(program, "run", "--file", file, stream=b"".join([*requests[:-2], *absent, *requests[-2:]]))
+    signed = '{"accepted":%d,"seating":[%s],"step":1}'
+    passed = '{"accepted":%d,"exception":1,"seating":[%s],"step":2}'
+    for turn, (form, number, first, people, word) in enumerate([
+            (signed, 18, '"EA"', '"EE"', "; a seating"),
+            (signed, 18, '"EA"', '"AA"', "; no seating"),  # no officer
+            (signed, 18, '"EA"', '"ZZ"', "; no seating"),  # nobody
+            (signed, 18, '"EA"', '"EA","EB"', "; no seating"),
+            (signed, 18, '"EA"', "", ""),
+            (signed, 18, '"EA"', '"ea"', ""),  # no initials
+            (signed, 18, '"EA"', '"EA" ', ""),
+            (passed, 19, '"AA","BB"', '"BB","AA"', "; a seating"),
+            (passed, 19, '"AA","BB"', '"AA","AA"', "; no seating"),  # one person in two seats
+            (passed, 19, '"AA","BB"', '"GG","BB"', "; no seating"),  # trained, but not in the room
+            (passed, 19, '"AA","BB"', '"AA"', "; no seating"),
+            ('{"accepted":%d%s}', 17, "", ',"seating":["AA","BB"]', ""),  # a training
+    ]):
+        changed, fresh = copy(file, room / f"changed-{turn}"), room / f"fresh-{turn}"
+        expected, found = form % (number, first), form % (number, people)
+        change(changed, f"UPDATE keys SET reply = '{found}' WHERE accepted = {number}")
+        told = f"reply {number}\nreply: expected {expected}; found {found}{word}"
+        differed(program, changed, told)
+        expect("rebuild", (f"finding: {told}\n".encode(), b"", 1),
+               call(program, "rebuild", "--file", changed, "--into", fresh))
+        verified(program, fresh, number)
+
+
+# how many of the first columns of a table are its key
+KEYS = {"people": 1, "trainings": 4, "withdrawals": 4, "appointments": 2, "boxes": 2, "safes": 2, "bags": 1, "items": 1,
+        "ceremonies": 1, "marks": 1, "steps": 2, "seatings": 3, "sheet": 2, "stays": 2, "exceptions": 2, "keys": 1}
+
+
+def invalid_row(file, table, where):
+    """The lines of a refusal by an invalid row: the second has the table, and the key of the first row that passes a
+    test. Only days and moments of the years 2000 to 2099 have dates."""
+    key = re.sub(r" \((?!20)[^)]*\)", "", quoted_rows(file, table, where, KEYS[table])[0])
+    return f"refused: 34 disk\ninvalid: {table} {key}\n".encode()
+
+
+INVALID = [  # what is set in a table, and which rows are invalid then
+    ("people", f"name = '{'x' * 121}' WHERE who = 'FIN'", "who = 'FIN'"),
+    ("people", "name = 'a' || char(10) WHERE who = 'FIN'", "who = 'FIN'"),
+    ("people", "who = 'fin' WHERE who = 'FIN'", "who = 'fin'"),
+    ("trainings", "until = 47482 WHERE who = 'FIN'", "who = 'FIN'"),
+    ("appointments", "place = 'CO-EAST-8' WHERE place = 'CO-EAST-4'", "place = 'CO-EAST-8'"),
+    ("safes", "state = 2 WHERE facility = 'WEST'", "facility = 'WEST'"),
+    ("bags", "spot = 'shelf'", "1"),
+    ("items", "facility = 'EAST' WHERE code = 'HSM4'", "code = 'HSM4'"),
+    ("items", "serial = NULL WHERE code = 'HSM4'", "code = 'HSM4'"),
+    ("ceremonies", "state = 3 WHERE number = 61", "number = 61"),
+    ("ceremonies", "number = 70000 WHERE number = 61", "number = 70000"),
+    ("marks", "at = -1 WHERE ceremony = 61", "ceremony = 61"),
+    ("marks", "at = 946684799 WHERE ceremony = 61", "ceremony = 61"),
+    ("steps", "seats = 'CO;CO' WHERE ceremony = 61 AND step = 1", "ceremony = 61 AND step = 1"),
+    ("steps", "step = 5000 WHERE ceremony = 61 AND step = 1", "step = 5000"),
+    ("seatings", "seat = 17 WHERE ceremony = 63 AND step = 1 AND seat = 2", "seat = 17"),
+    ("boxes", "place = 'CO-WEST-3' WHERE facility = 'EAST'", "facility = 'EAST'"),
+    ("sheet", "way = 2 WHERE who = 'FIN'", "who = 'FIN'"),
+    ("stays", "until = 5 WHERE who = 'FIN'", "who = 'FIN'"),
+    ("keys", "key = 'a b' WHERE accepted = 1", "accepted = 1"),
+    ("keys", "accepted = 0 WHERE accepted = 7", "accepted = 0"),
+]
+
+
+def told_as_invalid(program, room, changed, what, lines):
+    """The audit, a verification and a rebuild tell an invalid row, if lines are explained."""
+    for words in (["audit"], ["verify"], ["rebuild", "--into", room / "fresh"]):
+        expect(f"{words[0]}: {what}", (b"", lines, 1), call(program, *words, "--file", changed))
+        expect(f"{words[0]} in short: {what}", (b"", b"refused: 34 disk\n", 1),
+               call(program, *words, "--file", changed, explain=False))
+
+
 def rows_of_no_register(program, room):
-    """An invalid row is refused by the audit, a verification and a rebuild as the disk's fault (34)."""
+    """An invalid row is refused by the audit, a verification and a rebuild as the disk's fault (34), and a second line
+    has its table and its key."""
     file = filled(program, room, "003")
-    for number, statement in enumerate([
-            f"UPDATE people SET name = '{'x' * 121}' WHERE who = 'FIN'",
-            "UPDATE people SET name = 'a' || char(10) WHERE who = 'FIN'",
-            "UPDATE people SET who = 'fin' WHERE who = 'FIN'",
-            "UPDATE trainings SET until = 47482 WHERE who = 'FIN'",
-            "UPDATE appointments SET place = 'CO-EAST-8' WHERE place = 'CO-EAST-4'",
-            "UPDATE bags SET spot = 'shelf'",
-            "UPDATE items SET facility = 'EAST' WHERE code = 'HSM4'",
-            "UPDATE ceremonies SET state = 3 WHERE number = 61",
-            "UPDATE steps SET seats = 'CO;CO' WHERE ceremony = 61 AND step = 1",
-            "UPDATE sheet SET way = 2 WHERE who = 'FIN'",
-            "UPDATE keys SET key = 'a b' WHERE accepted = 1",
-            "UPDATE keys SET accepted = 0 WHERE accepted = 7",
-            "UPDATE marks SET at = -1 WHERE ceremony = 61",
-            "UPDATE marks SET at = 946684799 WHERE ceremony = 61",
-            "UPDATE ceremonies SET number = 70000 WHERE number = 61",
-            "UPDATE steps SET step = 5000 WHERE ceremony = 61 AND step = 1",
-            "INSERT INTO seatings VALUES (61, 1, 17, 'FIN')",
-            "INSERT INTO boxes VALUES ('EAST', 9000, 'CO-WEST-3')",
+    for number, (table, cells, where) in enumerate(INVALID):
+        changed = copy(file, room / f"changed-{number}")
+        change(changed, f"UPDATE {table} SET {cells}")
+        told_as_invalid(program, room, changed, f"{table} {cells}", invalid_row(changed, table, where))
+
+
+def keys_of_invalid_rows(program, room):
+    """Of several invalid rows the first is told, in the order of the file's tables; a key is one line of UTF-8. So is a
+    row of an older file."""
+    file = filled(program, room, "003")
+    for number, (statements, key) in enumerate([
+            (["UPDATE people SET who = 'F' || char(10) || 'N' WHERE who = 'FIN'"], "people 'F N'"),
+            (["UPDATE people SET who = CAST(X'46FF4E' AS TEXT) WHERE who = 'FIN'"], "people 'F\ufffdN'"),
+            (["UPDATE people SET who = 'O''N' WHERE who = 'FIN'"], "people 'O''N'"),
+            (["UPDATE steps SET state = 3", "UPDATE people SET name = '' WHERE who = 'FIN'"], "people 'FIN'"),
+            (["UPDATE stays SET until = 1 WHERE who = 'FIN'", "UPDATE marks SET at = 1 WHERE ceremony = 61"],
+             "marks 61"),
     ]):
         changed = copy(file, room / f"changed-{number}")
-        change(changed, statement)
-        for words in (["audit"], ["verify"], ["rebuild", "--into", room / "fresh"]):
-            told = call(program, *words, "--file", changed)
-            expect(f"{words[0]}: {statement}", (b"", b"refused: 34 disk\n", 1), told)
+        for statement in statements:
+            change(changed, statement)
+        told_as_invalid(program, room, changed, statements[0], f"refused: 34 disk\ninvalid: {key}\n".encode())
+    for version in (1, 2):
+        older = copy(file, room / f"older-{version}")
+        made_older(older, version)
+        change(older, "UPDATE steps SET seats = 'CO;CO' WHERE ceremony = 61 AND step = 1")
+        expect(f"an older file, {version}", (b"", b"refused: 34 disk\ninvalid: steps 61,1\n", 1),
+               call(program, "verify", "--file", older))
 
 
 def broken_in_a_stream(program, room):
@@ -231,7 +315,7 @@ def broken_in_a_stream(program, room):
 
 def report_stops(program, room):
     """A report that meets such a row is refused, and a prefix of it was printed: of its steps, which are read sixteen
-    at a time, those that were read before."""
+    at a time, those that were read before. The row is told."""
     file, script = room / "stops", ("print", "--ceremony", "61", "--file")
     call(program, "run", "--file", file, stream=kcr.case_file("reports-of-33-rows").read_bytes())
     text, faults, status = call(program, *script, file)
@@ -240,12 +324,12 @@ def report_stops(program, room):
         marred = copy(file, room / f"stops-{step}")
         change(marred, f"UPDATE steps SET seats = 'CO;CO' WHERE ceremony = 61 AND step = {step}")
         output, faults, status = call(program, *script, marred)
-        expect(f"the end at step {step}", (b"refused: 34 disk\n", 1), (faults, status))
+        expect(f"the end at step {step}", (b"refused: 34 disk\ninvalid: steps 61,%d\n" % step, 1), (faults, status))
         expect(f"what was printed before step {step}", text[:text.index(before) + 1], output)
 
 
-TESTS = [findings, doubled_key, crowd, differences, changed_commands, rows_of_no_register, broken_in_a_stream,
-         report_stops]
+TESTS = [findings, doubled_key, crowd, differences, changed_commands, other_people, rows_of_no_register,
+         keys_of_invalid_rows, broken_in_a_stream, report_stops]
 
 
 if __name__ == "__main__":

@@ -473,7 +473,7 @@ def replies(program, requests):
 
 def same_paths(_):
     """docs/openapi.yaml and the headings of docs/API.md have the routes of the code, and no other."""
-    routes = re.findall(r'Route::\w+ => "(/[^"]*)"', text_of("crates/kcr_wire/src/route.rt"))
+    routes = re.findall(r'(?m)^ +\("(/[^"]*)", \w', text_of("crates/kcr_wire/src/route.rt"))
     agree("the paths of the code", sorted(re.sub("{.*?}", "{}", route) for route in routes),
           sorted(re.sub("{.*?}", "{}", path) for path in document()["paths"]))
     for path, item in document()["paths"].items():
@@ -680,8 +680,8 @@ def complete(_):
 
 
 def there(_):
-    """Each file that docs/MAP.md names is there, and so are the mutants of docs/PROVED.md and docs/TESTS.md, and the
-    cases of the latter."""
+    """Each file that docs/MAP.md names is there, and so are the mutants of docs/PROVED.md, and the cases that catch a mutant
+    too."""
     files = {path.relative_to(ROOT / "crates").as_posix() for kind in ("rt", "antt", "edit")
              for path in (ROOT / "crates").glob(f"*/[!o]*/**/*.{kind}")}
     form = r"`(?:kcr_\w+/)?([a-z]\w*(?:/\w+)*\.rt|specs/\w+\.antt|proofs/\w+\.antt)`"
@@ -690,14 +690,10 @@ def there(_):
     for names in re.findall(r"\[(`kcr_.*?)\]", text_of("docs/PROVED.md")):
         for crate, name in re.findall(r"`(kcr_\w+)/(\w+)`", names):
             expect(f"whether the mutant {crate}/{name} is there", True, f"{crate}/must-fail/{name}.edit" in files)
-    text = text_of("docs/TESTS.md").partition("\n## Worked examples\n")[2]
-    for line in re.findall(r"(?m)^- (`kcr_.*)$", text.partition("\n## Mutants\n")[2]):
-        owners, _, names = line.partition(": ")
-        for name in re.findall(r"`(\w+)`", re.sub(r"\(.*?\)", "", names)):
-            here = {f"{crate}/must-fail/{name}.edit" for crate in re.findall(r"kcr_\w+", owners)}
-            expect(f"whether the mutant {name} is there", True, bool(here & files))
+    pages = [page.read_text(encoding="utf-8") for page in (ROOT / "crates").glob("*/must-fail/README.md")]
+    caught = " ".join(re.findall(r"(?m) Also caught by (.*)$", "\n".join(pages)))
     cases = {path.stem for path in (HERE / "cases").glob("*/*")}
-    for name in set(re.findall(r"`([a-z]+(?:-(?:[a-z0-9*]|\.(?=\d))+)+)`", text)) - {"must-fail"}:
+    for name in set(re.findall(r"`([a-z]+(?:-(?:[a-z0-9*]|\.(?=\d))+)+)`", caught)):
         expect(f"whether the case {name} is there", True, bool(fnmatch.filter(cases, name)))
 
 

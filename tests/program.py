@@ -254,7 +254,7 @@ def other_seatings(program, room):
         if version < 3:
             made_older(older, version)
         told = 'reply 16\nreply: expected {"accepted":16,"seating":["EA"],"step":1}; found ' \
-               '{"accepted":16,"seating":["EE"],"step":1}'
+               '{"accepted":16,"seating":["EE"],"step":1}; a seating'
         differed(program, older, told)
         fresh = room / f"rebuilt-{version}"
         expect("rebuild", (f"finding: {told}\n".encode(), b"", 1),

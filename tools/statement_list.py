@@ -65,6 +65,7 @@ CASES = {
     "kcr_journal/Sentences": "journal.py:each_command_a_line",
     "kcr_journal/Lines": "journal.py:each_command_a_line",
     "kcr_journal/Journal": "journal.py:each_command_a_line",
+    "kcr_journal/Replies": "journal.py:each_command_a_line changed.py:other_people",
     "kcr_desk/Run": "the-same-command-again head-cut-short body-cut-short",
     "kcr_desk/Answers": "entered-and-listed method-of-another-path reports commands",
     "kcr_desk/Streams": "streams.py:read_fails streams.py:write_fails",
@@ -86,12 +87,13 @@ CASES = {
     "kcr_older/Kind": "program.py:no_one_number older.txt:other_databases_are_refused",
     "kcr_store/Register": "stops.py:commands_are_taken",
     "kcr_verify/Verification": "changed.py:differences changed.py:changed_commands",
+    "kcr_verify/Seated": "program.py:other_seatings changed.py:other_people",
     "kcr_verify/FirstRow": "changed.py:differences",
     "kcr_verify/Columns": "changed.py:differences",
     "kcr_verify/Quoted": "changed.py:differences",
     "kcr_arguments/Commands": "words/help words/serve-idle-301 words/export-after-4000000001",
     "kcr_arguments/Tasks": "words/serve-longest-0 words/print-ceremony-0 words/pack-into-a-wal words/run-explained",
-    "kcr_fault/Lines": "changed.py:findings changed.py:differences damage.py:frames_are_changed server.py:taken_port",
+    "kcr_fault/Lines": "changed.py:findings changed.py:differences changed.py:keys_of_invalid_rows damage.py:frames_are_changed server.py:taken_port",
     "kcr_fault/Faults": "program.py:no_database server.py:taken_port server.py:lost_files words/run-explained",
 }
 
@@ -216,7 +218,7 @@ PARTS = [
     ("The verification",
      "What it means that a register is the one of its own commands.",
      """kcr_history/src/views kcr_audit/Views kcr_store/FullView kcr_forms/Acts kcr_verify/src/compare
-     kcr_verify/src/verification kcr_verify/Verification"""),
+     kcr_verify/src/verification kcr_journal/Replies kcr_verify/Seated kcr_verify/Verification"""),
     ("The program",
      "Which arguments are which task, and what each task writes.",
      """kcr_verify/src/new_register kcr_log/src/judgement kcr_store/src/breakage kcr_arguments/src/words kcr_fault/src/fault

@@ -7,7 +7,8 @@ from table_writer import codes
 class Kind:
     """How a field of a value stands in one column."""
 
-    def __init__(self, sql, column, value, read, write, one=None, cast=None, ties=None, words=(), prelude=None, casts=(), dates=None):
+    def __init__(self, cell, sql, column, value, read, write, one=None, cast=None, ties=None, words=(), prelude=None, casts=(), dates=None):
+        self.variant = cell  # what the cells are, as kcr_validity names it
         self.sql = sql  # the type in CREATE TABLE
         self.column = column  # the column of the schema
         self.value = value  # the value of a row; {x} is the field
@@ -35,51 +36,53 @@ class Kind:
 TEXT_AT = "text_at(alloc, row, {at})?"
 
 
-def text():
-    return Kind("TEXT NOT NULL", "words", "Text {x}", TEXT_AT, "text_cell({x}.as_str())", ties="text_ties")
+def text(cell):
+    return Kind(cell, "TEXT NOT NULL", "words", "Text {x}", TEXT_AT, "text_cell({x}.as_str())", ties="text_ties")
 
 
-def integer(dates=None):
-    return Kind("INT NOT NULL", "number", "Int (pos {x})", "number_at(row, {at})?", "number_cell({x})", cast="cast_int (pos {x}) i", ties="number_ties", casts=("cast_int",), dates=dates)
+def integer(cell, dates=None):
+    return Kind(cell, "INT NOT NULL", "number", "Int (pos {x})", "number_at(row, {at})?", "number_cell({x})", cast="cast_int (pos {x}) i", ties="number_ties", casts=("cast_int",), dates=dates)
 
 
-def integer_or_null(dates=None):
-    return Kind("INT", "number_or_null", "int_or_null {x}", "number_or_null_at(row, {at})?", "number_or_null_cell({x})", one="one_number", cast="cast_or_null {x} i", words=("int_or_null",), casts=("cast_or_null",), dates=dates)
+def integer_or_null(dates):
+    return Kind(f"{dates}OrNull", "INT", "number_or_null", "int_or_null {x}", "number_or_null_at(row, {at})?", "number_or_null_cell({x})", one="one_number", cast="cast_or_null {x} i", words=("int_or_null",), casts=("cast_or_null",), dates=dates)
 
 
 def counted(kind):
     """A number from 1 to the greatest of its kind."""
-    return Kind("INT NOT NULL", "number", "Int (pos {x})", f"counted_at::<{kind}>(row, {{at}})?", "number_cell({x})", cast="cast_int (pos {x}) i", ties="number_ties", casts=("cast_int",))
+    return Kind(kind[2:], "INT NOT NULL", "number", "Int (pos {x})", f"counted_at::<{kind}>(row, {{at}})?", "number_cell({x})", cast="cast_int (pos {x}) i", ties="number_ties", casts=("cast_int",))
 
 
 def counted_or_null(kind):
-    return Kind("INT", "number_or_null", "int_or_null {x}", f"counted_or_null_at::<{kind}>(row, {{at}})?", "number_or_null_cell({x})", one="one_number", cast="cast_or_null {x} i", words=("int_or_null",), casts=("cast_or_null",))
+    return Kind(f"{kind[2:]}OrNull", "INT", "number_or_null", "int_or_null {x}", f"counted_or_null_at::<{kind}>(row, {{at}})?", "number_or_null_cell({x})", one="one_number", cast="cast_or_null {x} i", words=("int_or_null",), casts=("cast_or_null",))
 
 
 def numbered(name, word, ties=None):
-    return Kind("INT NOT NULL", "number", f"Int (pos ({word} {{x}}))", "number_at(row, {at})?", "number_cell({x})", one=f"one_{name}", cast=f"cast_int (pos ({word} {{x}})) i", ties=ties, words=(word,), casts=("cast_int",))
+    return Kind("".join(part.capitalize() for part in name.split("_")), "INT NOT NULL", "number", f"Int (pos ({word} {{x}}))", "number_at(row, {at})?", "number_cell({x})", one=f"one_{name}", cast=f"cast_int (pos ({word} {{x}})) i", ties=ties, words=(word,), casts=("cast_int",))
 
 
-def named(name, write="text_cell({x}.text())", prelude=None, read=TEXT_AT):
+def named(name, write="text_cell({x}.text())", prelude=None, read=TEXT_AT, cell=None):
     word = f"{name}_text"
-    return Kind("TEXT NOT NULL", "words", f"Text ({word} {{x}})", read, write, one=f"one_{name}", ties=f"{name}_ties", words=(word,), prelude=prelude)
+    return Kind(cell or name.capitalize(), "TEXT NOT NULL", "words", f"Text ({word} {{x}})", read, write, one=f"one_{name}", ties=f"{name}_ties", words=(word,), prelude=prelude)
 
 
-INITIALS = text()
-KEY = text()
-SERIAL = text()
-ITEM = text()
-LINE = text()
-TEXT = text()
-NUMBER = integer()
+INITIALS = text("Initials")
+KEY = text("Key")
+SERIAL = text("Serial")
+ITEM = text("Serial")
+NAME = text("Name")
+ACTIVITY = text("Activity")
+REMARK = text("Remark")
+TEXT = text("Text")
+NUMBER = integer(None)
 CEREMONY = counted("OfCeremony")
 BOX = counted("OfBox")
 STEP = counted("OfStep")
 SEAT = counted("OfSeat")
 EXCEPTION = counted("OfException")
 COMMAND = counted("OfCommand")
-DAY = integer("Day")
-MOMENT = integer("Moment")
+DAY = integer("Day", "Day")
+MOMENT = integer("Moment", "Moment")
 DAY_OR_NULL = integer_or_null("Day")
 MOMENT_OR_NULL = integer_or_null("Moment")
 STEP_OR_NULL = counted_or_null("OfStep")
@@ -87,17 +90,17 @@ FACILITY = named("facility")
 ROLE = named("role")
 PLACE = named("place", "text_cell({f}.as_str())", "let {f} = {x}.text();")
 # the place of a box: a Crypto Officer's of its facility
-OFFICER = named("place", "text_cell({f}.as_str())", "let {f} = {x}.text();", read="officer_at(alloc, row, {at}, facility)?")
+OFFICER = named("place", "text_cell({f}.as_str())", "let {f} = {x}.text();", read="officer_at(alloc, row, {at}, facility)?", cell="Officer")
 SAFE = numbered("safe", "safe_digit", "safe_ties")
 TRUTH = numbered("truth", "truth_number")
 WAY = numbered("way", "way_number")
 CEREMONY_STATE = numbered("ceremony_state", "ceremony_number")
 STEP_STATE = numbered("step_state", "step_number")
-SPOT = Kind("TEXT NOT NULL", "words", "Text (spot_text {x})", "spot_at(row, {at})?", "text_cell({f}.as_str())", one="one_spot", words=("spot_text",), prelude="let {f} = spot_words(alloc, {x})?;")
-SEATS = Kind("TEXT NOT NULL", "words", "Text (written {x})", "seats_at(alloc, row, {at})?", "text_cell({f}.as_str())", one="one_seats", words=("written",), prelude="let {f} = seats_words(alloc, &{x})?;")
+SPOT = Kind("Spot", "TEXT NOT NULL", "words", "Text (spot_text {x})", "spot_at(row, {at})?", "text_cell({f}.as_str())", one="one_spot", words=("spot_text",), prelude="let {f} = spot_words(alloc, {x})?;")
+SEATS = Kind("Seats", "TEXT NOT NULL", "words", "Text (written {x})", "seats_at(alloc, row, {at})?", "text_cell({f}.as_str())", one="one_seats", words=("written",), prelude="let {f} = seats_words(alloc, &{x})?;")
 # the two columns of an item's rest
-LOOSE = Kind("TEXT", "words_or_null", "loose_value {x}", "rest_at(row, {at})?", "loose_cell({x})", cast="cast_loose {x} i", words=("loose_value",), casts=("cast_loose",))
-WITHIN = Kind("TEXT", "words_or_null", "within_value {x}", None, "within_cell(&{x})", cast="cast_within {x} i", words=("within_value",), casts=("cast_within",))
+LOOSE = Kind("Loose", "TEXT", "words_or_null", "loose_value {x}", "rest_at(row, {at})?", "loose_cell({x})", cast="cast_loose {x} i", words=("loose_value",), casts=("cast_loose",))
+WITHIN = Kind("Within", "TEXT", "words_or_null", "within_value {x}", None, "within_cell(&{x})", cast="cast_within {x} i", words=("within_value",), casts=("cast_within",))
 
 
 class Column:
@@ -211,7 +214,7 @@ def of_ceremony(table, word):
 
 
 TABLES = [
-    Table("people", "person", "Person", "kcr_people", "", [Column("who", INITIALS), Column("name", LINE)], 1,
+    Table("people", "person", "Person", "kcr_people", "", [Column("who", INITIALS), Column("name", NAME)], 1,
           "a person under their initials",
           "PutPerson", "same_person", always_new=True,
           readings=[Reading("person_of", "The row of the person with these initials, alone, or none", "who", "who", "&Initials", INITIALS, "same_text {x}.who {v}")]),
@@ -238,14 +241,14 @@ TABLES = [
     Table("marks", "mark", "MarkRow", "kcr_history", "row_types.", [Column("ceremony", CEREMONY), Column("at", MOMENT)], 1,
           "the mark of a ceremony that was opened, under its number", "PutMark", "same_mark",
           readings=[Reading("mark_of", "The row of the ceremony, alone, or none", "ceremony", "ceremony", "u32", CEREMONY, "{x}.ceremony == {v}", ask="is_mark_of {v}")]),
-    Table("steps", "step", "StepRow", "kcr_history", "row_types.", [Column("ceremony", CEREMONY), Column("step", STEP), Column("activity", LINE), Column("seats", SEATS), Column("state", STEP_STATE), Column("at", MOMENT_OR_NULL)], 2,
+    Table("steps", "step", "StepRow", "kcr_history", "row_types.", [Column("ceremony", CEREMONY), Column("step", STEP), Column("activity", ACTIVITY), Column("seats", SEATS), Column("state", STEP_STATE), Column("at", MOMENT_OR_NULL)], 2,
           "a step of a ceremony under both numbers", "PutStep", "same_step", new_where="self.state == StepState::Undone",
           is_read="HasOnlyTheseSeats", is_stored="HasSeatsText", stored_fact="seats"),
     Table("seatings", "seating", "SeatingRow", "kcr_history", "row_types.", [Column("ceremony", CEREMONY), Column("step", STEP), Column("seat", SEAT), Column("who", INITIALS)], 3,
           "who filled a seat of a step, under the ceremony, the step and the seat", "PutSeating", "same_seating", always_new=True),
     Table("sheet", "sheet", "SheetRow", "kcr_room", "", [Column("who", INITIALS), Column("at", MOMENT), Column("ceremony", CEREMONY), Column("way", WAY)], 2,
           "a row of a ceremony's entry and exit sheet, under the person and the moment", "PutSheet", "same_sheet_row", always_new=True),
-    Table("exceptions", "exception", "ExceptionRow", "kcr_history", "row_types.", [Column("ceremony", CEREMONY), Column("exception", EXCEPTION), Column("text", LINE), Column("at", MOMENT), Column("passed", STEP_OR_NULL)], 2,
+    Table("exceptions", "exception", "ExceptionRow", "kcr_history", "row_types.", [Column("ceremony", CEREMONY), Column("exception", EXCEPTION), Column("text", REMARK), Column("at", MOMENT), Column("passed", STEP_OR_NULL)], 2,
           "a script exception of a ceremony under both numbers", "PutException", "same_exception", always_new=True,
           readings=[of_ceremony("exceptions", "is_exception_of")]),
     Table("versions", "version", "Version", "kcr_rows", "row_impls.", [Column("number", NUMBER)], 1,

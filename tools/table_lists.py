@@ -177,6 +177,37 @@ def quoted_rows():
     write("src/quoted_rows.rt", head + "\n" + "\n".join(sorted(imports)) + "\n" + body, "kcr_verify")
 
 
+def key_columns(t):
+    """What the numbers of the columns of its key are."""
+    return [column(c) for c in t.columns[: t.keys]]
+
+
+def searched():
+    out = "-- of each table\nabbrev pub searched : TableName → Searched\n"
+    for t in LISTED:
+        out += f"searched {variant(t)} =\n    record {{ place = {t.place}; kinds = {t.row}_kinds; key = {listed(key_columns(t))} }}\n"
+    fill("kcr_verify/specs/Invalid.antt", laid_out(out, DEFINITIONS))
+
+
+def searched_rows():
+    names = [variant(t) for t in LISTED]
+    head = "//! The tables that are searched for an invalid row.\n\nghost use Rattle.std.specs.Prelude.{refl};\n"
+    for at in range(0, len(names), 8):
+        head += f"ghost use Rattle.kcr_verify.specs.declared.compare.TableName.TheVariants.{{{', '.join(names[at : at + 8])}}};\n"
+    types = {}
+    body = ""
+    for t in LISTED:
+        types.setdefault(t.crate, set()).add(t.type)
+        kinds = ", ".join(f"Column::{kind}" for kind in key_columns(t))
+        body += f"\nimpl Searched for {t.type} {{\n    ghost name = {{ {variant(t)} }};\n\n    fn name() -> TableName {{\n        TableName::{variant(t)}\n    }}\n\n"
+        body += f"    fn key(alloc: Global, row: &Row) -> Result<Text, AllocError> {{\n        key_of(alloc, &[{kinds}], row)\n    }}\n\n"
+        body += "    ghost place = { refl };\n\n    ghost cells = { refl };\n}\n"
+    imports = ["use crate::compare::TableName;", "use crate::invalid::{Searched, key_of};", "use crate::quoted::Column;", "use kcr_base::Text;"]
+    imports += [f"use {crate}::{{{', '.join(sorted(types[crate]))}}};" for crate in sorted(types)]
+    imports += ["use sqlite::Row;", "use std::alloc::{AllocError, Global};"]
+    write("src/searched_rows.rt", head + "\n" + "\n".join(imports) + "\n" + body, "kcr_verify")
+
+
 def lists():
     views()
     history()
@@ -185,3 +216,5 @@ def lists():
     differences()
     columns()
     quoted_rows()
+    searched()
+    searched_rows()

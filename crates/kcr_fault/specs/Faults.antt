@@ -17,11 +17,12 @@ use Rattle.kcr_store.specs.declared.«open».OpenFault.TheVariants as opening
 use Rattle.kcr_log.specs.declared.judgement.Log.TheVariants as logs
 use Rattle.kcr_tables.specs.Refusals.{IsFault}
 use Rattle.kcr_verify.specs.declared.new_register.CreateFault.TheVariants as fresh
-use Rattle.kcr_fault.specs.Lines.{broken_line, call_head, found_line, log_line, missing_line, name_of, numbered, step_head}
+use Rattle.kcr_fault.specs.Lines.{broken_line, call_head, found_line, invalid_line, log_line, missing_line, name_of}
+use Rattle.kcr_fault.specs.Lines.{numbered, step_head}
 use Rattle.kcr_fault.specs.Notes.{IsMissing, IsNoted, IsUnfilled, WritesLines}
 use Rattle.kcr_fault.specs.declared.fault.Fault.{Fault}
 use Rattle.kcr_fault.specs.declared.fault.Fault.TheVariants.{Open, File, Log, Nothing, Into, IntoFile, Stream, Refused}
-use Rattle.kcr_fault.specs.declared.fault.Fault.TheVariants.{Broken, Unwritten, Net, Lost, Words}
+use Rattle.kcr_fault.specs.declared.fault.Fault.TheVariants.{Broken, Invalid, Unwritten, Net, Lost, Words}
 use Rattle.kcr_fault.specs.declared.fault.Call.TheVariants as call
 use Rattle.kcr_arguments.specs.declared.words.Serving.{Serving}
 use Rattle.kcr_arguments.specs.declared.words.Task.{Task}
@@ -56,6 +57,7 @@ reason_of Unwritten = codes "fault: write\n"
 reason_of (Net call) = codes "fault: net\n"
 reason_of Lost = codes "fault: file\n"
 reason_of (Broken why) = codes "refused: 35 broken\n"
+reason_of (Invalid row) = codes "refused: 34 disk\n"
 reason_of other = codes "fault: memory\n"
 
 -- the port that a task names, 0 if it has none
@@ -72,6 +74,7 @@ second_line task file into (IntoFile step) = found_line (step_head step) (name_o
 second_line task file into (Net call) = found_line (call_head call) (decimal (port_of task))
 second_line task file into Lost = found_line (codes "lost: ") (name_of file)
 second_line task file into (Broken why) = broken_line why
+second_line task file into (Invalid row) = invalid_line row
 second_line task file into other = []
 
 -- the line that tells a fault, and a second one if it is explained; of a refusal, and of a register without commands, the
@@ -127,6 +130,7 @@ StopsTask task s Unwritten = HasFailed s.output
 StopsTask task s (Net call) = IsServe task
 StopsTask task s Lost = IsServe task
 StopsTask task s (Broken why) = IsServe task
+StopsTask task s (Invalid row) = MayMeet task refusal.Disk
 StopsTask task s other = ⊥
 
 -- the task is known, and its fault has this cause
@@ -158,6 +162,7 @@ HasCause task file s other = StopsKnown task s other
 -- writer's count tells
 abbrev pub StopsReport : {W : Type 0} → (Refusal → Type 0) → Writing W → Fault → Type 0
 StopsReport May w (Refused met) = May met
+StopsReport May w (Invalid row) = May refusal.Disk
 StopsReport May w Unwritten = HasFailed w
 StopsReport May w other = ⊥
 
@@ -172,6 +177,7 @@ StopsOpening other = ⊥
 abbrev pub StopsReading : Fault → Type 0
 StopsReading (Nothing missing) = IsUnfilled missing
 StopsReading (Refused met) = IsFault met
+StopsReading (Invalid row) = Unit {0}
 StopsReading other = StopsOpening other
 
 -- why a replay stopped: as a report does, or there was nothing to replay or no new register could be made, and then

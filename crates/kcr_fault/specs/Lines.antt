@@ -1,5 +1,6 @@
 -- The lines that the program writes beside reports.
-use Rattle.std.specs.Prelude.{if◌then◌else◌, ◌||◌, ℕ, List, [], ◌∷◌, ◌++◌, codes, map, nat_eq, nat_lt, Option, unwrap_or}
+use Rattle.std.specs.Prelude.{if◌then◌else◌, ◌||◌, ℕ, Bool, true, false, List, [], ◌∷◌, ◌++◌, codes, map, nat_eq, nat_lt}
+use Rattle.std.specs.Prelude.{Option, Some, None, unwrap_or}
 use Rattle.std.specs.Fmt.{decimal}
 use Rattle.kcr_base.specs.Moment.{moment_text}
 use Rattle.kcr_history.specs.Refusals.{refusal_text}
@@ -11,6 +12,7 @@ use Rattle.kcr_store.specs.declared.breakage.Breakage.{Breakage}
 use Rattle.kcr_store.specs.declared.breakage.Breakage.TheVariants as Breakages
 use Rattle.kcr_verify.specs.Quoted.{row_line}
 use Rattle.kcr_verify.specs.Verification.{name_of as table_name}
+use Rattle.kcr_verify.specs.declared.invalid.InvalidRow.{InvalidRow}
 use Rattle.kcr_verify.specs.declared.verification.Difference.{Difference}
 use Rattle.kcr_verify.specs.declared.verification.Difference.TheVariants as Differences
 use Rattle.kcr_fault.specs.declared.fault.Call.{Call}
@@ -68,9 +70,19 @@ whole_line head count = head ++ (decimal count ++ codes " commands\n")
 abbrev pub in_a_line : List ℕ → List ℕ
 in_a_line text = map (λ byte. if nat_lt byte 32 || nat_eq byte 127 then 32 else byte) text
 
--- what was expected and what was found
+-- what was expected and what was found, and a word on it
+abbrev pub judged_line : List ℕ → List ℕ → List ℕ → List ℕ → List ℕ
+judged_line head expected found word =
+    head ++ (expected ++ (codes "; found " ++ (in_a_line found ++ (word ++ codes "\n"))))
+
 abbrev pub expected_line : List ℕ → List ℕ → List ℕ → List ℕ
-expected_line head expected found = head ++ (expected ++ (codes "; found " ++ (in_a_line found ++ codes "\n")))
+expected_line head expected found = judged_line head expected found []
+
+-- whether the people of a stored reply fill the seats; nothing if nothing is told of them
+abbrev pub seating_word : Option Bool → List ℕ
+seating_word None = []
+seating_word (Some true) = codes "; a seating"
+seating_word (Some false) = codes "; no seating"
 
 -- what differs, as a verification found it: what the rules give and what is stored; of a table its first row that differs
 abbrev pub difference_line : Difference → List ℕ
@@ -83,8 +95,9 @@ difference_line (Differences.Command number found) =
 difference_line (Differences.Refused number refusal found) =
     found_line (codes "finding: refused ") (decimal number)
     ++ expected_line (codes "refused: expected ") (refusal_text refusal) found
-difference_line (Differences.Reply number expected found) =
-    found_line (codes "finding: reply ") (decimal number) ++ expected_line (codes "reply: expected ") expected found
+difference_line (Differences.Reply number expected found is_seating) =
+    found_line (codes "finding: reply ") (decimal number)
+    ++ judged_line (codes "reply: expected ") expected found (seating_word is_seating)
 difference_line (Differences.Rows table row) = found_line (codes "finding: table ") (table_name table) ++ row_line row
 
 -- what is wrong with a log, and how many transactions end in the damage or behind it
@@ -123,3 +136,7 @@ broken_line Breakages.NoRoom = codes "broken: no room\n"
 broken_line Breakages.Writing = codes "broken: writing\n"
 broken_line Breakages.Reading = codes "broken: reading\n"
 broken_line Breakages.Memory = codes "broken: memory\n"
+
+-- an invalid row: its table and its key
+abbrev pub invalid_line : InvalidRow → List ℕ
+invalid_line row = codes "invalid: " ++ (table_name row.table ++ (codes " " ++ (in_a_line row.key ++ codes "\n")))

@@ -4,9 +4,9 @@ ghost use Rattle.kcr_desk.specs.Streams.{writing};
 ghost use Rattle.kcr_fault.specs.Faults.{AreLinesOf, refusal_line, reason_of, second_line, lines_of, port_of};
 ghost use Rattle.kcr_fault.specs.Notes.{IsTold, WritesLines};
 ghost use Rattle.kcr_arguments.specs.Tasks.{file_in, into_in};
-ghost use Rattle.kcr_fault.specs.Lines.{broken_line, call_head, log_line, name_of, missing_line, step_head};
+ghost use Rattle.kcr_fault.specs.Lines.{broken_line, call_head, invalid_line, log_line, name_of, missing_line, step_head};
 
-use crate::lines::{around, numbered};
+use crate::lines::{around, in_a_line, numbered};
 use itoa::Buffer;
 use kcr_arguments::{Order, Task};
 use kcr_base::{Counted, Refusal};
@@ -14,7 +14,7 @@ use kcr_desk::DeskFault;
 use kcr_log::Log;
 use kcr_print::{PrintFault, WriteFailed, write_whole};
 use kcr_store::{Breakage, OpenFault};
-use kcr_verify::CreateFault;
+use kcr_verify::{CreateFault, InvalidRow};
 use std::alloc::{AllocError, Global};
 use std::io::Write;
 
@@ -52,7 +52,7 @@ pub enum Missing {
 }
 
 /// Why a task was not done to its end.
-#[derive(Clone, Copy, PartialEq, Eq)]
+#[derive(Drop)]
 pub enum Fault {
     /// The register could not be opened.
     Open(OpenFault),
@@ -70,6 +70,8 @@ pub enum Fault {
     Stream(DeskFault),
     /// The register refused what the task asks for.
     Refused(Refusal),
+    /// The same with 34, and the register has an invalid row.
+    Invalid(InvalidRow),
     /// The register is broken, so that it refuses whatever is asked.
     Broken(Breakage),
     /// A report or a line could not be written to its end.
@@ -242,53 +244,64 @@ fn port_of(task: Task) -> u16
     }
 }
 
+/// The line of an invalid row: its table and its key. The error is out of memory.
+fn invalid(alloc: Global, row: &InvalidRow) -> Result<Vec<u8>, AllocError>
+    ensures { IfOk result (λ line. line.items ≡ invalid_line row.now) }
+{
+    let key = in_a_line(alloc, row.key.as_str())?;
+    let mut line = around(alloc, "invalid: ", row.table.name(), " ")?.into_bytes();
+    line.extend_from_slice(&key)?;
+    line.push(b'\n')?;
+    Ok(line)
+}
+
 /// The line that names what failed, with what the words name; nothing if there is no more to tell. The error is out of
 /// memory.
-fn second_line(alloc: Global, order: &Order<'_>, fault: &Fault) -> Result<String, AllocError>
-    ensures { IfOk result (λ line. string_bytes line ≡ second_line (Some order.now.task)
+fn second_line(alloc: Global, order: &Order<'_>, fault: &Fault) -> Result<Vec<u8>, AllocError>
+    ensures { IfOk result (λ line. line.items ≡ second_line (Some order.now.task)
         (file_in order.now) (into_in order.now) fault.now) }
 {
     match fault {
-        Fault::Log(log) => wrong(alloc, log),
-        Fault::File(step) => around(alloc, step_head(*step), name_of(order.file), "\n"),
-        Fault::IntoFile(step) => around(alloc, step_head(*step), name_of(order.into), "\n"),
+        Fault::Log(log) => Ok(wrong(alloc, log)?.into_bytes()),
+        Fault::File(step) => {
+            Ok(around(alloc, step_head(*step), name_of(order.file), "\n")?.into_bytes())
+        }
+        Fault::IntoFile(step) => {
+            Ok(around(alloc, step_head(*step), name_of(order.into), "\n")?.into_bytes())
+        }
         Fault::Net(call) => {
             let mut buffer = Buffer::new();
-            around(
-                alloc,
-                call_head(*call),
-                buffer.format(port_of(order.task)),
-                "\n",
-            )
+            let port = buffer.format(port_of(order.task));
+            Ok(around(alloc, call_head(*call), port, "\n")?.into_bytes())
         }
-        Fault::Lost => around(alloc, "lost: ", name_of(order.file), "\n"),
-        Fault::Broken(why) => String::from_str(alloc, broken_line(*why)),
-        _ => Ok(String::new(alloc)),
+        Fault::Lost => Ok(around(alloc, "lost: ", name_of(order.file), "\n")?.into_bytes()),
+        Fault::Broken(why) => Ok(String::from_str(alloc, broken_line(*why))?.into_bytes()),
+        Fault::Invalid(row) => invalid(alloc, row),
+        _ => Ok(Vec::new(alloc)),
     }
 }
 
 /// The line of a fault, and a second one if the order asks to explain. The error is out of memory.
-fn lines(alloc: Global, order: &Order<'_>, fault: &Fault) -> Result<String, AllocError>
-    ensures { IfOk result (λ lines. string_bytes lines ≡ lines_of order.now.is_explained (Some order.now.task)
+fn lines(alloc: Global, order: &Order<'_>, fault: &Fault) -> Result<Vec<u8>, AllocError>
+    ensures { IfOk result (λ lines. lines.items ≡ lines_of order.now.is_explained (Some order.now.task)
         (file_in order.now) (into_in order.now) fault.now) }
 {
     match fault {
-        Fault::Refused(refusal) => refused(alloc, refusal),
-        Fault::Nothing(kind) => missing_text(alloc, *kind, order.file),
+        Fault::Refused(refusal) => Ok(refused(alloc, refusal)?.into_bytes()),
+        Fault::Nothing(kind) => Ok(missing_text(alloc, *kind, order.file)?.into_bytes()),
         other => {
-            let second = if order.is_explained {
-                second_line(alloc, order, other)?
-            } else {
-                String::new(alloc)
-            };
-            around(alloc, "", reason(*other), second.as_str())
+            let mut lines = String::from_str(alloc, reason(other))?.into_bytes();
+            if order.is_explained {
+                lines.extend_from_slice(&second_line(alloc, order, other)?)?;
+            }
+            Ok(lines)
         }
     }
 }
 
 /// The first line of a fault, for which no memory is needed.
-fn reason(fault: Fault) -> &'static str
-    ensures { result.now ≡ reason_of fault }
+fn reason(fault: &Fault) -> &'static str
+    ensures { result.now ≡ reason_of fault.now }
 {
     match fault {
         Fault::Open(OpenFault::Memory) => "open: memory\n",
@@ -303,19 +316,27 @@ fn reason(fault: Fault) -> &'static str
         Fault::Net(_) => "fault: net\n",
         Fault::Lost => "fault: file\n",
         Fault::Broken(_) => "refused: 35 broken\n",
+        Fault::Invalid(_) => "refused: 34 disk\n",
         Fault::Stream(DeskFault::Memory) | Fault::Words | Fault::Refused(_) | Fault::Nothing(_) =>
             "fault: memory\n",
     }
 }
 
 /// Writes lines. What a failed write leaves is lost.
-pub fn write_line<F: Write>(faults: &mut Counted<F>, line: &str)
-    ensures { WritesLines (writing F.contents faults.old faults.new) line.now }
+fn write_bytes<F: Write>(faults: &mut Counted<F>, lines: &[u8])
+    ensures { WritesLines (writing F.contents faults.old faults.new) lines.now }
 {
-    match write_whole(faults, line.as_bytes()) {
+    match write_whole(faults, lines) {
         Ok(()) => {}
         Err(_) => {}
     }
+}
+
+/// Writes a line. What a failed write leaves is lost.
+pub fn write_line<F: Write>(faults: &mut Counted<F>, line: &str)
+    ensures { WritesLines (writing F.contents faults.old faults.new) line.now }
+{
+    write_bytes(faults, line.as_bytes());
 }
 
 /// Writes that there is no register with commands; nothing if no memory is found for the line.
@@ -343,7 +364,7 @@ pub fn write_fault<F: Write>(
         (into_in order.now) fault.now lines × WritesLines (writing F.contents faults.old faults.new) lines }
 {
     match lines(alloc, order, fault) {
-        Ok(lines) => write_line(faults, lines.as_str()),
-        Err(_) => write_line(faults, reason(*fault)),
+        Ok(lines) => write_bytes(faults, &lines),
+        Err(_) => write_line(faults, reason(fault)),
     }
 }

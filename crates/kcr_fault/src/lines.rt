@@ -1,6 +1,6 @@
 //! The pieces that the program's lines are made of.
 ghost use Rattle.std.specs.Prelude.{◌≡◌, ◌++◌, ◌||◌, if◌then◌else◌, IfOk, OnOk, nat_eq, nat_lt, string_bytes};
-ghost use Rattle.kcr_fault.specs.Lines.{expected_line, in_a_line, numbered as numbered_text};
+ghost use Rattle.kcr_fault.specs.Lines.{in_a_line, judged_line, numbered as numbered_text};
 
 use itoa::Buffer;
 use std::alloc::{AllocError, Global};
@@ -30,7 +30,7 @@ fn blank_if_control(byte: u8) -> u8
 }
 
 /// A text in one line: each line break and other control character is a blank. The error is out of memory.
-fn in_a_line(alloc: Global, text: &str) -> Result<Vec<u8>, AllocError>
+pub(crate) fn in_a_line(alloc: Global, text: &str) -> Result<Vec<u8>, AllocError>
     ensures { IfOk result (λ line. line.items ≡ in_a_line text.now) }
 {
     text.as_bytes()
@@ -39,21 +39,25 @@ fn in_a_line(alloc: Global, text: &str) -> Result<Vec<u8>, AllocError>
         .collect(alloc)
 }
 
-/// Adds a line with what was expected and what was found, which is put in one line. The error is out of memory.
+/// Adds a line with what was expected, what was found, which is put in one line, and a word on it. The error is out of
+/// memory.
 pub fn push_expected(
     alloc: Global,
     lines: &mut Vec<u8>,
     head: &str,
     expected: &str,
     found: &str,
+    word: &str,
 ) -> Result<(), AllocError>
-    ensures { OnOk result (lines.new.items ≡ lines.old.items ++ expected_line head.now expected.now found.now) }
+    ensures { OnOk result
+        (lines.new.items ≡ lines.old.items ++ judged_line head.now expected.now found.now word.now) }
 {
     let found = in_a_line(alloc, found)?;
     lines.extend_from_slice(head.as_bytes())?;
     lines.extend_from_slice(expected.as_bytes())?;
     lines.extend_from_slice(b"; found ")?;
     lines.extend_from_slice(&found)?;
+    lines.extend_from_slice(word.as_bytes())?;
     lines.push(b'\n')?;
     Ok(())
 }

@@ -5,6 +5,7 @@ use Rattle.std.proofs.lemmas.List.{take_all}
 use Rattle.std.specs.Io.KnownBytes.{Appends}
 use Rattle.std.specs.Prelude.{IfSome, IsTrue, option_map}
 use Rattle.kcr_base.specs.declared.refusal.Refusal.{Refusal}
+use Rattle.kcr_base.specs.declared.refusal.Refusal.TheVariants.{Disk}
 use Rattle.kcr_desk.specs.Streams.{Streams, Writing, HasFailed, IsUntouched, WritesNothing, WritesPart, WritesText, bytes_before, bytes_after}
 use Rattle.kcr_print.specs.Reports.{Stops}
 use Rattle.kcr_print.specs.declared.fault.PrintFault.{PrintFault}
@@ -16,7 +17,7 @@ use Rattle.kcr_fault.specs.Notes.{IsMissing, IsUnfilled}
 use Rattle.kcr_fault.specs.declared.fault.Missing.{Missing}
 use Rattle.kcr_fault.specs.declared.fault.Missing.TheVariants.{Unnamed, Absent, Empty}
 use Rattle.kcr_fault.specs.declared.fault.Fault.{Fault}
-use Rattle.kcr_fault.specs.declared.fault.Fault.TheVariants.{Open, File, Log, Nothing, Into, IntoFile, Stream, Refused, Broken, Unwritten, Net, Lost, Words}
+use Rattle.kcr_fault.specs.declared.fault.Fault.TheVariants.{Open, File, Log, Nothing, Into, IntoFile, Stream, Refused, Broken, Invalid, Unwritten, Net, Lost, Words}
 use Rattle.kcr_tool.specs.Runs.{StopsCopied, StopsVerification}
 use Rattle.kcr_arguments.specs.declared.words.Report.{Report}
 use Rattle.kcr_arguments.specs.declared.words.Serving.{Serving}
@@ -40,6 +41,7 @@ met_whole register May met whole (inr broken) = absurd (never_both register.is_b
 pub stops_weaker : {W : Type 0} (May Other : Refusal → Type 0) (w : Writing W) (why : Fault) → ((met : Refusal) → May met → Other met)
     → StopsReport May w why → StopsReport Other w why
 stops_weaker May Other w (Refused met) weaker stops = weaker met stops
+stops_weaker May Other w (Invalid row) weaker stops = weaker Disk stops
 stops_weaker May Other w Unwritten weaker stops = stops
 stops_weaker May Other w (Open fault) weaker stops = absurd stops
 stops_weaker May Other w (Log log) weaker stops = absurd stops
@@ -58,6 +60,7 @@ stops_weaker May Other w (Broken why) weaker stops = absurd stops
 -- what stops a report of what a task may meet stops the task
 pub met_cause : {R W : Type 0} (task : Task) (why : Fault) (s : Streams R W) → StopsReport (MayMeet task) s.output why → StopsTask task s why
 met_cause task (Refused met) s stops = stops
+met_cause task (Invalid row) s stops = stops
 met_cause task Unwritten s stops = stops
 met_cause task (Open fault) s stops = absurd stops
 met_cause task (Log log) s stops = absurd stops
@@ -97,6 +100,7 @@ pub task_cause : {R W : Type 0} (task : Task) (why : Fault) (file : Option (List
     → HasCause (Some task) file s why
 task_cause task (Stream fault) file s stops = (task, refl, stops)
 task_cause task (Refused met) file s stops = (task, refl, stops)
+task_cause task (Invalid row) file s stops = (task, refl, stops)
 task_cause task Unwritten file s stops = (task, refl, stops)
 task_cause task (Net call) file s stops = (task, refl, stops)
 task_cause task Lost file s stops = (task, refl, stops)
@@ -133,6 +137,7 @@ opening_cause task (File step) path s still stops = (refl, still)
 opening_cause task (Log log) path s still stops = (stops, refl, still)
 opening_cause task (Nothing missing) path s still stops = absurd stops
 opening_cause task (Refused met) path s still stops = absurd stops
+opening_cause task (Invalid row) path s still stops = absurd stops
 opening_cause task Unwritten path s still stops = absurd stops
 opening_cause task (Into fault) path s still stops = absurd stops
 opening_cause task (IntoFile step) path s still stops = absurd stops
@@ -153,6 +158,7 @@ pub reading_cause : {R W : Type 0} (why : Fault) (path : List ℕ) (s : Streams 
     → HasCause (Some Verify) (Some path) s why
 reading_cause (Nothing missing) path s still stops = (inl refl, unfilled path missing stops, still)
 reading_cause (Refused met) path s still stops = (Verify, refl, stops)
+reading_cause (Invalid row) path s still stops = (Verify, refl, inr refl)
 reading_cause (Open fault) path s still stops = ((λ none. cc), still)
 reading_cause (File step) path s still stops = (refl, still)
 reading_cause (Log log) path s still stops = (stops, refl, still)
@@ -170,6 +176,7 @@ pub replay_cause : {R W : Type 0} (why : Fault) (path : List ℕ) (s : Streams R
     → HasCause (Some Verify) (Some path) s why
 replay_cause (Nothing missing) path s still stops = (inl refl, unfilled path missing stops.0, (still, stops.1))
 replay_cause (Refused met) path s still stops = (Verify, refl, stops)
+replay_cause (Invalid row) path s still stops = (Verify, refl, stops)
 replay_cause Unwritten path s still stops = (Verify, refl, stops)
 replay_cause (Open fault) path s still stops = absurd stops
 replay_cause (File step) path s still stops = absurd stops
@@ -195,6 +202,7 @@ opening_reads (File step) stops = stops
 opening_reads (Log log) stops = stops
 opening_reads (Nothing missing) stops = absurd stops
 opening_reads (Refused met) stops = absurd stops
+opening_reads (Invalid row) stops = absurd stops
 opening_reads Unwritten stops = absurd stops
 opening_reads (Into fault) stops = absurd stops
 opening_reads (IntoFile step) stops = absurd stops
@@ -210,6 +218,7 @@ making_stops (Into fault) w none stops = none
 making_stops (IntoFile step) w none stops = none
 making_stops (Nothing missing) w none stops = absurd stops
 making_stops (Refused met) w none stops = absurd stops
+making_stops (Invalid row) w none stops = absurd stops
 making_stops Unwritten w none stops = absurd stops
 making_stops (Open fault) w none stops = absurd stops
 making_stops (File step) w none stops = absurd stops
@@ -224,6 +233,7 @@ making_stops (Broken why) w none stops = absurd stops
 pub replay_stops : {W : Type 0} (why : Fault) (w : Writing W) → StopsReplay w why → StopsRebuild w why
 replay_stops (Nothing missing) w stops = stops
 replay_stops (Refused met) w stops = stops
+replay_stops (Invalid row) w stops = stops
 replay_stops Unwritten w stops = stops
 replay_stops (Into fault) w stops = absurd stops
 replay_stops (IntoFile step) w stops = absurd stops

@@ -6,3 +6,4 @@ pub mod Verifications
 pub mod Empty
 pub mod Copies
 pub mod Served
+pub mod Rows

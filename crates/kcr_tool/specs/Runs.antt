@@ -1,7 +1,8 @@
 -- What a task leaves on the output.
-use Rattle.std.specs.Prelude.{◌≡◌, ◌≤◌, ◌⊎◌, ⊤, ℕ, false, List, String, length, Some, Result, MatchResult, IfErr}
+use Rattle.std.specs.Prelude.{◌≡◌, ◌≤◌, ◌⊎◌, ⊤, ℕ, false, List, String, length, Some, Result, Err, MatchResult, IfErr}
 use Rattle.std.specs.Prelude.{IsTrue, OnErr, OnOk}
 use Rattle.sqlite.specs.Store.{Ghosts}
+use Rattle.kcr_base.specs.declared.refusal.Refusal.TheVariants.{Disk}
 use Rattle.kcr_history.specs.Ceremonies.{is_ceremony}
 use Rattle.kcr_history.specs.History.{History}
 use Rattle.kcr_history.specs.Prints.{annotated, attendance, custody}
@@ -21,6 +22,8 @@ use Rattle.kcr_fault.specs.Lines.{clean_line, listening_line, verified_head, reb
 use Rattle.kcr_tool.specs.Audits.{WritesFinding, WritesAuditPrefix}
 use Rattle.kcr_tool.specs.Verifications.{WritesVerified, TellsWholeFront, WritesDifference, WritesVerificationPrefix}
 use Rattle.kcr_fault.specs.declared.fault.Fault.{Fault}
+use Rattle.kcr_fault.specs.declared.fault.Fault.TheVariants.{Invalid, Refused}
+use Rattle.kcr_verify.specs.declared.invalid.InvalidRow.{InvalidRow}
 use Rattle.kcr_arguments.specs.Tasks.{said, task_of}
 use Rattle.kcr_arguments.specs.declared.words.Report.{Report}
 use Rattle.kcr_arguments.specs.declared.words.Report.TheVariants.{Print, Attendance, Custody, Export, Journal, Audit}
@@ -142,6 +145,11 @@ EndsTask task s result =
 abbrev pub EndsReport : {W : Type 0} → Report → Writing W → Result ℕ Fault → Type 0
 EndsReport report w result =
     FinishesOrFinds (WritesUnknown report w) (WritesProblem (Write report) w) (WritesUnknownPart report w) w result
+
+-- it ended so, or in place of an I/O error with an invalid row
+abbrev pub MayNameRow : Result ℕ Fault → Result ℕ Fault → Type 0
+MayNameRow ended result =
+    (result ≡ ended) ⊎ ((row : InvalidRow) × (ended ≡ Err (Refused Disk)) × (result ≡ Err (Invalid row)))
 
 -- the words hold a task of which this is so
 abbrev pub OfTask : {Z : Type 0} → List (String Z) → (Task → Type 0) → Type 0

@@ -17,6 +17,7 @@ ghost use Rattle.kcr_verify.specs.Verification.{IsFresh};
 ghost use Rattle.kcr_arguments.specs.Tasks.{task_of, file_in, file_of, into_of, faults_of, is_explained, names_companion, said};
 
 use crate::audit::audit;
+use crate::invalid::with_row;
 use crate::listen::{listen, serve_file};
 use crate::opening::{copy_at, copy_named, open_copied, require_file};
 use crate::pack::{pack, read_packed};
@@ -155,7 +156,7 @@ fn act_in_memory<R: Read, W: Write, F: Write>(
 
 /// Writes a report of the register in a copy of the files at the path, and returns the exit status: 0, or 1 after a
 /// finding. If the report is done, or if notes are asked for, it says on `faults` if the file is not there or has no
-/// command.
+/// command. If it is refused as for an I/O error (34), the fault has the first invalid row.
 #[tactic(auto, using(crate::proofs::Causes::report_cause, crate::proofs::Causes::opening_cause, crate::proofs::Causes::unfilled_of))]
 pub fn report_copied<W: Write, F: Write>(
     alloc: Global,
@@ -181,7 +182,7 @@ pub fn report_copied<W: Write, F: Write>(
     let ended = write_report(alloc, &mut register, report, output);
     let is_told = may_note(is_explained, &ended);
     note(alloc, Some(path), missing, is_told, faults);
-    ended
+    with_row(alloc, register, ended)
 }
 
 /// Copies the files at the path for a report. Those of the program's own kinds want a file that is there.

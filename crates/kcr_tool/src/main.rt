@@ -10,6 +10,7 @@ ghost use Rattle.std.specs.Prelude.{◌≡◌, ◌⊎◌, ◌≤◌};
 
 mod act;
 mod audit;
+mod invalid;
 mod listen;
 mod opening;
 mod pack;

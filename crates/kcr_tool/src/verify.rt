@@ -1,5 +1,5 @@
 //! The verification of a register and its rebuilding, as lines.
-ghost use Rattle.std.specs.Prelude.{◌≡◌, ◌⊎◌, ◌++◌, length, IfOk, IfErr, OnErr};
+ghost use Rattle.std.specs.Prelude.{◌≡◌, ◌⊎◌, ◌++◌, false, length, IfOk, IfErr, OnErr};
 ghost use Rattle.sqlite.specs.Files.{over_files};
 ghost use Rattle.sqlite.specs.Held.{state};
 ghost use Rattle.sqlite.specs.State.{HasCleanDisk};
@@ -11,8 +11,8 @@ ghost use Rattle.kcr_history.specs.Tables.{tables};
 ghost use Rattle.kcr_store.specs.FullView.{IsListed};
 ghost use Rattle.kcr_store.specs.Opening.{FilesHoldHistory};
 ghost use Rattle.kcr_fault.specs.Faults.{StopsMaking, StopsReading, StopsReplay, StopsRebuild};
-ghost use Rattle.kcr_fault.specs.Lines.{difference_line, expected_line, found_line, rebuilt_head, verified_head};
-ghost use Rattle.kcr_fault.specs.Lines.{whole_line};
+ghost use Rattle.kcr_fault.specs.Lines.{difference_line, found_line, judged_line, rebuilt_head, verified_head};
+ghost use Rattle.kcr_fault.specs.Lines.{seating_word as word_on, whole_line};
 ghost use Rattle.kcr_tool.specs.Runs.{StopsVerification};
 ghost use Rattle.kcr_tool.specs.Verifications.{EndsVerification, WritesVerification, verified_line};
 ghost use Rattle.kcr_forms.specs.Values.{AreValues};
@@ -20,11 +20,12 @@ ghost use Rattle.sqlite.specs.WalFiles.{image_at};
 ghost use Rattle.kcr_verify.specs.Fresh.{IsMadeOn};
 ghost use Rattle.kcr_verify.specs.Verification.{EndsAt, IsFresh, IsVerification};
 
+use crate::invalid::fault_of_disk;
 use crate::opening::{connect_to, fault_of_reading, fault_of_taking};
 use crate::place::{place_at, take_back};
 use itoa::Buffer;
 use kcr_base::{Counted, Refusal};
-use kcr_edges::{Copied, CopyConnection, Unread, connect, copy_of, has_run_out};
+use kcr_edges::{Copied, CopyConnection, Unread, connect, copy_of};
 use kcr_fault::{Fault, Missing, Step, around, push_expected};
 use kcr_history::{FullView, refusal_text};
 use kcr_print::write_whole;
@@ -35,7 +36,7 @@ use std::alloc::{AllocError, Global};
 use std::io::Write;
 
 /// The two lines of a finding about an accepted command. `what` begins the first, which ends with its number, and `head`
-/// the second, with what was expected and what was found. The error is out of memory.
+/// the second, with what was expected, what was found and a word on it. The error is out of memory.
 fn lines_of_command(
     alloc: Global,
     what: &str,
@@ -43,13 +44,25 @@ fn lines_of_command(
     head: &str,
     expected: &str,
     found: &str,
+    word: &str,
 ) -> Result<Vec<u8>, AllocError>
     ensures { IfOk result (λ lines. lines.items ≡ found_line what.now number.now
-        ++ expected_line head.now expected.now found.now) }
+        ++ judged_line head.now expected.now found.now word.now) }
 {
     let mut lines = around(alloc, what, number, "\n")?.into_bytes();
-    push_expected(alloc, &mut lines, head, expected, found)?;
+    push_expected(alloc, &mut lines, head, expected, found, word)?;
     Ok(lines)
+}
+
+/// The word on a stored reply.
+fn seating_word(is_seating: Option<bool>) -> &'static str
+    ensures { result.now ≡ word_on is_seating }
+{
+    match is_seating {
+        None => "",
+        Some(true) => "; a seating",
+        Some(false) => "; no seating",
+    }
 }
 
 /// The two lines of a number that is not the next. The error is out of memory.
@@ -65,6 +78,7 @@ fn lines_of_number(alloc: Global, place: usize, found: u32) -> Result<Vec<u8>, A
         "number: expected ",
         place,
         Buffer::new().format(found),
+        "",
     )
 }
 
@@ -90,6 +104,7 @@ fn lines_of(alloc: Global, difference: &Difference) -> Result<Vec<u8>, AllocErro
             "command: expected ",
             "a command",
             found.as_str(),
+            "",
         ),
         Difference::Refused {
             number,
@@ -104,12 +119,14 @@ fn lines_of(alloc: Global, difference: &Difference) -> Result<Vec<u8>, AllocErro
                 "refused: expected ",
                 expected.as_str(),
                 found.as_str(),
+                "",
             )
         }
         Difference::Reply {
             number,
             expected,
             found,
+            is_seating,
         } => lines_of_command(
             alloc,
             "finding: reply ",
@@ -117,6 +134,7 @@ fn lines_of(alloc: Global, difference: &Difference) -> Result<Vec<u8>, AllocErro
             "reply: expected ",
             expected.as_str(),
             found.as_str(),
+            seating_word(*is_seating),
         ),
         Difference::Rows(table, row) => lines_of_row(alloc, *table, row),
     }
@@ -180,22 +198,20 @@ pub fn write_verification<W: Write>(
     }
 }
 
-/// Why no rows of a copy of files were read. The engine tells memory that ran out for such a copy as a fault of its
-/// disk, as it does an invalid row.
+/// Why no rows of a copy of files were read.
 #[tactic(auto, using(crate::proofs::Causes::opening_reads))]
-fn fault_of_rows(fault: OpenFault, connection: CopyConnection) -> Fault
+fn fault_of_rows(alloc: Global, fault: OpenFault, connection: CopyConnection) -> Fault
+    requires autocommit { connection.in_transaction ≡ false }
     ensures { StopsReading result }
 {
-    let has_run_out = has_run_out(connection);
     match fault {
-        OpenFault::Disk if has_run_out => Fault::Open(OpenFault::Memory),
-        OpenFault::Disk => Fault::Refused(Refusal::Disk),
+        OpenFault::Disk => fault_of_disk(alloc, connection),
         other => fault_of_taking(other),
     }
 }
 
-/// All rows of the register that a copy of its file and its log holds, whichever version it is of. `Refused` comes for
-/// an invalid row, as it does in a report.
+/// All rows of the register that a copy of its file and its log holds, whichever version it is of. `Invalid` comes for
+/// an invalid row.
 #[tactic(auto, using(crate::proofs::Causes::opening_reads))]
 pub fn rows_of(alloc: Global, copy: Copied) -> Result<FullView, Fault>
     // If the bytes hold the tables of a history, these are its rows.
@@ -208,7 +224,7 @@ pub fn rows_of(alloc: Global, copy: Copied) -> Result<FullView, Fault>
             let mut connection = connection;
             match read_tables(alloc, &mut connection) {
                 Ok(rows) => Ok(rows),
-                Err(fault) => Err(fault_of_rows(fault, connection)),
+                Err(fault) => Err(fault_of_rows(alloc, fault, connection)),
             }
         }
         Err(unread) => Err(fault_of_reading(unread)),

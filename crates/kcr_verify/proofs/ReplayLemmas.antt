@@ -141,7 +141,7 @@ not_next : (difference : Difference) (row : KeyRow) (A B : History) → row.acce
 not_next (Differences.Number place found) row A B n h = absurd h
 not_next (Differences.Command number found) row A B n h = (n, h)
 not_next (Differences.Refused number refusal found) row A B n h = (n, h)
-not_next (Differences.Reply number expected found) row A B n h = (n, h)
+not_next (Differences.Reply number expected found is_seating) row A B n h = (n, h)
 not_next (Differences.Rows table other) row A B n h = absurd h
 
 -- at a row whose command is not taken
@@ -164,7 +164,7 @@ stops_for difference rows index A row B had low at number h = by difference h
     by (Differences.Number place found) h = stops (Differences.Number place found) h
     by (Differences.Command number found) h = stops (Differences.Command number found) h
     by (Differences.Refused number refusal found) h = stops (Differences.Refused number refusal found) h
-    by (Differences.Reply number expected found) h = stops (Differences.Reply number expected found) h
+    by (Differences.Reply number expected found is_seating) h = stops (Differences.Reply number expected found is_seating) h
     by (Differences.Rows table row) h = absurd h
 
 -- at a row whose number is not the next

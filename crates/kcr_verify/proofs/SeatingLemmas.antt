@@ -19,7 +19,8 @@ use Rattle.kcr_base.specs.declared.place.Role.TheVariants.{Ca, Iw}
 use Rattle.kcr_script.specs.declared.seat.Seat.{Seat}
 use Rattle.kcr_script.specs.declared.seat.Seat.TheVariants.{Staff}
 use Rattle.kcr_history.specs.declared.commands.Act.{Act}
-use Rattle.kcr_history.specs.declared.commands.Act.TheVariants.{RecordSheet, Sign, RecordException}
+use Rattle.kcr_history.specs.declared.commands.Act.TheVariants.{Ceremony}
+use Rattle.kcr_history.specs.declared.commands.Deed.TheVariants.{RecordSheet, Sign, RecordException}
 use Rattle.kcr_history.specs.declared.commands.ReplyData.{ReplyData}
 use Rattle.kcr_history.specs.declared.commands.Command.{Command}
 use Rattle.kcr_history.specs.Ceremonies.{steps_of, next_step, exceptions_of}
@@ -54,7 +55,7 @@ abbrev IsBareRow : SheetRow → Type 0
 IsBareRow row = Bare row.who
 
 rows_bare : (act : Act) (rows : List SheetRow) → IsAct act → All IsBareRow rows → All IsBareRow (sheet_after act rows)
-rows_bare (RecordSheet c way people at) rows is h =
+rows_bare (Ceremony c at (RecordSheet way people)) rows is h =
     All-append IsBareRow rows (map (new_row c way at) people) h
     (All-map IsBareRow (new_row c way at) people (All-weaker IsInitials Bare bare people is.1.each))
 rows_bare act rows is h = h
@@ -185,13 +186,13 @@ module _ (A : History) (key : List ℕ) where
 
   pub accepted_step : AreValues A → (act : Act) (this answer : ReplyData) (A' : History) → IsFree act → IsReplyTo A act this (seat_request A act)
       → machine A (of act) (Accepts answer) A' → IsThisOrOther A (of act) this answer A'
-  accepted_step v (Sign c k at) this answer A' free (q, fill, is) m = by_seats (rw (free.0, free.1) at m)
+  accepted_step v (Ceremony c at (Sign k)) this answer A' free (q, fill, is) m = by_seats (rw (free.0, free.1) at m)
     where
       s : SeatRequest
       s = record { ceremony = c; at = at; seats = seats_at (steps_of A c) k }
 
       x : Command
-      x = of (Sign c k at)
+      x = of (Ceremony c at (Sign k))
 
       with : ReplyData
       with = seated (length A + 1) None (Some k) q
@@ -204,13 +205,13 @@ module _ (A : History) (key : List ℕ) where
           (these_or_others A v s (length A + 1) None (Some k) x w.0 q w.1.seating fill answer A' (same_reply _ _ w.2.0) w.2.1
           (λ first. (accepted_fixed A x answer with A' (with_command A x with) m (again first)).0))
       by_seats (inr w) = absurd (other_outcome _ _ w.2.0)
-  accepted_step v (RecordException c text true at) this answer A' free (q, fill, is) m = by_seats (rw (free.0, free.1) at m)
+  accepted_step v (Ceremony c at (RecordException text true)) this answer A' free (q, fill, is) m = by_seats (rw (free.0, free.1) at m)
     where
       s : SeatRequest
       s = record { ceremony = c; at = at; seats = Staff Ca ∷ Staff Iw ∷ [] }
 
       x : Command
-      x = of (RecordException c text true at)
+      x = of (Ceremony c at (RecordException text true))
 
       with : ReplyData
       with = seated (length A + 1) (Some (suc (exceptions_of A c))) (Some (next_step A c)) q

@@ -149,7 +149,7 @@ stopped_of view sorted A difference order stops = by difference stops
     by (Differences.Number place found) h = given (Differences.Number place found) h
     by (Differences.Command number found) h = given (Differences.Command number found) h
     by (Differences.Refused number refusal found) h = given (Differences.Refused number refusal found) h
-    by (Differences.Reply number expected found) h = given (Differences.Reply number expected found) h
+    by (Differences.Reply number expected found is_seating) h = given (Differences.Reply number expected found is_seating) h
     by (Differences.Rows table row) h = absurd h
 
 in_view : {X : Type 0} (table : held.TableSpec X) (m : Tables) (view : FullView) (v : IsListed m view) (rows : List X)

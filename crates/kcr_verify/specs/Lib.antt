@@ -1,5 +1,7 @@
 pub mod Fresh
+pub mod Seated
 pub mod Verification
 pub mod FirstRow
 pub mod Quoted
 pub mod Columns
+pub mod Invalid

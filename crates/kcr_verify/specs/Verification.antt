@@ -30,6 +30,7 @@ use Rattle.kcr_tables.specs.Refusals.{IsFault}
 use Rattle.kcr_rows.specs.Rows as stored
 use Rattle.kcr_verify.specs.Columns as columns
 use Rattle.kcr_verify.specs.FirstRow.{DiffersAt, IsFirstRow}
+use Rattle.kcr_verify.specs.Seated.{TellsSeating}
 use Rattle.kcr_verify.specs.declared.compare.RowDifference.{RowDifference}
 use Rattle.kcr_verify.specs.declared.compare.TableName.{TableName}
 use Rattle.kcr_verify.specs.declared.compare.TableName.TheVariants.{People, Trainings, Withdrawals, Appointments, Boxes}
@@ -179,8 +180,9 @@ Declines (Differences.Command number found) row A B =
     (number ≡ row.accepted) × (found ≡ row.command) × TellsNothing row × (B ≡ A)
 Declines (Differences.Refused number refusal found) row A B =
     (number ≡ row.accepted) × (found ≡ row.reply) × RefusesRow row refusal A × (B ≡ A)
-Declines (Differences.Reply number expected found) row A B =
-    (number ≡ row.accepted) × (found ≡ row.reply) × AnswersElse row expected A B
+Declines (Differences.Reply number expected found is_seating) row A B =
+    (number ≡ row.accepted) × (found ≡ row.reply)
+    × (answer : AnswersElse row expected A B) × TellsSeating B answer.command.act expected found is_seating
 Declines difference row A B = ⊥
 
 -- after A the row is not the next: its number is not, or it is and the row's command is not taken as the row says
@@ -310,7 +312,7 @@ pub record IsFirstOther (A : History) (number : ℕ) : Type 0 where
 
 -- the reply to the command with this number differs
 abbrev pub IsReply : Difference → ℕ → Type 0
-IsReply (Differences.Reply number expected found) of = number ≡ of
+IsReply (Differences.Reply number expected found is_seating) of = number ≡ of
 IsReply other of = ⊥
 
 -- the entry's command was given to a register of A: it has the entry now, or the reply differs, since another seating

@@ -35,7 +35,11 @@ pub(crate) enum Column {
 
 /// Adds a value: a whole number, a text in single quotes, or `NULL`, which also stands for values of other types. No
 /// table of a register has these.
-fn push_value(alloc: Global, line: &mut Vec<u8>, value: &ValueRef<'_>) -> Result<(), AllocError>
+pub(crate) fn push_value(
+    alloc: Global,
+    line: &mut Vec<u8>,
+    value: &ValueRef<'_>,
+) -> Result<(), AllocError>
     ensures { OnOk result (line.new.items ≡ line.old.items ++ value_text (bound_value (owned value.now))) }
 {
     match value {
@@ -83,7 +87,11 @@ fn push_date(line: &mut Vec<u8>, date: &[u8]) -> Result<(), AllocError>
 }
 
 /// Adds the date of a value, if it has one.
-fn push_date_of(line: &mut Vec<u8>, column: Column, value: &ValueRef<'_>) -> Result<(), AllocError>
+pub(crate) fn push_date_of(
+    line: &mut Vec<u8>,
+    column: Column,
+    value: &ValueRef<'_>,
+) -> Result<(), AllocError>
     ensures { OnOk result (line.new.items ≡ line.old.items ++ date_behind column (bound_value (owned value.now))) }
 {
     match (column, value) {

@@ -2,6 +2,7 @@
 ghost use Rattle.kcr_store.specs.Calls.{Leads};
 ghost use Rattle.kcr_verify.specs.Verification.{EndsAt, GivesRow, GivesRows, IsFresh, IsIntact, StaysIntact};
 
+use crate::seated::seating_told;
 use crate::verification::Difference;
 use kcr_base::Refusal;
 use kcr_history::{Command, KeyRow, numbers_count_commands};
@@ -38,10 +39,12 @@ fn replay_one<S: Alter>(
                 Ok(None)
             } else {
                 let expected = reply.text;
+                let is_seating = seating_told(alloc, register, &command.act, &expected, &found)?;
                 Ok(Some(Difference::Reply {
                     number,
                     expected,
                     found,
+                    is_seating,
                 }))
             }
         }

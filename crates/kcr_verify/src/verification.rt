@@ -39,11 +39,13 @@ pub enum Difference {
         refusal: Refusal,
         found: Text,
     },
-    /// The command with this number gets the reply `expected`, and is stored with another.
+    /// The command with this number gets the reply `expected`, and is stored with another. If that one names other
+    /// people, `is_seating` says whether they fill the seats of the command.
     Reply {
         number: u32,
         expected: Text,
         found: Text,
+        is_seating: Option<bool>,
     },
     /// The rows of a table are not those that the commands lead to, and this is the first one that differs.
     Rows(TableName, RowDifference),

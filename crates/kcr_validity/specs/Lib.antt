@@ -1,0 +1,4 @@
+pub mod Cells
+pub mod Kinds
+pub mod Rows
+pub mod Stored
