@@ -48,12 +48,17 @@ sized-to : (low high : ℕ) (p : ℕ → Bool) (P : ℕ → Type 0) (text : List
     → low ≤ length text → length text ≤ high → All P text → (is_between low high (length text) && list_all p text) ≡ true
 sized-to low high p P text f l m h = and_from _ (list_all p text) (within-to low high (length text) (l, m)) (all-to p P text f h)
 
+-- a text that passes the test of initials is one of initials
+pub initials-from : (text : List ℕ) → is_initials text ≡ true → IsInitials text
+unfolding is_initials
+initials-from text e =
+    let s = sized-from 2 4 is_capital IsCapital text (within-from 65 90) e in record { at_least_two = s.0; at_most_four = s.1; capitals = s.2 }
+
 -- a reader that answers exactly initials answers what `initials_of` gives
 pub initials-read : (r : Option (List ℕ)) (text : List ℕ) → SomeIff r (IsInitials text) text → r ≡ initials_of text
 unfolding initials_of is_initials
 initials-read r text h =
-    if_form-is r (IsInitials text) text (is_initials text) h
-    (λ e. let s = sized-from 2 4 is_capital IsCapital text (within-from 65 90) e in record { at_least_two = s.0; at_most_four = s.1; capitals = s.2 })
+    if_form-is r (IsInitials text) text (is_initials text) h (initials-from text)
     (λ i. sized-to 2 4 is_capital IsCapital text (within-to 65 90) i.at_least_two i.at_most_four i.capitals)
 
 key_byte-from : (b : ℕ) → is_key_byte b ≡ true → IsKeyByte b
@@ -82,24 +87,34 @@ serial_byte-from b h = grind (arith, nat_tests)
 serial_byte-to : (b : ℕ) → IsCapital b ⊎ IsDigit b → is_serial_byte b ≡ true
 serial_byte-to b h = grind (arith, nat_tests)
 
+-- a text that passes the test of serials is a serial
+pub serial-from : (text : List ℕ) → is_serial text ≡ true → IsSerial text
+unfolding is_serial
+serial-from text e =
+    let s = sized-from 4 16 is_serial_byte (λ b. IsCapital b ⊎ IsDigit b) text serial_byte-from e in
+    record { at_least_four = s.0; at_most_sixteen = s.1; each = s.2 }
+
 -- a reader that answers exactly serials answers what `serial_of` gives
 pub serial-read : (r : Option (List ℕ)) (text : List ℕ) → SomeIff r (IsSerial text) text → r ≡ serial_of text
 unfolding serial_of is_serial
 serial-read r text h =
-    if_form-is r (IsSerial text) text (is_serial text) h
-    (λ e. let s = sized-from 4 16 is_serial_byte (λ b. IsCapital b ⊎ IsDigit b) text serial_byte-from e in
-    record { at_least_four = s.0; at_most_sixteen = s.1; each = s.2 })
+    if_form-is r (IsSerial text) text (is_serial text) h (serial-from text)
     (λ i. sized-to 4 16 is_serial_byte (λ b. IsCapital b ⊎ IsDigit b) text serial_byte-to i.at_least_four i.at_most_sixteen i.each)
+
+-- a text that passes the test of lines is a line
+pub line-from : (limit : ℕ) (text : List ℕ) → is_line limit text ≡ true → IsLine limit text
+unfolding is_line
+line-from limit text e =
+    let parts = and_parts (is_between 1 limit (length text)) (is_utf8 text && list_all is_printing text) e in
+    let rest = and_parts (is_utf8 text) (list_all is_printing text) parts.1 in
+    let long = within-from 1 limit (length text) parts.0 in
+    record { not_empty = long.0; short = long.1; text = IsUtf8-from_is_utf8 text rest.0; printing = all-from is_printing IsPrinting text printing-from rest.1 }
 
 -- a reader that answers exactly lines of a limit answers what `line_of` gives
 pub line-read : (limit : ℕ) (r : Option (List ℕ)) (text : List ℕ) → SomeIff r (IsLine limit text) text → r ≡ line_of limit text
 unfolding line_of is_line
 line-read limit r text h =
-    if_form-is r (IsLine limit text) text (is_line limit text) h
-    (λ e. let parts = and_parts (is_between 1 limit (length text)) (is_utf8 text && list_all is_printing text) e in
-    let rest = and_parts (is_utf8 text) (list_all is_printing text) parts.1 in
-    let long = within-from 1 limit (length text) parts.0 in
-    record { not_empty = long.0; short = long.1; text = IsUtf8-from_is_utf8 text rest.0; printing = all-from is_printing IsPrinting text printing-from rest.1 })
+    if_form-is r (IsLine limit text) text (is_line limit text) h (line-from limit text)
     (λ i. rw (
       within-to 1 limit (length text) (i.not_empty, i.short),
       is_utf8-from_IsUtf8 text i.text,

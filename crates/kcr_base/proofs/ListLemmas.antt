@@ -16,10 +16,15 @@ pub any-map : {X Y : Type 0} (p : Y → Bool) (f : X → Y) (xs : List X) → li
 any-map p f [] = refl
 any-map p f (x ∷ xs) = rw (any-map p f xs)
 
--- two tests that answer alike
+-- of two tests that answer alike, some element passes the one if and only if some passes the other
 pub any-same : {X : Type 0} (p q : X → Bool) (xs : List X) → ((x : X) → p x ≡ q x) → list_any p xs ≡ list_any q xs
 any-same p q [] f = refl
 any-same p q (x ∷ xs) f = rw (f x, any-same p q xs f)
+
+-- functions that agree have the same images
+pub map-same : {X Y : Type 0} (f g : X → Y) (xs : List X) → ((x : X) → f x ≡ g x) → map f xs ≡ map g xs
+map-same f g [] same = refl
+map-same f g (x ∷ xs) same = rw (same x, map-same f g xs same)
 
 -- what passes one test passes the other
 pub any-more : {X : Type 0} (p q : X → Bool) (xs : List X) → ((x : X) → p x ≡ true → q x ≡ true) → list_any p xs ≡ true → list_any q xs ≡ true

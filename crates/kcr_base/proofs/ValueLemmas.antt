@@ -91,7 +91,8 @@ facility-read bytes r found only = by_text-read (λ _. ⊤) facility_text bytes 
 abbrev seven : List ℕ
 seven = range_with_len 1 7
 
-each-place : AllByRecursion IsPlace places
+-- each of the listed places is one
+pub each-place : AllByRecursion IsPlace places
 each-place =
     let each : AllByRecursion IsPlaceNumber seven = each-range IsPlaceNumber 1 7 (λ k low high. (low, omega (arith, high))) in
     each-append IsPlace (map (Co East) seven) (map (Co West) seven ++ map Rksh seven) (each-map IsPlace (Co East) seven each)

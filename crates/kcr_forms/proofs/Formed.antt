@@ -1,6 +1,6 @@
 -- The readers of the forms read the texts of their values and no others.
-use Rattle.std.proofs.Common.{◌≡◌, ℕ, ◌+◌, ◌-◌, ◌*◌, ◌≤◌, ◌<◌, ◌⊎◌, Bool, true, false, cond, ◌&&◌, eqb, nat_le, List, [], ◌∷◌, ◌++◌, suc}
-use Rattle.std.proofs.Common.{length, get_or, map, codes, Option, Some, option_map, if◌then◌else◌, IfSome, refl, sym, ap, ◌∙◌, arith, All}
+use Rattle.std.proofs.Common.{◌≡◌, ℕ, ◌+◌, ◌-◌, ◌*◌, ◌≤◌, ◌<◌, ◌⊎◌, Bool, true, false, cond, ◌&&◌, eqb, nat_le, List, [], ◌∷◌, if◌then◌else◌, suc}
+use Rattle.std.proofs.Common.{length, get_or, codes, Option, Some, option_map, IfSome, refl, sym, ap, ◌∙◌, arith, All}
 use Rattle.std.specs.Bool.{⊤}
 use Rattle.std.specs.Fmt.{decimal}
 use Rattle.std.specs.Int.Digits.{digits_of}
@@ -8,7 +8,6 @@ use Rattle.std.specs.List.{AllByRecursion, find, list_all, range_with_len}
 use Rattle.std.specs.Str.{IsUtf8, is_utf8}
 use Rattle.std.specs.Cmp.Lexicographic.{same_text as equal_texts}
 use Rattle.std.proofs.lemmas.Bool.{leb-true, and_parts}
-use Rattle.std.proofs.lemmas.Bool.Decides.{nat_tests}
 use Rattle.std.proofs.lemmas.Fmt.{decimal_injective, decimal-digits_of, IsAscii-decimal}
 use Rattle.std.proofs.lemmas.List.Elements.{All-get_or, All-nil, All-weaker, All-map, All-append, All-head, All-tail, All-from_recursion}
 use Rattle.std.proofs.lemmas.List.Sums.{AllPass-from_list_all}
@@ -22,7 +21,7 @@ use Rattle.kcr_base.specs.Line.{IsPrinting, IsLine}
 use Rattle.kcr_base.specs.Moment.{IsMoment, moment_text}
 use Rattle.kcr_base.specs.Number.{IsNumber}
 use Rattle.kcr_base.specs.Reads.{HasText, ReadsText}
-use Rattle.kcr_base.specs.Place.{IsPlace, IsPlaceNumber, place_text}
+use Rattle.kcr_base.specs.Place.{IsPlace, place_text}
 use Rattle.kcr_base.specs.Role.{role_text}
 use Rattle.kcr_base.specs.Serial.{IsDigit, IsSerial}
 use Rattle.kcr_base.specs.declared.place.Facility.{Facility}
@@ -40,14 +39,13 @@ use Rattle.kcr_room.specs.declared.Way.TheVariants.{Enter, Leave}
 use Rattle.kcr_room.specs.Room.{way_text}
 use Rattle.kcr_history.specs.Texts.{safe_text, truth_text, listed}
 use Rattle.kcr_base.specs.Forms.{by_text, number_by_text, initials_of, serial_of, line_of, name_of, remark_of, day_of}
-use Rattle.kcr_base.specs.Forms.{is_between, is_capital, is_serial_byte, is_printing, is_initials, is_serial, is_line}
+use Rattle.kcr_base.specs.Forms.{is_initials, is_serial, is_line}
 use Rattle.kcr_base.specs.Forms.{moment_of, ceremony_of, box_of, step_of, role_of, facility_of, places, place_of, script_of}
 use Rattle.kcr_base.proofs.DayLemmas.{day_ascii, moment_ascii}
 use Rattle.kcr_base.specs.declared.limits.TheConstants.{MAX_BOX}
-use Rattle.kcr_base.proofs.FormLemmas.{initials-read, serial-read, line-read, script-read, within-from}
-use Rattle.kcr_base.proofs.ListLemmas.{each-append}
-use Rattle.kcr_base.proofs.TextLemmas.{number-read, each-map, each-range}
-use Rattle.kcr_base.proofs.ValueLemmas.{day-read, moment-read, place-read}
+use Rattle.kcr_base.proofs.FormLemmas.{initials-read, serial-read, line-read, script-read, initials-from, serial-from, line-from}
+use Rattle.kcr_base.proofs.TextLemmas.{number-read, each-range}
+use Rattle.kcr_base.proofs.ValueLemmas.{day-read, moment-read, place-read, each-place}
 use Rattle.kcr_custody.specs.Destinations.{IsDestination, destination_text, destination_of}
 use Rattle.kcr_custody.proofs.DestinationLemmas.{number-no_word}
 use Rattle.kcr_room.specs.Forms.{way_of}
@@ -246,16 +244,6 @@ place-same (Co West n) (Co East m) e = let apart : 87 ≡ 69 = byte 3 e in absur
 place-same (Co facility n) (Rksh m) e = let apart : 67 ≡ 82 = byte 0 e in absurd (omega (arith, apart))
 place-same (Rksh n) (Co facility m) e = let apart : 82 ≡ 67 = byte 0 e in absurd (omega (arith, apart))
 
--- the numbers 1 to 7 are those of places
-abbrev seven : List ℕ
-seven = range_with_len 1 7
-
-each-place : AllByRecursion IsPlace places
-each-place =
-    let each : AllByRecursion IsPlaceNumber seven = each-range IsPlaceNumber 1 7 (λ k low high. (low, omega (arith, high))) in
-    each-append IsPlace (map (Co East) seven) (map (Co West) seven ++ map Rksh seven) (each-map IsPlace (Co East) seven each)
-    (each-append IsPlace (map (Co West) seven) (map Rksh seven) (each-map IsPlace (Co West) seven each) (each-map IsPlace Rksh seven each))
-
 -- the reader of places
 pub places-read : Value IsPlace place_text place_of
 unfolding place_of
@@ -268,19 +256,9 @@ place-passes = text-passes place_text places places-read.again
 
 -- ---- texts that are their own value
 
--- a text whose length is in this range, and whose bytes each pass a test
-sized : (low high : ℕ) (p : ℕ → Bool) (P : ℕ → Type 0) (text : List ℕ) → ((b : ℕ) → p b ≡ true → P b)
-    → (is_between low high (length text) && list_all p text) ≡ true → (low ≤ length text) × (length text ≤ high) × All P text
-sized low high p P text is test =
-    let parts = and_parts (is_between low high (length text)) (list_all p text) test in
-    let long = within-from low high (length text) parts.0 in
-    (long.0, long.1, All-weaker (λ b. p b ≡ true) P is text (AllPass-from_list_all p text parts.1))
-
 initials-found : (text : List ℕ) → IfSome (initials_of text) IsInitials
-unfolding initials_of is_initials
-initials-found text =
-    tested IsInitials (is_initials text) text
-    (λ e. let s = sized 2 4 is_capital IsCapital text (within-from 65 90) e in record { at_least_two = s.0; at_most_four = s.1; capitals = s.2 })
+unfolding initials_of
+initials-found text = tested IsInitials (is_initials text) text (initials-from text)
 
 -- the reader of initials
 pub initials : Value IsInitials (λ text. text) initials_of
@@ -291,14 +269,9 @@ initials = record {
   utf8 = λ v is. ascii-utf8 v (All-weaker IsCapital (λ b. b < 128) (λ b h. omega (arith, h.1)) v is.capitals);
 }
 
-serial_byte : (b : ℕ) → is_serial_byte b ≡ true → IsCapital b ⊎ IsDigit b
-serial_byte b h = grind (arith, nat_tests)
-
 serial-found : (text : List ℕ) → IfSome (serial_of text) IsSerial
-unfolding serial_of is_serial
-serial-found text =
-    tested IsSerial (is_serial text) text
-    (λ e. let s = sized 4 16 is_serial_byte (λ b. IsCapital b ⊎ IsDigit b) text serial_byte e in record { at_least_four = s.0; at_most_sixteen = s.1; each = s.2 })
+unfolding serial_of
+serial-found text = tested IsSerial (is_serial text) text (serial-from text)
 
 -- the reader of bags' serials and of items' codes
 pub serials : Value IsSerial (λ text. text) serial_of
@@ -309,18 +282,9 @@ serials = record {
   utf8 = λ v is. ascii-utf8 v (All-weaker (λ b. IsCapital b ⊎ IsDigit b) (λ b. b < 128) (λ b h. grind arith) v is.each);
 }
 
-printing_byte : (b : ℕ) → is_printing b ≡ true → IsPrinting b
-printing_byte b h = (grind (arith, nat_tests), λ e. grind (arith, nat_tests))
-
 line-found : (limit : ℕ) (text : List ℕ) → IfSome (line_of limit text) (IsLine limit)
-unfolding line_of is_line
-line-found limit text =
-    tested (IsLine limit) (is_line limit text) text
-    (λ e. let parts = and_parts (is_between 1 limit (length text)) (is_utf8 text && list_all is_printing text) e in
-    let rest = and_parts (is_utf8 text) (list_all is_printing text) parts.1 in
-    let long = within-from 1 limit (length text) parts.0 in
-    let each = All-weaker (λ b. is_printing b ≡ true) IsPrinting printing_byte text (AllPass-from_list_all is_printing text rest.1) in
-    record { not_empty = long.0; short = long.1; text = IsUtf8-from_is_utf8 text rest.0; printing = each })
+unfolding line_of
+line-found limit text = tested (IsLine limit) (is_line limit text) text (line-from limit text)
 
 lines-read : (limit : ℕ) → Value (IsLine limit) (λ text. text) (line_of limit)
 lines-read limit = record {

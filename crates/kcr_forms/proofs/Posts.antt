@@ -129,8 +129,8 @@ module _ {V : Type 0} {IsValue : V → Type 0} {text_of : V → List ℕ} {read 
   abbrev pub next : {m : Member × Form} {rest : List (Member × Form)} → Given (m ∷ rest) (shapes.Text text_of read)
   next = record { value = v; again = (reader.again v is, reader.utf8 v is); stands = no-feed reader v is }
 
-abbrev pub number : {m : Member × Form} {rest : List (Member × Form)} (n : ℕ) → IsNumber 9999 n → Given (m ∷ rest) shapes.Number
-number n is = record { value = n; again = is; stands = tt }
+abbrev pub next_number : {m : Member × Form} {rest : List (Member × Form)} (n : ℕ) → IsNumber 9999 n → Given (m ∷ rest) shapes.Number
+next_number n is = record { value = n; again = is; stands = tt }
 
 abbrev pub truth : {m : Member × Form} {rest : List (Member × Form)} → Bool → Given (m ∷ rest) shapes.Truth
 truth b = record { value = b; again = tt; stands = tt }
@@ -159,10 +159,10 @@ shaped (act.Withdraw who role day) is = ((next roles role tt, (last days day is.
 shaped (act.Appoint place who day) is = ((next places-read place is.0, (next initials who is.1, (last days day is.2, tt))), refl, refl, refl)
 shaped (act.Replace place who day) is = ((next initials who is.1, (last days day is.2, tt)), refl, refl, refl)
 shaped (act.Release place day) is = ((last days day is.1, tt), refl, refl, refl)
-shaped (act.AddBox facility box place) is = ((next facilities facility tt, (number box is.0, (last places-read place is.1, tt))), refl, refl, refl)
-shaped (act.Ceremony ceremony at (deed.AddItem item)) is = ((number ceremony is.0, (next serials item is.1, (last moments at is.2, tt))), refl, refl, refl)
+shaped (act.AddBox facility box place) is = ((next facilities facility tt, (next_number box is.0, (last places-read place is.1, tt))), refl, refl, refl)
+shaped (act.Ceremony ceremony at (deed.AddItem item)) is = ((next_number ceremony is.0, (next serials item is.1, (last moments at is.2, tt))), refl, refl, refl)
 shaped (act.Plan ceremony facility day script) is =
-    ((number ceremony is.0, (next facilities facility tt, (next days day is.1, (record { value = script; again = (scripts script is.2, is.2); stands = tt }, tt)))), refl, refl, refl)
+    ((next_number ceremony is.0, (next facilities facility tt, (next days day is.1, (record { value = script; again = (scripts script is.2, is.2); stands = tt }, tt)))), refl, refl, refl)
 shaped (act.Ceremony ceremony at deed.Open) is = ((last moments at is.2, tt), refl, refl, refl)
 shaped (act.Ceremony ceremony at deed.Close) is = ((last moments at is.2, tt), refl, refl, refl)
 shaped (act.Ceremony ceremony at (deed.RecordSheet way who)) is =

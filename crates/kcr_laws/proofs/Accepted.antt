@@ -23,18 +23,18 @@ pub other_outcome : (a : ReplyData) (r : Refusal) → Accepts a ≡ Refuses r �
 other_outcome a r e = absurd (let f : Accepts a ≡ Refuses r = e in cc)
 
 -- an entry by its parts
-abbrev pub one : List ℕ → Act → ReplyData → Entry
-one key act reply = record { command = record { key = key; act = act }; reply = reply }
+abbrev pub entry_from : List ℕ → Act → ReplyData → Entry
+entry_from key act reply = record { command = record { key = key; act = act }; reply = reply }
 
 -- what holds of the empty history, and with a further command if it held before, holds of every history
-pub each_history : (P : History → Type 0) → P [] → ((A : History) (key : List ℕ) (act : Act) (reply : ReplyData) → P A → P (one key act reply ∷ A))
+pub each_history : (P : History → Type 0) → P [] → ((A : History) (key : List ℕ) (act : Act) (reply : ReplyData) → P A → P (entry_from key act reply ∷ A))
     → (A : History) → P A
 each_history P base step [] = base
 each_history P base step (entry ∷ A) = step A entry.command.key entry.command.act entry.reply (each_history P base step A)
 
 -- what an accepted command keeps holds of every register
 pub each_register : (P : History → Type 0) → P []
-    → ((A : History) (key : List ℕ) (act : Act) (reply : ReplyData) → IsRegister A → CanFollow A (one key act reply) → P A → P (one key act reply ∷ A))
+    → ((A : History) (key : List ℕ) (act : Act) (reply : ReplyData) → IsRegister A → CanFollow A (entry_from key act reply) → P A → P (entry_from key act reply ∷ A))
     → (A : History) → IsRegister A → P A
 each_register P base step [] h = base
 each_register P base step (entry ∷ A) h = step A entry.command.key entry.command.act entry.reply h.1 h.0 (each_register P base step A h.1)
@@ -74,7 +74,7 @@ step_leads_on A x outcome A' m = step_leads IsOfMachine A x m (λ reply step. (s
 
 pub steps_keep : (A : History) (said : List (Act × List ℕ)) (A' : History) → IsRegister A → AreSteps A said A' → IsRegister A'
 steps_keep A [] A' r h = rw h r
-steps_keep A (one ∷ rest) A' r h = steps_keep h.1 rest A' (step_keeps A (new_command A one.0) h.0 h.1 r h.2) h.4
+steps_keep A (said ∷ rest) A' r h = steps_keep h.1 rest A' (step_keeps A (new_command A said.0) h.0 h.1 r h.2) h.4
 
 pub answers_keep : (A A' : History) (said : List (Act × List ℕ)) → IsRegister A → AreAnswered A said A' → IsRegister A'
 answers_keep A A' said r h = steps_keep A said A' r h.steps

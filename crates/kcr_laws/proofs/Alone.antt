@@ -17,7 +17,7 @@ use Rattle.kcr_history.specs.History.{History}
 use Rattle.kcr_history.specs.Room.{sheet}
 use Rattle.kcr_history.specs.Conditions.{fault, out_of_turn_refusal, crowd_refusal, lone_room_refusal}
 use Rattle.kcr_history.specs.Machine.{IsRegister}
-use Rattle.kcr_laws.proofs.Accepted.{one, each_register}
+use Rattle.kcr_laws.proofs.Accepted.{entry_from, each_register}
 use Rattle.kcr_laws.proofs.Rooms.{HaveTurns, in_other, same_room}
 use Rattle.kcr_laws.proofs.Crowding.{crowd_holds, never_told}
 
@@ -38,7 +38,7 @@ own_room rows c k l t = (
 )
 
 room_after : (A : History) (key : List ℕ) (act : Act) (answer : ReplyData) (c t : ℕ) → fault A act ≡ None → IsAllowed (headcount_by (sheet A) c t)
-    → IsAllowed (headcount_by (sheet (one key act answer ∷ A)) c t)
+    → IsAllowed (headcount_by (sheet (entry_from key act answer ∷ A)) c t)
 room_after A key (Ceremony d at (RecordSheet way people)) answer c t f ih = by_ceremony (d == c) refl
   where
     by_ceremony : (b : Bool) → (d == c) ≡ b → IsAllowed (headcount_by (sheet A ++ map (new_row d way at) people) c t)

@@ -27,7 +27,7 @@ use Rattle.kcr_history.specs.Tables.{sealed_serial, added_item}
 use Rattle.kcr_history.specs.Conditions.{fault}
 use Rattle.kcr_history.specs.Machine.{CanFollow, IsRegister}
 use Rattle.kcr_history.specs.Laws.{is_added, is_kept, has_its_box, is_in_place, were_in_place, IsBalanced}
-use Rattle.kcr_laws.proofs.Accepted.{one, each_history, each_register}
+use Rattle.kcr_laws.proofs.Accepted.{entry_from, each_history, each_register}
 use Rattle.kcr_laws.proofs.Stored.{sealed_somewhere, items_known}
 
 -- BAGS
@@ -36,8 +36,8 @@ use Rattle.kcr_laws.proofs.Stored.{sealed_somewhere, items_known}
 sealed_is : (A : History) → IsRegister A → (serial : List ℕ) → list_any (same_text serial) (values_of_acts sealed_serial A) ≡ is_some (spot A serial)
 sealed_is A r serial = any-same (same_text serial) (λ k. same_text k serial) (values_of_acts sealed_serial A) (same-turned serial) ∙ sealed_somewhere A r serial
 
-sealed_after : (A : History) (key : List ℕ) (act : Act) (answer : ReplyData) → IsRegister A → CanFollow A (one key act answer)
-    → all_differ (values_of_acts sealed_serial A) ≡ true → all_differ (values_of_acts sealed_serial (one key act answer ∷ A)) ≡ true
+sealed_after : (A : History) (key : List ℕ) (act : Act) (answer : ReplyData) → IsRegister A → CanFollow A (entry_from key act answer)
+    → all_differ (values_of_acts sealed_serial A) ≡ true → all_differ (values_of_acts sealed_serial (entry_from key act answer ∷ A)) ≡ true
 sealed_after A key (Ceremony c at (Seal s items)) answer r a ih =
     let f : fault A (Ceremony c at (Seal s items)) ≡ None = a.no_fault in
     let free : is_some (spot A s) ≡ false = grind arith in
@@ -60,7 +60,7 @@ has_rest : (A : History) (item : List ℕ) → is_some (rest A item) ≡ (is_som
 has_rest A item = grind arith
 
 added_is_after : (A : History) (key : List ℕ) (act : Act) (answer : ReplyData) (item : List ℕ) → is_added A item ≡ is_some (added A item)
-    → is_added (one key act answer ∷ A) item ≡ is_some (added (one key act answer ∷ A) item)
+    → is_added (entry_from key act answer ∷ A) item ≡ is_some (added (entry_from key act answer ∷ A) item)
 added_is_after A key (Ceremony c at (AddItem i)) answer item ih = grind (arith, same-turned item i, ih)
 added_is_after A key act answer item ih = ih
 
@@ -72,9 +72,9 @@ rest_added : (A : History) (item : List ℕ) → (is_some (sealed A item) ≡ tr
 rest_added A item g h = grind (arith, g, has_rest A item, added_is A item)
 
 -- an item that was sealed was added
-sealed_added_after : (A : History) (key : List ℕ) (act : Act) (answer : ReplyData) (item : List ℕ) → CanFollow A (one key act answer)
+sealed_added_after : (A : History) (key : List ℕ) (act : Act) (answer : ReplyData) (item : List ℕ) → CanFollow A (entry_from key act answer)
     → (is_some (sealed A item) ≡ true → is_added A item ≡ true)
-    → is_some (sealed (one key act answer ∷ A) item) ≡ true → is_added (one key act answer ∷ A) item ≡ true
+    → is_some (sealed (entry_from key act answer ∷ A) item) ≡ true → is_added (entry_from key act answer ∷ A) item ≡ true
 sealed_added_after A key (Ceremony c at (AddItem i)) answer item a ih h = or_right (same_text item i) (is_added A item) (ih h)
 sealed_added_after A key (Ceremony c at (Seal serial items)) answer item a ih h =
     let f : fault A (Ceremony c at (Seal serial items)) ≡ None = a.no_fault in
@@ -87,8 +87,8 @@ sealed_added A h item =
     each_register (λ B. is_some (sealed B item) ≡ true → is_added B item ≡ true) (λ s. absurd (false≢true s))
     (λ B key act answer r. sealed_added_after B key act answer item) A h
 
-added_after : (A : History) (key : List ℕ) (act : Act) (answer : ReplyData) → IsRegister A → CanFollow A (one key act answer)
-    → all_differ (values_of_acts added_item A) ≡ true → all_differ (values_of_acts added_item (one key act answer ∷ A)) ≡ true
+added_after : (A : History) (key : List ℕ) (act : Act) (answer : ReplyData) → IsRegister A → CanFollow A (entry_from key act answer)
+    → all_differ (values_of_acts added_item A) ≡ true → all_differ (values_of_acts added_item (entry_from key act answer ∷ A)) ≡ true
 added_after A key (Ceremony c at (AddItem i)) answer r a ih =
     let f : fault A (Ceremony c at (AddItem i)) ≡ None = a.no_fault in
     let free : is_some (rest A i) ≡ false = grind arith in
@@ -101,7 +101,7 @@ added_once = each_register (λ A. all_differ (values_of_acts added_item A) ≡ t
 -- the bag in which an item was last sealed was sealed
 sealed_there_after : (A : History) (key : List ℕ) (act : Act) (answer : ReplyData) (item serial : List ℕ)
     → (sealed A item ≡ Some serial → list_any (same_text serial) (values_of_acts sealed_serial A) ≡ true)
-    → sealed (one key act answer ∷ A) item ≡ Some serial → list_any (same_text serial) (values_of_acts sealed_serial (one key act answer ∷ A)) ≡ true
+    → sealed (entry_from key act answer ∷ A) item ≡ Some serial → list_any (same_text serial) (values_of_acts sealed_serial (entry_from key act answer ∷ A)) ≡ true
 sealed_there_after A key (Ceremony c at (Seal s items)) answer item serial ih h = grind (arith, same-itself serial, ih)
 sealed_there_after A key act answer item serial ih h = ih h
 
@@ -158,7 +158,7 @@ boxes_there : (A : History) → IsRegister A → (serial : List ℕ) → has_its
 boxes_there A h serial =
     each_register (λ B. has_its_box B (spot B serial) ≡ true) refl
     (λ B key act answer r a ih.
-    box_still B (one key act answer) (option_or (spot_after (facility_of B) serial act) (spot B serial))
+    box_still B (entry_from key act answer) (option_or (spot_after (facility_of B) serial act) (spot B serial))
     (box_of_either B (spot_after (facility_of B) serial act) (spot B serial) (box_moved B act serial a.no_fault) ih)) A h
 
 pub balanced : (A : History) → IsRegister A → IsBalanced A

@@ -34,7 +34,7 @@ use Rattle.kcr_history.specs.Tables.{seats_at}
 use Rattle.kcr_history.specs.Conditions.{fault}
 use Rattle.kcr_history.specs.Machine.{seat_request, IsReplyTo, IsRegister}
 use Rattle.kcr_history.specs.Laws.{is_seated, are_seated}
-use Rattle.kcr_laws.proofs.Accepted.{one, each_history}
+use Rattle.kcr_laws.proofs.Accepted.{entry_from, each_history}
 use Rattle.kcr_laws.proofs.Stays.{trained_stays, holder_stays}
 use Rattle.kcr_laws.proofs.Rooms.{in_before, in_other}
 use Rattle.kcr_laws.proofs.Alone.{turns}
@@ -92,7 +92,7 @@ still_past A entry (Some m) h =
 -- a ceremony that is open was opened
 opened_after : (A : History) (key : List ℕ) (act : Act) (answer : ReplyData) (c : ℕ)
     → (is_some (opened_at A c) ≡ true → was_opened c (values_of_acts opened_number A) ≡ true)
-    → is_some (opened_at (one key act answer ∷ A) c) ≡ true → was_opened c (values_of_acts opened_number (one key act answer ∷ A)) ≡ true
+    → is_some (opened_at (entry_from key act answer ∷ A) c) ≡ true → was_opened c (values_of_acts opened_number (entry_from key act answer ∷ A)) ≡ true
 opened_after A key (Ceremony d at Open) answer c ih h = grind (arith, ih)
 opened_after A key act answer c ih h = ih h
 
@@ -158,10 +158,10 @@ behind at t (Some m) h k = grind (arith, nat_tests)
 
 -- everybody was if the sheet says so at a past moment
 same_in : (A : History) (key : List ℕ) (act : Act) (answer : ReplyData) (who : List ℕ) (c t : ℕ) → fault A act ≡ None → at_most t (mark A c) ≡ true
-    → is_in (one key act answer ∷ A) who c t ≡ is_in A who c t
+    → is_in (entry_from key act answer ∷ A) who c t ≡ is_in A who c t
 same_in A key (Ceremony d at (RecordSheet way people)) answer who c t f k = by_ceremony (d == c) refl
   where
-    by_ceremony : (b : Bool) → (d == c) ≡ b → is_in (one key (Ceremony d at (RecordSheet way people)) answer ∷ A) who c t ≡ is_in A who c t
+    by_ceremony : (b : Bool) → (d == c) ≡ b → is_in (entry_from key (Ceremony d at (RecordSheet way people)) answer ∷ A) who c t ≡ is_in A who c t
     by_ceremony true e =
         let later = behind at t (mark A d) (grind arith) (ap (λ z. at_most t (mark A z)) (eqb-true d c e) ∙ k) in
         in_before (sheet A) d way at people who c t later
@@ -244,12 +244,12 @@ old_seated A entry act people f past h = refl
 
 -- a signature and an exception leave everybody as eligible as before, so the people of their answer are a seating
 new_seated : (A : History) (key : List ℕ) (act : Act) (answer : ReplyData) → IsReplyTo A act answer (seat_request A act)
-    → is_seated (one key act answer ∷ A) (seat_request (one key act answer ∷ A) act) answer.seating ≡ true
+    → is_seated (entry_from key act answer ∷ A) (seat_request (entry_from key act answer ∷ A) act) answer.seating ≡ true
 new_seated A key (Ceremony c at (Sign k)) answer w =
-    let B = one key (Ceremony c at (Sign k)) answer ∷ A in
+    let B = entry_from key (Ceremony c at (Sign k)) answer ∷ A in
     rw w.2 (seating_mono A B c at (eligible_mono A B c at (λ who. refl) refl (λ who role h. h) (λ place. refl)) (seats_at (steps_of A c) k) w.0 w.1)
 new_seated A key (Ceremony c at (RecordException text true)) answer w =
-    let B = one key (Ceremony c at (RecordException text true)) answer ∷ A in
+    let B = entry_from key (Ceremony c at (RecordException text true)) answer ∷ A in
     rw w.2 (seating_mono A B c at (eligible_mono A B c at (λ who. refl) refl (λ who role h. h) (λ place. refl)) (Staff Ca ∷ Staff Iw ∷ []) w.0 w.1)
 new_seated A key (Ceremony c at (RecordException text false)) answer w = refl
 new_seated A key act answer w = refl

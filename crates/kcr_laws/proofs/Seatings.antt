@@ -9,7 +9,7 @@ use Rattle.kcr_history.specs.History.{History}
 use Rattle.kcr_history.specs.Machine.{Accepts, seat_request, reply_to, with_command, IsAcceptedWith, seats, machine, IsOfMachine, IsReplyTo, CanFollow, IsRegister}
 use Rattle.kcr_history.specs.Laws.{IsSeatedFirst, HasFirstSeatings}
 use Rattle.kcr_history.proofs.Steps.{follows}
-use Rattle.kcr_laws.proofs.Accepted.{same_reply, other_outcome, one}
+use Rattle.kcr_laws.proofs.Accepted.{same_reply, other_outcome, entry_from}
 
 -- with a new key, and with nothing that refuses it, the command with these parts is accepted with this answer
 abbrev IsSeated : History → List ℕ → Act → ReplyData → Type 0
@@ -37,13 +37,13 @@ first_seated A key (Ceremony c at (RecordException text false)) answer h first =
 first_seated A key act answer h first = (ap Accepts h, ap (with_command A (record { key = key; act = act })) h)
 
 step_first : (A : History) (key : List ℕ) (act : Act) (answer : ReplyData)
-    → machine A (record { key = key; act = act }) (Accepts answer) (one key act answer ∷ A) → IsSeatedFirst A (seat_request A act) answer.seating
+    → machine A (record { key = key; act = act }) (Accepts answer) (entry_from key act answer ∷ A) → IsSeatedFirst A (seat_request A act) answer.seating
 step_first A key act answer h =
     let can = follows A (record { key = key; act = act }) answer h in
     seated_first A key act answer (rw (can.new_key, can.no_fault) at h)
 
-first_step : (A : History) (key : List ℕ) (act : Act) (answer : ReplyData) → CanFollow A (one key act answer)
-    → IsSeatedFirst A (seat_request A act) answer.seating → machine A (record { key = key; act = act }) (Accepts answer) (one key act answer ∷ A)
+first_step : (A : History) (key : List ℕ) (act : Act) (answer : ReplyData) → CanFollow A (entry_from key act answer)
+    → IsSeatedFirst A (seat_request A act) answer.seating → machine A (record { key = key; act = act }) (Accepts answer) (entry_from key act answer ∷ A)
 first_step A key act answer can first = rw (can.new_key, can.no_fault) (first_seated A key act answer can.answered first)
 
 pub machine_first : (A : History) → IsOfMachine A → HasFirstSeatings A

@@ -1,38 +1,16 @@
 -- Why no other damage is there.
-use Rattle.std.proofs.Common.{◌≡◌, ℕ, ◌+◌, ◌-◌, ◌*◌, ◌/◌, ◌<◌, ◌≤◌, ◌||◌, true, false, List, length, sym, ap, subst, ◌∙◌, inl, inr, arith}
-use Rattle.std.proofs.lemmas.Bool.{false≢true, true≢false, or_cases, cases_lt, cases_order}
+use Rattle.std.proofs.Common.{◌≡◌, ℕ, ◌+◌, ◌-◌, ◌*◌, ◌/◌, ◌<◌, ◌≤◌, ◌||◌, true, false, List, length, sym, ◌∙◌, inl, inr, arith}
+use Rattle.std.proofs.lemmas.Bool.{false≢true, true≢false, or_cases, cases_lt}
 use Rattle.std.proofs.Math.Nat.{div-mul-le_self, mul-le-mul_right}
 use Rattle.kcr_log.specs.declared.frames.Header.{Header}
 use Rattle.kcr_log.specs.declared.judgement.Log.{Log}
 use Rattle.kcr_log.specs.declared.judgement.Log.TheVariants.{Sound, WrongHead, WrongFrame, NoFile}
-use Rattle.kcr_log.specs.Frames.{header_of, is_signed, frame_count, checks, commits_from}
+use Rattle.kcr_log.specs.Frames.{header_of, is_signed, frame_count, checks}
 use Rattle.kcr_log.specs.Damage.{was_safe, IsWrongHead, IsDamage}
 use Rattle.kcr_log.specs.Pages.{told_header, second_header, turned, page_size_of, HasLost}
 use Rattle.kcr_log.specs.Stop.{IsCutShort}
 use Rattle.kcr_log.proofs.Counting.{carried, checked}
 use Rattle.kcr_log.proofs.Safe.{none-safe, cut-unsafe}
-
--- a log with a head that checks has no damage if its first wrong frame is none
-pub sound-frames : (file log : List ℕ) (k : ℕ) → is_signed log ≡ true
-    → ((i : ℕ) → i < k → checks (header_of log) log i ≡ true) → checks (header_of log) log k ≡ false
-    → (length file ≡ 0 → 0 < k
-    → 0 < commits_from (header_of log) log 0 (frame_count (header_of log) log - 0) → ⊥)
-    → was_safe (header_of log) log k ≡ false
-    → (damage : Log) → ¬ IsDamage file log damage
-sound-frames file log k signed before wrong beside torn Sound damage = damage
-sound-frames file log k signed before wrong beside torn (WrongHead ended) damage = elim damage [
-  | inl head ↦ true≢false (sym signed ∙ head.wrong)
-  | inr head ↦ true≢false (sym signed ∙ head.wrong)
-]
-sound-frames file log k signed before wrong beside torn (NoFile ended) damage =
-    let apart : k ≡ 0 → ⊥ = λ e. false≢true (sym wrong ∙ ap (checks (header_of log) log) e ∙ damage.first) in
-    beside damage.empty (omega arith) (subst (λ (n : ℕ). 0 < n) damage.ended_is damage.some)
-sound-frames file log k signed before wrong beside torn (WrongFrame first count) damage =
-    elim (cases_order (first - 1) k) [
-      | inl e ↦ true≢false (sym damage.safe ∙ ap (was_safe (header_of log) log) e ∙ torn)
-      | inr (inl low) ↦ false≢true (sym damage.wrong ∙ before (first - 1) low)
-      | inr (inr high) ↦ false≢true (sym wrong ∙ damage.before k (let one = damage.counted in omega arith))
-    ]
 
 -- nor has one with a head that does not check, if neither its head nor a page is known to be lost
 pub sound-head : (file log : List ℕ) → is_signed log ≡ false → ((ended : ℕ) → ¬ IsWrongHead file log ended)
@@ -84,15 +62,6 @@ sound-short file log short (NoFile ended) damage = none-checked (header_of log) 
 sound-short file log short (WrongFrame first count) damage =
     let none : frame_count (header_of log) log ≡ 0 = no-frames (header_of log) log short in
     true≢false (sym damage.safe ∙ none-safe (header_of log) log (first - 1) (omega arith))
-
--- the same of a head that checks, by the head that was read
-pub sound-by : (file log : List ℕ) (header : Header) (k : ℕ) → header ≡ header_of log → is_signed log ≡ true
-    → ((i : ℕ) → i < k → checks header log i ≡ true) → checks header log k ≡ false
-    → (length file ≡ 0 → 0 < k → 0 < commits_from header log 0 (frame_count header log - 0) → ⊥)
-    → was_safe header log k ≡ false
-    → (damage : Log) → ¬ IsDamage file log damage
-sound-by file log header k e signed before wrong beside torn =
-    sound-frames file log k signed (rw e at before) (rw e at wrong) (rw e at beside) (rw e at torn)
 
 -- the first wrong frame of what a stop cut short was not safe, by the head that was read
 pub cut-by : (header : Header) (log : List ℕ) (k : ℕ) → header ≡ header_of log → IsCutShort (header_of log) log

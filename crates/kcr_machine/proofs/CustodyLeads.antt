@@ -7,7 +7,7 @@ use Rattle.std.proofs.lemmas.List.Sorted.{IsPermutation-sym}
 use Rattle.std.proofs.lemmas.Bool.{or_parts}
 use Rattle.kcr_base.proofs.RefuseLemmas.{none_holds, unmet}
 use Rattle.kcr_base.proofs.SameLemmas.{same-itself, same-is, same-turned}
-use Rattle.kcr_base.proofs.ListLemmas.{there, still}
+use Rattle.kcr_base.proofs.ListLemmas.{there, still, map-same}
 use Rattle.kcr_base.specs.Refuse.{when}
 use Rattle.kcr_base.specs.Rows.{option_or, put, put_all}
 use Rattle.kcr_base.specs.Same.{same_text, same_facility}
@@ -43,7 +43,7 @@ use Rattle.kcr_custody.specs.declared.SafeNumber.TheVariants.{One, Two}
 use Rattle.kcr_custody.specs.declared.SafeRow.{SafeRow}
 use Rattle.kcr_base.specs.declared.place.Place.{Place}
 use Rattle.kcr_custody.specs.declared.BoxRow.{BoxRow}
-use Rattle.kcr_room.proofs.Lists.{map-same, map-map}
+use Rattle.kcr_room.proofs.Lists.{map-map}
 use Rattle.kcr_base.specs.declared.refusal.Thing.TheVariants as Things
 use Rattle.kcr_machine.proofs.BagsWords.{added_rest}
 use Rattle.kcr_machine.proofs.Keyed.{Shown, put-at, put-first, put-new, put-rows}

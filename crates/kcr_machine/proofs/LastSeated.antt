@@ -29,7 +29,7 @@ use Rattle.kcr_history.specs.Views.{IncludesStep, is_seating_of, is_step_at, las
 use Rattle.kcr_history.proofs.Piled.{filter-stacked}
 use Rattle.kcr_history.proofs.Tops.{top, top-more}
 use Rattle.kcr_rules.specs.Signing.{staff}
-use Rattle.kcr_laws.proofs.Accepted.{one, each_register}
+use Rattle.kcr_laws.proofs.Accepted.{entry_from, each_register}
 use Rattle.kcr_laws.proofs.Done.{one_more, next_signed, done-after}
 use Rattle.kcr_machine.proofs.StepRows.{any_step-shown, done-below, few-steps, sign-there}
 
@@ -132,11 +132,11 @@ by_act A act answer c f e ih = ih
 pub last-seated : (A : History) → IsRegister A → (c : ℕ) → last_seated (seatings A) c ≡ steps_done A c
 last-seated A h c = each_register (λ A. last_seated (seatings A) c ≡ steps_done A c) refl step A h
   where
-    step : (A : History) (key : List ℕ) (act : Act) (answer : ReplyData) → IsRegister A → CanFollow A (one key act answer)
-        → last_seated (seatings A) c ≡ steps_done A c → last_seated (seatings (one key act answer ∷ A)) c ≡ steps_done (one key act answer ∷ A) c
+    step : (A : History) (key : List ℕ) (act : Act) (answer : ReplyData) → IsRegister A → CanFollow A (entry_from key act answer)
+        → last_seated (seatings A) c ≡ steps_done A c → last_seated (seatings (entry_from key act answer ∷ A)) c ≡ steps_done (entry_from key act answer ∷ A) c
     step A key act answer h a ih =
         by_act A act answer c a.no_fault a.answered ih
-        ∙ sym (done-after A (one key act answer) c)
+        ∙ sym (done-after A (entry_from key act answer) c)
 
 -- THE ROWS THAT A VIEW SHOWS
 

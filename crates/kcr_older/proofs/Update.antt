@@ -35,7 +35,8 @@ use Rattle.sqlite_rules.specs.Calls.{ids_of}
 use Rattle.sqlite_rules.proofs.TableLemmas.{int_is}
 use Rattle.sqlite_catalog.specs.Listing.{IsSound}
 use Rattle.kcr_rows.specs.Keyed.{cells, TreeHolds, TableLayout}
-use Rattle.kcr_rows.proofs.ReadLemmas.{reading, matched, map_same}
+use Rattle.kcr_rows.proofs.ReadLemmas.{reading, matched}
+use Rattle.kcr_base.proofs.ListLemmas.{map-same}
 use Rattle.kcr_rows.proofs.WriteLemmas.{went, same_value, cast_int}
 use Rattle.kcr_rows.proofs.TableLemmas.{filter_every, keeps_still}
 use Rattle.kcr_rows.specs.Rows.{version_row}
@@ -64,7 +65,7 @@ module _ (params : Row) (tree : ℕ) (project : List Term) (f : Row → Row)
       let all : a.staged ≡ map (λ r. params ∷ r ∷ []) entries =
       staged ∙ ap (λ l. map (λ r. params ∷ r ∷ []) (filter (λ _. true) l)) over ∙ ap (map (λ r. params ∷ r ∷ [])) (filter_every entries) in
       let outs : a.kept ≡ map with_f entries =
-      a.distinct ∙ ap (map (output q)) all ∙ map-map (output q) (λ r. params ∷ r ∷ []) entries ∙ map_same _ with_f shows entries in
+      a.distinct ∙ ap (map (output q)) all ∙ map-map (output q) (λ r. params ∷ r ∷ []) entries ∙ map-same _ with_f entries shows in
       let same : IsPermutation (map (λ (o : Output). o.1) a.kept) (map (λ (o : Output). o.1) a.ordered) = IsPermutation-map (λ (o : Output). o.1) _ _ a.same in
       let firsts : map (λ (o : Output). o.1) a.kept ≡ map f entries = ap (map (λ (o : Output). o.1)) outs ∙ map-map (λ (o : Output). o.1) with_f entries in
       subst (λ l. IsPermutation l rows) firsts (subst (IsPermutation (map (λ (o : Output). o.1) a.kept)) (sym a.shown) same)

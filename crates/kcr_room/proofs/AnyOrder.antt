@@ -16,7 +16,8 @@ use Rattle.kcr_room.proofs.Words.{nat_tests, same_text, SheetRow}
 use Rattle.kcr_room.proofs.Lists.{any-filter, count-cons, none-behind}
 use Rattle.kcr_room.proofs.Firsts.{end-unique}
 use Rattle.kcr_room.proofs.Followed.{lasts-next}
-use Rattle.kcr_room.proofs.Agreement.{same-is, same-itself, of_person, same-present}
+use Rattle.kcr_room.proofs.Agreement.{of_person, same-present}
+use Rattle.kcr_base.proofs.SameLemmas.{same-itself, same-is}
 use Rattle.kcr_room.proofs.Orders.{present-order}
 use Rattle.kcr_room.proofs.Sheets.{made-in-turn, InTurn, last_reaches, earlier-last}
 

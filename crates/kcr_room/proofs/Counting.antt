@@ -11,7 +11,8 @@ use Rattle.kcr_room.specs.Moments.{min_moment, least}
 use Rattle.kcr_room.specs.Stays.{ends_after, headcount_in_by, is_lone_in_by, is_crowd_in_by, comings_by, goings_by, first_lone_in_by, is_crowded_in_by}
 use Rattle.kcr_room.specs.Occupancy.{headcount_of, is_crowd_of, is_lone_of, HasMomentsOf}
 use Rattle.kcr_room.proofs.Words.{nat_tests, Stay}
-use Rattle.kcr_room.proofs.Lists.{any-same, count-cons}
+use Rattle.kcr_room.proofs.Lists.{count-cons}
+use Rattle.kcr_base.proofs.ListLemmas.{any-same}
 use Rattle.kcr_room.proofs.Firsts.{end-unique, lasts-sooner, lasts-passing}
 use Rattle.kcr_room.proofs.Moments.{balance}
 

@@ -14,8 +14,10 @@ use Rattle.kcr_base.specs.Lists.{are_apart}
 use Rattle.kcr_room.specs.Laws.{in_turn_onto, TurnsKeep, PresentAreIn}
 use Rattle.kcr_base.proofs.RefuseLemmas.{none_holds}
 use Rattle.kcr_room.proofs.Words.{nat_tests, same_text, SheetRow, Way}
-use Rattle.kcr_room.proofs.Lists.{any-filter, any-same}
-use Rattle.kcr_room.proofs.Agreement.{same-turned, listed, of_person, force-last}
+use Rattle.kcr_room.proofs.Lists.{any-filter}
+use Rattle.kcr_base.proofs.ListLemmas.{any-same}
+use Rattle.kcr_room.proofs.Agreement.{listed, of_person, force-last}
+use Rattle.kcr_base.proofs.SameLemmas.{same-turned}
 
 -- three tests joined by `and` answer the same whichever two are joined first
 pub and-assoc : (a b c : Bool) → ((a && b) && c) ≡ (a && (b && c))

@@ -13,7 +13,7 @@ use Rattle.kcr_room.specs.Stays.{stay_covers, headcount_in_by, present_in_by}
 use Rattle.kcr_room.specs.Requests.{reaches, is_inside, is_inside_of, is_out_of_turn_in, new_stay, with_end, of_ceremony, stays_after_request}
 use Rattle.kcr_room.specs.Requests.{clipped_to_moment, stays_from_moment, is_overfull, stays_refusal}
 use Rattle.kcr_room.proofs.Words.{nat_tests, is_before, Way, Enter, Leave, Stay}
-use Rattle.kcr_room.proofs.Agreement.{same-is}
+use Rattle.kcr_base.proofs.SameLemmas.{same-is}
 use Rattle.kcr_room.proofs.Refusals.{refused-same, find-same}
 use Rattle.kcr_room.proofs.Rising.{ranked, other-before}
 

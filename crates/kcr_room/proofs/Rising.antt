@@ -13,7 +13,8 @@ use Rattle.kcr_room.specs.Room.{enters, in_force, last_row, is_of, ascending, pu
 use Rattle.kcr_base.specs.Lists.{are_apart}
 use Rattle.kcr_room.specs.Laws.{are_rising, PresentAreRising}
 use Rattle.kcr_room.proofs.Words.{nat_tests, same_text, is_before, SheetRow}
-use Rattle.kcr_room.proofs.Agreement.{same-turned, same-itself, listed, of_person, force-last}
+use Rattle.kcr_room.proofs.Agreement.{listed, of_person, force-last}
+use Rattle.kcr_base.proofs.SameLemmas.{same-itself, same-turned}
 use Rattle.kcr_room.proofs.Keeping.{any-ascending}
 
 tied-same : (a b : List ℕ) (o : Ordering) → o ≡ slice_cmp nat_cmp a b → is_eq o ≡ same_text a b

@@ -17,7 +17,8 @@ use Rattle.kcr_room.specs.Laws.{in_turn_onto, IsSheet}
 use Rattle.kcr_room.specs.Moments.{min_moment}
 use Rattle.kcr_room.proofs.Words.{nat_tests, same_text, SheetRow, Way, Enter, Leave, Stay}
 use Rattle.kcr_room.proofs.Lists.{any-filter}
-use Rattle.kcr_room.proofs.Agreement.{same-is, same-itself, same-turned, listed, of_person, last-above, last-snoc}
+use Rattle.kcr_room.proofs.Agreement.{listed, of_person, last-above, last-snoc}
+use Rattle.kcr_base.proofs.SameLemmas.{same-itself, same-turned, same-is}
 use Rattle.kcr_room.proofs.Keeping.{in_turn-append, last-other, none-found, turn-others, and-assoc}
 
 -- an `in` in its turn cuts nothing

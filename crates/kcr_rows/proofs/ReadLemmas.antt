@@ -15,6 +15,7 @@ use Rattle.sqlite_sql.proofs.QueryLemmas.{output_cmp_total}
 use Rattle.sqlite_trees.proofs.ListLemmas.{map-map, filter-map, IsPermutation-filter, ascending-filter, ascending-map, ascending_weaker}
 use Rattle.sqlite_keyed.proofs.SortLemmas.{sorted_unique}
 use Rattle.sqlite.specs.Program.{overlay}
+use Rattle.kcr_base.proofs.ListLemmas.{map-same}
 use Rattle.kcr_rows.specs.Keyed.{cells, by_key, TableLayout, TreeHolds}
 
 -- the query on one table that shows these terms, in this order, of at most N rows, or of all if N is negative
@@ -48,11 +49,6 @@ matched p f (x ∷ xs) = elim (p x) as
       | false ↦ matched p f xs
     ]
 
--- functions that agree have the same images
-pub map_same : {X Y : Type 0} (f g : X → Y) → ((x : X) → f x ≡ g x) → (xs : List X) → map f xs ≡ map g xs
-map_same f g same [] = refl
-map_same f g same (x ∷ xs) = λ i. same x i ∷ map_same f g same xs i
-
 -- what a query keeps before it sorts: what it makes of each entry that passes its test
 pub kept_from : (tree : ℕ) (test project : List Term) (order : List (Term × Key)) (limit : ℤ) (params : Row)
     → nat_le (2 ^ 31) tree ≡ false → (db : Trees) (rows : List Row)
@@ -74,7 +70,7 @@ pub kept_cells : (place : TableLayout) (test project : List Term) (order : List 
 kept_cells place test project order limit params passes out shows tests low db rows a =
     let shown = cells place in
     kept_from place.tree test project order limit params low db rows a
-    ∙ map_same _ (λ r. out (shown r)) shows _
+    ∙ map-same _ (λ r. out (shown r)) _ shows
     ∙ ap (map (λ r. out (shown r))) (λ i. filter (λ r. tests r i) (db place.tree))
     ∙ sym (map-map out shown (filter (λ r. passes (shown r)) (db place.tree)))
     ∙ ap (map out) (sym (filter-map passes shown (db place.tree)))

@@ -23,19 +23,19 @@ use Rattle.kcr_rules.specs.CeremonyStatus.{mark_by}
 use Rattle.kcr_rules.specs.Refusals.{may_refuse}
 use Rattle.kcr_rules.specs.SheetRows.{room_refusal}
 
--- a list of conditions in two parts
-halves : (P : Refusal → Bool) (n : ℕ) (os : List (Option Refusal)) → ((r : Refusal) → first_of (take n os) ≡ Some r → P r ≡ true)
+-- if the first refusal of each of two parts of a list of conditions passes a test, so does that of the list
+in_two_parts : (P : Refusal → Bool) (n : ℕ) (os : List (Option Refusal)) → ((r : Refusal) → first_of (take n os) ≡ Some r → P r ≡ true)
     → ((r : Refusal) → first_of (drop n os) ≡ Some r → P r ≡ true) → (r : Refusal) → first_of os ≡ Some r → P r ≡ true
-halves P zero os a b r h = b r h
-halves P (suc n) [] a b r h = absurd (none-some r h)
-halves P (suc n) (None ∷ os) a b r h = halves P n os a b r h
-halves P (suc n) (Some s ∷ os) a b r h = a r h
+in_two_parts P zero os a b r h = b r h
+in_two_parts P (suc n) [] a b r h = absurd (none-some r h)
+in_two_parts P (suc n) (None ∷ os) a b r h = in_two_parts P n os a b r h
+in_two_parts P (suc n) (Some s ∷ os) a b r h = a r h
 
--- in three
-thirds : (P : Refusal → Bool) (n m : ℕ) (os : List (Option Refusal)) → ((r : Refusal) → first_of (take n os) ≡ Some r → P r ≡ true)
+-- the same of three parts
+in_three_parts : (P : Refusal → Bool) (n m : ℕ) (os : List (Option Refusal)) → ((r : Refusal) → first_of (take n os) ≡ Some r → P r ≡ true)
     → ((r : Refusal) → first_of (take m (drop n os)) ≡ Some r → P r ≡ true) → ((r : Refusal) → first_of (drop m (drop n os)) ≡ Some r → P r ≡ true)
     → (r : Refusal) → first_of os ≡ Some r → P r ≡ true
-thirds P n m os a b c r h = halves P n os a (halves P m (drop n os) b c) r h
+in_three_parts P n m os a b c r h = in_two_parts P n os a (in_two_parts P m (drop n os) b c) r h
 
 alone : (o : Option Refusal) (r : Refusal) → first_of (o ∷ []) ≡ Some r → o ≡ Some r
 alone None r h = h
@@ -45,35 +45,35 @@ alone (Some s) r h = h
 
 own-early : (facts : Facts) (c at : ℕ) (deed : Deed) (r : Refusal) → first_of (early_of_deed facts c at deed) ≡ Some r → may_refuse (Ceremony c at deed) r ≡ true
 own-early facts c at Open r h = absurd (none-some r h)
-own-early facts c at Close r h = halves (may_refuse (Ceremony c at Close)) 2 (early_of_deed facts c at Close) (λ r h. grind (arith, h)) (λ r h. grind (arith, h)) r h
+own-early facts c at Close r h = in_two_parts (may_refuse (Ceremony c at Close)) 2 (early_of_deed facts c at Close) (λ r h. grind (arith, h)) (λ r h. grind (arith, h)) r h
 own-early facts c at (AddItem item) r h =
-    halves (may_refuse (Ceremony c at (AddItem item))) 2 (early_of_deed facts c at (AddItem item)) (λ r h. grind (arith, h)) (λ r h. grind (arith, h)) r h
+    in_two_parts (may_refuse (Ceremony c at (AddItem item))) 2 (early_of_deed facts c at (AddItem item)) (λ r h. grind (arith, h)) (λ r h. grind (arith, h)) r h
 own-early facts c at (RecordSheet way people) r h =
-    halves (may_refuse (Ceremony c at (RecordSheet way people))) 3 (early_of_deed facts c at (RecordSheet way people)) (λ r h. grind (arith, h)) (λ r h. grind (arith, h)) r h
+    in_two_parts (may_refuse (Ceremony c at (RecordSheet way people))) 3 (early_of_deed facts c at (RecordSheet way people)) (λ r h. grind (arith, h)) (λ r h. grind (arith, h)) r h
 own-early facts c at (SetSafe safe state by) r h =
-    halves (may_refuse (Ceremony c at (SetSafe safe state by))) 3 (early_of_deed facts c at (SetSafe safe state by)) (λ r h. grind (arith, h)) (λ r h. grind (arith, h)) r h
+    in_two_parts (may_refuse (Ceremony c at (SetSafe safe state by))) 3 (early_of_deed facts c at (SetSafe safe state by)) (λ r h. grind (arith, h)) (λ r h. grind (arith, h)) r h
 own-early facts c at (Sign step) r h =
-    halves (may_refuse (Ceremony c at (Sign step))) 3 (early_of_deed facts c at (Sign step)) (λ r h. grind (arith, h)) (λ r h. grind (arith, h)) r h
+    in_two_parts (may_refuse (Ceremony c at (Sign step))) 3 (early_of_deed facts c at (Sign step)) (λ r h. grind (arith, h)) (λ r h. grind (arith, h)) r h
 own-early facts c at (RecordException text true) r h =
-    halves (may_refuse (Ceremony c at (RecordException text true))) 3 (early_of_deed facts c at (RecordException text true)) (λ r h. grind (arith, h)) (λ r h. grind (arith, h)) r h
+    in_two_parts (may_refuse (Ceremony c at (RecordException text true))) 3 (early_of_deed facts c at (RecordException text true)) (λ r h. grind (arith, h)) (λ r h. grind (arith, h)) r h
 own-early facts c at (RecordException text false) r h =
-    halves (may_refuse (Ceremony c at (RecordException text false))) 3 (early_of_deed facts c at (RecordException text false)) (λ r h. grind (arith, h)) (λ r h. grind (arith, h)) r h
+    in_two_parts (may_refuse (Ceremony c at (RecordException text false))) 3 (early_of_deed facts c at (RecordException text false)) (λ r h. grind (arith, h)) (λ r h. grind (arith, h)) r h
 own-early facts c at (Seal serial items) r h =
-    halves (may_refuse (Ceremony c at (Seal serial items))) 3 (early_of_deed facts c at (Seal serial items)) (λ r h. grind (arith, h)) (λ r h. grind (arith, h)) r h
+    in_two_parts (may_refuse (Ceremony c at (Seal serial items))) 3 (early_of_deed facts c at (Seal serial items)) (λ r h. grind (arith, h)) (λ r h. grind (arith, h)) r h
 own-early facts c at (Take serial) r h =
-    halves (may_refuse (Ceremony c at (Take serial))) 3 (early_of_deed facts c at (Take serial)) (λ r h. grind (arith, h)) (λ r h. grind (arith, h)) r h
+    in_two_parts (may_refuse (Ceremony c at (Take serial))) 3 (early_of_deed facts c at (Take serial)) (λ r h. grind (arith, h)) (λ r h. grind (arith, h)) r h
 own-early facts c at (Put serial to) r h =
-    thirds (may_refuse (Ceremony c at (Put serial to))) 3 1 (early_of_deed facts c at (Put serial to)) (λ r h. grind (arith, h)) (λ r h. grind (arith, h))
+    in_three_parts (may_refuse (Ceremony c at (Put serial to))) 3 1 (early_of_deed facts c at (Put serial to)) (λ r h. grind (arith, h)) (λ r h. grind (arith, h))
     (λ r h. grind (arith, h)) r h
 own-early facts c at (Cut serial) r h =
-    halves (may_refuse (Ceremony c at (Cut serial))) 3 (early_of_deed facts c at (Cut serial)) (λ r h. grind (arith, h)) (λ r h. grind (arith, h)) r h
+    in_two_parts (may_refuse (Ceremony c at (Cut serial))) 3 (early_of_deed facts c at (Cut serial)) (λ r h. grind (arith, h)) (λ r h. grind (arith, h)) r h
 
 own-room : (stays : List Stay) (entered : ℕ) (full : Bool) (mark : Option ℕ) (c : ℕ) (way : Way) (people : List (List ℕ)) (at : ℕ) (r : Refusal)
     → room_refusal stays entered full mark c way people at ≡ Some r → may_refuse (Ceremony c at (RecordSheet way people)) r ≡ true
 own-room stays entered full None c way people at r h = grind (arith, h)
 own-room stays entered full (Some m) c way people at r h =
     let after = stays_from_moment stays c way people at in
-    thirds (may_refuse (Ceremony c at (RecordSheet way people))) 1 1
+    in_three_parts (may_refuse (Ceremony c at (RecordSheet way people))) 1 1
     (not_after_mark_refusal at (Some m) ∷ turn_refusal (find (is_out_of_turn_in stays c way at) people)
     ∷ occupancy_refusal after c (full || is_overfull entered way people) ∷ [])
     (λ r h. grind (arith, h)) (λ r h. grind (arith, h)) (λ r h. grind (arith, h)) r h
@@ -81,27 +81,27 @@ own-room stays entered full (Some m) c way people at r h =
 own-late : (view : View) (full : Bool) (act : Act) (r : Refusal) → late_refusal_by view full act ≡ Some r → may_refuse act r ≡ true
 own-late view full (Enter who name) r h = grind (arith, h)
 own-late view full (Train who role since until) r h =
-    halves (may_refuse (Train who role since until)) 3 (late_conditions (by_rows view full) (Train who role since until)) (λ r h. grind (arith, h)) (λ r h. grind (arith, h)) r h
+    in_two_parts (may_refuse (Train who role since until)) 3 (late_conditions (by_rows view full) (Train who role since until)) (λ r h. grind (arith, h)) (λ r h. grind (arith, h)) r h
 own-late view full (Withdraw who role day) r h =
-    halves (may_refuse (Withdraw who role day)) 2 (late_conditions (by_rows view full) (Withdraw who role day)) (λ r h. grind (arith, h)) (λ r h. grind (arith, h)) r h
+    in_two_parts (may_refuse (Withdraw who role day)) 2 (late_conditions (by_rows view full) (Withdraw who role day)) (λ r h. grind (arith, h)) (λ r h. grind (arith, h)) r h
 own-late view full (Appoint place who day) r h =
-    halves (may_refuse (Appoint place who day)) 3 (late_conditions (by_rows view full) (Appoint place who day)) (λ r h. grind (arith, h)) (λ r h. grind (arith, h)) r h
+    in_two_parts (may_refuse (Appoint place who day)) 3 (late_conditions (by_rows view full) (Appoint place who day)) (λ r h. grind (arith, h)) (λ r h. grind (arith, h)) r h
 own-late view full (Replace place who day) r h =
-    halves (may_refuse (Replace place who day)) 3 (late_conditions (by_rows view full) (Replace place who day)) (λ r h. grind (arith, h)) (λ r h. grind (arith, h)) r h
+    in_two_parts (may_refuse (Replace place who day)) 3 (late_conditions (by_rows view full) (Replace place who day)) (λ r h. grind (arith, h)) (λ r h. grind (arith, h)) r h
 own-late view full (Release place day) r h =
-    halves (may_refuse (Release place day)) 2 (late_conditions (by_rows view full) (Release place day)) (λ r h. grind (arith, h)) (λ r h. grind (arith, h)) r h
+    in_two_parts (may_refuse (Release place day)) 2 (late_conditions (by_rows view full) (Release place day)) (λ r h. grind (arith, h)) (λ r h. grind (arith, h)) r h
 own-late view full (AddBox facility number place) r h =
-    thirds (may_refuse (AddBox facility number place)) 1 1 (late_conditions (by_rows view full) (AddBox facility number place)) (λ r h. grind (arith, h))
+    in_three_parts (may_refuse (AddBox facility number place)) 1 1 (late_conditions (by_rows view full) (AddBox facility number place)) (λ r h. grind (arith, h))
     (λ r h. grind (arith, h)) (λ r h. grind (arith, h)) r h
 own-late view full (Plan number facility day script) r h =
-    halves (may_refuse (Plan number facility day script)) 1 (late_conditions (by_rows view full) (Plan number facility day script)) (λ r h. grind (arith, h)) (λ r h. grind (arith, h)) r h
+    in_two_parts (may_refuse (Plan number facility day script)) 1 (late_conditions (by_rows view full) (Plan number facility day script)) (λ r h. grind (arith, h)) (λ r h. grind (arith, h)) r h
 own-late view full (Ceremony ceremony at Open) r h =
-    halves (may_refuse (Ceremony ceremony at Open)) 3 (late_conditions (by_rows view full) (Ceremony ceremony at Open)) (λ r h. grind (arith, h)) (λ r h. grind (arith, h)) r h
+    in_two_parts (may_refuse (Ceremony ceremony at Open)) 3 (late_conditions (by_rows view full) (Ceremony ceremony at Open)) (λ r h. grind (arith, h)) (λ r h. grind (arith, h)) r h
 own-late view full (Ceremony ceremony at Close) r h =
-    halves (may_refuse (Ceremony ceremony at Close)) 2 (late_conditions (by_rows view full) (Ceremony ceremony at Close)) (λ r h. grind (arith, h)) (λ r h. grind (arith, h)) r h
+    in_two_parts (may_refuse (Ceremony ceremony at Close)) 2 (late_conditions (by_rows view full) (Ceremony ceremony at Close)) (λ r h. grind (arith, h)) (λ r h. grind (arith, h)) r h
 own-late view full (Ceremony ceremony at (AddItem item)) r h = grind (arith, h)
 own-late view full (Ceremony ceremony at (RecordSheet way people)) r h =
-    halves (may_refuse (Ceremony ceremony at (RecordSheet way people))) 1 (late_conditions (by_rows view full) (Ceremony ceremony at (RecordSheet way people))) (λ r h. grind (arith, h))
+    in_two_parts (may_refuse (Ceremony ceremony at (RecordSheet way people))) 1 (late_conditions (by_rows view full) (Ceremony ceremony at (RecordSheet way people))) (λ r h. grind (arith, h))
     (λ r h. own-room view.stays.items view.stay_count full (mark_by view.marks.items ceremony) ceremony way people at r (alone _ r h)) r h
 own-late view full (Ceremony ceremony at (SetSafe safe state by)) r h = grind (arith, h)
 own-late view full (Ceremony ceremony at (Seal serial items)) r h = grind (arith, h)

@@ -15,11 +15,6 @@ use Rattle.kcr_script.specs.Seats.{IsLast}
 
 -- ITEMS
 
--- what holds of the elements of two lists holds of those of both together
-pub both_lists : {X : Type 0} (P : X → Type 0) (xs ys : List X) → AllByRecursion P xs → AllByRecursion P ys → AllByRecursion P (xs ++ ys)
-both_lists P [] ys h k = k
-both_lists P (x ∷ xs) ys h k = (h.0, both_lists P xs ys h.1 k)
-
 -- one seat is an item
 pub one_item : (seat : Seat) → IsSeat seat → IsItem (pair_item (seat, 1))
 one_item seat is = record { seat = is; one = omega arith; seven = omega arith; numbered = λ e. refl }

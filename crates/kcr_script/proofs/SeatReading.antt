@@ -15,7 +15,8 @@ use Rattle.kcr_script.specs.Seat.{IsSeat, can_repeat}
 use Rattle.kcr_script.specs.Seats.{Item, IsItem, item_text, item_seats, pair_item, joined, Spells, StandsFor}
 use Rattle.kcr_script.specs.Reading.{one_to_seven, free_seats, repeated, all_items, item_of, between_semicolons, join_items, seats_of_items, at_most_sixteen}
 use Rattle.kcr_script.specs.Reading.{seats_of}
-use Rattle.kcr_script.proofs.SeatLemmas.{Plain, item_plain, both_lists, one_item, more_items, spells_one, spells_more}
+use Rattle.kcr_script.proofs.SeatLemmas.{Plain, item_plain, one_item, more_items, spells_one, spells_more}
+use Rattle.kcr_base.proofs.ListLemmas.{each-append}
 
 -- ---- the item with a text
 
@@ -36,7 +37,7 @@ from_seven P f =
 free_items : (seats : List Seat) → AllByRecursion (λ seat. IsSeat seat × (can_repeat seat ≡ true)) seats → AllByRecursion IsItem (flat_map repeated seats)
 free_items [] h = tt
 free_items (seat ∷ seats) h =
-    both_lists IsItem (repeated seat) (flat_map repeated seats) (from_seven (λ n. IsItem (pair_item (seat, n))) (λ n. more_items seat n h.0.0 h.0.1))
+    each-append IsItem (repeated seat) (flat_map repeated seats) (from_seven (λ n. IsItem (pair_item (seat, n))) (λ n. more_items seat n h.0.0 h.0.1))
     (free_items seats h.1)
 
 nine_seats : AllByRecursion (λ seat. IsSeat seat × (can_repeat seat ≡ true)) free_seats
@@ -44,8 +45,8 @@ nine_seats = ((tt, refl), ((tt, refl), ((tt, refl), ((tt, refl), ((tt, refl), ((
 
 all_are_items : AllByRecursion IsItem all_items
 all_are_items =
-    both_lists IsItem (flat_map repeated free_seats ++ map (λ n. pair_item (Co n, 1)) one_to_seven) (map (λ n. pair_item (Rksh n, 1)) one_to_seven)
-    (both_lists IsItem (flat_map repeated free_seats) (map (λ n. pair_item (Co n, 1)) one_to_seven) (free_items free_seats nine_seats)
+    each-append IsItem (flat_map repeated free_seats ++ map (λ n. pair_item (Co n, 1)) one_to_seven) (map (λ n. pair_item (Rksh n, 1)) one_to_seven)
+    (each-append IsItem (flat_map repeated free_seats) (map (λ n. pair_item (Co n, 1)) one_to_seven) (free_items free_seats nine_seats)
     (numbered Co (λ n low high. (low, high))))
     (numbered Rksh (λ n low high. (low, high)))
   where

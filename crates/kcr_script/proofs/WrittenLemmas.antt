@@ -13,7 +13,8 @@ use Rattle.std.specs.List.{flat_map, AllByRecursion}
 use Rattle.std.proofs.lemmas.List.{replicate-append-replicate}
 use Rattle.std.proofs.lemmas.List.Concat.{flat_map-append}
 use Rattle.std.proofs.lemmas.List.Elements.{All-head, All-tail}
-use Rattle.kcr_script.proofs.SeatLemmas.{both_lists, one_item, more_items}
+use Rattle.kcr_script.proofs.SeatLemmas.{one_item, more_items}
+use Rattle.kcr_base.proofs.ListLemmas.{each-append}
 
 seat_of_kind : ℕ → Seat
 seat_of_kind n = get_or (Staff Ca ∷ Staff Iw ∷ Staff Sa ∷ Staff Ssc1 ∷ Staff Ssc2 ∷ Staff Rkos ∷ Staff Sw ∷ AnyCo ∷ AnyRksh ∷ []) n AnyCo
@@ -143,7 +144,7 @@ runs_are (s ∷ more) h = before_runs_are s (runs more) more (All-head IsSeat s 
 -- the groups of a run
 
 join_items : (xs ys : List Item) (front back : List Seat) → Are IsItem xs front → Are IsItem ys back → Are IsItem (xs ++ ys) (front ++ back)
-join_items xs ys front back p q = record { each = both_lists IsItem xs ys p.each q.each; are = flat_map-append item_seats xs ys ∙ rw (p.are, q.are) refl }
+join_items xs ys front back p q = record { each = each-append IsItem xs ys p.each q.each; are = flat_map-append item_seats xs ys ∙ rw (p.are, q.are) refl }
 
 module _ (s : Seat) (seat : IsSeat s) (again : can_repeat s ≡ true) where
   sevens_are : (q : ℕ) → Are IsItem (replicate q (pair_item (s, 7))) (replicate (q * 7) s)

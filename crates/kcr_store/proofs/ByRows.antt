@@ -1,7 +1,7 @@
 -- A command by the rows that the tables hold, and by the tables of a history.
-use Rattle.std.proofs.Common.{◌≡◌, ◌∙◌, ◌⊎◌, inl, inr, Bool, false, true, ℕ, length, List, Option, Some, None, Result, Ok, Err, IsTrue, refl, sym, ap, subst}
+use Rattle.std.proofs.Common.{◌≡◌, ◌∙◌, inl, inr, Bool, false, true, ℕ, List, Some, None, Result, Ok, Err, IsTrue, refl, sym, ap, subst}
 use Rattle.std.proofs.lemmas.Bool.{true≢false}
-use Rattle.std.specs.Prelude.{◌↔◌, ⊤, IfOk, IfErr, IsErrAnd, MatchOption, MatchResult}
+use Rattle.std.specs.Prelude.{◌↔◌, ⊤, IfOk, IsErrAnd}
 use Rattle.sqlite.specs.declared.error.Error.{Error}
 use Rattle.sqlite.specs.Effect.{Database}
 use Rattle.sqlite.specs.Held.{Held, state}
@@ -12,8 +12,6 @@ use Rattle.kcr_base.specs.declared.refusal.Refusal.TheVariants.{Broken, Disk}
 use Rattle.kcr_history.specs.AsksByKind.{asks_of}
 use Rattle.kcr_history.specs.Changes.{all_changed}
 use Rattle.kcr_history.specs.Early.{early_asks}
-use Rattle.kcr_history.specs.History.{History}
-use Rattle.kcr_history.specs.Machine.{IsDecision, IsRegister}
 use Rattle.kcr_history.specs.Tables.{Tables, tables}
 use Rattle.kcr_history.specs.Views.{IsViewOf, row_of_key}
 use Rattle.kcr_history.specs.declared.commands.Command.{Command}
@@ -22,22 +20,18 @@ use Rattle.kcr_history.specs.declared.row_types.KeyRow.{KeyRow}
 use Rattle.kcr_history.specs.declared.views.Change.{Change}
 use Rattle.kcr_history.specs.declared.views.Verdict.{Verdict}
 use Rattle.kcr_history.specs.declared.views.View.{View}
-use Rattle.kcr_history.proofs.Steps.{greatest-keys}
 use Rattle.kcr_rules.specs.ByRows.{IsCheckResult, IsCleared}
 use Rattle.kcr_machine.specs.NewDecision.{IsRowDecision}
 use Rattle.kcr_machine.specs.RowDecision.{IsRowRepeat, is_full_by}
-use Rattle.kcr_machine.proofs.Decided.{decision, refused-early, repetition}
+use Rattle.kcr_machine.proofs.Decided.{decision}
 use Rattle.kcr_tables.specs.MachineTables.{HoldsTables}
 use Rattle.kcr_tables.specs.Refusals.{IsFault}
-use Rattle.kcr_store.specs.ByRows.{DecidesBy, EndsByRows, IsDecidedBy, IsDecidedLate, IsRefusedEarly, RepliesBy, TakesStepByRows, number_by, rows_after}
+use Rattle.kcr_store.specs.ByRows.{DecidesBy, EndsByRows, IsDecidedBy, RepliesBy, TakesStepByRows, number_by, rows_after}
 use Rattle.kcr_store.specs.Calls.{RowsLead}
 use Rattle.kcr_store.specs.Register.{HasRows, RegisterState}
 use Rattle.kcr_store.specs.TransactionResult.{is_in_doubt, last_number_after, result_of}
 use Rattle.kcr_store.specs.declared.transaction.TransactionResult.{TransactionResult}
 use Rattle.kcr_store.specs.declared.transaction.TransactionResult.TheVariants.{Accepted, Refused, InDoubt}
-use Rattle.kcr_store.specs.Commands.{AppliesCommand, with_reply}
-use Rattle.kcr_store.specs.Stored.{Stores}
-use Rattle.kcr_store.proofs.StoreLemmas.{fault_steps, next_stores, steps}
 
 module _ (m : Tables) (last : ℕ) (x : Command) (after : Database) where
   pub by_fault : (e : Refusal) → IsFault e → DecidesBy m last x (Err e) after
@@ -70,42 +64,6 @@ module _ (m : Tables) (last : ℕ) (x : Command) (after : Database) where
     }
     by_late view (Err e) rows cleared told held =
         record { decided = inr (rw new (inr (record { view = view; rows = rows; cleared = cleared; told = told }))); holds = tt }
-
--- ---- over the tables of a history it is the machine's step: the clause on rows is the only one that is needed
-
--- the machine's step, or a fault
-abbrev pub IsStep : History → Command → Result Verdict Refusal → Type 0
-IsStep A x result = MatchResult result (λ v. IsDecision A x (Ok v)) (λ e. AppliesCommand A x (Err e) A)
-
-module _ (A : History) (register : IsRegister A) (last : ℕ) (number : last ≡ length A) (x : Command) where
-  refuses : (e : Refusal) → IsDecision A x (Err e) → AppliesCommand A x (Err e) A
-  refuses e step = (refl, λ memory disk. step memory)
-
-  by_key : (r : Result Verdict Refusal) (row : Option KeyRow) → row_of_key x.key (tables A).keys ≡ row
-      → (MatchOption row (IsDecidedLate (tables A) last x r) (λ it. IsRowRepeat it x r)) → IsDecision A x r
-  by_key r (Some row) there is = repetition A x row r there is
-  by_key r None there late =
-      decision A x late.view last r register there late.rows (number ∙ sym (greatest-keys A register)) late.cleared late.told
-
-  refused_by_key : (e : Refusal) (row : Option KeyRow) → row_of_key x.key (tables A).keys ≡ row
-      → MatchOption row (IsRefusedEarly (tables A) last x e ⊎ IsDecidedLate (tables A) last x (Err e)) (λ it. IsRowRepeat it x (Err e))
-      → IsDecision A x (Err e)
-  refused_by_key e (Some row) there is = repetition A x row (Err e) there is
-  refused_by_key e None there (inl early) =
-      refused-early {X = ⊤} A x early.view last (Err e) register there early.rows (number ∙ sym (greatest-keys A register)) early.told
-  refused_by_key e None there (inr late) = by_key (Err e) None there late
-
-  pub decided_step : (r : Result Verdict Refusal) → IsDecidedBy (tables A) last x r → IsStep A x r
-  decided_step (Ok v) by = by_key (Ok v) (row_of_key x.key (tables A).keys) refl by
-  decided_step (Err e) (inl fault) = fault_steps A x e fault
-  decided_step (Err e) (inr by) = refuses e (refused_by_key e (row_of_key x.key (tables A).keys) refl by)
-
-  -- and the database then holds the tables of the history after it
-  pub decided_stores : (old new : Database) → Stores A old → (v : Verdict) → DecidesBy (tables A) last x (Ok v) new
-      → AppliesCommand A x (Ok v.reply) (with_reply A x v.new_reply) × Stores (with_reply A x v.new_reply) new
-  decided_stores old new was v by =
-      let step : IsDecision A x (Ok v) = decided_step (Ok v) by.decided in
-      (steps A x v v.new_reply step, next_stores A x v v.new_reply old new was step by.holds)
 
 -- ---- a command as one transaction
 

@@ -16,8 +16,7 @@ use Rattle.kcr_rows.proofs.InsideLemmas.{was_clean, survives_on}
 use Rattle.kcr_rows.specs.Frame.{state_in, StaysInTransaction}
 use Rattle.kcr_rows.proofs.FrameLemmas.{clean_before}
 use Rattle.kcr_store.specs.Commands.{AppliesCommand, IsSameOrNext, TakesStep, with_reply, number_after}
-use Rattle.kcr_store.specs.TransactionResult.{EndsCommand, result_of}
-use Rattle.kcr_store.specs.declared.transaction.TransactionResult.{TransactionResult}
+use Rattle.kcr_store.specs.TransactionResult.{EndsCommand}
 use Rattle.kcr_store.specs.declared.transaction.TransactionResult.TheVariants.{Accepted, Refused, InDoubt}
 use Rattle.kcr_history.specs.declared.views.Verdict.{Verdict}
 use Rattle.kcr_store.proofs.RowLemmas.{begins_with, rows_undone}
@@ -32,7 +31,7 @@ use Rattle.std.proofs.lemmas.Bool.{true≢false}
 use Rattle.std.proofs.lemmas.Option.{none-some}
 use Rattle.std.specs.Prelude.{◌↔◌, ◌≢◌, IsSome, is_some, unwrap_or}
 use Rattle.kcr_base.specs.declared.refusal.Refusal.{Refusal}
-use Rattle.kcr_base.specs.declared.refusal.Refusal.TheVariants.{Broken, Disk}
+use Rattle.kcr_base.specs.declared.refusal.Refusal.TheVariants.{Disk}
 use Rattle.kcr_history.specs.declared.commands.Reply.{Reply}
 use Rattle.kcr_store.specs.Calls.{CommitsNothing, Leads, OfRows, ReadsHistory, ReadsWithoutBreaking, BreaksOnFault, after_fault, left_at}
 use Rattle.kcr_store.specs.Frame.{OfRowsOver, OnlyReads, StaysOutside}
@@ -337,18 +336,6 @@ module _ {S : Type 0} (g : Ghosts S) (old new : RegisterState S) (x : Command) (
         takes s (whole e.next) (Ok v.reply) (none_in_doubt is at) e.step (λ some. absurd (true≢false (sym some)), λ ok. absurd (let p = ok in cc)) e.candidate,
       )
 
-  pub refused_leads : (e : Refusal) → e ≢ Disk → new.is_broken ≡ false → new.last_number ≡ old.last_number
-      → (HasCleanDisk (state g new.conn) → (A : History) → IsDurableWith old.last_number A (state g old.conn)
-      → EndsCommand old.last_number A x (Refused e) (state g new.conn))
-      → Leads g old new (λ s after. TakesStep s x (Err e) after)
-  refused_leads refusal other still number ends clean s at =
-      let e = ends clean s.accepted (counted_at is at) in (
-        whole s.accepted,
-        stands_whole still (subst (λ n. IsDurableWith n s.accepted (state g new.conn)) (sym number) (e.shows refl)),
-        takes s (whole s.accepted) (Err refusal) (none_in_doubt is at) e.step
-            (λ some. absurd (true≢false (sym some)), λ same. absurd (other (let p = same in cc))) (inl refl),
-      )
-
   pub failed_leads : IsTrue new.is_broken
       → (HasCleanDisk (state g new.conn) → (A : History) → IsDurableWith old.last_number A (state g old.conn)
       → EndsCommand old.last_number A x (Refused Disk) (state g new.conn))
@@ -370,21 +357,6 @@ module _ {S : Type 0} (g : Ghosts S) (old new : RegisterState S) (x : Command) (
         stands_broken broken e.crash,
         takes s (record { accepted = s.accepted; in_doubt = Some e.next }) (Err Disk) (none_in_doubt is at) e.step (λ _. refl, λ _. refl) e.candidate,
       )
-
--- a broken register stays as it was
-pub broken_leads : {S : Type 0} (g : Ghosts S) (old : RegisterState S) (x : Command) → IsTrue old.is_broken
-    → Leads g old old (λ s after. TakesStep s x (Err Broken) after)
-broken_leads g old x is clean s at =
-    let some : IsSome s.in_doubt = sym at.broken ∙ is in (
-      s,
-      at,
-      record {
-        broken = λ _. (refl, refl);
-        step = λ none. absurd (none_some none some);
-        breaks = λ none. absurd (none_some none some);
-        tried = λ none. absurd (none_some none some);
-      },
-    )
 
 -- ---- a call that only reads
 

@@ -1,6 +1,6 @@
 -- What lists have.
 use Rattle.std.proofs.Common.{◌≡◌, ◌⊎◌, inl, inr, Bool, true, false, cond, ℕ, List, [], ◌∷◌, ◌++◌, filter, find, map, Option, Some, None, refl, sym, ap, ◌∙◌}
-use Rattle.std.proofs.Common.{true≢false, Ordering, Less, Equal, Greater}
+use Rattle.std.proofs.Common.{true≢false, Ordering, Less, Equal}
 use Rattle.std.specs.Ordering.{is_eq}
 use Rattle.std.proofs.lemmas.Cmp.{tied_back}
 use Rattle.sqlite.specs.Order.{Row}
@@ -8,6 +8,7 @@ use Rattle.sqlite.specs.Tree.{IsAscending}
 use Rattle.sqlite_rules.specs.Lists.{Has}
 use Rattle.sqlite_rules.proofs.ListLemmas.{all_has}
 use Rattle.kcr_base.specs.Rows.{IsIn}
+use Rattle.kcr_rows.proofs.OverLemmas.{tie_is}
 use Rattle.kcr_rows.specs.Keyed.{by_key}
 use Rattle.kcr_rows.proofs.SameLemmas.{key_total}
 use Rattle.kcr_rows.proofs.OrderLemmas.{from_map}
@@ -67,12 +68,6 @@ one_key cmp back (r ∷ rows) up x y (inl h) (inr k) tie = absurd (let lower = a
 one_key cmp back (r ∷ rows) up x y (inr h) (inl k) tie = absurd (let lower = all_has _ rows x up.0 h in let same = back x r (rw k at tie) in cc)
 one_key cmp back (r ∷ rows) up x y (inr h) (inr k) tie = one_key cmp back rows up.1 x y h k tie
 
--- an ordering that the test of equality accepts is `Equal`
-pub equal_is : (o : Ordering) → is_eq o ≡ true → o ≡ Equal
-equal_is Less h = absurd (cc)
-equal_is Equal h = refl
-equal_is Greater h = absurd (cc)
-
 -- an element of two lists together is in the first or in the second
 pub has_append : {X : Type 0} (xs ys : List X) (x : X) → Has (xs ++ ys) x → Has xs x ⊎ Has ys x
 has_append [] ys x h = inr h
@@ -126,4 +121,4 @@ pub one_key_of : {X : Type 0} (keys : ℕ) (row_of : X → Row) (xs : List X) �
     → Has xs y → is_eq (by_key keys (row_of x) (row_of y)) ≡ true → x ≡ y
 one_key_of keys row_of xs up x y h k tie =
     one_key (λ a b. by_key keys (row_of a) (row_of b)) (λ a b t. tied_back (key_total keys) (row_of a) (row_of b) t) xs
-    (from_map (λ a b. by_key keys a b ≡ Less) row_of xs up) x y h k (equal_is _ tie)
+    (from_map (λ a b. by_key keys a b ≡ Less) row_of xs up) x y h k (tie_is _ tie)

@@ -45,81 +45,81 @@ use Rattle.kcr_verify.specs.Verification.{AreValues}
 
 -- NO QUOTE IS IN INITIALS
 
-abbrev Bare : List ℕ → Type 0
-Bare text = Lacks 34 text
+abbrev HasNoQuote : List ℕ → Type 0
+HasNoQuote text = Lacks 34 text
 
-bare : (text : List ℕ) → IsInitials text → Bare text
-bare text is = lacks-below 34 65 text (omega arith) (All-weaker IsCapital (λ b. 65 ≤ b) (λ b h. h.0) text is.capitals)
+no_quote : (text : List ℕ) → IsInitials text → HasNoQuote text
+no_quote text is = lacks-below 34 65 text (omega arith) (All-weaker IsCapital (λ b. 65 ≤ b) (λ b h. h.0) text is.capitals)
 
-abbrev IsBareRow : SheetRow → Type 0
-IsBareRow row = Bare row.who
+abbrev RowHasNoQuote : SheetRow → Type 0
+RowHasNoQuote row = HasNoQuote row.who
 
-rows_bare : (act : Act) (rows : List SheetRow) → IsAct act → All IsBareRow rows → All IsBareRow (sheet_after act rows)
-rows_bare (Ceremony c at (RecordSheet way people)) rows is h =
-    All-append IsBareRow rows (map (new_row c way at) people) h
-    (All-map IsBareRow (new_row c way at) people (All-weaker IsInitials Bare bare people is.1.each))
-rows_bare act rows is h = h
+rows_no_quote : (act : Act) (rows : List SheetRow) → IsAct act → All RowHasNoQuote rows → All RowHasNoQuote (sheet_after act rows)
+rows_no_quote (Ceremony c at (RecordSheet way people)) rows is h =
+    All-append RowHasNoQuote rows (map (new_row c way at) people) h
+    (All-map RowHasNoQuote (new_row c way at) people (All-weaker IsInitials HasNoQuote no_quote people is.1.each))
+rows_no_quote act rows is h = h
 
-sheet_bare : (A : History) → AreValues A → All IsBareRow (sheet A)
-sheet_bare [] v = All-nil IsBareRow
-sheet_bare (entry ∷ A) v = rows_bare entry.command.act (sheet A) v.0 (sheet_bare A v.1)
+sheet_no_quote : (A : History) → AreValues A → All RowHasNoQuote (sheet A)
+sheet_no_quote [] v = All-nil RowHasNoQuote
+sheet_no_quote (entry ∷ A) v = rows_no_quote entry.command.act (sheet A) v.0 (sheet_no_quote A v.1)
 
 -- nobody else has a row
-none_or_bare : (rows : List SheetRow) (who : List ℕ) (t : ℕ) → All IsBareRow rows → (filter (is_of who t) rows ≡ []) ⊎ Bare who
-none_or_bare [] who t h = inl refl
-none_or_bare (row ∷ rows) who t h = elim (cases_Bool (same_text row.who who)) [
-  | inl e ↦ inr (subst Bare (same-is row.who who e) (All-head IsBareRow row rows h))
-  | inr e ↦ elim (none_or_bare rows who t (All-tail IsBareRow row rows h)) [
+none_or_no_quote : (rows : List SheetRow) (who : List ℕ) (t : ℕ) → All RowHasNoQuote rows → (filter (is_of who t) rows ≡ []) ⊎ HasNoQuote who
+none_or_no_quote [] who t h = inl refl
+none_or_no_quote (row ∷ rows) who t h = elim (cases_Bool (same_text row.who who)) [
+  | inl e ↦ inr (subst HasNoQuote (same-is row.who who e) (All-head RowHasNoQuote row rows h))
+  | inr e ↦ elim (none_or_no_quote rows who t (All-tail RowHasNoQuote row rows h)) [
     | inl n ↦ inl (grind (arith, e, n))
     | inr b ↦ inr b
   ]
 ]
 
-in_bare : (A : History) → AreValues A → (who : List ℕ) (c t : ℕ) → is_in A who c t ≡ true → Bare who
-in_bare A v who c t h = elim (none_or_bare (sheet A) who t (sheet_bare A v)) [
+in_no_quote : (A : History) → AreValues A → (who : List ℕ) (c t : ℕ) → is_in A who c t ≡ true → HasNoQuote who
+in_no_quote A v who c t h = elim (none_or_no_quote (sheet A) who t (sheet_no_quote A v)) [
   | inl n ↦ absurd (let z : last_enters c (last_row []) ≡ true = rw n at h in false≢true z)
   | inr b ↦ b
 ]
 
 -- so it is with people who fill seats, who are as many as the seats
-seated_bare : (A : History) → AreValues A → (c t : ℕ) (ss : List Seat) (people : List (List ℕ)) → is_seating A c t ss people ≡ true
-    → All Bare people × (length people ≡ length ss)
-seated_bare A v c t [] [] h = (All-nil Bare, refl)
-seated_bare A v c t [] (who ∷ people) h = absurd (false≢true h)
-seated_bare A v c t (seat ∷ ss) [] h = absurd (false≢true h)
-seated_bare A v c t (seat ∷ ss) (who ∷ people) h =
-    let rest = seated_bare A v c t ss people (rest_seated A c t seat ss who people h) in
+seated_no_quote : (A : History) → AreValues A → (c t : ℕ) (ss : List Seat) (people : List (List ℕ)) → is_seating A c t ss people ≡ true
+    → All HasNoQuote people × (length people ≡ length ss)
+seated_no_quote A v c t [] [] h = (All-nil HasNoQuote, refl)
+seated_no_quote A v c t [] (who ∷ people) h = absurd (false≢true h)
+seated_no_quote A v c t (seat ∷ ss) [] h = absurd (false≢true h)
+seated_no_quote A v c t (seat ∷ ss) (who ∷ people) h =
+    let rest = seated_no_quote A v c t ss people (rest_seated A c t seat ss who people h) in
     let here : is_in A who c t ≡ true = grind arith in
-    (All-cons Bare who people (in_bare A v who c t here) rest.0, ap suc rest.1)
+    (All-cons HasNoQuote who people (in_no_quote A v who c t here) rest.0, ap suc rest.1)
 
 -- THE TEXT OF AN ANSWER TELLS WHO IS SEATED
 
 -- if two texts without a quote end is told by the quote behind each
-parted : (x y r s : List ℕ) → Bare x → Bare y → x ++ 34 ∷ r ≡ y ++ 34 ∷ s → (x ≡ y) × (r ≡ s)
+parted : (x y r s : List ℕ) → HasNoQuote x → HasNoQuote y → x ++ 34 ∷ r ≡ y ++ 34 ∷ s → (x ≡ y) × (r ≡ s)
 parted x y r s a b e =
     let both : Some (x, r) ≡ Some (y, s) = sym (cut-again 34 x r a) ∙ ap (split_at_byte 34) e ∙ cut-again 34 y s b in
     let pair : (x, r) ≡ (y, s) = cc in
     (ap (λ (z : List ℕ × List ℕ). z.0) pair, ap (λ (z : List ℕ × List ℕ). z.1) pair)
 
-quoted_parted : (x y r s : List ℕ) → Bare x → Bare y → quoted x ++ r ≡ quoted y ++ s → (x ≡ y) × (r ≡ s)
+quoted_parted : (x y r s : List ℕ) → HasNoQuote x → HasNoQuote y → quoted x ++ r ≡ quoted y ++ s → (x ≡ y) × (r ≡ s)
 quoted_parted x y r s a b e =
     let behind : (x ++ codes "\"") ++ r ≡ (y ++ codes "\"") ++ s = append_cancel_left (codes "\"") _ _ e in
     parted x y r s a b (sym (append_assoc x (codes "\"") r) ∙ behind ∙ append_assoc y (codes "\"") s)
 
-people_told : (p q : List (List ℕ)) → length p ≡ length q → All Bare p → All Bare q
+people_told : (p q : List (List ℕ)) → length p ≡ length q → All HasNoQuote p → All HasNoQuote q
     → join_with_byte 44 (map quoted p) ≡ join_with_byte 44 (map quoted q) → p ≡ q
 people_told [] [] l a b e = refl
 people_told [] (y ∷ ys) l a b e = absurd (omega (arith, l))
 people_told (x ∷ xs) [] l a b e = absurd (omega (arith, l))
 people_told (x ∷ []) (y ∷ []) l a b e =
     let ends : quoted x ++ [] ≡ quoted y ++ [] = ap (λ t. t ++ []) e in
-    ap (λ z. z ∷ []) (quoted_parted x y [] [] (All-head Bare x [] a) (All-head Bare y [] b) ends).0
+    ap (λ z. z ∷ []) (quoted_parted x y [] [] (All-head HasNoQuote x [] a) (All-head HasNoQuote y [] b) ends).0
 people_told (x ∷ []) (y ∷ z ∷ zs) l a b e = absurd (omega (arith, l))
 people_told (x ∷ w ∷ ws) (y ∷ []) l a b e = absurd (omega (arith, l))
 people_told (x ∷ w ∷ ws) (y ∷ z ∷ zs) l a b e =
     let first = quoted_parted x y (44 ∷ join_with_byte 44 (map quoted (w ∷ ws))) (44 ∷ join_with_byte 44 (map quoted (z ∷ zs)))
-    (All-head Bare x (w ∷ ws) a) (All-head Bare y (z ∷ zs) b) e in
-    let rest = people_told (w ∷ ws) (z ∷ zs) (omega (arith, l)) (All-tail Bare x (w ∷ ws) a) (All-tail Bare y (z ∷ zs) b)
+    (All-head HasNoQuote x (w ∷ ws) a) (All-head HasNoQuote y (z ∷ zs) b) e in
+    let rest = people_told (w ∷ ws) (z ∷ zs) (omega (arith, l)) (All-tail HasNoQuote x (w ∷ ws) a) (All-tail HasNoQuote y (z ∷ zs) b)
     (append_cancel_left (44 ∷ []) _ _ first.1) in
     λ i. first.0 i ∷ rest i
 
@@ -135,7 +135,7 @@ module _ (n : ℕ) (exception step : Option ℕ) where
   abbrev pub seated : List (List ℕ) → ReplyData
   seated people = record { accepted = n; exception = exception; seating = Some people; step = step }
 
-  seating_told : (p q : List (List ℕ)) → length p ≡ length q → All Bare p → All Bare q → reply_text (seated p) ≡ reply_text (seated q) → p ≡ q
+  seating_told : (p q : List (List ℕ)) → length p ≡ length q → All HasNoQuote p → All HasNoQuote q → reply_text (seated p) ≡ reply_text (seated q) → p ≡ q
   seating_told p q l a b e =
       let before = member (codes "accepted") (decimal n) ∷ member_if (codes "exception") (option_map decimal exception) in
       let after = member_if (codes "step") (option_map decimal step) in
@@ -168,8 +168,8 @@ module _ (A : History) (v : AreValues A) (s : SeatRequest) (n : ℕ) (exception 
     | inl e ↦ let same : with p ≡ with q = ap with (people-are p q e) in inl (is ∙ same, to ∙ ap (with_command A x) same)
     | inr e ↦
         let apart : p ≢ q = λ k. false≢true (sym e ∙ ap (same_people p) (sym k) ∙ (lists_equiv nat_list_eq_equiv).refl p) in
-        let ps = seated_bare A v s.ceremony s.at s.seats p p_fill in
-        let qs = seated_bare A v s.ceremony s.at s.seats q q_fill in
+        let ps = seated_no_quote A v s.ceremony s.at s.seats p p_fill in
+        let qs = seated_no_quote A v s.ceremony s.at s.seats q q_fill in
         inr (
           λ t. apart (seating_told n exception step p q (ps.1 ∙ sym qs.1) ps.0 qs.0 (ap reply_text (sym is) ∙ t)),
           λ first. apart (let both : with p ≡ with q = sym is ∙ fixed first in let some : Some p ≡ Some q = ap (λ (a : ReplyData). a.seating) both in cc),

@@ -163,8 +163,8 @@ record IsPathTo (path : List ℕ) (p : Post) : Type 0 where
 path-small : {most : ℕ} (path : List ℕ) → IsPath most path → All (λ b. b < 256) path
 path-small path is = All-weaker IsPathByte (λ b. b < 256) (λ b h. omega (arith, path-below b h)) path is.bytes
 
-number : (n : ℕ) → IsNumber 9999 n → IsWord (decimal n)
-number n is = number-word 9999 n (omega arith) is
+ceremony-word : (n : ℕ) → IsNumber MAX_CEREMONY n → IsWord (decimal n)
+ceremony-word n is = number-word MAX_CEREMONY n (omega arith) is
 
 -- no part in braces
 collection : (path : List ℕ) → IsPath 20 path → (kind : CollectionPath) → CollectionIn path kind → IsPathTo path (post.Collection kind)
@@ -206,10 +206,10 @@ place-path place is kind =
 in_ceremonies : IsPath 20 (codes "/ceremonies/")
 in_ceremonies = words (codes "/ceremonies/") refl
 
-module _ (n : ℕ) (is : IsNumber 9999 n) where
+module _ (n : ℕ) (is : IsNumber MAX_CEREMONY n) where
   ceremony : (kind : CeremonyPath) (back : List ℕ) → IsPath 20 back → CeremonyIn back kind → IsPathTo (at_ceremony n back) (post.Ceremony n kind)
   ceremony kind =
-      one-path (codes "/ceremonies/") (codes "ceremony") in_ceremonies ceremony_of (decimal n) n (number n is) (ceremonies.again n is)
+      one-path (codes "/ceremonies/") (codes "ceremony") in_ceremonies ceremony_of (decimal n) n (ceremony-word n is) (ceremonies.again n is)
       (λ n. post.Ceremony n kind) (route.Ceremony kind) (λ w. refl)
 
   -- two parts in braces, the first of them a ceremony
@@ -230,14 +230,14 @@ module _ (n : ℕ) (is : IsNumber 9999 n) where
         let form : at_ceremony n (middle ++ w ++ codes "/" ++ back) ≡ path =
         ap (at_ceremony n) (piece middle w back) ∙ piece (codes "/ceremonies/") (decimal n) (middle ++ (w ++ 47 ∷ back)) in
         record {
-          is = wider (omega arith) (with-word (codes "/ceremonies/") (decimal n) (middle ++ w ++ codes "/" ++ back) in_ceremonies (number n is)
+          is = wider (omega arith) (with-word (codes "/ceremonies/") (decimal n) (middle ++ w ++ codes "/" ++ back) in_ceremonies (ceremony-word n is)
               (with-word middle w back middle_is word back_is));
           asks = subst (λ path. target_at path ≡ Some (target.Post (make n v))) (sym form)
               (by-route path r pattern names (target.Post (make n v)) (first table path)
-              (pieces-route sight (codes "/ceremonies/") middle back table (r, (pattern, names)) is_in (decimal n) w (word-piece (decimal n) (number n is)) (word-piece w word))
+              (pieces-route sight (codes "/ceremonies/") middle back table (r, (pattern, names)) is_in (decimal n) w (word-piece (decimal n) (ceremony-word n is)) (word-piece w word))
               (λ text places named.
               ap (endpoint_of r) (two-taken (codes "/ceremonies/") (decimal n) (path-small (codes "/ceremonies/") in_ceremonies)
-              (word-slash (decimal n) (number n is).bytes) (omega arith) middle small text (codes "ceremony") name back w back (word-slash w word.bytes) places named) ∙ both));
+              (word-slash (decimal n) (ceremony-word n is).bytes) (omega arith) middle small text (codes "ceremony") name back w back (word-slash w word.bytes) places named) ∙ both));
         }
 
     last-path : IsPath 100 (middle ++ w) → LastIn middle w name r → IsPathTo (at_ceremony n (middle ++ w)) (make n v)
@@ -246,13 +246,13 @@ module _ (n : ℕ) (is : IsNumber 9999 n) where
         let pattern = codes "/ceremonies/" ++ 256 ∷ 47 ∷ (middle ++ 256 ∷ []) in
         let names = codes "ceremony" ∷ name ∷ [] in
         record {
-          is = wider (omega arith) (with-word (codes "/ceremonies/") (decimal n) (middle ++ w) in_ceremonies (number n is) last_is);
+          is = wider (omega arith) (with-word (codes "/ceremonies/") (decimal n) (middle ++ w) in_ceremonies (ceremony-word n is) last_is);
           asks = subst (λ path. target_at path ≡ Some (target.Post (make n v))) (sym (piece (codes "/ceremonies/") (decimal n) (middle ++ w)))
               (by-route path r pattern names (target.Post (make n v)) (first table path)
-              (tail-route sight (codes "/ceremonies/") (middle ++ w) table (r, (pattern, names)) is_in (decimal n) (word-piece (decimal n) (number n is)))
+              (tail-route sight (codes "/ceremonies/") (middle ++ w) table (r, (pattern, names)) is_in (decimal n) (word-piece (decimal n) (ceremony-word n is)))
               (λ text places named.
               ap (endpoint_of r) (last-taken (codes "/ceremonies/") (decimal n) (path-small (codes "/ceremonies/") in_ceremonies)
-              (word-slash (decimal n) (number n is).bytes) (omega arith) middle small text (codes "ceremony") name w places named) ∙ both));
+              (word-slash (decimal n) (ceremony-word n is).bytes) (omega arith) middle small text (codes "ceremony") name w places named) ∙ both));
         }
 
   bag : (serial : List ℕ) → IsSerial serial → (kind : BagPath) (back : List ℕ) → IsPath 20 back → BagIn back kind → IsPathTo (at_bag n serial back) (post.Bag n serial kind)
@@ -260,10 +260,10 @@ module _ (n : ℕ) (is : IsNumber 9999 n) where
       two-path (codes "bags/") (codes "serial") (words (codes "bags/") refl) serial_of serial serial (serial-word serial is_serial) (serials.again serial is_serial)
       (λ n serial. post.Bag n serial kind) (route.Bag kind) (λ n w. refl)
 
-  step : (k : ℕ) → IsNumber 400 k → IsPathTo (at_step n k) (post.Signature n k)
+  step : (k : ℕ) → IsNumber MAX_STEPS k → IsPathTo (at_step n k) (post.Signature n k)
   step k is_step =
       subst (λ rest. IsPathTo (at_ceremony n rest) (post.Signature n k)) (append_assoc (codes "steps/" ++ decimal k) (codes "/") (codes "signature"))
-      (two-path (codes "steps/") (codes "step") (words (codes "steps/") refl) step_of (decimal k) k (number-word 400 k (omega arith) is_step) (steps.again k is_step)
+      (two-path (codes "steps/") (codes "step") (words (codes "steps/") refl) step_of (decimal k) k (number-word MAX_STEPS k (omega arith) is_step) (steps.again k is_step)
       post.Signature route.Signature (λ n w. refl) (codes "signature") (words (codes "signature") refl) step-in)
 
   safe-path : (safe : SafeNumber) → IsWord (safe_text safe) → IsPath 20 (codes "safes/" ++ safe_text safe) → IsPathTo (at_safe n safe) (post.Safe n safe)
