@@ -20,14 +20,14 @@ import sys
 
 sys.dont_write_bytecode = True  # no files beside these
 
-from statement_contracts import Contract, contracts_in
+from statement_contracts import Contract
 from statement_list import CONTRACTS, EXAMPLES
-from statement_names import Library, Reach, acts_named, cited, contract_names, used_by_tactics
+from statement_names import Library, Names, Reach, acts_named, cited, contract_names, in_laws, lemmas, used_by_tactics
 from statement_read import Stop
 from statement_write import missing, page, shown, unused
 
 PAGE = "docs/STATEMENT.md"
-HOMES = tuple("/".join(path.split("/")[:2]) + "/" for path, _ in EXAMPLES)  # the crates with worked examples
+HOMES = tuple("/".join(path.split("/")[:2]) + "/" for path in EXAMPLES)  # the crates with worked examples
 LONG = 12  # lines
 
 
@@ -66,21 +66,14 @@ def arguments():
 def examples_of(library):
     """For each item the example that leads to it by the fewest names, the first of several."""
     nearest = {}
-    for contract in example_contracts(library):
-        acts = acts_named(library, contract, HOMES)
-        for key, distance in Reach(library, contract_names(library, contract), acts).distance.items():
-            if key not in nearest or distance < nearest[key][0]:
-                nearest[key] = (distance, contract.root)
+    for path in EXAMPLES:
+        for source, name, text in lemmas(library, path):
+            acts = acts_named(library, source, text, HOMES)
+            named = Names(library, source).of_piece(text)
+            for key, distance in Reach(library, named, acts).distance.items():
+                if key not in nearest or distance < nearest[key][0]:
+                    nearest[key] = (distance, f"{path.split('/')[-1].removesuffix('.antt')}::{name}")
     return {key: name for key, (_, name) in nearest.items()}
-
-
-def example_contracts(library):
-    for folder, prefix in EXAMPLES:
-        for path in sorted(path for path in library.sources if path.startswith(folder)):
-            for contract in contracts_in(library.source(path)):
-                if contract.root.startswith(prefix):
-                    contract.root = f"{path.split('/')[-1].removesuffix('.rt')}::{contract.root}"
-                    yield contract
 
 
 def write(text, reach, left, not_needed):
@@ -113,9 +106,9 @@ def unreached(library, reach):
 
 
 def unreached_by_use(library, reach):
-    """Those to which clauses of other functions lead, those of tactics, and those that serve proofs alone."""
+    """Those to which laws, examples and clauses of other functions lead, those of tactics, and those that serve proofs alone."""
     left, groups = unreached(library, reach), []
-    for named in (cited(library), used_by_tactics(library)):
+    for named in (cited(library) + in_laws(library, EXAMPLES), used_by_tactics(library)):
         there = Reach(library, named).items
         groups.append([item for item in left if item.key() in there])
         left = [item for item in left if item.key() not in there]
@@ -124,7 +117,7 @@ def unreached_by_use(library, reach):
 
 def list_unreached(library, reach):
     by_clauses, by_tactics, by_proofs = unreached_by_use(library, reach)
-    list_items("definitions that clauses of other functions lead to", by_clauses)
+    list_items("definitions that laws, examples and clauses of other functions lead to", by_clauses)
     list_items("definitions that are laws for the tactics of functions, or named by these", by_tactics)
     list_items("definitions that only proofs name, or nothing", by_proofs)
     return 0

@@ -58,8 +58,3 @@ class Contract:
 def block_imports(text, at):
     """What the `impl` block around a place imports for its clauses."""
     return ghost_imports(text[max(found.start() for found in re.finditer(r"^impl\b", text[:at], re.M)):at])
-
-
-def contracts_in(source):
-    """The contracts of all public functions of a file."""
-    return [Contract(source, name) for name in re.findall(r"^pub fn (\w+)", source.text, re.M)]

@@ -18,10 +18,12 @@ CONTRACTS = [
 # has: it leads to all that decides a command by rows, which the theorem does not need.
 LEFT_OUT = [("kcr_desk::serve", "by_rows")]
 
-# The worked examples: a file or a folder, and how the names of its functions begin that are examples.
+# The worked examples: the files whose public lemmas they are.
 EXAMPLES = [
-    ("crates/kcr_script/src/laws.rt", "worked_"),
-    ("crates/kcr_worked/src/", ""),
+    "crates/kcr_script/proofs/Examples.antt",
+    "crates/kcr_worked/proofs/Commands.antt",
+    "crates/kcr_worked/proofs/Registers.antt",
+    "crates/kcr_worked/proofs/Shown.antt",
 ]
 
 # What shows the definitions of a file to which no example leads: cases of `tests/cases`, `words/` and one of
@@ -287,8 +289,8 @@ KIT_ABOUT = (
 )
 
 EXAMPLES_ABOUT = (
-    "Examples are functions that do nothing, in `kcr_script` and `kcr_worked`: the prover computes the definitions "
-    "that their contracts name, and the answers stand there in words of their own. They lead to {shown} of the "
+    "Examples are lemmas, in `kcr_script` and `kcr_worked`: the prover computes the definitions that they name, and the "
+    "answers stand there in words of their own. They lead to {shown} of the "
     "definitions with a value. Each of these stands behind the example that leads to its name by the fewest names "
     "between. Cases for a kind of command are followed only if the example has such a command. The names do not "
     "show which of its other cases a definition takes. The other {none} are shown by cases of `tests/cases` and by "

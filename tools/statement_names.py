@@ -240,13 +240,12 @@ class Names:
         return [x for x in found if x and x is not item and not isinstance(x, tuple)]
 
 
-def acts_named(library, contract, homes):
-    """The kinds of act that a contract names, with the definitions of some crates that it names."""
-    names = Names(library, contract.source, contract.imports)
-    texts = [(names, "\n".join(clause.text for clause in contract.clauses))]
+def acts_named(library, source, text, homes):
+    """The kinds of act that a lemma names, with the definitions of some crates that it names."""
+    names = Names(library, source)
+    texts = [(names, text)]
     texts += [(Names(library, library.sources[item.path]), item.text())
-              for item in Reach(library, contract_names(library, contract), set()).items.values()
-              if item.path.startswith(homes)]
+              for item in Reach(library, names.of_piece(text), set()).items.values() if item.path.startswith(homes)]
     return {names.act(word) for names, text in texts for word in words_of(text)} - {None}
 
 
@@ -300,6 +299,31 @@ def cited(library):
                 names = Names(library, source, imports)
                 found += [names.meaning(*word) for word in words if imports.keys() & {word[0], f"◌{word[0]}◌"}]
     return [each for each in found if each]
+
+
+def lemmas(library, path):
+    """The public lemmas of a file in `proofs/`, also those that it hands on: each with its file, its name and its
+    statement."""
+    source = library.sources.get(path) or library.read(path, read_antt)
+    items = [(source, item) for item in source.items.values() if item.lines[0].startswith("pub ")]
+    for _, module, name in source.exports:
+        there = library.file_of(module)
+        items.append((there, there.items[name]))
+    for there, item in items:
+        proof = [n for n, line in enumerate(item.lines) if n and line.startswith(item.name)]
+        yield there, item.name, " ".join(item.lines[:proof[0] if proof else None]).split(" : ", 1)[1]
+
+
+def in_laws(library, examples):
+    """What laws and examples name: the lemmas in `proofs/Laws.antt`, those that docs/PROVED.md names, and the examples."""
+    wanted = {path: None for path in [*sorted(glob.glob("crates/*/proofs/Laws.antt")), *examples]}
+    with open("docs/PROVED.md", encoding="utf-8") as file:
+        for crate, module, names in re.findall(r"`(kcr_\w+)/proofs/(\w+)`: ((?:`[\w-]+`(?:, )?)+)", file.read()):
+            named = wanted.setdefault(f"crates/{crate}/proofs/{module}.antt", set())
+            if named is not None:
+                named.update(re.findall(r"[\w-]+", names))
+    return [found for path, names in wanted.items() for source, name, text in lemmas(library, path)
+            if names is None or name in names for found in Names(library, source).of_piece(text)]
 
 
 def used_by_tactics(library):

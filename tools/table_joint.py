@@ -42,6 +42,7 @@ Makes at table =
     × (next_tree (schema_prefix at) ≡ table.tree)
     × (lacks_sequence (schema_prefix (at + 1)) ≡ false)
 
+-- whatever table the text defines, the schema with it is the next one
 pub defines : (at : ℕ) (table : Table) → Makes at table → (found : Table) → table_defined_by (text_at at) ≡ Ok found → created (schema_prefix at) found ≡ schema_prefix (at + 1)
 defines at table makes found h =
     let both : Ok found ≡ Ok (record table {{ tree = 0 }}) = sym h ∙ makes.3 in
@@ -62,6 +63,7 @@ makes_{t.name} = {MADE}
 abbrev pub Next : ℕ → State → State → Type 0
 Next at old new = (new.now.schema ≡ schema_prefix (at + 1)) × AreEmpty (take (at + 1) all_tables) new.now.trees × IsSound (schema_prefix (at + 1)) new.now.trees
 
+-- a text that is executed in its turn leaves the next schema, and all its tables empty
 pub create_next : (at : ℕ) → at < {n} → (old new : State) (count : ℕ) → old.now.schema ≡ schema_prefix at → AreEmpty (take at all_tables) old.now.trees → Executes (text_at at) [] old new (Ok count) → Next at old new
 unfolding understood everything
 """
@@ -88,6 +90,7 @@ use Rattle.kcr_tables.specs.NewTables.{{empty_tables}}
 use Rattle.kcr_tables.specs.Schema.{{all_tables}}
 use Rattle.kcr_tables.specs.Creation.{{schema_prefix}}
 
+-- a database with the schema of a register and no entries holds no rows
 pub holds_nothing : (db : Database) → db.schema ≡ schema_prefix {n} → AreEmpty all_tables db.trees → IsSound (schema_prefix {n}) db.trees → Holds db empty_tables
 holds_nothing db is empty sound =
     let {parts([t.name for t in TABLES[:9]], "others")} = empty in
@@ -162,11 +165,11 @@ use Rattle.kcr_tables.proofs.HoldLemmas.{held_of, tables_of}
 -- ---- two rows of one key, by the machine's tests
 """
     for t in puts:
-        out += f"\npub key_of_{t.name} : (new old : {t.type}) → {t.same} new old ≡ is_eq (by_key {t.keys} ({t.row_of} old) ({t.row_of} new))\nkey_of_{t.name} new old = {key_test(t)}\n"
-    out += "\n-- ---- changes\n\n-- the rows of values rise by so many keys\nabbrev pub Rise : {X : Type 0} → ℕ → (X → Row) → List X → Type 0\nRise keys row_of xs = IsAscending (λ a b. by_key keys a b ≡ Less) (map row_of xs)\n\n-- those of each table do\npub record Rises (t : machine.Tables) : Type 0 where\n"
+        out += f"\n-- the machine's test of two rows of `{t.name}` is a tie of their keys\npub key_of_{t.name} : (new old : {t.type}) → {t.same} new old ≡ is_eq (by_key {t.keys} ({t.row_of} old) ({t.row_of} new))\nkey_of_{t.name} new old = {key_test(t)}\n"
+    out += "\n-- ---- changes\n\n-- the rows of values rise by the first N columns\nabbrev pub Rise : {X : Type 0} → ℕ → (X → Row) → List X → Type 0\nRise keys row_of xs = IsAscending (λ a b. by_key keys a b ≡ Less) (map row_of xs)\n\n-- those of each table do\npub record Rises (t : machine.Tables) : Type 0 where\n"
     for t in puts:
         out += f"  pub {t.name} : Rise {t.keys} {t.row_of} t.{t.name}\n"
-    out += "\npub kept_rises : (db : Trees) (t : StoredTables) → TreesHold db t → Rises t.rows\nkept_rises db t k = search rules\n\nafter_rises : (c : Change) (t : machine.Tables) → Rises t → Rises (rows_after c t)\n"
+    out += "\n-- the rows that trees hold rise by their keys\npub kept_rises : (db : Trees) (t : StoredTables) → TreesHold db t → Rises t.rows\nkept_rises db t k = search rules\n\nafter_rises : (c : Change) (t : machine.Tables) → Rises t → Rises (rows_after c t)\n"
     for t in puts:
         out += f"after_rises ({t.change} row) t r = search (rules, put_in_rising {t.keys} {t.row_of} row t.{t.name} r.{t.name})\n"
     out += "\n-- one change: its table's rows are those of the machine, in another order\nafter_same : (c : Change) (m t : machine.Tables) → Rises t → machine.SameTables m t → machine.SameTables (changes.changed c m) (rows_after c t)\n"
@@ -183,6 +186,7 @@ all_stand (c ∷ more) m t r s =
 
 -- ---- what the store holds
 
+-- a database that holds the rows after some changes holds the tables after them
 pub changes_hold : (list : List Change) (m : machine.Tables) (old new : Database) (h : HoldsTables m old) → Holds new (changed_all list h.tables.t) → HoldsTables (changes.all_changed list m) new
 changes_hold list m old new h held =
     tables_of (changes.all_changed list m) new (changed_all list h.tables.t) (all_stand list m h.tables.t (kept_rises old.trees h.tables.t h.tables.kept) h.tables.stands) held
@@ -190,6 +194,7 @@ changes_hold list m old new h held =
 same_itself : (t : machine.Tables) → machine.SameTables t t
 same_itself t = search (rules, IsPermutation-refl)
 
+-- a database of the new tables holds those of an empty history
 pub first_holds : (db : Database) → Holds db new_tables → HoldsTables (machine.tables []) db
 first_holds db held = tables_of (machine.tables []) db new_tables (record { rows = same_itself (machine.tables []); versions = refl }) held
 
@@ -198,12 +203,15 @@ first_holds db held = tables_of (machine.tables []) db new_tables (record { rows
 of_both : {X : Type 0} {xs ys zs : List X} → IsPermutation xs ys → IsPermutation xs zs → IsPermutation ys zs
 of_both p q = IsPermutation-trans _ _ _ (IsPermutation-sym _ _ p) q
 
+-- stored rows are those of any tables with the same rows
 pub same_stands : (m n : machine.Tables) (t : StoredTables) → machine.SameTables m n → SameRows m t → SameRows n t
 same_stands m n t same s = search (rules, of_both)
 
+-- trees that hold some tables hold any with the same rows
 pub same_keeps : (m n : machine.Tables) (db : Trees) → machine.SameTables m n → TreesHoldTables m db → TreesHoldTables n db
 same_keeps m n db same h = record { t = h.t; kept = h.kept; stands = same_stands m n h.t same h.stands }
 
+-- a database that holds some tables holds any with the same rows
 pub same_holds : (m n : machine.Tables) (db : Database) → machine.SameTables m n → HoldsTables m db → HoldsTables n db
 same_holds m n db same h = record { schema = h.schema; tables = same_keeps m n db.trees same h.tables }
 """

@@ -1,6 +1,6 @@
 //! The command line of the program, as `clap` takes it, with what its help says.
 ghost use Rattle.std.specs.Prelude.{◌≡◌, codes, false, IfOk};
-ghost use Rattle.clap.specs.Words.{App, app_of, rule_of, with_rule, with_subcommand};
+ghost use Rattle.clap.specs.Words.{app_of, rule_of, with_rule, with_subcommand};
 ghost use Rattle.clap.specs.declared.builder.command.Command.TheViews.{out-Command};
 ghost use Rattle.kcr_arguments.specs.Commands.{choice_rule, file_rule, flag_rule, number_rule, text_rule, root_app};
 ghost use Rattle.kcr_arguments.specs.Commands.{of_file, of_own_file, of_ceremony, explained, serve_app, export_app};

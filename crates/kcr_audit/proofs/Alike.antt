@@ -149,8 +149,10 @@ alike (entry ∷ A) h = alike-after A entry.command.act (took A entry h.0).no_fa
 
 -- by its rows in any order the same people are in a room, and as many
 module _ (A : History) (h : IsRegister A) (shown : List SheetRow) (p : IsPermutation (reverse (sheet A)) shown) where
+  -- a person is in the room by the rows shown if and only if by the sheet
   pub shown-in : (who : List ℕ) (c t : ℕ) → in_by (sheet A) who c t ≡ in_by shown who c t
   shown-in = same-in (sheet A) shown (IsPermutation-trans (sheet A) (reverse (sheet A)) shown (IsPermutation-reverse (sheet A)) p) (alike A h)
 
+  -- by the rows shown as many people are in the room as by the sheet
   pub shown-crowd : (c t : ℕ) → headcount_by shown c t ≡ headcount_by (sheet A) c t
   shown-crowd c t = ap length (same_room shown (sheet A) c t (λ who. sym (shown-in who c t)))

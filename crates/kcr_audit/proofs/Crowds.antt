@@ -55,11 +55,13 @@ none-listed test sheet all rows numbers list found e f g h listed none c t some 
     let among = rw (f, g, h) at none in
     All-contains (λ c. (t : ℕ) → test sheet c t ≡ false) numbers c among (listed c (rw e (crowd-listed sheet c t some))) t
 
+-- if at no moment anybody is alone in a room, no finding of somebody alone is true
 pub none-lone : (view : FullView) → ((c t : ℕ) → 1 ≤ headcount_by view.sheet.items c t → is_lone view.sheet.items c t ≡ false) → (finding : Finding)
     → rank finding ≡ 4 → IsTrueOf view finding → ⊥
 none-lone view none (Findings.Lone c t) r h = true≢false (sym (eq-eqb (headcount_by view.sheet.items c t) 1 h) ∙ none c t (omega (arith, h)))
 none-lone view none other r h = omega (arith, r)
 
+-- if at no moment a room has too many people, no finding of a crowd is true
 pub none-crowd : (view : FullView) → ((c t : ℕ) → 1 ≤ headcount_by view.sheet.items c t → is_crowd view.sheet.items c t ≡ false) → (finding : Finding)
     → rank finding ≡ 5 → IsTrueOf view finding → ⊥
 none-crowd view none (Findings.Crowd c t) r h = let few = ltb-false 128 (headcount_by view.sheet.items c t) (none c t (omega (arith, h))) in omega (arith, h, few)

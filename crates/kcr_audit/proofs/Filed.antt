@@ -29,7 +29,7 @@ use Rattle.kcr_history.specs.Laws.{is_seated}
 use Rattle.kcr_history.specs.Machine.{reply_to, seat_request, IsRegister}
 use Rattle.kcr_history.specs.declared.commands.Entry.{Entry}
 use Rattle.kcr_history.proofs.Steps.{Took, took, no_ceremony}
-use Rattle.kcr_history.proofs.Piled.{filter-stacked, stacked-alone}
+use Rattle.kcr_history.proofs.Piled.{filter-pushed, pushed-alone}
 use Rattle.kcr_laws.proofs.Done.{next_signed, next-undone}
 use Rattle.std.specs.List.Sorted.{IsPermutation}
 use Rattle.std.proofs.lemmas.List.Sorted.{list_any-IsPermutation, IsPermutation-trans}
@@ -133,7 +133,7 @@ none-filed A (entry ∷ B) h c k e =
     let n = or-none (step_done c k entry.command.act entry.reply.step) (step_result B c k) e in
     let mine = filed_by entry.command.act entry.reply in
     let none : filter (is_of c k) (filed_by entry.command.act entry.reply) ≡ [] = rw n.0 at (files A B c k entry (took B entry h.0)) in
-    filter-stacked (is_of c k) mine (seatings B) ∙ ap (λ rows. pushed_onto rows (filter (is_of c k) (seatings B))) none ∙ none-filed A B h.1 c k n.1
+    filter-pushed (is_of c k) mine (seatings B) ∙ ap (λ rows. pushed_onto rows (filter (is_of c k) (seatings B))) none ∙ none-filed A B h.1 c k n.1
 
 -- the rows of a step that became so are those of people who are a seating by A, in a planned ceremony
 pub record IsFiled (A B : History) (c k : ℕ) (fate : StepState × ℕ) : Type 0 where
@@ -166,7 +166,7 @@ filed A (entry ∷ B) h s c k fate e =
 
     stack : (front back : List SeatingRow) → filter (is_of c k) mine ≡ front → filter (is_of c k) (seatings B) ≡ back
         → filter (is_of c k) (seatings (entry ∷ B)) ≡ pushed_onto front back
-    stack front back p q = filter-stacked (is_of c k) mine (seatings B) ∙ rw (p, q) refl
+    stack front back p q = filter-pushed (is_of c k) mine (seatings B) ∙ rw (p, q) refl
 
     by_done : (o : Option (StepState × ℕ)) → Files A B c k mine (IsSeated A entry.command.act entry.reply) o → option_or o (step_result B c k) ≡ Some fate
         → (step_result B c k ≡ Some fate → IsFiled A B c k fate) → IsFiled A (entry ∷ B) c k fate
@@ -194,7 +194,7 @@ rows-placed : (table shown : List SeatingRow) → IsPermutation table shown → 
 rows-placed table shown p c k people e =
     let own = seat_rows c k 0 people in
     seats-in-order c k 0 people (filter (is_of c k) shown)
-    (IsPermutation-trans own (filter (is_of c k) table) (filter (is_of c k) shown) (rw e (stacked-alone own)) (filter-order (is_of c k) table shown p))
+    (IsPermutation-trans own (filter (is_of c k) table) (filter (is_of c k) shown) (rw e (pushed-alone own)) (filter-order (is_of c k) table shown p))
 
 -- the row of a step with what became of it
 abbrev row_with : History → ℕ × ℕ → Option (StepState × ℕ) → StepRow

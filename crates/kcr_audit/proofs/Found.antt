@@ -21,6 +21,7 @@ pub record IsFound {X : Type 0} (p : X → Bool) (xs : List X) (x : X) : Type 0 
   pub passes : p x ≡ true
   pub any : (q : X → Bool) → q x ≡ true → list_any q xs ≡ true
 
+-- the row that is found passes the test and is one of the rows
 pub is-found : {X : Type 0} (p : X → Bool) (xs : List X) (x : X) → find p xs ≡ Some x → IsFound p xs x
 is-found p [] x e = absurd (let g : None ≡ Some x = e in cc)
 is-found p (y ∷ ys) x e = by_test (p y) refl e (is-found p ys x)
@@ -39,12 +40,15 @@ any-counted p (x ∷ xs) = elim (cases_Bool (p x)) [
       ap (λ b. b || list_any p xs) e ∙ any-counted p xs ∙ ap (nat_lt 0) (sym same)
 ]
 
+-- if no row passes the test, none is counted
 pub none-counted : {X : Type 0} (p : X → Bool) (xs : List X) → list_any p xs ≡ false → count_by p xs ≡ 0
 none-counted p xs h = let none = ltb-false 0 (count_by p xs) (sym (any-counted p xs) ∙ h) in omega arith
 
+-- if some row passes the test, at least one is counted
 pub some-counted : {X : Type 0} (p : X → Bool) (xs : List X) → list_any p xs ≡ true → 1 ≤ count_by p xs
 some-counted p xs h = let some = ltb-true 0 (count_by p xs) (sym (any-counted p xs) ∙ h) in omega arith
 
+-- if at least one row is counted, some row passes the test
 pub counted-any : {X : Type 0} (p : X → Bool) (xs : List X) → 1 ≤ count_by p xs → list_any p xs ≡ true
 counted-any p xs h = any-counted p xs ∙ lt-ltb 0 (count_by p xs) (omega arith)
 
@@ -79,6 +83,7 @@ sought view kind test name xs found ranked true_of any e = subst (IsFindingOfKin
 step-is_ill : (view : FullView) (row : StepRow) → is_step_wrong view row ≡ true → has_invalid_seating view row.ceremony row.step row ≡ true
 step-is_ill view row h = rw (eq-eqb row.ceremony row.ceremony refl, eq-eqb row.step row.step refl) h
 
+-- the first step that is wrong is a finding of its kind, and without one no finding of the kind is true
 pub steps : (view : FullView) (found : Option Finding)
     → found ≡ option_map (λ row. Findings.Seating row.ceremony row.step) (find (is_step_wrong view) view.view.steps.items) → IsFindingOfKind view 0 found
 steps view found e =
@@ -94,6 +99,7 @@ steps view found e =
         (and_parts (row.ceremony == c && row.step == s) (is_done row.state) p.0).1 p.1)) t
     by_kind other r t = absurd (omega (arith, r))
 
+-- the first item that is wrong is a finding of its kind, and without one no finding of the kind is true
 pub items : (view : FullView) (found : Option Finding)
     → found ≡ option_map (λ row. Findings.Custody row.code) (find (λ row. is_item_wrong view row.code) view.view.items.items) → IsFindingOfKind view 1 found
 items view found e =
@@ -104,6 +110,7 @@ items view found e =
     by_kind (Findings.Custody item) r t = text-any (λ row. row.code) (λ row. is_lost view row.rest) (is_item_wrong view) item view.view.items.items t t
     by_kind other r t = absurd (omega (arith, r))
 
+-- the first bag that is wrong is a finding of its kind, and without one no finding of the kind is true
 pub bags : (view : FullView) (found : Option Finding)
     → found ≡ option_map (λ row. Findings.Bag row.serial) (find (λ row. is_bag_wrong view row.serial) view.view.bags.items) → IsFindingOfKind view 2 found
 bags view found e =

@@ -129,6 +129,7 @@ module _ (A : History) (h : IsRegister A) (view : FullView) (same : SameTables (
   kept-item (Some (Within serial)) k = ap not (bag-there serial k)
   kept-item other k = refl
 
+  -- no finding is true of the rows of a register
   pub passing : (finding : Finding) → IsTrueOf view finding → ⊥
   passing (Findings.Seating c s) t = no-seating A h view same c s t
   passing (Findings.Custody item) t =

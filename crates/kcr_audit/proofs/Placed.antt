@@ -78,6 +78,7 @@ pub seats-in-order : (c k i : ℕ) (people : List (List ℕ)) (rows : List Seati
     → rows_in_order rows ≡ seat_rows c k i people
 seats-in-order c k i people rows p = sym (order-same (shuffled (seat_rows c k i people) rows p) (seats-one c k i people)) ∙ seats-stay c k i people
 
+-- the rows of some people's seats name these people, in their order
 pub people-of-seats : (c k i : ℕ) (people : List (List ℕ)) → map (λ row. row.who) (seat_rows c k i people) ≡ people
 people-of-seats c k i [] = refl
 people-of-seats c k i (who ∷ people) = ap (λ rest. who ∷ rest) (people-of-seats c k (suc i) people)

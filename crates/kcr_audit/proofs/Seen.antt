@@ -30,6 +30,7 @@ module _ (rows : List KeyRow) (i : ℕ) (row : KeyRow) (old : List ℕ → Bool)
   has-here : (key : List ℕ) (b : Bool) → has key row ≡ b → has key (get_or rows i row) ≡ b
   has-here key b e = ap (has key) (sym is) ∙ e
 
+  -- with a row whose key was not seen, the keys of one row more are those seen
   pub seen-more : (new : List ℕ → Bool) → old row.key ≡ false → ((key : List ℕ) → new key ≡ cond (same_text row.key key) true (old key))
       → Seen (take (i + 1) rows) new
   seen-more new fresh updates = record { told = told; once = once }
@@ -53,6 +54,7 @@ module _ (rows : List KeyRow) (i : ℕ) (row : KeyRow) (old : List ℕ → Bool)
         | inr e ↦ let before = s.once key in let more = count_by_more_no (has key) rows i row l (has-here key false e) in omega arith
       ]
 
+  -- a row whose key was seen has a key that is doubled
   pub seen-again : old row.key ≡ true → is_key_duplicate rows row.key ≡ true
   seen-again again =
       let before = some-counted (has row.key) (take i rows) (sym (s.told row.key) ∙ again) in

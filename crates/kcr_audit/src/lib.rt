@@ -8,10 +8,8 @@
 mod custody;
 mod findings;
 mod keys;
-mod laws;
 mod rooms;
 mod seating;
 
 pub use findings::audit;
-pub use laws::registers_pass;
 pub use seating::{ceremony_in, is_seating};

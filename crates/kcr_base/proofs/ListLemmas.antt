@@ -41,6 +41,11 @@ pub each-append : {X : Type 0} (P : X → Type 0) (xs ys : List X) → AllByRecu
 each-append P [] ys h k = k
 each-append P (x ∷ xs) ys h k = (h.0, each-append P xs ys h.1 k)
 
+-- what holds of each element holds of each if it is weaker
+pub each-weaker : {X : Type 0} (P Q : X → Type 0) → ((x : X) → P x → Q x) → (xs : List X) → AllByRecursion P xs → AllByRecursion Q xs
+each-weaker P Q f [] h = tt
+each-weaker P Q f (x ∷ xs) h = (f x h.0, each-weaker P Q f xs h.1)
+
 -- THE FIRST THAT PASSES
 
 -- nothing is found if no element passes

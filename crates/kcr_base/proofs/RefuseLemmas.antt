@@ -1,6 +1,7 @@
 -- Refusals that hold, and those of which none does.
-use Rattle.std.proofs.Common.{◌≡◌, Bool, true, false, not, List, [], ◌∷◌, ◌++◌, Option, Some, None, refl, arith}
+use Rattle.std.proofs.Common.{◌≡◌, ◌≢◌, ◌⊎◌, inl, inr, Bool, true, false, not, List, [], ◌∷◌, Option, None, refl, arith}
 use Rattle.kcr_base.specs.declared.refusal.Refusal.{Refusal}
+use Rattle.kcr_base.specs.declared.refusal.Refusal.TheVariants.{Memory}
 use Rattle.kcr_base.specs.Refuse.{when, first_of}
 
 -- no refusal of the list holds
@@ -25,3 +26,8 @@ unmet b r h = grind arith
 -- if the refusal of what is not so does not hold, it is so
 pub met : (b : Bool) (r : Refusal) → when (not b) r ≡ None → b ≡ true
 met b r h = grind arith
+
+-- a refusal is out of memory, or it is another one
+pub is_memory : (r : Refusal) → (r ≡ Memory) ⊎ (r ≢ Memory)
+is_memory Memory = inl refl
+is_memory r = inr (λ e. cc)

@@ -87,6 +87,10 @@ pub facility-read : (bytes : List ℕ) (r : Option Facility) → HasText (λ _. 
 unfolding facility_of
 facility-read bytes r found only = by_text-read (λ _. ⊤) facility_text bytes r (East ∷ West ∷ []) (tt, (tt, tt)) (λ v _. in-facilities v) found only
 
+-- places with the same text are equal
+pub one_place : (p q : Place) → place_text p ≡ place_text q → p ≡ q
+one_place p q h = grind arith
+
 -- the numbers 1 to 7 are those of places
 abbrev seven : List ℕ
 seven = range_with_len 1 7

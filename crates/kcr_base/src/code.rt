@@ -1,5 +1,5 @@
 //! Short texts that lie in the value itself.
-ghost use Rattle.std.specs.Prelude.{◌≡◌, ℕ, ◌+◌, ◌-◌, ◌<◌, ◌≤◌, List, ◌++◌, All, length, take, replicate, Some, nat_eq};
+ghost use Rattle.std.specs.Prelude.{◌≡◌, ℕ, ◌-◌, ◌<◌, ◌≤◌, List, All, length, take, Some, nat_eq};
 ghost use Rattle.std.specs.Prelude.{refl};
 ghost use Rattle.std.specs.Ordering.{nat_cmp};
 ghost use Rattle.std.specs.Cmp.{partial_equiv_from_equiv};
@@ -25,7 +25,7 @@ pub struct Code<const N: usize> {
 }
 
 impl<const N: usize> Model for Code<N> {
-    ghost use Rattle.std.specs.Prelude.{◌≡◌, ℕ, ◌-◌, ◌≤◌, List, ◌++◌, length, take, replicate};
+    ghost use Rattle.std.specs.Prelude.{◌≡◌, ℕ, ◌-◌, ◌≤◌, List, length, take};
     ghost use Rattle.std.proofs.Common.{arith, sym, length-take-le};
     ghost use Rattle.kcr_base.specs.Code.{filled, IsFilled};
 

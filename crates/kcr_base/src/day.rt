@@ -1,7 +1,7 @@
 //! Days of the calendar.
-ghost use Rattle.std.specs.Prelude.{◌≡◌, All, ℕ, ◌≤◌, ◌<◌, Some, IfSome, IsTrue, ◌↔◌, SomeIff};
+ghost use Rattle.std.specs.Prelude.{◌≡◌, All, ℕ, ◌<◌, Some, IfSome, SomeIff};
 ghost use Rattle.kcr_base.specs.Reads.{HasText, ReadsText};
-ghost use Rattle.kcr_base.specs.Day.{IsDayOf, IsDay, date_text, day_text, year_of, month_of, day_of_month};
+ghost use Rattle.kcr_base.specs.Day.{IsDayOf, IsDay, day_text, year_of, month_of, day_of_month};
 
 use crate::code::Code;
 use crate::digits::{read_date, write_two};

@@ -1,5 +1,5 @@
 //! Dates and times of day in digits.
-ghost use Rattle.std.specs.Prelude.{◌≡◌, ℕ, ◌<◌, List, [], ◌∷◌, ◌++◌, Some, IfSome};
+ghost use Rattle.std.specs.Prelude.{◌≡◌, ℕ, ◌<◌, [], ◌∷◌, ◌++◌, Some, IfSome};
 ghost use Rattle.kcr_base.specs.Day.{two_digits, date_text, IsDateParts};
 ghost use Rattle.kcr_base.specs.Moment.{clock_text};
 

@@ -1,5 +1,5 @@
 //! A person's code.
-ghost use Rattle.std.specs.Prelude.{◌≡◌, ℕ, ◌≤◌, List, length, Some, SomeIff};
+ghost use Rattle.std.specs.Prelude.{◌≡◌, ℕ, List, Some, SomeIff};
 ghost use Rattle.kcr_base.specs.Initials.{IsInitials};
 
 use crate::code::Code;

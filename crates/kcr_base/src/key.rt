@@ -1,5 +1,5 @@
 //! Keys of commands.
-ghost use Rattle.std.specs.Prelude.{◌≡◌, ℕ, ◌≤◌, List, length, Some, SomeIff};
+ghost use Rattle.std.specs.Prelude.{◌≡◌, ℕ, List, Some, SomeIff};
 ghost use Rattle.kcr_base.specs.Key.{IsKey};
 
 use crate::code::Code;

@@ -1,9 +1,8 @@
 //! Moments, to the second.
-ghost use Rattle.std.specs.Prelude.{◌≡◌, All, ℕ, ◌+◌, ◌*◌, ◌/◌, ◌%◌, ◌≤◌, ◌<◌, Some, IfSome, SomeIff};
+ghost use Rattle.std.specs.Prelude.{◌≡◌, All, ℕ, ◌+◌, ◌*◌, ◌/◌, ◌%◌, ◌<◌, Some, SomeIff};
 ghost use Rattle.kcr_base.specs.Reads.{HasText, ReadsText};
-ghost use Rattle.kcr_base.specs.Day.{IsDay};
 ghost use Rattle.kcr_base.specs.Days.{day_of};
-ghost use Rattle.kcr_base.specs.Moment.{IsMoment, clock_text, moment_text};
+ghost use Rattle.kcr_base.specs.Moment.{IsMoment, moment_text};
 
 use crate::code::Code;
 use crate::day::Day;

@@ -1,5 +1,5 @@
 //! Facilities, the roles of staff, and the places of custodians.
-ghost use Rattle.std.specs.Prelude.{⊤, codes, ◌<◌, ◌≡◌, ◌≢◌, ℕ, ◌+◌, ◌≤◌, List, [], ◌∷◌, ◌++◌, length, Some, SomeIff};
+ghost use Rattle.std.specs.Prelude.{⊤, codes, ◌<◌, ◌≡◌, ◌≢◌, ℕ, ◌+◌, ◌≤◌, List, [], ◌∷◌, ◌++◌, Some, SomeIff};
 ghost use Rattle.std.specs.Prelude.{MatchOption};
 ghost use Rattle.kcr_base.specs.Facility.{facility_text};
 ghost use Rattle.kcr_base.specs.Role.{role_text};

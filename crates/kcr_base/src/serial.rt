@@ -1,5 +1,5 @@
 //! Serials of bags and codes of items.
-ghost use Rattle.std.specs.Prelude.{◌≡◌, ◌↔◌, IsTrue, ℕ, ◌≤◌, List, length, Some, SomeIff};
+ghost use Rattle.std.specs.Prelude.{◌≡◌, ◌↔◌, IsTrue, ℕ, List, Some, SomeIff};
 ghost use Rattle.kcr_base.specs.Serial.{IsSerial};
 
 use crate::code::Code;

@@ -1,4 +1,4 @@
--- Every act keeps balance.
+-- The laws of custody: every act keeps balance (`IsBalanced`), and neither a seal nor a cut loses or makes an item.
 use Rattle.std.proofs.Common.{◌≡◌, ℕ, Bool, true, false, cond, not, ◌||◌, List, [], ◌∷◌, map, filter, Some, None, is_none, refl, arith}
 use Rattle.std.specs.List.{list_any, list_all}
 use Rattle.std.proofs.lemmas.Bool.Decides.{nat_tests}
@@ -56,26 +56,26 @@ moved boxes bags items bag u b h =
       boxed = all_put_kept same_bag (λ row. has_its_box boxes row.spot) bag bags b h.boxed;
     }
 
--- a bag that is laid on the table keeps balance
-pub take_keeps : (facility : Facility) (boxes : List BoxRow) (bags : List Bag) (items : List Item) (serial : List ℕ)
+-- a bag that is taken, and so laid on the table, keeps balance
+pub take_keeps_balance : (facility : Facility) (boxes : List BoxRow) (bags : List Bag) (items : List Item) (serial : List ℕ)
     → IsBalanced boxes bags items → IsBalanced boxes (put same_bag (record { serial = serial; spot = Table facility }) bags) items
-take_keeps facility boxes bags items serial h = moved boxes bags items (record { serial = serial; spot = Table facility }) refl refl h
+take_keeps_balance facility boxes bags items serial h = moved boxes bags items (record { serial = serial; spot = Table facility }) refl refl h
 
--- a bag that is put into a safe keeps balance, if it is not refused
-pub put_keeps : (status : CeremonyStatus) (safes : List SafeRow) (boxes : List BoxRow) (bags : List Bag) (items : List Item) (serial : List ℕ) (to : Destination)
+-- a bag that is put away keeps balance, if it is not refused
+pub put_keeps_balance : (status : CeremonyStatus) (safes : List SafeRow) (boxes : List BoxRow) (bags : List Bag) (items : List Item) (serial : List ℕ) (to : Destination)
     → IsBalanced boxes bags items → put_refusal status safes boxes bags serial to ≡ None
     → IsBalanced boxes (put same_bag (record { serial = serial; spot = spot_of_destination status.facility to }) bags) items
-put_keeps status safes boxes bags items serial SafeOne h n = moved boxes bags items _ refl refl h
-put_keeps status safes boxes bags items serial (DepositBox number) h n =
+put_keeps_balance status safes boxes bags items serial SafeOne h n = moved boxes bags items _ refl refl h
+put_keeps_balance status safes boxes bags items serial (DepositBox number) h n =
     let known : is_none (place_of_box_by boxes status.facility number) ≡ false = grind arith in
     moved boxes bags items _ refl (there (place_of_box_by boxes status.facility number) known) h
 
 -- BOXES
 
--- a spot's box stays when another is added
-pub add_box_keeps : (boxes : List BoxRow) (bags : List Bag) (items : List Item) (is_full : Bool) (row : BoxRow)
+-- a box that is added keeps balance, if it is not refused
+pub add_box_keeps_balance : (boxes : List BoxRow) (bags : List Bag) (items : List Item) (is_full : Bool) (row : BoxRow)
     → IsBalanced boxes bags items → add_box_refusal boxes is_full row ≡ None → IsBalanced (put same_box row boxes) bags items
-add_box_keeps boxes bags items is_full row h n =
+add_box_keeps_balance boxes bags items is_full row h n =
     let new : list_any (is_box row.facility row.number) boxes ≡ false = grind arith in
     record {
       items_once = h.items_once;
@@ -89,10 +89,10 @@ add_box_keeps boxes bags items is_full row h n =
 
 -- ITEMS
 
--- an item that is loose keeps balance
-pub add_item_keeps : (facility : Facility) (boxes : List BoxRow) (bags : List Bag) (items : List Item) (code : List ℕ)
+-- an item that is added keeps balance
+pub add_item_keeps_balance : (facility : Facility) (boxes : List BoxRow) (bags : List Bag) (items : List Item) (code : List ℕ)
     → IsBalanced boxes bags items → IsBalanced boxes bags (put same_item (record { code = code; rest = Loose facility }) items)
-add_item_keeps facility boxes bags items code h =
+add_item_keeps_balance facility boxes bags items code h =
     record {
       items_once = differ_put (λ row. row.code) (record { code = code; rest = Loose facility }) items h.items_once;
       bags_once = h.bags_once;
@@ -113,11 +113,11 @@ packed_kept : (bags : List Bag) (serial : List ℕ) → holds_items (spot_by bag
 packed_kept bags serial u [] = refl
 packed_kept bags serial u (code ∷ codes) = rw u (packed_kept bags serial u codes)
 
--- a bag on the table with the items sealed into it keeps balance
-pub seal_keeps : (facility : Facility) (boxes : List BoxRow) (bags : List Bag) (items : List Item) (serial : List ℕ) (codes : List (List ℕ))
+-- a seal keeps balance: the bag is on the table then, and the items are within it
+pub seal_keeps_balance : (facility : Facility) (boxes : List BoxRow) (bags : List Bag) (items : List Item) (serial : List ℕ) (codes : List (List ℕ))
     → IsBalanced boxes bags items
     → IsBalanced boxes (put same_bag (record { serial = serial; spot = Table facility }) bags) (put_all same_item (sealed_items serial codes) items)
-seal_keeps facility boxes bags items serial codes h =
+seal_keeps_balance facility boxes bags items serial codes h =
     let bag : Bag = record { serial = serial; spot = Table facility } in
     let here : holds_items (spot_by (put same_bag bag bags) serial) ≡ true = rw (spot_put bag bags serial, same-itself serial) in
     let m = moved boxes bags items bag refl refl h in
@@ -144,11 +144,11 @@ all_loosened serial facility (row ∷ rows) = grind (arith, nat_tests, same-itse
         → (not (lies_in serial old) || (same_text old.code row.code || is_changed (loose_items rows serial facility) old)) ≡ true
     weaker old g = grind (arith, nat_tests, g)
 
--- a spent bag, with its items loose, keeps balance
-pub cut_keeps : (facility : Facility) (boxes : List BoxRow) (bags : List Bag) (items : List Item) (serial : List ℕ)
+-- a cut keeps balance: the bag is spent then, and the items that it held are loose
+pub cut_keeps_balance : (facility : Facility) (boxes : List BoxRow) (bags : List Bag) (items : List Item) (serial : List ℕ)
     → IsBalanced boxes bags items
     → IsBalanced boxes (put same_bag (record { serial = serial; spot = Spent }) bags) (put_all same_item (loose_items items serial facility) items)
-cut_keeps facility boxes bags items serial h =
+cut_keeps_balance facility boxes bags items serial h =
     let bag : Bag = record { serial = serial; spot = Spent } in
     record {
       items_once = differ_put_all (λ row. row.code) (loose_items items serial facility) items h.items_once;
@@ -176,11 +176,11 @@ packed_there items serial (code ∷ codes) h =
     let found : is_none (rest_by items code) ≡ false → is_there items (sealed_item serial code) ≡ true = found_any (λ row. row.code) (λ row. row.rest) code items in
     grind (arith, nat_tests, h, found, packed_there items serial codes)
 
--- the items of a seal are the items that there were
-pub seal_stays : (status : CeremonyStatus) (bags : List Bag) (items : List Item) (serial : List ℕ) (codes : List (List ℕ))
+-- a seal that is not refused neither loses nor makes an item
+pub seal_leaves_items : (status : CeremonyStatus) (bags : List Bag) (items : List Item) (serial : List ℕ) (codes : List (List ℕ))
     → seal_refusal status bags items serial codes ≡ None
     → map (λ row. row.code) (put_all same_item (sealed_items serial codes) items) ≡ map (λ row. row.code) items
-seal_stays status bags items serial codes n =
+seal_leaves_items status bags items serial codes n =
     keys_stay_all (λ row. row.code) (sealed_items serial codes) items
     (packed_there items serial codes (grind arith))
 
@@ -192,7 +192,7 @@ loosened_there serial facility (row ∷ rows) =
     weaker : (c : Item) → is_there rows c ≡ true → is_there (row ∷ rows) c ≡ true
     weaker c g = grind (arith, nat_tests, g)
 
--- the items after a cut are the items that there were
-pub cut_stays : (serial : List ℕ) (facility : Facility) (items : List Item)
+-- a cut neither loses nor makes an item
+pub cut_leaves_items : (serial : List ℕ) (facility : Facility) (items : List Item)
     → map (λ row. row.code) (put_all same_item (loose_items items serial facility) items) ≡ map (λ row. row.code) items
-cut_stays serial facility items = keys_stay_all (λ row. row.code) (loose_items items serial facility) items (loosened_there serial facility items)
+cut_leaves_items serial facility items = keys_stay_all (λ row. row.code) (loose_items items serial facility) items (loosened_there serial facility items)

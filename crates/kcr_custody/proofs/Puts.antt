@@ -46,6 +46,7 @@ module _ {X : Type 0} (key : X → List ℕ) where
   abbrev pub same_key : X → X → Bool
   same_key row old = same_text (key old) (key row)
 
+  -- a key is among those of the rows if and only if some row has it
   pub any_key : (row : X) (rows : List X) → list_any (same_text (key row)) (map key rows) ≡ list_any (same_key row) rows
   any_key row [] = refl
   any_key row (old ∷ rows) = rw (same-turned (key row) (key old), any_key row rows)
@@ -62,6 +63,7 @@ module _ {X : Type 0} (key : X → List ℕ) where
   pub differ_put : (row : X) (rows : List X) → all_differ (map key rows) ≡ true → all_differ (map key (put same_key row rows)) ≡ true
   differ_put row rows h = grind (arith, nat_tests, h, keys_map row rows, any_key row rows)
 
+  -- no key stands twice after several puts either
   pub differ_put_all : (changes rows : List X) → all_differ (map key rows) ≡ true → all_differ (map key (put_all same_key changes rows)) ≡ true
   differ_put_all [] rows h = h
   differ_put_all (row ∷ changes) rows h = differ_put_all changes (put same_key row rows) (differ_put row rows h)

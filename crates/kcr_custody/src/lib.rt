@@ -4,7 +4,7 @@
 //! one Crypto Officer's place of its facility. An item is loose at a facility or within a bag; a bag is on the
 //! facility's table, in safe 1, in a box, or spent. The `check_` of an act answers the first refusal that it has whoever is
 //! in the room, in the order of the refusals' numbers; `check_ca`, `check_keepers` and `check_operator` answer who is
-//! missing there. Nothing is changed in place.
+//! missing there. Nothing is changed in place. That every act keeps balance is proved in `proofs/Balance.antt`.
 #![tactic(auto)]
 
 use kcr_base::{BoxNumber, Facility, Initials, ItemCode, Moment, Place, Serial};
@@ -13,7 +13,6 @@ use std::marker::Model;
 pub mod acts;
 mod checks;
 mod destinations;
-pub mod laws;
 pub mod queries;
 pub mod spots;
 

@@ -8,6 +8,7 @@ use Rattle.sqlite.specs.Store.{Ghosts}
 use Rattle.kcr_base.specs.Refusal.{status_of}
 use Rattle.kcr_base.specs.declared.refusal.Refusal.{Refusal}
 use Rattle.kcr_base.specs.declared.refusal.Refusal.TheVariants as Refusals
+use Rattle.kcr_base.proofs.RefuseLemmas.{is_memory}
 use Rattle.kcr_history.specs.History.{History}
 use Rattle.kcr_history.specs.Refusals.{carries}
 use Rattle.kcr_history.specs.Tables.{Tables}
@@ -187,6 +188,7 @@ module _ {S Value : Type 0} (g : Ghosts S) (before after : RegisterState S) (tol
         looks.nothing.rows t.rows (at.shows (sym at.broken ∙ whole));
   }
 
+  -- a reading is answered as its result says, or with out of memory
   pub reading_answered : (Says : History → Result Value Refusal → Type 0) (SaysBy : RegisterRows → Result Value Refusal → Type 0)
       (MayBe : Result Value Refusal → Type 0) {MayFail : Refusal → Type 0}
       → MayBe (Err Refusals.Memory) → (before.is_broken ≡ false → MayBe result) → ReadsHistory g MayFail before after result
@@ -236,11 +238,8 @@ module _ {S Value : Type 0} (g : Ghosts S) (before after : RegisterState S) (tol
 
 -- NOTHING WAS ASKED OF THE REGISTER
 
-is_memory : (r : Refusal) → (r ≡ Refusals.Memory) ⊎ (r ≢ Refusals.Memory)
-is_memory Refusals.Memory = inl refl
-is_memory r = inr (λ e. cc)
-
 module _ {S : Type 0} (g : Ghosts S) (before : RegisterState S) (told : ResponseValue) where
+  -- out of memory answers any request, and leaves the register as it is
   pub memory_answered : (Answer : RegisterHistory → RegisterHistory → Type 0) (ByRows : RegisterRows → RegisterRows → Type 0) (Reply : Bool → Bool → Type 0)
       → told ≡ refusal_response None Refusals.Memory → Answered g before told before Answer ByRows Reply
   memory_answered Answer ByRows Reply tells = record {

@@ -17,6 +17,7 @@ module _ {S : Type 0} (step : S → Request → ResponseValue → S → Type 0) 
   runs_both a b c [] ys first later = subst (λ (s : S). Runs step s ys c) (sym first) later
   runs_both a b c (x ∷ xs) ys first later = (first.0, first.1, runs_both first.0 b c xs ys first.2 later)
 
+  -- some connections and then others lead on as all of them together
   pub leads_both : (a b c : S) (m n : ℕ) → Leads step a b m → Leads step b c n → Leads step a c (m + n)
   leads_both a b c m n first later = (
     first.0 ++ later.0,
@@ -28,6 +29,7 @@ module _ {S : Type 0} (step : S → Request → ResponseValue → S → Type 0) 
   pub leads_unread : (s : S) → Leads step s s 1
   leads_unread s = ([] ∷ [], refl, (s, refl, refl))
 
+  -- a stream that was answered, whole or in part, leads on as one connection
   pub leads_one : {R W : Type 0} (s : Streams R W) (a b : S) (result : Result Served DeskFault) → Ends step s a b result → Leads step a b 1
   leads_one s a b (Ok served) ends = (ends.exchanges ∷ [], refl, (b, ends.run, refl))
   leads_one s a b (Err fault) ends = (ends.exchanges ∷ [], refl, (b, ends.run, refl))

@@ -148,17 +148,17 @@ module _ (entry : Entry) (B : History) (x : Exchange) (next : RegisterHistory) (
       performed-again entry B found x.reply next result faults.0 faults.1 told p)
 
 -- a run over requests of a register's next commands leads to that register, with the kept replies
-pub run_leads : (entries : List Entry) (B : History) (xs : List Exchange) (after : RegisterHistory) → IsOfMachine (pushed_onto entries B) → AreSendable entries
+pub requests_lead : (entries : List Entry) (B : History) (xs : List Exchange) (after : RegisterHistory) → IsOfMachine (pushed_onto entries B) → AreSendable entries
     → messages_of xs ≡ map message_of (commands_of entries) → AllByRecursion HadNoFault xs → Run IsAnswer (whole B) xs after
     → (after ≡ whole (pushed_onto entries B)) × (map (λ (x : Exchange). x.reply) xs ≡ map kept_reply entries)
-run_leads [] B [] after of each same faults run = (sym run, refl)
-run_leads [] B (x ∷ xs) after of each same faults run = absurd cc
-run_leads (entry ∷ entries) B [] after of each same faults run = absurd cc
-run_leads (entry ∷ entries) B (x ∷ xs) after of each same faults run =
+requests_lead [] B [] after of each same faults run = (sym run, refl)
+requests_lead [] B (x ∷ xs) after of each same faults run = absurd cc
+requests_lead (entry ∷ entries) B [] after of each same faults run = absurd cc
+requests_lead (entry ∷ entries) B (x ∷ xs) after of each same faults run =
     let parts = same-head x xs (message_of entry.command) (map message_of (commands_of entries)) same in
     let step = (of-front entries (entry ∷ B) of).0 in
     let first = one entry B x run.0 each.0 parts.0 faults.0 run.1 step in
-    let rest = run_leads entries (entry ∷ B) xs after of each.1 parts.1 faults.1 (subst (λ (s : RegisterHistory). Run IsAnswer s xs after) first.0 run.2) in
+    let rest = requests_lead entries (entry ∷ B) xs after of each.1 parts.1 faults.1 (subst (λ (s : RegisterHistory). Run IsAnswer s xs after) first.0 run.2) in
     (rest.0, λ j. first.1 j ∷ rest.1 j)
 
 -- ---- many that the register has, and then those that it has not
@@ -199,7 +199,7 @@ run-again : (entries later : List Entry) (B : History) (xs : List Exchange) (aft
     → AreSendable (entries ++ later) → messages_of xs ≡ map message_of (commands_of (entries ++ later)) → AllByRecursion HadNoFault xs
     → Run IsAnswer (whole B) xs after
     → (after ≡ whole (pushed_onto later B)) × (map (λ (x : Exchange). x.reply) xs ≡ map kept_reply (entries ++ later))
-run-again [] later B xs after found of each same faults run = run_leads later B xs after of each same faults run
+run-again [] later B xs after found of each same faults run = requests_lead later B xs after of each same faults run
 run-again (entry ∷ entries) later B [] after found of each same faults run = absurd cc
 run-again (entry ∷ entries) later B (x ∷ xs) after found of each same faults run =
     let parts = same-head x xs (message_of entry.command) (map message_of (commands_of (entries ++ later))) same in
@@ -208,10 +208,10 @@ run-again (entry ∷ entries) later B (x ∷ xs) after found of each same faults
     (rest.0, λ j. first.1 j ∷ rest.1 j)
 
 -- a run over commands that the register has, and then later ones, adds only the later, with all kept replies
-pub run_adds : (first later : List Entry) (xs : List Exchange) (after : RegisterHistory) → IsOfMachine (pushed_onto later (pushed_onto first []))
+pub requests_add : (first later : List Entry) (xs : List Exchange) (after : RegisterHistory) → IsOfMachine (pushed_onto later (pushed_onto first []))
     → AreSendable (first ++ later) → messages_of xs ≡ map message_of (commands_of (first ++ later)) → AllByRecursion HadNoFault xs
     → Run IsAnswer (whole (pushed_onto first [])) xs after
     → (after ≡ whole (pushed_onto later (pushed_onto first []))) × (map (λ (x : Exchange). x.reply) xs ≡ map kept_reply (first ++ later))
-run_adds first later xs after of each same faults run =
+requests_add first later xs after of each same faults run =
     let is = of_machine (pushed_onto first []) (of-front later (pushed_onto first []) of) in
     run-again first later (pushed_onto first []) xs after (all-found first [] is) of each same faults run

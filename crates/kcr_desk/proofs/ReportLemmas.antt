@@ -148,6 +148,7 @@ module _ {S W : Type 0} (g : Ghosts S) {contents : W → Option (List ℕ)} {bef
 
 -- after an export of which the writer did not take all, a register answers as it would have before
 module _ {S W Value : Type 0} (g : Ghosts S) {contents : W → Option (List ℕ)} {before between after : RegisterState S} {x y : Counted W} {outcome : Result ⊤ PrintFault} where
+  -- what answers a reading after the export answers it before the export
   pub answered_again : {D : History → Refusal → Type 0} {MayDeny : Refusal → Type 0} {t : History → List ℕ} (told : ResponseValue)
       (told_by : Result Value Refusal → ResponseValue) (MayBe : Result Value Refusal → Type 0) (Says : History → Result Value Refusal → Type 0)
       (SaysBy : RegisterRows → Result Value Refusal → Type 0)

@@ -128,6 +128,7 @@ module _ {S : Type 0} {step : S → Request → ResponseValue → S → Type 0} 
   abbrev texts : List ℕ
   texts = flat_map exchange_text so_far.exchanges
 
+  -- a stream that ended is served whole if all that waits is written
   pub ended_served : (e : Ending) (c d : Option (List ℕ)) {v : List ℕ} → EndsAs left e → IsQueued b c (w ++ ending_text e) v
       → Appends c d v → IsServed step input a d before now n
   ended_served e c d end gathered written = record {
@@ -141,6 +142,7 @@ module _ {S : Type 0} {step : S → Request → ResponseValue → S → Type 0} 
     requests = so_far.requests;
   }
 
+  -- a stream is served in part if a fault breaks its next turn
   pub turn_broken : {c : Option (List ℕ)} → BreaksItem left b c w → IsServedInPart step input a c before now
   turn_broken {c} breaks = record {
     exchanges = so_far.exchanges;
@@ -153,6 +155,7 @@ module _ {S : Type 0} {step : S → Request → ResponseValue → S → Type 0} 
     written = sent_front c (with_more breaks.next so_far.written) breaks.written;
   }
 
+  -- a stream that ended is served in part if only a prefix of what waits is written
   pub ended_broken : (e : Ending) (c d : Option (List ℕ)) {v : List ℕ} → EndsAs left e → IsQueued b c (w ++ ending_text e) v
       → WritesPrefix c d v → IsServedInPart step input a d before now
   ended_broken e c d end gathered front =
@@ -200,6 +203,7 @@ module _ {S : Type 0} {step : S → Request → ResponseValue → S → Type 0} 
         subst (λ t. IsQueued a c t (v ++ this_answer)) all_texts
         (with_more this_answer (sent_on (with_more (continue_text plan) so_far.written) continued))
 
+    -- after an answer that keeps the stream open one message more is served
     pub serving_then : {u : List ℕ} → plan.closes ≡ false → IsQueued c d (v ++ this_answer) u
         → Serving step input (prepend_known (drop (spans.len + plan.length) buf) unread) a d u before after (n + 1)
     serving_then open' gathered = record {
@@ -217,6 +221,7 @@ module _ {S : Type 0} {step : S → Request → ResponseValue → S → Type 0} 
       requests = count_then;
     }
 
+    -- after an answer that closes the stream it is served whole if all that waits is written
     pub closed_served : (e : Option (List ℕ)) {u : List ℕ} → plan.closes ≡ true → IsQueued c d (v ++ this_answer) u → Appends d e u
         → IsServed step input a e before after (n + 1)
     closed_served e closed gathered written = record {
@@ -245,9 +250,11 @@ module _ {S : Type 0} {step : S → Request → ResponseValue → S → Type 0} 
       written = rw append-nil front;
     }
 
+    -- the stream is served in part if only a prefix of the answer is written
     pub answer_broken : WritesPrefix c d (v ++ this_answer) → IsServedInPart step input a d before after
     answer_broken front = begun d (sent_front d answered front)
 
+    -- after an answer the stream is served in part if only a prefix of what waits is written
     pub closed_broken : (e : Option (List ℕ)) {u : List ℕ} → IsQueued c d (v ++ this_answer) u → WritesPrefix d e u
         → IsServedInPart step input a e before after
     closed_broken e gathered front = begun e (sent_front e (sent_on answered gathered) front)

@@ -20,10 +20,12 @@ module _ {S : Type 0} (g : Ghosts S) where
   abbrev is_clean : RegisterState S → Type 0
   is_clean register = HasCleanDisk (state g register.conn)
 
+  -- a disk that is clean after a run was clean before it
   pub run_clean : (before after : RegisterState S) (xs : List Exchange) → Run (Answers g) before xs after → is_clean after → is_clean before
   run_clean before after [] run clean = subst is_clean (sym run) clean
   run_clean before after (x ∷ xs) run clean = run.1.clean (run_clean run.0 after xs run.2 clean)
 
+  -- each response of a run is a reply by whether the register is broken before and after it
   pub run_replies : (before after : RegisterState S) (xs : List Exchange) → Run (Answers g) before xs after → Run IsReply before.is_broken xs after.is_broken
   run_replies before after [] run = ap (λ (r : RegisterState S). r.is_broken) run
   run_replies before after (x ∷ xs) run = (run.0.is_broken, run.1.reply, run_replies run.0 after xs run.2)
@@ -66,6 +68,7 @@ module _ {S Stand : Type 0} (g : Ghosts S) (Stands : Stand → RegisterState S �
 -- a stream that was served by these steps was so by others, if these lead as those do
 module _ {S R : Type 0} {step : S → Request → ResponseValue → S → Type 0} {other : R → Request → ResponseValue → R → Type 0} {input a b : Option (List ℕ)}
     {before after : S} {first last : R} (leads : (xs : List Exchange) → Run step before xs after → Run other first xs last) where
+  -- a stream that was served whole by these steps was so by the others
   pub served_by : {count : ℕ} → IsServed step input a b before after count → IsServed other input a b first last count
   served_by s = record {
     exchanges = s.exchanges;
@@ -76,6 +79,7 @@ module _ {S R : Type 0} {step : S → Request → ResponseValue → S → Type 0
     requests = s.requests;
   }
 
+  -- a stream that was served in part by these steps was so by the others
   pub broken_by : IsServedInPart step input a b before after → IsServedInPart other input a b first last
   broken_by s = record { exchanges = s.exchanges; next = s.next; begins = s.begins; run = leads s.exchanges s.run; written = s.written }
 

@@ -1,7 +1,5 @@
 //! What the register is asked by a message, and what the message is told.
 ghost use Rattle.std.specs.Prelude.{◌≡◌, ◌⊎◌, ◌<◌, ◌≤◌, false, None, Err, IfSome, IsTrue};
-ghost use Rattle.sqlite.specs.Held.{state};
-ghost use Rattle.sqlite.specs.State.{HasCleanDisk};
 ghost use Rattle.kcr_desk.specs.declared.answer.TheConstants.{MAX_FEED_COMMANDS};
 ghost use Rattle.kcr_forms.specs.Acts.{IsAct};
 ghost use Rattle.kcr_store.specs.Commands.{IsQuestionResult};

@@ -1,10 +1,10 @@
 //! One connection.
-ghost use Rattle.std.specs.Prelude.{◌≡◌, ◌+◌, ◌≤◌, ℕ, IfErr};
+ghost use Rattle.std.specs.Prelude.{◌≡◌, ◌+◌, ◌≤◌, IfErr};
 ghost use Rattle.kcr_store.specs.Calls.{Leads as Moves, RowsLead};
 ghost use Rattle.kcr_base.specs.Counted.{nonempty_reads_of};
 ghost use Rattle.kcr_store.specs.Register.{IsConsistent};
-ghost use Rattle.kcr_desk.specs.Answers.{RegisterHistory, AreOfMachine, AreRegisters, IsAnswer, IsAnswerByRows, IsReply};
-ghost use Rattle.kcr_desk.specs.Connections.{Connects, Ends, Leads};
+ghost use Rattle.kcr_desk.specs.Answers.{IsAnswer, IsAnswerByRows, IsReply};
+ghost use Rattle.kcr_desk.specs.Connections.{Connects, Ends};
 ghost use Rattle.kcr_desk.specs.Streams.{BreaksStream, streams};
 
 use crate::desk::serve;
@@ -61,12 +61,3 @@ pub fn one<R: Read, W: Write, S: Alter>(
         is_broken: register.is_broken(),
     }
 }
-
-/// Connections that are served one after the other lead from registers to registers. If the machine leads to the
-/// histories before, it leads to those after.
-pub fn connections_keep_registers()
-    ensures kept { (before after : RegisterHistory) (count : ℕ) → AreRegisters before → Leads IsAnswer before after count
-        → AreRegisters after }
-    ensures led { (before after : RegisterHistory) (count : ℕ) → AreOfMachine before → Leads IsAnswer before after count
-        → AreOfMachine after }
-{}

@@ -1,14 +1,12 @@
 //! The desk over a register.
-ghost use Rattle.std.specs.Prelude.{◌+◌, ◌≤◌, List, IfErr};
+ghost use Rattle.std.specs.Prelude.{◌+◌, ◌≤◌, IfErr};
 ghost use Rattle.kcr_store.specs.Calls.{Leads, RowsLead};
 ghost use Rattle.sqlite.specs.Held.{state};
 ghost use Rattle.sqlite.specs.State.{HasCleanDisk};
 ghost use Rattle.kcr_base.specs.Counted.{nonempty_reads_of};
 ghost use Rattle.kcr_store.specs.Register.{IsConsistent};
-ghost use Rattle.kcr_desk.specs.Answers.{RegisterHistory, IsAnswer, IsAnswerByRows, IsReply};
-ghost use Rattle.kcr_desk.specs.Answers.{AreRegisters, AreOfMachine, AreOfValues};
+ghost use Rattle.kcr_desk.specs.Answers.{IsAnswer, IsAnswerByRows, IsReply};
 ghost use Rattle.kcr_desk.specs.Connections.{Ends};
-ghost use Rattle.kcr_desk.specs.Run.{Exchange, Run};
 ghost use Rattle.kcr_desk.specs.Streams.{BreaksStream, streams};
 
 use crate::fault::DeskFault;
@@ -60,17 +58,3 @@ pub fn serve<R: Read, W: Write, S: Alter>(
     let _ = register.is_broken();
     result
 }
-
-/// Every run leads from registers to registers, also that of a stream that was served in part. So what holds of every
-/// register holds of the history that a stream leaves, and of the one that a crash may leave in its place. Where the
-/// machine leads to the histories before, it leads to those after; and if the parts of their commands are values of
-/// their types, so are those of the commands after. So of the tables that a stream leaves of a new register a
-/// verification says that nothing differs.
-pub fn streams_keep_registers()
-    ensures registers { (before after : RegisterHistory) (exchanges : List Exchange) → AreRegisters before
-        → Run IsAnswer before exchanges after → AreRegisters after }
-    ensures led { (before after : RegisterHistory) (exchanges : List Exchange) → AreOfMachine before
-        → Run IsAnswer before exchanges after → AreOfMachine after }
-    ensures values { (before after : RegisterHistory) (exchanges : List Exchange) → AreOfValues before
-        → Run IsAnswer before exchanges after → AreOfValues after }
-{}

@@ -7,7 +7,6 @@
 mod answer;
 pub mod connection;
 pub mod desk;
-pub mod export;
 pub mod fault;
 pub mod head;
 mod input_buffer;
@@ -19,8 +18,7 @@ mod responder;
 pub mod response;
 pub mod stream;
 
-pub use connection::{Ended, connections_keep_registers, one};
-pub use desk::{serve, streams_keep_registers};
-pub use export::{exports_are_messages, exports_lead_to_registers};
+pub use connection::{Ended, one};
+pub use desk::serve;
 pub use fault::DeskFault;
-pub use stream::{Served, messages_are_unique, partial_output_is_prefix};
+pub use stream::Served;

@@ -1,5 +1,5 @@
 //! Values that are lists: members between commas, with the blanks around them dropped (RFC 9110, section 5.6.1).
-ghost use Rattle.std.specs.Prelude.{◌≡◌, ◌↔◌, IsTrue, reverse};
+ghost use Rattle.std.specs.Prelude.{◌≡◌, reverse};
 ghost use Rattle.std.specs.Iterator.{YieldsFirstRef, item_count};
 ghost use Rattle.httparse.specs.Grammar.{skip_ows, trim_ows, is_ows};
 ghost use Rattle.kcr_desk.specs.Members.{has_member};

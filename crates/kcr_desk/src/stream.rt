@@ -1,6 +1,5 @@
 //! Streams of messages.
-ghost use Rattle.std.specs.Prelude.{◌≡◌, ℕ, List, ◌++◌, ◌+◌, ◌<◌, ◌≤◌, ◌⊎◌, OnErr, IsErrOf, MatchResult};
-ghost use Rattle.std.specs.List.{flat_map};
+ghost use Rattle.std.specs.Prelude.{◌≡◌, ◌++◌, ◌+◌, ◌<◌, ◌≤◌, ◌⊎◌, OnErr, IsErrOf, MatchResult};
 ghost use Rattle.kcr_base.specs.Counted.{failures_of, nonempty_reads_of};
 ghost use Rattle.kcr_desk.specs.Connections.{Ends};
 ghost use Rattle.kcr_desk.specs.Framing.{is_head};
@@ -8,8 +7,7 @@ ghost use Rattle.kcr_desk.specs.Input.{TakesIn, unread};
 ghost use Rattle.kcr_desk.specs.NextHead.{IsReady, HasFraming};
 ghost use Rattle.kcr_desk.specs.NextItem.{EndsItem, request_of_buffer};
 ghost use Rattle.kcr_desk.specs.Output.{Queues};
-ghost use Rattle.kcr_desk.specs.Run.{Exchange, Begins, messages_of, exchange_text, output};
-ghost use Rattle.kcr_desk.specs.Stream.{Message, Ending, AreMessages};
+ghost use Rattle.kcr_desk.specs.Stream.{Message};
 ghost use Rattle.kcr_desk.specs.Streams.{WritesPart, WritesText, streams, writing};
 ghost use Rattle.kcr_desk.specs.Texts.{ResponseValue, answer};
 
@@ -169,18 +167,3 @@ pub(crate) fn serve_stream<R: Read, W: Write, G: Responder>(
         }
     }
 }
-
-/// However a stream is read, it has one cut into messages.
-#[tactic(auto, using(crate::proofs::CutLemmas::cut_unique))]
-pub fn messages_are_unique()
-    ensures { (input : List ℕ) (ms ns : List Message) (e f : Ending) → AreMessages input ms e → AreMessages input ns f → (ms ≡ ns)
-        × (e ≡ f) }
-{}
-
-/// What `IsServedInPart` says was written begins what the whole input asks for, whatever the later messages are told.
-#[tactic(auto, using(crate::proofs::BeginsLemmas::begins_output))]
-pub fn partial_output_is_prefix()
-    ensures { (input next : List ℕ) (xs zs : List Exchange) (e : Ending) → Begins input (messages_of xs) next
-        → AreMessages input (messages_of (xs ++ zs)) e
-        → (more : List ℕ) × ((flat_map exchange_text xs ++ next) ++ more ≡ output (xs ++ zs) e) }
-{}

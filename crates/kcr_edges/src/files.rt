@@ -1,5 +1,4 @@
 //! A register's file by its path, and those that lie beside it.
-ghost use Rattle.std.specs.Prelude.{◌≤◌, length};
 
 use std::fs::{self, File};
 use std::io::{self, ErrorKind, Read};

@@ -1,5 +1,5 @@
 -- The lines that the program writes beside reports.
-use Rattle.std.specs.Prelude.{if◌then◌else◌, ◌||◌, ℕ, Bool, true, false, List, [], ◌∷◌, ◌++◌, codes, map, nat_eq, nat_lt}
+use Rattle.std.specs.Prelude.{if◌then◌else◌, ◌||◌, ℕ, Bool, true, false, List, [], ◌++◌, codes, map, nat_eq, nat_lt}
 use Rattle.std.specs.Prelude.{Option, Some, None, unwrap_or}
 use Rattle.std.specs.Fmt.{decimal}
 use Rattle.kcr_base.specs.Moment.{moment_text}

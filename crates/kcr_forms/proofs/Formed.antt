@@ -27,7 +27,6 @@ use Rattle.kcr_base.specs.Serial.{IsDigit, IsSerial}
 use Rattle.kcr_base.specs.declared.place.Facility.{Facility}
 use Rattle.kcr_base.specs.declared.place.Facility.TheVariants.{East, West}
 use Rattle.kcr_base.specs.declared.place.Place.{Place}
-use Rattle.kcr_base.specs.declared.place.Place.TheVariants.{Co, Rksh}
 use Rattle.kcr_base.specs.declared.place.Role.{Role}
 use Rattle.kcr_base.specs.declared.place.Role.TheVariants.{Ca, Iw, Sa, Ssc1, Ssc2, Rkos, Sw}
 use Rattle.kcr_custody.specs.declared.SafeNumber.{SafeNumber}
@@ -45,7 +44,7 @@ use Rattle.kcr_base.proofs.DayLemmas.{day_ascii, moment_ascii}
 use Rattle.kcr_base.specs.declared.limits.TheConstants.{MAX_BOX}
 use Rattle.kcr_base.proofs.FormLemmas.{initials-read, serial-read, line-read, script-read, initials-from, serial-from, line-from}
 use Rattle.kcr_base.proofs.TextLemmas.{number-read, each-range}
-use Rattle.kcr_base.proofs.ValueLemmas.{day-read, moment-read, place-read, each-place}
+use Rattle.kcr_base.proofs.ValueLemmas.{day-read, moment-read, place-read, each-place, one_place}
 use Rattle.kcr_custody.specs.Destinations.{IsDestination, destination_text, destination_of}
 use Rattle.kcr_custody.proofs.DestinationLemmas.{number-no_word}
 use Rattle.kcr_room.specs.Forms.{way_of}
@@ -231,23 +230,10 @@ safes = texts-value safe_text (One ∷ Two ∷ []) (λ v _. again v) (each-known
     again One = refl
     again Two = refl
 
--- equal texts have equal bytes
-byte : (i : ℕ) {s t : List ℕ} → s ≡ t → get_or s i 0 ≡ get_or t i 0
-byte i e = ap (λ (text : List ℕ). get_or text i 0) e
-
-place-same : (v w : Place) → place_text v ≡ place_text w → v ≡ w
-place-same (Co East n) (Co East m) e = let last : 48 + n ≡ 48 + m = byte 8 e in let same : n ≡ m = omega arith in ap (Co East) same
-place-same (Co West n) (Co West m) e = let last : 48 + n ≡ 48 + m = byte 8 e in let same : n ≡ m = omega arith in ap (Co West) same
-place-same (Rksh n) (Rksh m) e = let last : 48 + n ≡ 48 + m = byte 5 e in let same : n ≡ m = omega arith in ap Rksh same
-place-same (Co East n) (Co West m) e = let apart : 69 ≡ 87 = byte 3 e in absurd (omega (arith, apart))
-place-same (Co West n) (Co East m) e = let apart : 87 ≡ 69 = byte 3 e in absurd (omega (arith, apart))
-place-same (Co facility n) (Rksh m) e = let apart : 67 ≡ 82 = byte 0 e in absurd (omega (arith, apart))
-place-same (Rksh n) (Co facility m) e = let apart : 82 ≡ 67 = byte 0 e in absurd (omega (arith, apart))
-
 -- the reader of places
 pub places-read : Value IsPlace place_text place_of
 unfolding place_of
-places-read = texts-value place_text places (again-by place-read (λ v w _ _. place-same v w)) each-place refl
+places-read = texts-value place_text places (again-by place-read (λ v w _ _. one_place v w)) each-place refl
 
 -- a place's text passes a test that the texts of all places pass
 pub place-passes : (test : List ℕ → Bool) → list_all (λ v. test (place_text v)) places ≡ true → (v : Place) → IsPlace v → test (place_text v) ≡ true

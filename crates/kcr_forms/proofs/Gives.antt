@@ -12,7 +12,7 @@ use Rattle.kcr_forms.specs.Lines.{each_of, between_commas, lines, on_line}
 use Rattle.kcr_forms.specs.OrMemory.{and_then}
 use Rattle.kcr_forms.specs.Posts.{next, last, act_by, act_of_shape, posted_act}
 use Rattle.kcr_forms.specs.Reading.{Reading, formed}
-use Rattle.kcr_forms.specs.Shapes.{Form, ValueOf, Makes, Shape, row, shape}
+use Rattle.kcr_forms.specs.Shapes.{Form, Makes, Shape, row, shape}
 use Rattle.kcr_forms.specs.Shapes as shapes
 use Rattle.kcr_forms.specs.Split.{split_at_byte}
 use Rattle.kcr_forms.specs.declared.post.Post.{Post}

@@ -10,3 +10,4 @@ pub mod Settled
 pub mod Distinct
 pub mod Tops
 pub mod Refused
+pub mod Laws

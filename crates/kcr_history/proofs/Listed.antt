@@ -1,12 +1,10 @@
 -- Texts with commas between them, one text after the other; the texts of replies and refusals, piece by piece.
 use denote.Shadow.{shadow}
 use denote.Text.{Utf8}
-use Rattle.std.proofs.Common.{◌≡◌, ℕ, zero, suc, ◌+◌, ◌<◌, ◌^◌, List, [], ◌∷◌, ◌++◌, map, take, length, get_or, codes, refl, sym, ap, ◌∙◌}
+use Rattle.std.proofs.Common.{◌≡◌, ℕ, zero, suc, ◌+◌, ◌<◌, List, [], ◌∷◌, ◌++◌, map, take, length, get_or, codes, refl, sym, ap, ◌∙◌}
 use Rattle.std.proofs.Common.{append_assoc, append-nil, add-one, arith}
 use Rattle.std.specs.Prelude.{Result, Ok, Err, IfOk}
 use Rattle.std.specs.Fmt.{decimal}
-use Rattle.std.specs.Int.Digits.{digits_of}
-use Rattle.std.proofs.lemmas.Fmt.{decimal-digits_of}
 use Rattle.std.specs.List.{join_with_byte, flat_map}
 use Rattle.std.proofs.lemmas.List.{map_more, get_or_default}
 use Rattle.std.proofs.lemmas.List.Concat.{flat_map-append}
@@ -85,10 +83,6 @@ answer n e s t =
     (regroup (codes "{\"accepted\":") n (flat_map behind_comma e) (flat_map behind_comma s) (flat_map behind_comma t) (codes "}"))
 
 -- REFUSALS
-
--- a number's text, digit by digit
-pub number_text : (n : ℕ) → 0 < n → n < 2 ^ 64 → decimal n ≡ map (λ d. 48 + d) (digits_of 10 n)
-number_text = decimal-digits_of
 
 -- a refusal's text is told of the kind of refusal that it is
 pub carried : {E : Type 0} (result : Result (List ℕ) E) {refusal which : Refusal} {text : List ℕ} → refusal ≡ which → text ≡ refusal_text which

@@ -28,6 +28,7 @@ greatest-shuffled (flipped x y xs) = turned (greatest xs)
     turned rest = grind arith
 greatest-shuffled (after xs ys zs s t) = greatest-shuffled t ∙ greatest-shuffled s
 
+-- the same numbers in any order have the same greatest
 pub greatest-order : (xs ys : List ℕ) → IsPermutation xs ys → greatest ys ≡ greatest xs
 greatest-order xs ys p = greatest-shuffled (shuffled xs ys p)
 
@@ -70,6 +71,7 @@ row_marks A (c ∷ cs) h =
     by_mark : (o : Option ℕ) (ms ns : List ℕ) → is_some o ≡ true → ms ≡ ns → (unwrap_or o 0 ∷ ms) ≡ cons_option o ns
     by_mark o ms ns e h = grind arith
 
+-- the settled day is the day of the greatest moment among the rows of marks, in any order
 pub settled-rows : (A : History) (rows : List MarkRow) → IsPermutation (marks A) rows → option_map day_of (greatest (map (λ row. row.at) rows)) ≡ settled A
 settled-rows A rows p =
     let own = row_marks A (values_of_acts opened_number A) (opened_marked A) in

@@ -17,6 +17,7 @@ use Rattle.kcr_history.specs.Tables.{ended, end_at}
 
 -- LISTS OF WHICH NO ROW PASSES A TEST
 
+-- if no element passes a test, none passes a stricter one
 pub none-weaker : {X : Type 0} (p q : X → Bool) → ((x : X) → p x ≡ false → q x ≡ false) → (xs : List X) → list_any p xs ≡ false → list_any q xs ≡ false
 none-weaker p q one [] h = refl
 none-weaker p q one (x ∷ xs) h = grind (arith, h, one x, none-weaker p q one xs)
@@ -75,10 +76,12 @@ abbrev pub in_turn : List Appointment → Bool
 in_turn [] = true
 in_turn (row ∷ rows) = not (person_holds_from_by rows row.who row.since) && in_turn rows
 
+-- a person who holds no place from a day on still holds none if an appointment gets an end
 pub free-ended : (place : Place) (day : ℕ) (who : List ℕ) (first : ℕ) (rows : List Appointment) → person_holds_from_by rows who first ≡ false
     → person_holds_from_by (map (ended place day) rows) who first ≡ false
 free-ended place day who first rows h = ended-still (λ p other. same_text other who) place day first rows h
 
+-- rows that are in turn stay so if an appointment gets an end
 pub in_turn-ended : (place : Place) (day : ℕ) (rows : List Appointment) → in_turn rows ≡ true → in_turn (map (ended place day) rows) ≡ true
 in_turn-ended place day [] t = refl
 in_turn-ended place day (row ∷ rows) t =
@@ -141,6 +144,7 @@ closing place day r rows s h l = let it = opened place r rows s h in subst (λ p
     closed (here rows e free) = or_from _ _ (now (same_place r.place r.place) r.until e) (later_free r.place r.since day rows (omega arith) free)
     closed (below row rows apart o) = or_from (same_place row.place r.place && lasts_beyond day (ended r.place day row)) _ (and_left _ _ apart) (closed o)
 
+-- each row lasts beyond its first day, and still does if the open one ends after its own first day
 pub lasts-ended : (place : Place) (day : ℕ) (r : Appointment) (rows : List Appointment) → stacked rows ≡ true → list_all lasts rows ≡ true
     → open_row_by rows place ≡ Some r → r.since < day → list_all lasts (map (ended place day) rows) ≡ true
 lasts-ended place day r rows s t h l = let it = opened place r rows s h in subst (λ p. list_all lasts (map (ended p day) rows) ≡ true) it.0 (still it.1 t)
@@ -201,6 +205,7 @@ none-stands r first (row ∷ rows) h =
     let one : (s : Bool) (u : Option ℕ) → (s && ends_after u first) ≡ false → (s && is_none u) ≡ true → ⊥ = λ s u e q. grind arith in
     (λ q. absurd (one (same_place row.place r.place) row.until p.0 q), none-stands r first rows p.1)
 
+-- the open row of a place is its only row without an end
 pub only-one : (place : Place) (r : Appointment) (rows : List Appointment) → stacked rows ≡ true → open_row_by rows place ≡ Some r
     → AllByRecursion (IsOnly place r) rows
 only-one place r rows s h = let it = opened place r rows s h in subst (λ p. AllByRecursion (IsOnly p r) rows) it.0 (only it.1)
@@ -222,6 +227,7 @@ holds-ended at place since d row h =
     by_places : (s t b : Bool) (u : Option ℕ) → (s ≡ true → t ≡ true → d < since) → ((s && b) && ends_after (end_at t u since) d) ≡ ((s && b) && ends_after u d)
     by_places s t b u f = grind (arith, nat_tests)
 
+-- an end of another place, or on a later day, leaves who holds the place on the day
 pub find-ended : (at place : Place) (since d : ℕ) (rows : List Appointment) → (same_place at place && nat_le since d) ≡ false
     → holder_by (map (ended at since) rows) place d ≡ holder_by rows place d
 find-ended at place since d [] h = refl

@@ -59,6 +59,7 @@ told_by : (A : History) (entry : Entry) (o : Option SeatRequest) → IsReplyTo A
 told_by A entry None h = (None, h)
 told_by A entry (Some s) h = (Some h.0, h.2)
 
+-- an entry that can follow has a new key, no refusal, and the reply of its act
 pub took : (A : History) (entry : Entry) → CanFollow A entry → Took A entry
 took A entry h =
     let t = told_by A entry (seat_request A entry.command.act) h.answered in
@@ -69,8 +70,9 @@ took A entry h =
 longer : {X : Type 0} (x : X) (xs : List X) → x ∷ xs ≡ xs → ⊥
 longer x xs e = omega (arith, ap length e)
 
-told : (a b : ReplyData) → Accepts a ≡ Accepts b → a ≡ b
-told a b e = cc
+-- equal outcomes that accept have the same reply
+pub same_reply : (a b : ReplyData) → Accepts a ≡ Accepts b → a ≡ b
+same_reply a b e = cc
 
 module _ (A : History) (x : Command) (reply : ReplyData) where
   abbrev A' : History
@@ -78,8 +80,8 @@ module _ (A : History) (x : Command) (reply : ReplyData) where
 
   by_sitting : (o : Option SeatRequest) → MatchOption o (IsAcceptedWith A x (reply_to A x.act None) (Accepts reply) A') (λ s. seats A x s (Accepts reply) A')
       → IsReplyTo A x.act reply o
-  by_sitting None h = told _ _ h.0
-  by_sitting (Some s) (inl w) = (w.0, w.1.seating, told _ _ w.2.0)
+  by_sitting None h = same_reply _ _ h.0
+  by_sitting (Some s) (inl w) = (w.0, w.1.seating, same_reply _ _ w.2.0)
   by_sitting (Some s) (inr w) = absurd (longer _ A w.2.1)
 
   by_key : (k : Option Entry) (f : Option Refusal)
@@ -89,6 +91,7 @@ module _ (A : History) (x : Command) (reply : ReplyData) where
   by_key None (Some refusal) h = absurd (longer _ A h.1)
   by_key None None h = (refl, refl, by_sitting (seat_request A x.act) h)
 
+  -- the entry of a command that the machine accepts can follow the history
   pub follows : machine A x (Accepts reply) A' → CanFollow A (record { command = x; reply = reply })
   follows h =
       let k = by_key (entry_of A x.key) (fault A x.act) h in

@@ -52,6 +52,7 @@ rooted_after (Withdraw who role day) rows withdrawn h =
     (all-more (has_its_training rows) _ withdrawn (λ w g. or_left _ _ g) h)
 rooted_after act rows withdrawn h = h
 
+-- each withdrawal is of a training that has a row
 pub rooted : (A : History) → list_all (has_its_training (trainings A)) (withdrawals A) ≡ true
 rooted [] = refl
 rooted (entry ∷ A) = rooted_after entry.command.act (trainings A) (withdrawals A) (rooted A)

@@ -23,12 +23,14 @@ some_row : {X : Type 0} (row_of : Act → Option X) (test : X → Bool) (says : 
 some_row row_of test says one [] = refl
 some_row row_of test says one (entry ∷ A) = one entry.command.act (values_of_acts row_of A) ∙ ap (λ b. says entry.command.act || b) (some_row row_of test says one A)
 
+-- a person has a row if and only if a command entered the person
 pub is_person-people : (A : History) (who : List ℕ) → is_person_by (people A) who ≡ is_person A who
 is_person-people A who = some_row person_row (λ row. same_text row.who who) (enters who) entered A
   where
     entered : (act : Act) (rows : List Person) → is_person_by (cons_option (person_row act) rows) who ≡ (enters who act || is_person_by rows who)
     entered act rows = grind arith
 
+-- a person has a training's row if and only if a command trained the person
 pub ever_trained-trainings : (A : History) (who : List ℕ) → ever_trained_by (trainings A) who ≡ ever_trained A who
 ever_trained-trainings A who = some_row training_row (λ row. same_text row.who who) (trains_person who) told A
   where
@@ -56,6 +58,7 @@ ever_put_after who (Replace place p day) rows = ap (λ b. same_text p who || b) 
 ever_put_after who (Release place day) rows = ever_put-ended who place day rows
 ever_put_after who act rows = refl
 
+-- a person has an appointment's row if and only if the person was ever a custodian
 pub ever_put-appointments : (A : History) (who : List ℕ) → ever_put_by (appointments A) who ≡ was_custodian A who
 ever_put-appointments [] who = refl
 ever_put-appointments (entry ∷ A) who =
@@ -78,6 +81,7 @@ planned_after : (act : Act) (c : ℕ) (numbers : List ℕ) (plan : Option Planne
 planned_after (Plan number facility day script) c numbers plan ih = grind arith
 planned_after act c numbers plan ih = ih
 
+-- a number is among those planned if and only if it is a ceremony's
 pub planned-number : (A : History) (c : ℕ) → list_any (λ k. eqb k c) (values_of_acts planned_number A) ≡ is_ceremony A c
 planned-number [] c = refl
 planned-number (entry ∷ A) c = planned_after entry.command.act c (values_of_acts planned_number A) (plan_of A c) (planned-number A c)

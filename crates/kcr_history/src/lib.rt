@@ -17,7 +17,6 @@ mod questions;
 mod refusals;
 mod replies;
 mod report_rows;
-mod row_laws;
 mod row_types;
 mod steps_done;
 mod telling;
@@ -37,9 +36,6 @@ pub use questions::{
 pub use refusals::{FixedText, fixed_text, refusal_text};
 pub use replies::reply_text;
 pub use report_rows::{BagWithItems, SeatedStep, StayWithName};
-pub use row_laws::{
-    holder_of_rows, numbers_count_commands, people_of_rows, settled_of_rows, training_of_rows,
-};
 pub use row_types::{
     CeremonyRow, CeremonyState, ExceptionRow, KeyRow, MarkRow, SeatingRow, StepRow, StepState,
 };

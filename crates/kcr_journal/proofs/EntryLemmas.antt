@@ -88,6 +88,7 @@ row-is asked rows entry good =
     ap (λ (o : Option Act). option_map_or (λ act. if is_of_ceremony asked act then act_line rows (key_row entry) act else []) o []) (act-again act good.act)
     ∙ ap (λ text. if is_of_ceremony asked act then text else []) (same-line rows act entry.reply good.told)
 
+-- each entry of a register of values has an act and a reply of values
 pub good-entries : (A : History) → IsRegister A → AreValues A → AllByRecursion IsGood A
 good-entries [] h values = tt
 good-entries (entry ∷ A) h values =
@@ -99,6 +100,7 @@ choose : (b : Bool) (f : Entry → List ℕ) (entry : Entry) (others : List Entr
 choose true f entry others = refl
 choose false f entry others = refl
 
+-- the lines of the rows of entries are those of the entries that name the ceremony asked for
 pub rows-are : (asked : Option ℕ) (rows : List Person) (entries : List Entry) → AllByRecursion IsGood entries
     → flat_map (λ text. text) (map (row_line asked rows) (map key_row entries))
     ≡ flat_map (entry_line rows) (filter (λ entry. is_of_ceremony asked entry.command.act) entries)

@@ -15,6 +15,7 @@ more : {X Y : Type 0} (h : X → Option Y) (xs : List X) (x : X) → filter_map 
 more h [] x = refl
 more h (y ∷ ys) x = more_by (h y) _ _ _ (more h ys x)
 
+-- the initials of a text come after those among the texts before it
 pub taken : (h : List ℕ → Option (List ℕ)) (texts : List (Bor (List ℕ))) (i : ℕ) (d : Bor (List ℕ)) (who : List ℕ) → i < length texts
     → h (get_or texts i d).now ≡ Some who
     → filter_map h (bytes_of (take (i + 1) texts)) ≡ filter_map h (bytes_of (take i texts)) ++ who ∷ []
@@ -22,6 +23,7 @@ taken h texts i d who low is =
     ap (filter_map h) (map_more (λ (text : Bor (List ℕ)). text.now) texts i d low) ∙ more h (bytes_of (take i texts)) (get_or texts i d).now
     ∙ ap (λ o. filter_map h (bytes_of (take i texts)) ++ cons_option o []) is
 
+-- a text of no initials leaves the initials among the texts as they are
 pub missing : (h : List ℕ → Option (List ℕ)) (texts : List (Bor (List ℕ))) (i : ℕ) (d : Bor (List ℕ)) → i < length texts
     → h (get_or texts i d).now ≡ None → filter_map h (bytes_of (take (i + 1) texts)) ≡ filter_map h (bytes_of (take i texts))
 missing h texts i d low is =

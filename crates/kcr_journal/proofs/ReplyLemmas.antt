@@ -77,6 +77,7 @@ onto (suc k) n acc h =
     let longer = All-cons IsDigit (digit_glyph false (n % 10)) acc (glyph n) h in
     either (n / 10 == 0) _ _ longer (onto k (n / 10) (digit_glyph false (n % 10) ∷ acc) longer)
 
+-- the text of a number has only digits
 pub are-digits : (n : ℕ) → All IsDigit (decimal n)
 unfolding digits
 are-digits n = onto 64 n [] (All-nil IsDigit)
@@ -155,6 +156,7 @@ passed-quotes a e j k =
 
 -- NUMBERS
 
+-- from the reply of an exception that passes no step its number is read
 pub stated-number : (a e : List ℕ) → All IsDigit a → All IsDigit e
     → exception_in (object (member (codes "accepted") a ∷ member (codes "exception") e ∷ [])) ≡ e
 stated-number a e first second =
@@ -176,11 +178,13 @@ module _ (a e s k : List ℕ) (first : All IsDigit a) (second : All IsDigit e) (
       ∙ after-both (codes "{\"accepted\"") (a ++ codes ",\"exception\"") behind (lacks is_colon (codes "{\"accepted\"") refl)
       (both-lack is_colon a (codes ",\"exception\"") (digits-colon a first) (lacks is_colon (codes ",\"exception\"") refl))
 
+  -- from the reply of an exception that passes a step its number is read
   pub passing-number : exception_in passing ≡ e
   passing-number =
       ap value_in (two-colons ∙ append_assoc e (codes ",\"seating\"") (58 ∷ ((s ++ codes ",\"step\"") ++ 58 ∷ (k ++ 125 ∷ []))))
       ∙ value-is e 44 _ (digits-end e second) refl
 
+  -- from the reply of an exception that passes a step the step is read
   pub passing-step : passed_in passing ≡ k
   passing-step =
       ap (λ text. value_in (after_two text)) two-colons
@@ -274,12 +278,14 @@ seated-after a rest first =
     ∙ skip (codes "accepted") _ (lacks is_quote (codes "accepted") refl) accepted-other
     ∙ skip (codes ":" ++ a ++ codes ",") rest (number-quote a 44 refl first) (not-initials 58 (a ++ 44 ∷ []) (omega arith))
 
+-- from the reply of a signature those who are seated are read
 pub signed-people : (a k : List ℕ) (people : List (List ℕ)) → All IsDigit a → All IsDigit k → AllByRecursion IsInitials people
     → seated_in (object (member (codes "accepted") a ∷ member (codes "seating") (people_array people) ∷ member (codes "step") k ∷ [])) ≡ people
 signed-people a k people first last each =
     let j = join_with_byte 44 (map quoted people) in
     ap seated_in (signed-form a j k) ∙ seated-after a (listing j k) first ∙ listed-people people k each last
 
+-- from the reply of an exception that passes a step those who are seated are read
 pub passing-people : (a e k : List ℕ) (people : List (List ℕ)) → All IsDigit a → All IsDigit e → All IsDigit k → AllByRecursion IsInitials people
     → seated_in (object (member (codes "accepted") a ∷ member (codes "exception") e ∷ member (codes "seating") (people_array people) ∷ member (codes "step") k ∷ [])) ≡ people
 passing-people a e k people first second last each =
@@ -302,6 +308,7 @@ joined-colon (p ∷ q ∷ ps) each =
     both-lack is_colon (quoted p) (44 ∷ join_with_byte 44 (map quoted (q ∷ ps))) (person-colon p each.0)
     (All-cons (λ b. is_colon b ≡ false) 44 (join_with_byte 44 (map quoted (q ∷ ps))) refl (joined-colon (q ∷ ps) each.1))
 
+-- the array of some people's initials has no colon
 pub people-colon : (people : List (List ℕ)) → AllByRecursion IsInitials people → Lacks is_colon (people_array people)
 people-colon people each =
     both-lack is_colon (codes "[") (join_with_byte 44 (map quoted people) ++ codes "]") (lacks is_colon (codes "[") refl)

@@ -68,6 +68,7 @@ by-row who c t (Some row) h e =
 in-room : (A : History) → AreValues A → (who : List ℕ) (c t : ℕ) → is_in A who c t ≡ true → IsInitials who
 in-room A values who c t is = by-row who c t _ (last-of (IsRowOf who t) None _ tt (rows-of who t (sheet A) (sheet-rows A values))) is
 
+-- in a history of values each person of a seating has initials of the right form
 pub seated-initials : (A : History) → AreValues A → (c t : ℕ) (seats : List Seat) (people : List (List ℕ)) → is_seating A c t seats people ≡ true
     → AllByRecursion IsInitials people
 seated-initials A values c t seats [] h = tt

@@ -13,12 +13,11 @@ use Rattle.kcr_history.specs.Machine.{IsOfMachine, CanFollow, IsRegister}
 use Rattle.kcr_history.proofs.Steps.{follows}
 use Rattle.kcr_laws.specs.Runs.{AreSteps, AreAnswered, new_command}
 
-pub same_reply : (a b : ReplyData) → Accepts a ≡ Accepts b → a ≡ b
-same_reply a b e = cc
-
+-- equal outcomes that refuse have the same refusal
 pub same_refusal : (r q : Refusal) → Refuses r ≡ Refuses q → r ≡ q
 same_refusal r q e = cc
 
+-- no outcome both accepts and refuses
 pub other_outcome : (a : ReplyData) (r : Refusal) → Accepts a ≡ Refuses r → ⊥
 other_outcome a r e = absurd (let f : Accepts a ≡ Refuses r = e in cc)
 
@@ -41,6 +40,7 @@ each_register P base step (entry ∷ A) h = step A entry.command.key entry.comma
 
 -- REPEATS
 
+-- the same command under an accepted key gets its kept reply, and the history stays
 pub repeated : (A : History) (x : Command) (kept : Entry) → entry_of A x.key ≡ Some kept → same_command kept.command.act x.act ≡ true
     → (outcome : Outcome) (A' : History) → machine A x outcome A' → (outcome ≡ Accepts kept.reply) × (A' ≡ A)
 repeated A x kept e s outcome A' h = let g = rw e at h in (rw s at g.0, g.1)
@@ -66,15 +66,19 @@ step_leads P A x r grows outcome A' h = by_entry (entry_of A x.key) (fault A x.a
     by_entry None (Some refusal) g = rw g.1 r
     by_entry None None g = seated (seat_request A x.act) g
 
+-- a step from a register leads to a register
 pub step_keeps : (A : History) (x : Command) (outcome : Outcome) (A' : History) → IsRegister A → machine A x outcome A' → IsRegister A'
 step_keeps A x outcome A' r = step_leads IsRegister A x r (λ reply step. (follows A x reply step, r)) outcome A'
 
+-- a step from a reachable history leads to a reachable history
 pub step_leads_on : (A : History) (x : Command) (outcome : Outcome) (A' : History) → IsOfMachine A → machine A x outcome A' → IsOfMachine A'
 step_leads_on A x outcome A' m = step_leads IsOfMachine A x m (λ reply step. (step, m)) outcome A'
 
+-- several steps from a register lead to a register
 pub steps_keep : (A : History) (said : List (Act × List ℕ)) (A' : History) → IsRegister A → AreSteps A said A' → IsRegister A'
 steps_keep A [] A' r h = rw h r
 steps_keep A (said ∷ rest) A' r h = steps_keep h.1 rest A' (step_keeps A (new_command A said.0) h.0 h.1 r h.2) h.4
 
+-- acts with their answers lead from a register to a register
 pub answers_keep : (A A' : History) (said : List (Act × List ℕ)) → IsRegister A → AreAnswered A said A' → IsRegister A'
 answers_keep A A' said r h = steps_keep A said A' r h.steps

@@ -50,6 +50,7 @@ room_after A key (Ceremony d at (RecordSheet way people)) answer c t f ih = by_c
         subst IsAllowed (sym (ap length (same_room (sheet A ++ map (new_row d way at) people) (sheet A) c t as_before))) ih
 room_after A key act answer c t f ih = ih
 
+-- in a register exactly one person, or more than `MAX_PRESENT`, is in a room at no moment
 pub rooms : (A : History) → IsRegister A → (c t : ℕ) → IsAllowed (headcount_by (sheet A) c t)
 rooms A h c t =
     each_register (λ B. IsAllowed (headcount_by (sheet B) c t)) (λ e. omega (arith, e), omega arith)

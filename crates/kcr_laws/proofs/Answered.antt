@@ -35,5 +35,6 @@ module _ (A : History) (x : Command) where
   by_entry None (Some refusal) = (Refuses refusal, A, (refl, refl))
   by_entry None None = by_sitting (seat_request A x.act)
 
+  -- the command has an outcome, and a history after it
   pub always : (outcome : Outcome) × (A' : History) × machine A x outcome A'
   always = by_entry (entry_of A x.key) (fault A x.act)

@@ -161,6 +161,7 @@ boxes_there A h serial =
     box_still B (entry_from key act answer) (option_or (spot_after (facility_of B) serial act) (spot B serial))
     (box_of_either B (spot_after (facility_of B) serial act) (spot B serial) (box_moved B act serial a.no_fault) ih)) A h
 
+-- in every register items are neither lost nor doubled
 pub balanced : (A : History) → IsRegister A → IsBalanced A
 balanced A h =
     record {

@@ -26,9 +26,11 @@ use Rattle.kcr_laws.proofs.Refused.{kind, IsOther, AreOther, other_when, other_o
 
 -- MORE THAN 128
 
+-- the stays show a crowd if and only if at some moment more than 128 people are in the room by the rows
 pub ever : (rows : List SheetRow) (c : ℕ) → IsEver (λ t. nat_lt 128 (headcount_by rows c t)) (is_crowded_in_by (stays_by rows) c)
 ever rows c = crowded-by_rows rows c (is_crowded_in_by (stays_by rows) c) (crowded-is_ever (stays_by rows) c)
 
+-- if rows are refused for a crowd, at some moment more than 128 people are in the room
 pub crowd_told : (rows : List SheetRow) (c : ℕ) → crowd_refusal rows c ≡ Some Crowd → IsEverCrowded rows c
 crowd_told rows c h =
     let e = rw (told (is_crowded_in_by (stays_by rows) c) h) at (ever rows c) in
@@ -37,6 +39,7 @@ crowd_told rows c h =
     told : (b : Bool) → when b Crowd ≡ Some Crowd → b ≡ true
     told b g = grind arith
 
+-- if at some moment more than 128 people are in the room, the rows are refused for a crowd
 pub crowd_holds : (rows : List SheetRow) (c : ℕ) → IsEverCrowded rows c → crowd_refusal rows c ≡ Some Crowd
 crowd_holds rows c (t, l) = by_test (is_crowded_in_by (stays_by rows) c) (ever rows c)
   where
@@ -46,6 +49,7 @@ crowd_holds rows c (t, l) = by_test (is_crowded_in_by (stays_by rows) c) (ever r
 
 -- EXACTLY ONE
 
+-- the first lone moment by the stays is the first at which exactly one person is in the room by the rows
 pub first : (rows : List SheetRow) (c : ℕ) → IsFirstMoment (λ t. headcount_by rows c t == 1) (first_lone_in_by (stays_by rows) c)
 first rows c = first_lone-by_rows rows c (first_lone_in_by (stays_by rows) c) (first_lone-is_first (stays_by rows) c)
 
@@ -55,11 +59,13 @@ moment_told o t h = grind arith
 none_told : (o : Option ℕ) → option_map Lone o ≡ None → o ≡ None
 none_told o h = grind arith
 
+-- if rows are refused for somebody alone at a moment, it is the first with exactly one person in the room
 pub lone_told : (rows : List SheetRow) (c t : ℕ) → lone_room_refusal rows c ≡ Some (Lone t) → IsFirstAlone rows c t
 lone_told rows c t h =
     let f = rw (moment_told (first_lone_in_by (stays_by rows) c) t h) at (first rows c) in
     (eqb-true (headcount_by rows c t) 1 f.0, λ u l. eqb-false (headcount_by rows c u) 1 (f.1 u l))
 
+-- if there is a first moment with exactly one person in the room, the rows are refused for it
 pub lone_holds : (rows : List SheetRow) (c t : ℕ) → IsFirstAlone rows c t → lone_room_refusal rows c ≡ Some (Lone t)
 lone_holds rows c t (one, none) = by_moment (first_lone_in_by (stays_by rows) c) (first rows c)
   where
@@ -71,9 +77,11 @@ lone_holds rows c t (one, none) = by_moment (first_lone_in_by (stays_by rows) c)
       | inr (inr l) ↦ absurd (both_ways (headcount_by rows c t == 1) (f.1 t l) (eq-eqb (headcount_by rows c t) 1 one))
     ]
 
+-- if rows are not refused for somebody alone, at no moment is exactly one person in the room
 pub never_told : (rows : List SheetRow) (c : ℕ) → lone_room_refusal rows c ≡ None → IsNeverAlone rows c
 never_told rows c h t = eqb-false (headcount_by rows c t) 1 ((rw (none_told (first_lone_in_by (stays_by rows) c) h) at (first rows c)) t)
 
+-- if at no moment exactly one person is in the room, the rows are not refused for somebody alone
 pub never_holds : (rows : List SheetRow) (c : ℕ) → IsNeverAlone rows c → lone_room_refusal rows c ≡ None
 never_holds rows c none = by_moment (first_lone_in_by (stays_by rows) c) (first rows c)
   where
@@ -109,6 +117,7 @@ others_before A c way people at rest r e others =
 others_behind : (A : History) (c : ℕ) (way : Way) (rows : List SheetRow) (r : Refusal) → (0 == kind r) ≡ false → AreOther r (behind_room A c way rows)
 others_behind A c way rows r e = (other_when r _ _ e, (other_when r _ _ e, tt))
 
+-- with a request refused for a crowd more than 128 people would be in the room at some moment
 pub crowd_fault : (A : History) (c : ℕ) (way : Way) (people : List (List ℕ)) (at : ℕ) → fault A (Ceremony c at (RecordSheet way people)) ≡ Some Crowd
     → IsEverCrowded (sheet_after (Ceremony c at (RecordSheet way people)) (sheet A)) c
 crowd_fault A c way people at h =
@@ -118,6 +127,7 @@ crowd_fault A c way people at h =
     (others_before A c way people at [] Crowd refl tt)
     (other_of_some Crowd Lone (λ t. refl) (first_lone_in_by (stays_by rows) c), others_behind A c way rows Crowd refl) h)
 
+-- a request refused for somebody alone names the first moment at which exactly one person would be in the room
 pub lone_fault : (A : History) (c : ℕ) (way : Way) (people : List (List ℕ)) (at t : ℕ) → fault A (Ceremony c at (RecordSheet way people)) ≡ Some (Lone t)
     → IsFirstAlone (sheet_after (Ceremony c at (RecordSheet way people)) (sheet A)) c t
 lone_fault A c way people at t h =

@@ -22,6 +22,7 @@ abbrev pub one_more : Bool → ℕ → ℕ
 one_more true n = suc n
 one_more false n = n
 
+-- a further element adds one to how many pass if it passes
 pub count-cons : {X : Type 0} (p : X → Bool) (x : X) (xs : List X) → length (filter p (x ∷ xs)) ≡ one_more (p x) (length (filter p xs))
 count-cons p x xs = grind arith
 
@@ -54,15 +55,17 @@ result_after A (Ceremony d at (RecordException text true)) said c k f people e i
 result_after A (Ceremony d at (RecordException text false)) said c k f people e ih = rw (e, and_right (d == c) false refl) ih
 result_after A act said c k f people e ih = ih
 
-pub no_step_done : (k : ℕ) → (nat_le 1 k && nat_le k 0) ≡ false
-no_step_done k = grind (arith, nat_tests)
+-- no number is at least 1 and at most 0
+pub nothing_within : (k : ℕ) → (nat_le 1 k && nat_le k 0) ≡ false
+nothing_within k = grind (arith, nat_tests)
 
+-- a further command makes one more step done if it signs or passes one of the ceremony
 pub done-after : (A : History) (entry : Entry) (c : ℕ) → steps_done (entry ∷ A) c ≡ one_more (does_step c entry.command.act) (steps_done A c)
 done-after A entry c = count-cons (λ entry. does_step c entry.command.act) entry A
 
 -- step k was signed or passed if and only if it is one of the steps done so far
 pub result_of_done : (A : History) → IsRegister A → (c k : ℕ) → is_some (step_result A c k) ≡ (nat_le 1 k && nat_le k (steps_done A c))
-result_of_done [] h c k = sym (no_step_done k)
+result_of_done [] h c k = sym (nothing_within k)
 result_of_done (entry ∷ A) h c k =
     let t = took A entry h.0 in
     result_after A entry.command.act entry.reply.step c k t.no_fault t.people (ap (λ a. a.step) t.reply) (result_of_done A h.1 c k)

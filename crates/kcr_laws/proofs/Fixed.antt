@@ -15,7 +15,8 @@ use Rattle.kcr_history.specs.Seating.{comes_first, IsFirst}
 use Rattle.kcr_history.specs.Conditions.{fault}
 use Rattle.kcr_history.specs.Machine.{Outcome, Accepts, Refuses, SeatRequest, seat_request, reply_to, with_command, IsAcceptedWith, seats, DecidesNew, DecidesRepeat, machine}
 use Rattle.kcr_laws.proofs.Trials.{same_people, people-are}
-use Rattle.kcr_laws.proofs.Accepted.{same_reply, same_refusal, other_outcome}
+use Rattle.kcr_laws.proofs.Accepted.{same_refusal, other_outcome}
+use Rattle.kcr_history.proofs.Steps.{same_reply}
 use Rattle.kcr_laws.proofs.Halves.{one_half}
 
 -- of two lists at most one comes first

@@ -39,6 +39,7 @@ some_at test (i ∷ is) h = elim (or_cases (test i) (list_any test is) h) [
   | inr e ↦ let w = some_at test is e in (w.0, or_right (i == w.0) (is_one w.0 is) w.1, w.2)
 ]
 
+-- if a number of the list passes the test, some number passes
 pub some_from : (test : ℕ → Bool) (is : List ℕ) (i : ℕ) → is_one i is ≡ true → test i ≡ true → list_any test is ≡ true
 some_from test [] i h e = cc
 some_from test (j ∷ is) i h e = grind (arith, nat_tests, some_from test is i)

@@ -21,3 +21,4 @@ pub mod Shortages
 pub mod Answered
 pub mod Refused
 pub mod Staffed
+pub mod Laws

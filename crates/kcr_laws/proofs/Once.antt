@@ -12,5 +12,6 @@ absent : (A : History) (key : List ℕ) → entry_of A key ≡ None → list_any
 absent [] key h = refl
 absent (entry ∷ A) key h = grind (arith, nat_list_eq_equiv.symm key entry.command.key, absent A key)
 
+-- in a register no key was accepted twice
 pub once : (A : History) → IsRegister A → IsOnce A
 once = each_register IsOnce refl (λ A key act answer r a ih. grind (arith, absent A key a.new_key, ih))

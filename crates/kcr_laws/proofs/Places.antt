@@ -32,9 +32,11 @@ use Rattle.kcr_laws.proofs.Finds.{none-below}
 abbrev pub RowsHold : History → Place → ℕ → Type 0
 RowsHold A place day = (d : ℕ) × (day ≤ d) × (is_some (holder_by (appointments A) place d) ≡ true)
 
+-- a place held on the day or later by the rows is so by the history
 pub place_told : (A : History) → IsRegister A → (place : Place) (day : ℕ) → RowsHold A place day → IsHeldOnOrAfter A place day
 place_told A r place day (d, l, h) = (d, l, ap is_some (sym (holder-appointments A r place d)) ∙ h)
 
+-- a place held on the day or later by the history is so by the rows
 pub place_holds : (A : History) → IsRegister A → (place : Place) (day : ℕ) → IsHeldOnOrAfter A place day → RowsHold A place day
 place_holds A r place day (d, l, h) = (d, l, ap is_some (holder-appointments A r place d) ∙ h)
 
@@ -71,11 +73,13 @@ by_some_row (row ∷ rows) place d who h = grind (arith, by_some_row rows place 
 abbrev pub RowsPut : History → List ℕ → ℕ → Type 0
 RowsPut A who day = (d : ℕ) × (day ≤ d) × (holds_some_by (appointments A) who d ≡ true)
 
+-- a person who holds a place on the day or later by the rows does so by the history
 pub person_told : (A : History) → IsRegister A → (who : List ℕ) (day : ℕ) → RowsPut A who day → HoldsPlaceOnOrAfter A who day
 person_told A r who day (d, l, h) =
     let p = its_holder (appointments A) who d (orderly A r).0 h in
     (d, l, (p.0, ap (is_this who) (sym (holder-appointments A r p.0 d)) ∙ p.1))
 
+-- a person who holds a place on the day or later by the history does so by the rows
 pub person_holds : (A : History) → IsRegister A → (who : List ℕ) (day : ℕ) → HoldsPlaceOnOrAfter A who day → RowsPut A who day
 person_holds A r who day (d, l, p) = (d, l, by_some_row (appointments A) p.0 d who (ap (is_this who) (holder-appointments A r p.0 d) ∙ p.1))
 
@@ -107,12 +111,14 @@ since_after A (Replace at who day) place ih = grind (arith, ih, other_end at pla
 since_after A (Release at day) place ih = grind (arith, ih, other_end at place day (appointments A), own_end at place day (appointments A))
 since_after A act place ih = ih
 
+-- the open row of a place begins on the day from which its last command puts somebody there
 pub since_said : (A : History) (place : Place) → since_of (open_row_by (appointments A) place) ≡ held_since A place
 since_said [] place = refl
 since_said (entry ∷ A) place = since_after A entry.command.act place (since_said A place)
 
 -- TOO EARLY, AND VACANT
 
+-- a day is out of range only if the place's last command puts somebody there from that day or a later one on
 pub early_told : (A : History) (place : Place) (day : ℕ) → first_day_refusal (appointments A) place day ≡ Some Range → BeginsFrom A place day
 early_told A place day h = by_row (open_row_by (appointments A) place) h (since_said A place)
   where
@@ -120,12 +126,15 @@ early_told A place day h = by_row (open_row_by (appointments A) place) h (since_
     by_row None g s = absurd (let z : None ≡ Some Range = g in cc)
     by_row (Some row) g s = (row.since, sym s, grind (arith, nat_tests))
 
+-- a day is out of range if the place's last command puts somebody there from that day or a later one on
 pub early_holds : (A : History) (place : Place) (day : ℕ) → BeginsFrom A place day → first_day_refusal (appointments A) place day ≡ Some Range
 early_holds A place day (since, s, l) = grind (arith, nat_tests, since_said A place)
 
+-- a place is refused as vacant only if its last command puts nobody there
 pub vacant_told : (A : History) (place : Place) → vacant_refusal (appointments A) place ≡ Some Vacant → held_since A place ≡ None
 vacant_told A place h = grind (arith, since_said A place)
 
+-- a place is refused as vacant if its last command puts nobody there
 pub vacant_holds : (A : History) (place : Place) → held_since A place ≡ None → vacant_refusal (appointments A) place ≡ Some Vacant
 vacant_holds A place e = grind (arith, since_said A place)
 
@@ -135,5 +144,6 @@ vacant_holds A place e = grind (arith, since_said A place)
 abbrev pub RowsTrain : History → List ℕ → Role → ℕ → Type 0
 RowsTrain A who role day = (d : ℕ) × (day ≤ d) × (trained_by (trainings A) (withdrawals A) who role d ≡ true)
 
+-- a person trained for the role on the day or later by the rows is so by the history
 pub trained_told : (A : History) → IsRegister A → (who : List ℕ) (role : Role) (day : ℕ) → RowsTrain A who role day → IsTrainedOnOrAfter A who role day
 trained_told A r who role day (d, l, h) = (d, l, sym (trained-rows A r who role d) ∙ h)

@@ -22,10 +22,12 @@ abbrev pub AreOther : Refusal → List (Option Refusal) → Type 0
 AreOther r [] = Unit {0}
 AreOther r (o ∷ os) = IsOther r o × AreOther r os
 
+-- a condition with a refusal of another kind gives none of this kind
 pub other_when : (r : Refusal) (b : Bool) (q : Refusal) → (kind q == kind r) ≡ false → IsOther r (when b q)
 other_when r true q e = e
 other_when r false q e = tt
 
+-- a refusal made of an optional value is of another kind if all such refusals are
 pub other_of_some : {X : Type 0} (r : Refusal) (refuse : X → Refusal) → ((x : X) → (kind (refuse x) == kind r) ≡ false) → (o : Option X)
     → IsOther r (option_map refuse o)
 other_of_some r refuse e None = tt

@@ -32,6 +32,7 @@ none_enters other last (row ∷ rows) l h = none_enters other (later_row last ro
     by_last None e = parts.0
     by_last (Some old) e = cond_both (nat_lt row.at old.at) (Some old) (Some row) (λ o. last_enters other o ≡ false) (λ _. e) (λ _. parts.0)
 
+-- the last row after two lists is the last after the second, from that of the first on
 pub onto_append : (last : Option SheetRow) (rows more : List SheetRow) → last_onto last (rows ++ more) ≡ last_onto (last_onto last rows) more
 onto_append last [] more = refl
 onto_append last (row ∷ rows) more = onto_append (later_row last row) rows more

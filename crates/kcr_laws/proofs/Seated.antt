@@ -273,11 +273,13 @@ seated_still A entry [] f p h = refl
 seated_still A entry (old ∷ entries) f p h =
     grind (arith, old_seated A entry old.command.act old.reply.seating f, seated_still A entry entries f)
 
+-- the marked moment of each command of a register is past by the whole of it
 pub all_pasts : (A : History) → IsRegister A → all_past A A ≡ true
 all_pasts [] h = refl
 all_pasts (entry ∷ A) h =
     and_from (is_past_if (entry ∷ A) (marked_moment entry.command.act)) _ (now_past A entry h.0.no_fault) (past_still A entry A (all_pasts A h.1))
 
+-- every recorded seating of a register is one by the whole of it
 pub seated : (A : History) → IsRegister A → are_seated A ≡ true
 seated [] h = refl
 seated (entry ∷ A) h =

@@ -8,8 +8,8 @@ use Rattle.kcr_history.specs.declared.commands.Command.{Command}
 use Rattle.kcr_history.specs.History.{History}
 use Rattle.kcr_history.specs.Machine.{Accepts, seat_request, reply_to, with_command, IsAcceptedWith, seats, machine, IsOfMachine, IsReplyTo, CanFollow, IsRegister}
 use Rattle.kcr_history.specs.Laws.{IsSeatedFirst, HasFirstSeatings}
-use Rattle.kcr_history.proofs.Steps.{follows}
-use Rattle.kcr_laws.proofs.Accepted.{same_reply, other_outcome, entry_from}
+use Rattle.kcr_history.proofs.Steps.{follows, same_reply}
+use Rattle.kcr_laws.proofs.Accepted.{other_outcome, entry_from}
 
 -- with a new key, and with nothing that refuses it, the command with these parts is accepted with this answer
 abbrev IsSeated : History → List ℕ → Act → ReplyData → Type 0
@@ -46,10 +46,12 @@ first_step : (A : History) (key : List ℕ) (act : Act) (answer : ReplyData) →
     → IsSeatedFirst A (seat_request A act) answer.seating → machine A (record { key = key; act = act }) (Accepts answer) (entry_from key act answer ∷ A)
 first_step A key act answer can first = rw (can.new_key, can.no_fault) (first_seated A key act answer can.answered first)
 
+-- in a reachable history every recorded seating is the first one
 pub machine_first : (A : History) → IsOfMachine A → HasFirstSeatings A
 machine_first [] m = tt
 machine_first (entry ∷ A) m = (step_first A entry.command.key entry.command.act entry.reply m.0, machine_first A m.1)
 
+-- a register whose recorded seatings are all first ones is a reachable history
 pub first_machine : (A : History) → IsRegister A → HasFirstSeatings A → IsOfMachine A
 first_machine [] h first = tt
 first_machine (entry ∷ A) h first = (first_step A entry.command.key entry.command.act entry.reply h.0 first.0, first_machine A h.1 first.1)

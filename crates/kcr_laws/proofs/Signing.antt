@@ -17,7 +17,8 @@ use Rattle.kcr_history.specs.Tables.{seats_at}
 use Rattle.kcr_history.specs.Conditions.{fault, is_full}
 use Rattle.kcr_history.specs.Machine.{Outcome, Accepts, Refuses, SeatRequest, reply_to, with_command, seats, DecidesNew, machine}
 use Rattle.kcr_laws.specs.Conditions.{signature, IsAccepted, CanFill, IsShortOf}
-use Rattle.kcr_laws.proofs.Accepted.{same_reply, other_outcome, same_refusal}
+use Rattle.kcr_laws.proofs.Accepted.{other_outcome, same_refusal}
+use Rattle.kcr_history.proofs.Steps.{same_reply}
 use Rattle.kcr_laws.proofs.Firsts.{first_or_none}
 use Rattle.kcr_laws.proofs.Shortages.{seating_or_least}
 use Rattle.kcr_laws.proofs.Halves.{one_half}
@@ -30,6 +31,7 @@ with_step (Some plan) k h = refl
 with_step None zero h = absurd (false≢true h)
 with_step None (suc k) h = absurd (false≢true h)
 
+-- a ceremony with a step that may be signed was planned
 pub next_known : (A : History) (c k at : ℕ) → next A c k at ≡ true → is_ceremony A c ≡ true
 next_known A c k at h =
     let p = and_parts (is_ceremony_open A c && k == next_step A c && is_some (step_at (steps_of A c) k)) (is_not_before at (mark A c)) h in
@@ -47,9 +49,11 @@ timely at (Some m) h = grind (arith, nat_tests)
 pub next_no_fault : (A : History) (c k at : ℕ) → is_full A ≡ false → next A c k at ≡ true → fault A (Ceremony c at (Sign k)) ≡ None
 next_no_fault A c k at room h = grind (arith, room, next_known A c k at h, in_time at (mark A c))
 
+-- a signature without a refusal is of a step that may be signed
 pub no_fault_next : (A : History) (c k at : ℕ) → fault A (Ceremony c at (Sign k)) ≡ None → next A c k at ≡ true
 no_fault_next A c k at f = grind (arith, timely at (mark A c))
 
+-- a register with fewer commands than the limit is not full
 pub room_left : (A : History) → length A < 4000000000 → is_full A ≡ false
 room_left A l = lt-leb 4000000000 (length A) l
 
@@ -76,6 +80,7 @@ accepted_parts : (A : History) (key : List ℕ) (c k at : ℕ) (answer : ReplyDa
     → (fault A (Ceremony c at (Sign k)) ≡ None) × seats A (signature key c k at) (sitting_of A c k at) (Accepts answer) A'
 accepted_parts A key c k at answer A' new h = signed_parts A key c k at (Accepts answer) A' new (λ r f. other_outcome answer r) h
 
+-- a signature under a new key is accepted only if its step is next and people can fill its seats
 pub signed_next : (A : History) (key : List ℕ) (c k at : ℕ) → entry_of A key ≡ None → IsAccepted A (signature key c k at)
     → (next A c k at ≡ true) × CanFill A c k at
 signed_next A key c k at new a =
@@ -86,6 +91,7 @@ signed_next A key c k at new a =
     seated (inl w) = (w.0, w.1.seating)
     seated (inr w) = absurd (other_outcome _ _ w.2.0)
 
+-- a signature under a new key is accepted if its step is next, people can fill its seats, and the register is not full
 pub next_signed : (A : History) (key : List ℕ) (c k at : ℕ) → entry_of A key ≡ None → length A < 4000000000 → next A c k at ≡ true → CanFill A c k at
     → IsAccepted A (signature key c k at)
 next_signed A key c k at new l n (people, seating) = elim (first_or_none A c at (seats_at (steps_of A c) k)) [
@@ -131,11 +137,14 @@ short_named A key c k at p A' new h = by_seats (short_parts A key c k at p A' ne
     by_seats (inl w) = absurd (other_outcome _ _ (sym w.2.0))
     by_seats (inr w) = (w.0, w.1, short_of p (map suc w.0) (same_refusal (Short p) (Short (map suc w.0)) w.2.0))
 
+-- a signature under a new key is short of people only if its step is next and no people can fill its seats
 pub short_next : (A : History) (key : List ℕ) (c k at : ℕ) → entry_of A key ≡ None → IsShortOf A key c k at → (next A c k at ≡ true) × (CanFill A c k at → ⊥)
 short_next A key c k at new (positions, least, h) =
     let p = short_parts A key c k at (map suc positions) A new h in
     (no_fault_next A c k at p.0, λ f. one_half A c at (seats_at (steps_of A c) k) f.0 positions f.1 least.short)
 
+-- a signature under a new key is short of people if its step is next, no people can fill its seats, and the register is
+-- not full
 pub next_short : (A : History) (key : List ℕ) (c k at : ℕ) → entry_of A key ≡ None → length A < 4000000000 → next A c k at ≡ true → (CanFill A c k at → ⊥)
     → IsShortOf A key c k at
 next_short A key c k at new l n none = elim (seating_or_least A c at (seats_at (steps_of A c) k)) [

@@ -33,6 +33,7 @@ module _ (A : History) (h : IsRegister A) (us : List Training) (vs : List Withdr
 abbrev pub TellsHolders : History → List Appointment → ℕ → Type 0
 TellsHolders A rows day = (place : Place) → holder_by rows place day ≡ holder A place day
 
+-- all appointments, in any order, name the holders that the history names
 pub holder-all : (A : History) → IsRegister A → (rows : List Appointment) → IsPermutation (appointments A) rows → (day : ℕ) → TellsHolders A rows day
 holder-all A h rows p day place =
     ap (option_map (λ row. row.who))
@@ -45,6 +46,7 @@ module _ (A : History) (us : List Training) (vs : List Withdrawal) (rows : List 
   is_holder-same : (place : Place) (who : List ℕ) → is_holder_by rows place day who ≡ is_holder A place day who
   is_holder-same place who = ap (is_this who) (held place)
 
+  -- a person fits a seat by the rows if and only if by the history
   pub fits-on : (f : Facility) (seat : Seat) (who : List ℕ) → fits_by us vs rows f day seat who ≡ fits A f day seat who
   fits-on f (Staff role) who = trained-same who role
   fits-on f AnyCo who =
@@ -59,5 +61,6 @@ module _ (A : History) (us : List Training) (vs : List Withdrawal) (rows : List 
 -- on every day, by all trainings and withdrawals
 module _ (A : History) (h : IsRegister A) (us : List Training) (vs : List Withdrawal) (rows : List Appointment) (p : IsPermutation (trainings A) us)
     (q : IsPermutation (withdrawals A) vs) (r : IsPermutation (appointments A) rows) where
+  -- on every day a person fits a seat by all rows if and only if by the history
   pub fits-all : (f : Facility) (day : ℕ) (seat : Seat) (who : List ℕ) → fits_by us vs rows f day seat who ≡ fits A f day seat who
   fits-all f day = fits-on A us vs rows day (holder-all A h rows r day) (λ who role. trained-all A h us vs p q who role day) f

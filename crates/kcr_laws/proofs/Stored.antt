@@ -42,6 +42,7 @@ items_known A k (code ∷ codes) n m = grind (arith, same-is k code, items_known
 abbrev pub is_sealed : History → List ℕ → Bool
 is_sealed A s = list_any (λ k. same_text k s) (values_of_acts sealed_serial A)
 
+-- with a further command a bag still is somewhere if and only if it was sealed
 pub sealed_after : (A : History) (act : Act) (s : List ℕ) → fault A act ≡ None → is_sealed A s ≡ is_some (spot A s)
     → list_any (λ k. same_text k s) (cons_option (sealed_serial act) (values_of_acts sealed_serial A)) ≡ is_some (option_or (spot_after (facility_of A) s act) (spot A s))
 sealed_after A (Ceremony c at (Seal serial codes)) s f ih = grind (arith, ih)
@@ -55,6 +56,7 @@ pub sealed_somewhere : (A : History) → IsRegister A → (s : List ℕ) → lis
 sealed_somewhere [] h s = refl
 sealed_somewhere (entry ∷ A) h s = sealed_after A entry.command.act s (took A entry h.0).no_fault (sealed_somewhere A h.1 s)
 
+-- with a further command a box still has a row if and only if it has a place
 pub box_after : (A : History) (act : Act) (f : Facility) (n : ℕ) → list_any (is_box f n) (boxes A) ≡ is_some (place_of_box A f n)
     → list_any (is_box f n) (cons_option (box_row act) (boxes A)) ≡ is_some (option_or (added_box_place f n act) (place_of_box A f n))
 box_after A (AddBox facility number place) f n ih = grind (arith, ih)

@@ -59,6 +59,7 @@ shorter_holds same sound xs ys (suc n) l i test h =
 abbrev pub same_people : List (List ℕ) → List (List ℕ) → Bool
 same_people a b = pointwise same_text a b
 
+-- lists of people that are found the same are equal
 pub people-are : (a b : List (List ℕ)) → same_people a b ≡ true → a ≡ b
 people-are [] [] h = refl
 people-are [] (y ∷ ys) h = absurd (false≢true h)
@@ -89,6 +90,7 @@ seated_inside A c t (seat ∷ seats) (who ∷ others) h =
 abbrev pub is_least_by_trial : History → ℕ → ℕ → List Seat → List ℕ → Bool
 is_least_by_trial A c t seats positions = is_short A c t seats positions && every_shorter (λ part. not (is_short A c t seats part)) positions (length positions)
 
+-- a shortage is a least one if no shorter list of its positions is a shortage
 pub least_by_trial : (A : History) (c t : ℕ) (seats : List Seat) (positions : List ℕ) → is_least_by_trial A c t seats positions ≡ true
     → IsLeast A c t seats positions
 least_by_trial A c t seats positions h = record { short = parts.0; least = least }

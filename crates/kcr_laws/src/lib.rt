@@ -1,4 +1,1 @@
-//! What holds of every register: functions that do nothing, whose contracts say it.
-#![tactic(auto)]
-
-pub mod laws;
+//! What holds of every register: `proofs/Laws.antt`. There is no code.

@@ -1,5 +1,5 @@
 -- A search for a later count, step by step.
-use Rattle.std.proofs.Common.{◌≡◌, ◌∙◌, ◌+◌, ◌-◌, ◌<◌, ◌≤◌, ◌||◌, ℕ, suc, Bool, true, false, refl, sym, ap, arith}
+use Rattle.std.proofs.Common.{◌≡◌, ◌∙◌, ◌+◌, ◌-◌, ◌<◌, ◌≤◌, ◌||◌, ℕ, suc, Bool, true, false, sym, ap, arith}
 use Rattle.kcr_log.specs.BegunAnew.{is_later, next, same}
 use Rattle.kcr_log.specs.declared.begun_anew.Count.{Count}
 

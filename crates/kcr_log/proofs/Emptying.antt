@@ -6,8 +6,7 @@ use Rattle.sqlite_wal.specs.Format.{be32}
 use Rattle.kcr_log.specs.declared.frames.Header.{Header}
 use Rattle.kcr_log.specs.Frames.{header_of, frame_at, frame_of, carries}
 use Rattle.kcr_log.specs.Pages.{page_size_of, told_header, second_header, HasPage}
-use Rattle.kcr_log.specs.Stop.{IsEmptied}
-use Rattle.kcr_log.specs.Written.{IsOverHead}
+use Rattle.kcr_log.specs.Written.{StopsEmptied}
 use Rattle.kcr_log.proofs.Writing.{same-number}
 
 -- the second frame and those behind it lie past the bytes that are written anew
@@ -70,9 +69,9 @@ begun log first bytes =
     let three = bytes 3 in
     omega arith
 
--- a log whose head is being written anew is being emptied
-pub over-head : (file old log : List ℕ) (count : ℕ) → IsOverHead file old log count → IsEmptied file log
-over-head file old log count left = record {
+-- whenever the emptying of a log stops, whose pages are all in the file, the log is one that is being emptied, which `judge` never refuses
+pub stops_emptied : StopsEmptied
+stops_emptied file old log count left = record {
   begun = begun log left.gate left.bytes;
   end = count;
   run = record {

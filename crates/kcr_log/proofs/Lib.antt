@@ -6,3 +6,4 @@ pub mod Runs
 pub mod Refuting
 pub mod Writing
 pub mod Emptying
+pub mod Laws

@@ -1,5 +1,5 @@
 -- Which transactions behind the first frame are not all in the file.
-use Rattle.std.proofs.Common.{◌≡◌, ℕ, ◌-◌, ◌<◌, ◌≤◌, ◌||◌, true, List, refl, inl, inr, arith}
+use Rattle.std.proofs.Common.{◌≡◌, ℕ, ◌<◌, ◌≤◌, ◌||◌, true, List, refl, inl, inr, arith}
 use Rattle.std.proofs.lemmas.Bool.{or_cases}
 use Rattle.kcr_log.specs.declared.frames.Header.{Header}
 use Rattle.kcr_log.specs.Frames.{frame_count, frame_of, checks}

@@ -1,5 +1,5 @@
 //! The head of a log and its frames, read from bytes.
-ghost use Rattle.std.specs.Prelude.{◌≡◌, ◌+◌, ◌-◌, ◌*◌, ◌^◌, ◌<◌, ◌≤◌, ◌/◌, ◌==◌, length};
+ghost use Rattle.std.specs.Prelude.{◌≡◌, ◌+◌, ◌-◌, ◌*◌, ◌<◌, ◌≤◌, ◌/◌, ◌==◌, length};
 ghost use Rattle.sqlite_wal.specs.Format.{be32};
 ghost use Rattle.kcr_log.specs.Frames.{header_of, is_signed, frame_at, frame_count, frame_of, carries, sum_before, sum_after, checks, commits, commits_from, ends_in, start_of, begins, begins_in};
 

@@ -14,6 +14,8 @@
 //!   stay where they are. They have other salts than the head, so they never count. While the head is written, its first
 //!   byte is 0: if the frames then hold a page that the file does not have, the head was lost otherwise.
 //!
+//! That no stop leaves a damaged log is proved in `proofs/Laws.antt`.
+//!
 //! A log that was seen before may have been begun anew since: `is_begun_anew` tells this from another log.
 #![tactic(auto)]
 
@@ -21,7 +23,6 @@ mod begun_anew;
 mod frames;
 mod judgement;
 mod later;
-pub mod laws;
 mod pages;
 
 pub use begun_anew::is_begun_anew;

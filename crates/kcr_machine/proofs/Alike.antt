@@ -55,6 +55,7 @@ module _ (A : History) (x : Command) where
   step-of v None g = (g.0.reply, A, g.1.step)
   step-of v (Some a) g = (a, with_command A x a, g.step)
 
+-- two decisions of one command by one history agree, unless memory ran out in one of them
 pub decisions-alike : (A : History) (x : Command) (r s : Result Verdict Refusal) → IsDecision A x r → IsDecision A x s → DecideAlike A r s
 decisions-alike A x (Ok v) (Ok w) g h = accepted-alike A x v w v.new_reply w.new_reply refl refl g h
 decisions-alike A x (Ok v) (Err q) g h = λ ne. let s = step-of A x v v.new_reply g in never_both A x s.0 q s.1 A s.2 (h ne)

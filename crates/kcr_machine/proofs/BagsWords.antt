@@ -40,6 +40,7 @@ use Rattle.kcr_base.proofs.SameLemmas.{same-is}
 use Rattle.kcr_base.specs.declared.place.Place.TheVariants.{Rksh}
 use Rattle.kcr_machine.proofs.Keyed.{Shown, said-shown, said-view}
 use Rattle.kcr_base.proofs.Members.{IsIn, in-any}
+use Rattle.kcr_base.proofs.ListLemmas.{each-weaker}
 use Rattle.kcr_machine.proofs.Scenes.{said-then, some-where}
 
 -- where the bag is, by the rows of its serial
@@ -124,15 +125,11 @@ facility-same f g e = grind arith
 abbrev Placed : History → Facility → ℕ → BoxRow → Type 0
 Placed A f n row = is_box f n row ≡ true → place_of_box A f n ≡ Some row.place
 
-each : {X : Type 0} (P Q : X → Type 0) → ((x : X) → P x → Q x) → (xs : List X) → AllByRecursion P xs → AllByRecursion Q xs
-each P Q f [] a = tt
-each P Q f (x ∷ xs) a = (f x a.0, each P Q f xs a.1)
-
 placed_after : (A : History) (act : Act) (f : Facility) (n : ℕ) → fault A act ≡ None → AllByRecursion (Placed A f n) (boxes A)
     → AllByRecursion (λ row. is_box f n row ≡ true → option_or (added_box_place f n act) (place_of_box A f n) ≡ Some row.place) (cons_option (box_row act) (boxes A))
 placed_after A (AddBox facility number place) f n fine ih = (
   first,
-  each (Placed A f n) (λ row. is_box f n row ≡ true → option_or (added_box_place f n (AddBox facility number place)) (place_of_box A f n) ≡ Some row.place)
+  each-weaker (Placed A f n) (λ row. is_box f n row ≡ true → option_or (added_box_place f n (AddBox facility number place)) (place_of_box A f n) ≡ Some row.place)
       (λ row g e. older row (g e)) (boxes A) ih,
 )
   where
@@ -160,7 +157,7 @@ pub place-shown : (A : History) → IsRegister A → (rows : List BoxRow) → Is
 place-shown A h rows p f n =
     said-shown (is_box f n) (λ row. true) own (λ row. row.place) (place_of_box A f n) (Rksh 0) (λ row e. refl) (boxes A) rows
     (filter-order (λ row. true) (boxes A) rows p)
-    (each (Placed A f n) (λ row. is_box f n row ≡ true → row ≡ own) same (boxes A) (placed A h f n)) (box-there A f n) refl
+    (each-weaker (Placed A f n) (λ row. is_box f n row ≡ true → row ≡ own) same (boxes A) (placed A h f n)) (box-there A f n) refl
   where
     own : BoxRow
     own = record { facility = f; number = n; place = unwrap_or (place_of_box A f n) (Rksh 0) }

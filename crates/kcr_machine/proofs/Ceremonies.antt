@@ -33,7 +33,7 @@ use Rattle.kcr_history.specs.Views.{is_of_number}
 use Rattle.kcr_history.specs.Conditions.{conditions, fault}
 use Rattle.kcr_history.specs.Machine.{IsRegister, with_command}
 use Rattle.kcr_history.proofs.Steps.{took, no_ceremony}
-use Rattle.kcr_history.proofs.Piled.{map-stacked}
+use Rattle.kcr_history.proofs.Piled.{map-pushed}
 use Rattle.kcr_history.proofs.Words.{planned-number}
 use Rattle.kcr_rules.specs.CeremonyStatus.{ceremony_by}
 use Rattle.kcr_rules.specs.CeremonyRows.{is_open_beside, lies_on_table, planned_row, planned_step_row, planned_step_rows}
@@ -79,6 +79,7 @@ busy-shown A c rows p =
     (λ other. not (eqb other c) && same_facility (facility_of A other) (facility_of A c) && is_ceremony_open A other)
     (values_of_acts planned_number A) (λ other. ap (λ b. not (eqb other c) && same_facility (facility_of A other) (facility_of A c) && b) (open-state A other))
 
+-- an opening has the same late refusal by the rows of a view as by the history
 pub open-late : (A : History) (c at : ℕ) → LateShown A (Ceremony c at Open)
 open-late A c at view v =
     rw (row-shown A c view.ceremonies.items v.ceremonies) (grind (arith, busy-shown A c view.ceremonies.items v.ceremonies))
@@ -138,6 +139,7 @@ module _ (A : History) (h : IsRegister A) (key : List ℕ) (answer : ReplyData) 
       own : first_mark ≡ mark_row opened_now c
       own = rw (mark-after A (entry_as key (Ceremony c at Open) answer) c, eq-eqb c c refl, none-there (mark A c) (marked-opened A h c ∙ fresh)) refl
 
+  -- the changes of an opening lead to the tables of the history with it
   pub open-leads : (view : View) → IsPermutation (ceremonies A) view.ceremonies.items → entry_of A key ≡ None → Leads A view (command_of key (Ceremony c at Open)) answer
   open-leads view v k =
       rw (row-shown A c view.ceremonies.items v, known) (rw (ceremonies-opened, marks-first, new_key A (command_of key (Ceremony c at Open)) answer k) refl)
@@ -159,6 +161,7 @@ table-shown A facility rows p =
 
 -- THE KIND
 
+-- a closing has the same early refusal by the rows read first as by the history
 pub close-early : (A : History) → IsRegister A → (c at : ℕ) → EarlyShown A (Ceremony c at Close)
 close-early A h c at view v =
     rw (
@@ -167,6 +170,7 @@ close-early A h c at view v =
       mark-shown A h c view.marks.items v.marks,
     ) refl
 
+-- a closing has the same late refusal by the rows of a view as by the history
 pub close-late : (A : History) → IsRegister A → (c at : ℕ) → LateShown A (Ceremony c at Close)
 close-late A h c at view v =
     rw (
@@ -192,6 +196,7 @@ module _ (A : History) (key : List ℕ) (answer : ReplyData) (c at : ℕ) (f : f
   ceremonies-closed : put same_ceremony closed_row (ceremonies A) ≡ ceremonies closed_now
   ceremonies-closed = ceremony-put A closed_now c closed_row (rw (eq-eqb c c refl) refl) (λ k e. rw (turned c k e) refl) to_close
 
+  -- the changes of a closing lead to the tables of the history with it
   pub close-leads : (view : View) → Shown (is_of_number c) (ceremonies A) view.ceremonies.items → entry_of A key ≡ None
       → Leads A view (command_of key (Ceremony c at Close)) answer
   close-leads view v k =
@@ -199,6 +204,7 @@ module _ (A : History) (key : List ℕ) (answer : ReplyData) (c at : ℕ) (f : f
 
 -- PLANNING
 
+-- a plan has the same late refusal by the rows of a view as by the history
 pub plan-late : (A : History) (number : ℕ) (facility : Facility) (day : ℕ) (script : List ℕ) → LateShown A (Plan number facility day script)
 plan-late A number facility day script view v = rw (known-shown A number view.ceremonies.items v.ceremonies) refl
 
@@ -285,7 +291,7 @@ module _ (A : History) (h : IsRegister A) (key : List ℕ) (answer : ReplyData) 
 
   steps-put : pushed_onto (planned_step_rows c 1 its_steps) (steps A) ≡ steps planned_now
   steps-put =
-      sym (map-stacked (step_row planned_now) (numbered c 0 its_steps) (step_keys A)
+      sym (map-pushed (step_row planned_now) (numbered c 0 its_steps) (step_keys A)
       ∙ ap (λ rows. pushed_onto rows (map (step_row planned_now) (step_keys A))) (own-rows planned_now c 0 its_steps its_steps its_own
       (λ k. not-planned (step_result A c k) (is_ceremony A c) (done-planned A h c k) not_known)
       (λ j. ap (slice_get its_steps) (let z : 0 + j ≡ j = omega arith in z)))
@@ -297,6 +303,7 @@ module _ (A : History) (h : IsRegister A) (key : List ℕ) (answer : ReplyData) 
       any-map (λ row. eqb row.ceremony c && eqb row.step j) (step_row A) (step_keys A)
       ∙ none-passes (λ k. eqb k.0 c && eqb k.1 j) (step_keys A) (λ k i. and_left (eqb k.0 c) (eqb k.1 j) (no_key k i))
 
+  -- the changes of a plan lead to the tables of the history with it
   pub plan-leads : (view : View) → entry_of A key ≡ None → Leads A view (command_of key (Plan c facility day script)) answer
   plan-leads view k =
       let rest : List Change = PutKey (new_key_row (command_of key (Plan c facility day script)) answer) ∷ [] in

@@ -23,5 +23,6 @@ by_act early view full (Ceremony ceremony at Open) h = h
 by_act early view full (Ceremony ceremony at deed) h = h
 by_act early view full act h = (refl, refl)
 
+-- an act cleared by the rows read first is cleared by the view with the others
 pub still-cleared : (early view : View) (full : Bool) (act : Act) → Completes early view → IsCleared early full act → IsCleared view full act
 still-cleared early view full act e cleared = subst (λ (v : View). IsCleared v full act) (sym e) (by_act early view full act cleared)

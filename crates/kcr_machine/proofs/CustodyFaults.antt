@@ -51,11 +51,13 @@ functions-same f g h = λ i x. h x i
 
 -- items of which each is where the history says
 module _ (A : History) (rows : List Item) (codes : List (List ℕ)) (same : (k : List ℕ) → IsIn k codes → rest_by rows k ≡ rest A k) where
+  -- the refusal for the first unknown item is the same by the rows as by the history
   pub no_item-shown : unknown_item_refusal (rest_by rows) codes ≡ unknown_item_refusal (rest A) codes
   no_item-shown =
       ap (option_map (λ k. Unknown (Things.Item k)))
       (find-same-in (λ k. is_none (rest_by rows k)) (λ k. is_none (rest A k)) codes (λ k i. ap is_none (same k i)))
 
+  -- all items are loose at the facility by the rows if and only if by the history
   pub loose-shown : (facility : Facility) → list_all (λ k. is_loose_at facility (rest_by rows k)) codes ≡ list_all (λ k. is_loose_at facility (rest A k)) codes
   loose-shown facility =
       all-same-in (λ k. is_loose_at facility (rest_by rows k)) (λ k. is_loose_at facility (rest A k)) codes (λ k i. ap (is_loose_at facility) (same k i))
@@ -73,6 +75,7 @@ place-there : (A : History) (place : Place) → list_any (λ old. same_place old
 place-there [] place = refl
 place-there (entry ∷ A) place = place_after place entry.command.act (boxes A) ∙ ap (λ b. boxes_place place entry.command.act || b) (place-there A place)
 
+-- a new box has the same late refusal by the rows of a view as by the history
 pub add_box-late : (A : History) (facility : Facility) (number : ℕ) (place : Place) → LateShown A (AddBox facility number place)
 add_box-late A facility number place view v =
     rw (
@@ -84,22 +87,26 @@ add_box-late A facility number place view v =
 
 -- WHOEVER IS IN THE ROOM
 
+-- a new item has the same early refusal by the rows read first as by the history
 pub add_item-early : (A : History) → IsRegister A → (c : ℕ) (item : List ℕ) (at : ℕ) → EarlyShown A (Ceremony c at (AddItem item))
 add_item-early A h c item at view v =
     ap (λ now. first_of (add_item_early now (rest_by view.items.items item))) (status-shown A h c at view v.ceremonies v.marks)
     ∙ rw (rest-coded A h (item ∷ []) view.items.items v.items item (inl refl)) refl
 
+-- a safe's opening or shutting has the same early refusal by the rows read first as by the history
 pub turn-early : (A : History) → IsRegister A → (c : ℕ) (safe : SafeNumber) (state : Bool) (by : List ℕ) (at : ℕ) → EarlyShown A (Ceremony c at (SetSafe safe state by))
 turn-early A h c safe state by at view v =
     ap (λ now. first_of (safe_early now (is_open_by view.safes.items now.facility) safe state (is_person_by view.people.items by) by))
     (status-shown A h c at view v.ceremonies v.marks)
     ∙ rw (person-shown A by view.people.items v.people, open-shown A view.safes.items v.safes (facility_of A c) safe) refl
 
+-- a cut has the same early refusal by the rows read first as by the history
 pub cut-early : (A : History) → IsRegister A → (c : ℕ) (t : List ℕ) (at : ℕ) → EarlyShown A (Ceremony c at (Cut t))
 cut-early A h c t at view v =
     ap (λ now. first_of (cut_early now (spot_by view.bags.items t) t)) (status-shown A h c at view v.ceremonies v.marks)
     ∙ rw (spot-shown A h t view.bags.items v.bags) refl
 
+-- a seal has the same early refusal by the rows read first as by the history
 pub seal-early : (A : History) → IsRegister A → (c : ℕ) (t : List ℕ) (codes : List (List ℕ)) (at : ℕ) → EarlyShown A (Ceremony c at (Seal t codes))
 seal-early A h c t codes at view v =
     let same = rest-coded A h codes view.items.items v.items in
@@ -110,6 +117,7 @@ seal-early A h c t codes at view v =
       loose-shown A view.items.items codes same (facility_of A c),
     ) refl
 
+-- a bag's taking has the same early refusal by the rows read first as by the history
 pub take-early : (A : History) → IsRegister A → (c : ℕ) (t : List ℕ) (at : ℕ) → EarlyShown A (Ceremony c at (Take t))
 take-early A h c t at view v =
     let here = facility_of A c in
@@ -120,6 +128,7 @@ take-early A h c t at view v =
       functions-same (is_open_by view.safes.items here) (is_open A here) (open-shown A view.safes.items v.safes here),
     ) refl
 
+-- a bag's putting away has the same early refusal by the rows read first as by the history
 pub put-early : (A : History) → IsRegister A → (c : ℕ) (t : List ℕ) (to : Destination) (at : ℕ) → EarlyShown A (Ceremony c at (Put t to))
 put-early A h c t to at view v =
     let here = facility_of A c in
@@ -140,6 +149,7 @@ pub ca-late : (A : History) → IsRegister A → (c at : ℕ) (view : View) → 
     → first_of (no_ca_refusal (has_trained_present_by view Ca c at) ∷ []) ≡ first_of (no_ca_refusal (has_trained_present A Ca c at) ∷ [])
 ca-late A h c at view room ts ws = ap (λ has_ca. first_of (no_ca_refusal has_ca ∷ [])) (attended-shown A h view c at room ts ws Ca)
 
+-- a safe's opening or shutting has the same late refusal by the rows of a view as by the history
 pub turn-late : (A : History) → IsRegister A → (c : ℕ) (safe : SafeNumber) (state : Bool) (by : List ℕ) (at : ℕ) → LateShown A (Ceremony c at (SetSafe safe state by))
 turn-late A h c safe state by at view v =
     rw (
@@ -161,6 +171,7 @@ keepers-late A h c t at view v o p same =
       same,
     ) refl
 
+-- a bag's taking has the same late refusal by the rows of a view as by the history
 pub take-late : (A : History) → IsRegister A → (c : ℕ) (t : List ℕ) (at : ℕ) → LateShown A (Ceremony c at (Take t))
 take-late A h c t at view v =
     keepers-late A h c t at view v _ _
@@ -171,6 +182,7 @@ take-late A h c t at view v =
           (place-shown A h view.boxes.items v.boxes (facility_of A c)),
     ) refl)
 
+-- a bag's putting away has the same late refusal by the rows of a view as by the history
 pub put-late : (A : History) → IsRegister A → (c : ℕ) (t : List ℕ) (to : Destination) (at : ℕ) → LateShown A (Ceremony c at (Put t to))
 put-late A h c t to at view v =
     keepers-late A h c t at view v _ _

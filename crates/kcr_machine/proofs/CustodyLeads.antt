@@ -57,6 +57,7 @@ then_act A key act answer = with_command A (command_of key act) answer
 
 -- A BOX
 
+-- the changes of a new box lead to the tables of the history with it
 pub add_box-leads : (A : History) (facility : Facility) (number : ℕ) (place : Place) → LeadsOn A (AddBox facility number place)
 add_box-leads A facility number place key view answer v k f =
     let new : BoxRow = record { facility = facility; number = number; place = place } in
@@ -90,6 +91,7 @@ safes-put : (A : History) (key : List ℕ) (answer : ReplyData) (c : ℕ) (safe 
 safes-put A key answer c safe state by at =
     put-safe (facility_of A c) safe state (λ facility safe. last_value_with_history (λ before. safe_state_after (facility_of before) facility safe) A)
 
+-- the changes of a safe's opening or shutting lead to the tables of the history with it
 pub turn-leads : (A : History) → IsRegister A → (c : ℕ) (safe : SafeNumber) (state : Bool) (by : List ℕ) (at : ℕ) → LeadsOn A (Ceremony c at (SetSafe safe state by))
 turn-leads A h c safe state by at key view answer v k f =
     let act = Ceremony c at (SetSafe safe state by) in
@@ -127,6 +129,7 @@ items-added A h key answer c item at free =
     own : record { code = item; rest = Loose (facility_of A c) } ≡ item_row B item
     own = rw (no_bag_yet A item free, same-itself item) refl
 
+-- the changes of a new item lead to the tables of the history with it
 pub add_item-leads : (A : History) → IsRegister A → (c : ℕ) (item : List ℕ) (at : ℕ) → LeadsOn A (Ceremony c at (AddItem item))
 add_item-leads A h c item at key view answer v k f =
     let act = Ceremony c at (AddItem item) in
@@ -272,6 +275,7 @@ items-cut A key c t at answer n rows p =
 
 -- THE CHANGES
 
+-- the changes of a bag's taking lead to the tables of the history with it
 pub take-leads : (A : History) → IsRegister A → (c : ℕ) (t : List ℕ) (at : ℕ) → LeadsOn A (Ceremony c at (Take t))
 take-leads A h c t at key view answer v k f =
     let act = Ceremony c at (Take t) in
@@ -286,6 +290,7 @@ take-leads A h c t at key view answer v k f =
     )
     refl
 
+-- the changes of a bag's putting away lead to the tables of the history with it
 pub put-leads : (A : History) → IsRegister A → (c : ℕ) (t : List ℕ) (to : Destination) (at : ℕ) → LeadsOn A (Ceremony c at (Put t to))
 put-leads A h c t to at key view answer v k f =
     let act = Ceremony c at (Put t to) in
@@ -309,6 +314,7 @@ items-changed rows rest t = all_changed-rows PutItem same_item (λ rows t. recor
 abbrev with_bag : Bag → ℕ → ℕ → Tables → Tables
 with_bag bag c at t = changed (PutMark (record { ceremony = c; at = at })) (changed (PutBag bag) t)
 
+-- the changes of a seal lead to the tables of the history with it
 pub seal-leads : (A : History) → IsRegister A → (c : ℕ) (t : List ℕ) (codes : List (List ℕ)) (at : ℕ) → LeadsOn A (Ceremony c at (Seal t codes))
 seal-leads A h c t codes at key view answer v k f =
     let act = Ceremony c at (Seal t codes) in
@@ -326,6 +332,7 @@ seal-leads A h c t codes at key view answer v k f =
     )
     (rw (same-itself t) refl)
 
+-- the changes of a cut lead to the tables of the history with it
 pub cut-leads : (A : History) → IsRegister A → (c : ℕ) (t : List ℕ) (at : ℕ) → LeadsOn A (Ceremony c at (Cut t))
 cut-leads A h c t at key view answer v k f =
     let act = Ceremony c at (Cut t) in

@@ -1,5 +1,5 @@
 -- A decision by the rows of a view is a step of the machine.
-use Rattle.std.proofs.Common.{◌≡◌, ◌≢◌, ℕ, suc, true, false, nat_le, List, [], ◌∷◌, ◌++◌, map, length, Option, Some, None, option_map, refl, sym, ap, ◌∙◌, subst}
+use Rattle.std.proofs.Common.{◌≡◌, ℕ, suc, true, false, nat_le, List, [], ◌∷◌, ◌++◌, map, length, Option, Some, None, option_map, refl, sym, ap, ◌∙◌, subst}
 use Rattle.std.proofs.Common.{◌⊎◌, inl, inr, Result, Ok, Err, MatchOption}
 use Rattle.std.specs.Prelude.{IfErr, IsSome}
 use Rattle.kcr_base.specs.Refuse.{first_of}
@@ -34,7 +34,7 @@ use Rattle.kcr_machine.specs.RowDecision.{IsReplyDataOf, IsReplyOf, IsOfKind, Is
 use Rattle.kcr_machine.specs.RowDecision.{is_full_by, RepeatsRow, IsRowRepeat}
 use Rattle.kcr_machine.specs.NewDecision.{reply_by, AcceptsNew, IsRowDecision}
 use Rattle.kcr_rules.specs.Signing.{IsSeatedBy, IsUnseatedBy}
-use Rattle.kcr_base.proofs.RefuseLemmas.{none_holds}
+use Rattle.kcr_base.proofs.RefuseLemmas.{none_holds, is_memory}
 use Rattle.kcr_machine.proofs.Ceremonies.{close-early, close-late, close-leads, open-late, open-leads, plan-late, plan-leads}
 use Rattle.kcr_machine.proofs.CustodyFaults.{add_box-late, add_item-early, ca-late, cut-early, put-early, put-late, seal-early, take-early, take-late}
 use Rattle.kcr_machine.proofs.CustodyFaults.{turn-early, turn-late}
@@ -342,10 +342,6 @@ pub decision-kind : (x : Command) (view : View) (last : ℕ) (result : Result Ve
 decision-kind x view last (Ok verdict) g kind = reply-of-kind x view last verdict verdict.new_reply g
 decision-kind x view last (Err refusal) g kind = kind
 
-is_memory : (r : Refusal) → (r ≡ Memory) ⊎ (r ≢ Memory)
-is_memory Memory = inl refl
-is_memory r = inr (λ e. cc)
-
 -- every command may be refused because memory ran out, or for an I/O error
 pub fault-refused : (x : Command) (refusal : Refusal) → (refusal ≡ Memory) ⊎ (refusal ≡ Disk) → MayBeRefused x refusal
 fault-refused x refusal (inl memory) = inr (subst (IsOwnRefusal x) (sym memory) refl)
@@ -359,6 +355,7 @@ repeat-kind x row (Err refusal) g = elim (is_memory refusal) [
   | inr ne ↦ inl (g ne).1
 ]
 
+-- a decision under a new key is refused only for what its command may be refused for
 pub new-kind : (x : Command) (result : Result Verdict Refusal) → IsOfKind x result → IfErr result (MayBeRefused x)
 new-kind x (Ok verdict) g = tt
 new-kind x (Err refusal) g = inr g

@@ -20,6 +20,7 @@ use Rattle.kcr_base.proofs.Members.{IsIn, Implies, map-same-in}
 abbrev pub Shown : {X : Type 0} → (X → Bool) → List X → List X → Type 0
 Shown of table rows = IsPermutation (filter of table) (filter of rows)
 
+-- if only rows that are asked for pass the test, some of them passes if and only if some row does
 pub any-filter : {X : Type 0} (test of : X → Bool) → Implies test of → (rows : List X) → list_any test (filter of rows) ≡ list_any test rows
 any-filter test of inside rows = RoomLists.any-filter of test rows ∙ any-same (λ x. of x && test x) test rows (λ x. let i = inside x in grind arith)
 
@@ -71,11 +72,13 @@ said-shown test of v says said other inside table rows p only there own = grind 
 
 -- THE SAME OF ROWS THAT ARE FUNCTIONS OF THEIR KEYS
 
+-- among the rows shown the test finds the one row that passes, if a key of the table has it
 pub find-view : {K X : Type 0} (test of : X → Bool) (row_of : K → X) (v : X) → Implies test of → ((k : K) → test (row_of k) ≡ true → row_of k ≡ v)
     → (keys : List K) (rows : List X) → Shown of (map row_of keys) rows → find test rows ≡ some_if (list_any (λ k. test (row_of k)) keys) v
 find-view test of row_of v inside same keys rows p =
     found-shown test of v inside (map row_of keys) rows p (all-keys test row_of v same keys) ∙ ap (λ b. some_if b v) (any-map test row_of keys)
 
+-- the row found among them has the history's value, if it is there if and only if the history has one
 pub said-view : {K X Y : Type 0} (test of : X → Bool) (row_of : K → X) (v : X) (says : X → Y) (said : Option Y) (other : Y) → Implies test of
     → ((k : K) → test (row_of k) ≡ true → row_of k ≡ v) → (keys : List K) (rows : List X) → Shown of (map row_of keys) rows
     → list_any (λ k. test (row_of k)) keys ≡ is_some said → says v ≡ unwrap_or said other → option_map says (find test rows) ≡ said
@@ -103,6 +106,7 @@ put-there : {K X : Type 0} (same : X → X → Bool) (f g : K → X) (row : X) (
 put-there same f g row ks there now =
     rw (any-map (same row) f ks ∙ there) (map-map (λ old. cond (same row old) row old) f ks ∙ map-same-in (λ k. cond (same row (f k)) row (f k)) g ks now)
 
+-- a row put under a key that is there gives the new rows, if no other key changes its row
 pub put-at : {K X : Type 0} (same : X → X → Bool) (f g : K → X) (row : X) → ((k : K) → same row (f k) ≡ true → row ≡ g k)
     → ((k : K) → same row (f k) ≡ false → f k ≡ g k) → (ks : List K)
     → list_any (λ k. same row (f k)) ks ≡ true → put same row (map f ks) ≡ map g ks
@@ -110,6 +114,7 @@ put-at same f g row here elsewhere ks there = put-there same f g row ks there (�
 
 -- rows under keys that are all there, one after the other: each that is put is the new row of its key
 module _ {K X : Type 0} (same : X → X → Bool) (is : K → K → Bool) (new : K → X) (new_key : (c k : K) → same (new c) (new k) ≡ is c k) (all : List K) where
+  -- the keys among those put get their new rows, the others keep theirs
   pub put-rows : (cs : List K) → ((c : K) → IsIn c cs → list_any (is c) all ≡ true) → ((c k : K) → IsIn c cs → IsIn k all → is c k ≡ true → new c ≡ new k)
       → (f : K → X) → ((c k : K) → same (new c) (f k) ≡ is c k)
       → put_all same (map new cs) (map f all) ≡ map (λ k. cond (list_any (λ c. is c k) cs) (new k) (f k)) all

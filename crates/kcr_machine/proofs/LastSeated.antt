@@ -26,7 +26,7 @@ use Rattle.kcr_history.specs.Machine.{IsRegister, IsReplyTo, CanFollow, seat_req
 use Rattle.kcr_history.specs.Seating.{is_seating}
 use Rattle.kcr_history.specs.Tables.{steps, seatings, seat_rows, seating_rows, seats_at, ceremony_of_step}
 use Rattle.kcr_history.specs.Views.{IncludesStep, is_seating_of, is_step_at, last_seated}
-use Rattle.kcr_history.proofs.Piled.{filter-stacked}
+use Rattle.kcr_history.proofs.Piled.{filter-pushed}
 use Rattle.kcr_history.proofs.Tops.{top, top-more}
 use Rattle.kcr_rules.specs.Signing.{staff}
 use Rattle.kcr_laws.proofs.Accepted.{entry_from, each_register}
@@ -94,7 +94,7 @@ other-seats c d k i (who ∷ people) e = rw e (other-seats c d k (suc i) people 
 seated-after : (c d k n : ℕ) (m : Bool) (people : List (List ℕ)) (rows : List SeatingRow) → m ≡ (d == c) → 1 ≤ length people
     → ((d == c) ≡ true → k ≡ suc n) → last_seated rows c ≡ n → last_seated (pushed_onto (seat_rows d k 0 people) rows) c ≡ one_more m n
 seated-after c d k n m people rows g some next ih =
-    ap top (filter-stacked (is_seating_of c) mine rows) ∙ top-stacked (filter (is_seating_of c) mine) (filter (is_seating_of c) rows)
+    ap top (filter-pushed (is_seating_of c) mine rows) ∙ top-stacked (filter (is_seating_of c) mine) (filter (is_seating_of c) rows)
     ∙ elim (cases_Bool (d == c)) [ inl e ↦ rw (g, e) (own e) | inr e ↦ rw (g, e) (other e) ]
   where
     mine : List SeatingRow

@@ -96,6 +96,7 @@ new_key A x answer k =
 
 -- CHANGES ONE AFTER THE OTHER
 
+-- the changes of two lists together are those of the first, then those of the second
 pub changed-append : (xs ys : List Change) (t : Tables) → all_changed (xs ++ ys) t ≡ all_changed ys (all_changed xs t)
 changed-append [] ys t = refl
 changed-append (x ∷ xs) ys t = changed-append xs ys (changed x t)
@@ -135,6 +136,7 @@ other-order t withdrawn sheet stays p q r =
       keys = IsPermutation-refl t.keys;
     }
 
+-- equal tables have the same rows
 pub same-tables : (t u : Tables) → t ≡ u → SameTables t u
 same-tables t u e =
     subst (SameTables t) e (other-order t t.withdrawals t.sheet t.stays (IsPermutation-refl t.withdrawals) (IsPermutation-refl t.sheet)

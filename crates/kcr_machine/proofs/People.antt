@@ -123,6 +123,7 @@ text-turn a b h = (bytes_decides b a).1 (sym ((bytes_decides a b).0 h))
 
 -- WORDS ON THE ROWS THAT A VIEW SHOWS
 
+-- a person has a row among those shown if and only if a command entered the person
 pub person-shown : (A : History) (who : List ℕ) (rows : List Person) → Shown (is_of_people (who ∷ [])) (people A) rows → is_person_by rows who ≡ is_person A who
 person-shown A who rows p =
     any-shown (λ row. same_text row.who who) (is_of_people (who ∷ [])) (λ row h. or_left (same_text row.who who) false h) (people A) rows p
@@ -142,9 +143,11 @@ training-shown A new rows p = any-shown (same_training new) (is_training_of new.
 
 -- THE FIRST REFUSAL OF AN ACT
 
+-- an entry of a person has the same late refusal by the rows of a view as by the history
 pub enter-late : (A : History) (who name : List ℕ) → LateShown A (Enter who name)
 enter-late A who name view v = rw (person-shown A who view.people.items v.people)
 
+-- a training has the same late refusal by the rows of a view as by the history
 pub train-late : (A : History) → IsRegister A → (who : List ℕ) (role : Role) (since until : ℕ) → LateShown A (Train who role since until)
 train-late A h who role since until view v =
     let new : Training = record { who = who; role = role; since = since; until = until } in
@@ -154,6 +157,7 @@ train-late A h who role since until view v =
       put-last A h who view.appointments.items v.appointments.0 v.appointments.1 ∙ ever_put-appointments A who,
     )
 
+-- a withdrawal has the same late refusal by the rows of a view as by the history
 pub withdraw-late : (A : History) (who : List ℕ) (role : Role) (day : ℕ) → LateShown A (Withdraw who role day)
 withdraw-late A who role day view v =
     rw (
@@ -162,6 +166,7 @@ withdraw-late A who role day view v =
       settled-rows A view.marks.items v.marks,
     )
 
+-- an appointment has the same late refusal by the rows of a view as by the history
 pub appoint-late : (A : History) → IsRegister A → (place : Place) (who : List ℕ) (day : ℕ) → LateShown A (Appoint place who day)
 appoint-late A h place who day view v =
     rw (
@@ -172,6 +177,7 @@ appoint-late A h place who day view v =
       settled-rows A view.marks.items v.marks,
     )
 
+-- a replacement has the same late refusal by the rows of a view as by the history
 pub replace-late : (A : History) → IsRegister A → (place : Place) (who : List ℕ) (day : ℕ) → LateShown A (Replace place who day)
 replace-late A h place who day view v =
     rw (
@@ -182,17 +188,20 @@ replace-late A h place who day view v =
       settled-rows A view.marks.items v.marks,
     )
 
+-- a release has the same late refusal by the rows of a view as by the history
 pub release-late : (A : History) → IsRegister A → (place : Place) (day : ℕ) → LateShown A (Release place day)
 release-late A h place day view v =
     rw (open-last A h place view.appointments.items v.appointments.0 v.appointments.1, settled-rows A view.marks.items v.marks)
 
 -- WHERE ITS CHANGES LEAD
 
+-- the changes of an entry of a person lead to the tables of the history with it
 pub enter-leads : (A : History) (who name : List ℕ) → LeadsOn A (Enter who name)
 enter-leads A who name key view answer v k f =
     let absent = is_person-people A who ∙ unmet (is_person A who) Taken (none_holds (conditions A (Enter who name)) f).0 in
     rw (put-new same_person (record { who = who; name = name }) (people A) absent, new_key A (command_of key (Enter who name)) answer k)
 
+-- the changes of a training lead to the tables of the history with it
 pub train-leads : (A : History) (who : List ℕ) (role : Role) (since until : ℕ) → LeadsOn A (Train who role since until)
 train-leads A who role since until key view answer v k f =
     let new : Training = record { who = who; role = role; since = since; until = until } in
@@ -212,6 +221,7 @@ withdrawals-put A h who role day us vs p q =
     (withdrawn_rows-shown who (trainings A) us (withdrawals A) vs p q role day)
     (withdrawn_rows-apart (trainings A) (withdrawals A) who role day (trainings-apart A h)))
 
+-- the changes of a withdrawal lead to the tables of the history with it, up to the order of rows
 pub withdraw-leads : (A : History) → IsRegister A → (key who : List ℕ) (role : Role) (day : ℕ) (view : View) (answer : ReplyData)
     → IsViewOf (asks_of_act (Withdraw who role day)) (tables A) view → entry_of A key ≡ None
     → SameTables (changed_with (changes_by view (Withdraw who role day)) (command_of key (Withdraw who role day)) answer (tables A))
@@ -229,6 +239,7 @@ withdraw-leads A h key who role day view answer v k =
     (withdrawals-put A h who role day view.trainings.items view.withdrawals.items v.trainings v.withdrawals)
     (IsPermutation-refl after.sheet) (IsPermutation-refl after.stays))
 
+-- the changes of an appointment lead to the tables of the history with it
 pub appoint-leads : (A : History) → IsRegister A → (place : Place) (who : List ℕ) (day : ℕ) → LeadsOn A (Appoint place who day)
 appoint-leads A h place who day key view answer v k f =
     let n = none_holds (conditions A (Appoint place who day)) f in
@@ -236,6 +247,7 @@ appoint-leads A h place who day key view answer v k f =
     let absent = no_begin place day (appointments A) (orderly A h).1 free in
     rw (put-new same_appointment (new_appointment place who day) (appointments A) absent, new_key A (command_of key (Appoint place who day)) answer k)
 
+-- the changes of a replacement lead to the tables of the history with it
 pub replace-leads : (A : History) → IsRegister A → (place : Place) (who : List ℕ) (day : ℕ) → LeadsOn A (Replace place who day)
 replace-leads A h place who day key view answer v k f =
     let shown = open-last A h place view.appointments.items v.appointments.0 v.appointments.1.0 in
@@ -253,6 +265,7 @@ replace-leads A h place who day key view answer v k f =
       new_key A (command_of key (Replace place who day)) answer k,
     )
 
+-- the changes of a release lead to the tables of the history with it
 pub release-leads : (A : History) → IsRegister A → (place : Place) (day : ℕ) → LeadsOn A (Release place day)
 release-leads A h place day key view answer v k f =
     let shown = open-last A h place view.appointments.items v.appointments.0 v.appointments.1 in

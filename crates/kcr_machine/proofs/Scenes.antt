@@ -31,6 +31,7 @@ use Rattle.kcr_rules.specs.ByRows.{ceremony_status_by}
 use Rattle.kcr_rules.specs.CeremonyStatus.{ceremony_by, facility_of_row, is_open_row, mark_by}
 use Rattle.kcr_machine.proofs.Keyed.{Shown, find-view, put-at, said-view}
 
+-- numbers that differ do so in either order
 pub turned : (a b : ℕ) → eqb b a ≡ false → eqb a b ≡ false
 turned a b h = false_from_ne_true (eqb a b) (λ e. true≢false (sym (eq-eqb b a (sym (eqb-true a b e))) ∙ h))
 
@@ -41,6 +42,7 @@ pub said-then : {X Y : Type 0} (o p : Option X) (q r : Option Y) → (is_some o 
     → is_some (option_or o p) ≡ true → is_some (option_or q r) ≡ true
 said-then o p q r new old e = grind arith
 
+-- a value under a condition is there only if the condition holds
 pub some-where : {X : Type 0} (b : Bool) (x : X) → is_some (cond b (Some x) None) ≡ true → b ≡ true
 some-where b x e = grind arith
 
@@ -102,6 +104,7 @@ greatest_with : (o : Option (ℕ × ℕ)) (c : ℕ) (ms : List (ℕ × ℕ))
 greatest_with None c ms = refl
 greatest_with (Some new) c ms = grind arith
 
+-- a further command leaves the mark, or raises it to its moment if that is a marked one of the ceremony
 pub mark-after : (A : History) (entry : Entry) (c : ℕ) → mark (entry ∷ A) c ≡ mark_with (marked_moment entry.command.act) c (mark A c)
 mark-after A entry c = greatest_with (marked_moment entry.command.act) c (values_of_acts marked_moment A)
 
@@ -114,6 +117,7 @@ IsReady A m o = Unit {0}
 in_time : (A : History) (c at : ℕ) → not_ready_refusal (ceremony_status_at A c at) ≡ None → IsReady A (Some (c, at)) None
 in_time A c at h = let n = none_ready A c at h in (met (is_ceremony_open A c) State n.0, n.1.0)
 
+-- an act that is marked, but for an opening, is in an open ceremony and not before its mark, if nothing refuses it
 pub ready : (A : History) (act : Act) → fault A act ≡ None → IsReady A (marked_moment act) (opened_number act)
 ready A (Ceremony c at (Sign k)) f = let n = none_holds (conditions A (Ceremony c at (Sign k))) f in (met (is_ceremony_open A c) State (assumption n), assumption n)
 ready A (Ceremony c at (RecordException text pass)) f = let n = none_holds (conditions A (Ceremony c at (RecordException text pass))) f in (met (is_ceremony_open A c) State (assumption n), assumption n)
@@ -125,6 +129,7 @@ ready A (Ceremony c at (Put serial to)) f = let n = none_holds (conditions A (Ce
 ready A (Ceremony c at (Cut serial)) f = let n = none_holds (conditions A (Ceremony c at (Cut serial))) f in in_time A c at (assumption n)
 ready A act f = tt
 
+-- an open ceremony was opened
 pub open-opened : (A : History) (c : ℕ) → is_ceremony_open A c ≡ true → is_some (opened_at A c) ≡ true
 open-opened A c e = grind arith
 
@@ -139,6 +144,7 @@ marked_opened_after : (A : History) (act : Act) (c : ℕ) → fault A act ≡ No
 marked_opened_after A (Ceremony d at Open) c f ih = grind arith
 marked_opened_after A act c f ih = mark_stays A c (marked_moment act) (ready A act f) ih
 
+-- a ceremony of a register has a mark if and only if it was opened
 pub marked-opened : (A : History) → IsRegister A → (c : ℕ) → is_some (mark A c) ≡ is_some (opened_at A c)
 marked-opened [] h c = refl
 marked-opened (entry ∷ A) h c =
@@ -150,6 +156,7 @@ opened_after : (act : Act) (c : ℕ) (numbers : List ℕ) (o : Option ℕ) → l
 opened_after (Ceremony d at Open) c numbers o ih = grind arith
 opened_after act c numbers o ih = ih
 
+-- a number is among those opened if and only if its ceremony was opened
 pub opened-number : (A : History) (c : ℕ) → list_any (λ k. eqb k c) (values_of_acts opened_number A) ≡ is_some (opened_at A c)
 opened-number [] c = refl
 opened-number (entry ∷ A) c = opened_after entry.command.act c (values_of_acts opened_number A) (opened_at A c) (opened-number A c)

@@ -2,6 +2,7 @@
 use Rattle.std.proofs.Common.{◌≡◌, ℕ, Bool, true, false, cond, not, ◌||◌, ◌&&◌, ◌==◌, nat_le, nat_lt, List, [], ◌∷◌, ◌++◌, map, reverse}
 use Rattle.std.proofs.Common.{Option, Some, None, is_none, refl, sym, ap, ◌∙◌, arith}
 use Rattle.std.specs.Prelude.{is_some, count_by}
+use Rattle.std.specs.List.{filter}
 use Rattle.std.specs.List.Sorted.{IsPermutation}
 use Rattle.std.proofs.lemmas.Bool.{true≢false, eqb-true, ltb-true}
 use Rattle.std.proofs.lemmas.List.Sorted.{IsPermutation-reverse, sum_by-IsPermutation}
@@ -21,13 +22,13 @@ use Rattle.kcr_room.specs.Moments.{IsFirstMoment, IsEver}
 use Rattle.kcr_room.specs.Stays.{stay_from, next_of, stays_of, stays_by, first_lone_in_by, is_crowded_in_by}
 use Rattle.kcr_room.proofs.Followed.{followed-same}
 use Rattle.kcr_room.specs.Requests.{is_out_of_turn_in, new_row, of_ceremony, stays_refusal, rows_refusal}
-use Rattle.kcr_room.specs.Requests.{stay_count, is_overfull_by, is_overfull as is_overfull_with}
+use Rattle.kcr_room.specs.Requests.{stays_after_request, stay_count, is_overfull_by, is_overfull as is_overfull_with}
 use Rattle.kcr_base.specs.Lists.{are_apart}
 use Rattle.kcr_room.specs.Laws.{IsSheet, IsNeverLoneOrCrowded}
 use Rattle.kcr_room.proofs.Lists.{count-cons}
 use Rattle.kcr_room.proofs.Keeping.{turns_keep}
 use Rattle.kcr_room.proofs.Orders.{refusal-order}
-use Rattle.kcr_room.proofs.Refusals.{same_refusal}
+use Rattle.kcr_room.proofs.Refusals.{same_refusal, same_stays}
 use Rattle.kcr_room.proofs.Lasting.{later-lasting}
 use Rattle.kcr_history.specs.declared.commands.Act.{Act}
 use Rattle.kcr_history.specs.declared.commands.Act.TheVariants.{Ceremony}
@@ -164,6 +165,7 @@ twice-first : (l n r : Option Refusal) (xs : List (Option Refusal)) → l ≡ No
     → first_of (n ∷ r ∷ []) ≡ first_of (n ∷ xs)
 twice-first l n r xs later h = grind arith
 
+-- a request of the sheet has the same early refusal by the rows read first as by the history
 pub sheet-early : (A : History) → IsRegister A → (c : ℕ) (way : Way) (all : List (List ℕ)) (at : ℕ) → EarlyShown A (Ceremony c at (RecordSheet way all))
 sheet-early A h c way all at view v =
     rw (
@@ -219,3 +221,18 @@ made_after A act h f s = s
 pub sheet-made : (A : History) → IsRegister A → IsSheet (sheet A)
 sheet-made [] h = refl
 sheet-made (entry ∷ A) h = made_after A entry.command.act h.1 (took A entry h.0).no_fault (sheet-made A h.1)
+
+-- BY ROWS AND BY STAYS
+
+-- on the sheet of a register a request of distinct people is refused alike by its rows and by its stays
+pub refused_alike : (A : History) → IsRegister A → (ceremony mark : ℕ) (full : Bool) (way : Way) (people : List (List ℕ)) (at : ℕ) → are_apart people ≡ true
+    → stays_refusal (stays_by (sheet A)) (stay_count (stays_by (sheet A)) ceremony) ceremony mark full way people at
+    ≡ rows_refusal (sheet A) ceremony mark full way people at
+refused_alike A h ceremony mark full way people at apart = same_refusal (sheet A) (sheet-made A h) ceremony mark full way people at apart (settled A h ceremony)
+
+-- if it is not refused, the ceremony's stays after it are those of the sheet with its rows
+pub stays_alike : (A : History) → IsRegister A → (ceremony mark : ℕ) (full : Bool) (way : Way) (people : List (List ℕ)) (at : ℕ) → are_apart people ≡ true
+    → rows_refusal (sheet A) ceremony mark full way people at ≡ None
+    → stays_after_request (stays_by (sheet A)) ceremony way people at
+    ≡ filter (of_ceremony ceremony) (stays_by (sheet A ++ map (new_row ceremony way at) people))
+stays_alike A h = same_stays (sheet A) (sheet-made A h)

@@ -6,7 +6,7 @@ use Rattle.std.specs.List.Sorted.{IsPermutation}
 use Rattle.std.proofs.lemmas.Bool.{true≢false, both_ways, and_parts, and_from, or_parts, not-true, not-false, le-leb, eqb-true, eq-eqb, false_from_ne_true}
 use Rattle.std.proofs.lemmas.Bool.{or_from, cases_lt}
 use Rattle.std.proofs.lemmas.List.Sorted.{IsPermutation-refl, IsPermutation-sym, IsPermutation-trans, IsPermutation-reverse, IsPermutation-append}
-use Rattle.std.proofs.lemmas.List.Sorted.{IsPermutation-map, list_any-IsPermutation, IsPermutation-middle}
+use Rattle.std.proofs.lemmas.List.Sorted.{IsPermutation-map, IsPermutation-middle}
 use Rattle.kcr_base.specs.Rows.{put_all}
 use Rattle.kcr_base.specs.Same.{same_text}
 use Rattle.kcr_room.specs.declared.SheetRow.{SheetRow}
@@ -16,13 +16,14 @@ use Rattle.kcr_room.specs.declared.Way.TheVariants.{Enter, Leave}
 use Rattle.kcr_room.specs.Room.{later_row, last_onto, last_row_of}
 use Rattle.kcr_room.specs.Stays.{stay_reaches, stays_by}
 use Rattle.kcr_base.specs.Lists.{is_among}
-use Rattle.kcr_room.specs.Requests.{has_no_end, is_inside, is_inside_of, is_out_of_turn_in, is_out_of_turn_by, new_row, new_stay, with_end}
+use Rattle.kcr_room.specs.Requests.{has_no_end, is_inside_of, is_out_of_turn_in, is_out_of_turn_by, new_row, new_stay, with_end}
 use Rattle.kcr_room.specs.Requests.{is_open_stay_of, changed_stays, reaches, turn_refusal}
 use Rattle.kcr_base.specs.Lists.{are_apart}
 use Rattle.kcr_base.proofs.SameLemmas.{same-is, same-itself, same-turned}
 use Rattle.kcr_room.specs.Laws.{IsSheet}
 use Rattle.kcr_room.proofs.Keeping.{none-found}
 use Rattle.kcr_room.proofs.Sheets.{last_reaches, earlier-last, same-turns, added, rows-added}
+use Rattle.kcr_room.proofs.Orders.{turn-order}
 use Rattle.kcr_history.specs.declared.commands.Act.TheVariants.{Ceremony}
 use Rattle.kcr_history.specs.declared.commands.Deed.TheVariants.{RecordSheet}
 use Rattle.kcr_history.specs.declared.commands.ReplyData.{ReplyData}
@@ -52,6 +53,7 @@ abbrev pub IsFresh : {X : Type 0} → (X → X → Bool) → List X → List X �
 IsFresh same [] old = Unit {0}
 IsFresh same (x ∷ xs) old = (list_any (same x) old ≡ false) × IsFresh same xs (x ∷ old)
 
+-- rows put under new keys are added to the old ones, in some order
 pub put-fresh : {X : Type 0} (same : X → X → Bool) (xs old : List X) → IsFresh same xs old → IsPermutation (put_all same xs old) (old ++ xs)
 put-fresh same [] old h = subst (IsPermutation old) (sym (append-nil old)) (IsPermutation-refl old)
 put-fresh same (x ∷ xs) old h =
@@ -220,14 +222,10 @@ stays-put rows s shown c way at people a p l h =
         (IsPermutation-trans (map (with_end people at) (reverse table)) (map (with_end people at) table) (reverse (map (with_end people at) table))
         (IsPermutation-map (with_end people at) (reverse table) table (IsPermutation-sym table (reverse table) turned))
         (IsPermutation-reverse (map (with_end people at) table)))
-      where
-        turn-order : (xs ys : List Stay) → IsPermutation xs ys → (c : ℕ) (w : Way) (at : ℕ) (who : List ℕ)
-            → is_out_of_turn_in ys c w at who ≡ is_out_of_turn_in xs c w at who
-        turn-order xs ys q c Enter at who = rw (← list_any-IsPermutation (reaches who at) xs ys q, ← list_any-IsPermutation (is_inside who) xs ys q) refl
-        turn-order xs ys q c Leave at who = rw (← list_any-IsPermutation (reaches who at) xs ys q, ← list_any-IsPermutation (is_inside_of c who) xs ys q) refl
 
 -- THE TABLES
 
+-- changes that put stays put them into the table of stays, before the rest of the changes
 pub all_changed-stays : (rows : List Stay) (rest : List Change) (t : Tables)
     → all_changed (map PutStay rows ++ rest) t ≡ all_changed rest (record t { stays = put_all same_stay rows t.stays })
 all_changed-stays rows rest t = all_changed-rows PutStay same_stay (λ rows t. record t { stays = rows }) (λ row rows t. refl) rows t.stays rest t

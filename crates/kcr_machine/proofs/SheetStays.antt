@@ -85,6 +85,7 @@ pub record IsClear (stays : List Stay) : Type 0 where
   pub apart : (r s : Stay) → IsIn r stays → IsIn s stays → same_text r.who s.who ≡ true → r.since ≤ s.since
       → (r ≡ s) ⊎ ((r.since < s.since) × EndsBy s.since r.until)
 
+-- clear stays are so in any order
 pub clear-order : (xs ys : List Stay) → IsPermutation xs ys → IsClear xs → IsClear ys
 clear-order xs ys p h = record { apart = λ r s i j. h.apart r s (in-order r xs ys p i) (in-order s xs ys p j) }
 
@@ -153,6 +154,7 @@ clear-row : (c : ℕ) (way : Way) (at : ℕ) (who : List ℕ) (stays : List Stay
 clear-row c Enter at who stays h clear = clear-enter stays c at who h clear
 clear-row c Leave at who stays h clear = clear-leave stays at (who ∷ []) clear
 
+-- in a sheet made in turn each stay of a person ended before the next began
 pub clear-sheet : (rows : List SheetRow) → IsSheet rows → IsClear (stays_by rows)
 clear-sheet =
     stays-in-turn (λ rows. IsClear (stays_by rows))
@@ -193,6 +195,7 @@ row-bounds = stays-in-turn (λ rows. (row : SheetRow) → IsIn row rows → Boun
 abbrev Begun : List SheetRow → Stay → Type 0
 Begun rows s = (row : SheetRow) × IsIn row rows × (row.ceremony ≡ s.ceremony) × (row.at ≡ s.since)
 
+-- each stay of a sheet made in turn began with a row of its ceremony
 pub stay-begun : (rows : List SheetRow) → IsSheet rows → (s : Stay) → IsIn s (stays_by rows) → Begun rows s
 stay-begun = stays-in-turn (λ rows. (s : Stay) → IsIn s (stays_by rows) → Begun rows s) next (λ s i. absurd i)
   where

@@ -64,6 +64,7 @@ named c k = record { ceremony = c; step = Some k }
 abbrev pub the_next : ℕ → StepFilter
 the_next c = record { ceremony = c; step = None }
 
+-- a signature has the same early refusal by the rows read first as by the history
 pub sign-early : (A : History) → IsRegister A → (c k at : ℕ) → EarlyShown A (Ceremony c at (Sign k))
 sign-early A h c k at view v =
     rw (
@@ -74,6 +75,7 @@ sign-early A h c k at view v =
       done-shown A h (named c k) view v.steps,
     )
 
+-- an exception has the same early refusal by the rows read first as by the history
 pub except-early : (A : History) → IsRegister A → (c : ℕ) (text : List ℕ) (pass : Bool) (at : ℕ) → EarlyShown A (Ceremony c at (RecordException text pass))
 except-early A h c text pass at view v =
     rw (
@@ -97,6 +99,7 @@ seats-shown A h c k view p e = rw (step-shown A h c k view.steps.items p, e) ref
 abbrev by_view : History → View → SeatRequest → Seat → List ℕ → Bool
 by_view A view s = fits_by view.trainings.items view.withdrawals.items view.appointments.items (facility_of A s.ceremony) (day_of s.at)
 
+-- a person fits a seat by the rows of a view if and only if by the history
 pub fits-shown : (A : History) → IsRegister A → (view : View) (day : ℕ) → Shown (training_reaches day) (trainings A) view.trainings.items
     → IsPermutation (withdrawals A) view.withdrawals.items → Shown (lasts_beyond day) (appointments A) view.appointments.items
     → (f : Facility) (o : Option Seat) (who : List ℕ)
@@ -142,6 +145,7 @@ pass-sitting A h c text at view v =
       fit = staff-shown A h view (day_of at) v.trainings v.withdrawals (facility_of A c);
     }
 
+-- by any view of what an act asks for, the facility, the room and who fits a seat are as by the history
 pub sitting-is : (A : History) → IsRegister A → (act : Act) (view : View) → IsViewOf (asks_of_act act) (tables A) view → (s : SeatRequest)
     → seat_request A act ≡ Some s → IsShown A view s
 sitting-is A h (Ceremony c at (Sign k)) view v s e = subst (IsShown A view) (same_Some _ s e) (sign-sitting A h c k at view v)
@@ -154,6 +158,7 @@ module _ (A : History) (h : IsRegister A) (view : View) (s : SeatRequest) (shown
   abbrev relation : Facility → List (List ℕ) → ℕ → ℕ → Bool
   relation f P = fits_of (fits_by view.trainings.items view.withdrawals.items view.appointments.items f (day_of s.at)) s.seats P
 
+  -- the people whom the search names are the first seating
   pub seated-first : (people : List (List ℕ)) → IsSeatedBy view s people → IsFirst A s.ceremony s.at s.seats people
   seated-first people g =
       let one = subst (λ f. Search.IsFirst (relation f (room_by view s)) (length s.seats) (length (room_by view s)) g.numbers) shown.facility g.first in
@@ -161,6 +166,7 @@ module _ (A : History) (h : IsRegister A) (view : View) (s : SeatRequest) (shown
       subst (IsFirst A s.ceremony s.at s.seats) (sym (g.named ∙ ap (λ P. map (λ p. get_or P p []) g.numbers) shown.room))
       (first-of A s.ceremony s.at (by_view A view s) s.seats shown.fit g.numbers two)
 
+  -- if nobody is seated, the refusal names a least shortage
   pub unseated-least : (refusal : Refusal) → IsUnseatedBy view s refusal
       → (positions : List ℕ) × IsLeast A s.ceremony s.at s.seats positions × (refusal ≡ Short (map suc positions))
   unseated-least refusal (inl (positions, g, e)) =

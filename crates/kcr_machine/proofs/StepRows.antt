@@ -31,7 +31,7 @@ use Rattle.kcr_history.specs.Tables.{numbered, step_keys, step_keys_after, step_
 use Rattle.kcr_history.specs.Tables.{seating_rows, ceremony_of_step}
 use Rattle.kcr_history.specs.Views.{is_step_at, is_exception_of}
 use Rattle.kcr_history.proofs.Steps.{took}
-use Rattle.kcr_history.proofs.Piled.{any-stacked, filter-stacked, stacked-alone}
+use Rattle.kcr_history.proofs.Piled.{any-pushed, filter-pushed, pushed-alone}
 use Rattle.kcr_rules.specs.Signing.{exception_count_by, step_by}
 use Rattle.kcr_laws.proofs.Done.{one_more, count-cons, next_signed, done-after}
 use Rattle.kcr_history.specs.declared.commands.Entry.{Entry}
@@ -69,6 +69,7 @@ pub sign-there : (A : History) (c k at : ℕ) → fault A (Ceremony c at (Sign k
 sign-there A c k at f =
     there (step_at (steps_of A c) k) (unmet (is_none (step_at (steps_of A c) k)) (Unknown (Things.Step k)) (none_holds (conditions A (Ceremony c at (Sign k))) f).1.0)
 
+-- an exception that passes a step is refused unless the next step is one of the script
 pub pass-there : (A : History) (c : ℕ) (text : List ℕ) (at : ℕ) → fault A (Ceremony c at (RecordException text true)) ≡ None
     → is_some (step_at (steps_of A c) (next_step A c)) ≡ true
 pass-there A c text at f =
@@ -119,6 +120,7 @@ few_after : (act : Act) (c : ℕ) (plan : Option Planned) → length (unwrap_or 
 few_after (Plan number facility day script) c plan ih = grind (arith, few_script script)
 few_after act c plan ih = ih
 
+-- a ceremony has at most 400 steps
 pub few-steps : (A : History) (c : ℕ) → length (steps_of A c) ≤ 400
 few-steps [] c = omega arith
 few-steps (entry ∷ A) c = few_after entry.command.act c (plan_of A c) (few-steps A c)
@@ -143,7 +145,7 @@ keys-stacked (entry ∷ A) h c = by_act entry.command.act (took A entry h.0).no_
         ≡ pushed_onto (numbered c 0 (steps_of (record { command = record { key = entry.command.key; act = act }; reply = entry.reply } ∷ A) c)) []
     by_act (Plan number facility day script) f ih =
         let ss = result_unwrap_or (script_of script) [] in
-        let moved = filter-stacked (λ key. key.0 == c) (numbered number 0 ss) (step_keys A) in
+        let moved = filter-pushed (λ key. key.0 == c) (numbered number 0 ss) (step_keys A) in
         grind (arith, moved, other-keys c number 0 ss, own-keys c 0 ss, new_planned A number facility day script c f)
     by_act act f ih = ih
 
@@ -151,7 +153,7 @@ keys-order : (A : History) → IsRegister A → (c : ℕ) → IsPermutation (fil
 keys-order A h c =
     let all = numbered c 0 (steps_of A c) in
     rw (keys-stacked A h c) (IsPermutation-sym all (pushed_onto all [])
-    (stacked-alone all))
+    (pushed-alone all))
 
 keys-any : (A : History) → IsRegister A → (c : ℕ) (g : ℕ → Bool)
     → list_any (λ key. key.0 == c && g key.1) (step_keys A) ≡ list_any (λ key. g key.1) (numbered c 0 (steps_of A c))
@@ -235,6 +237,7 @@ module _ (A : History) (h : IsRegister A) (entry : Entry) (c k at : ℕ) (state 
   turned : (s : ℕ × ℕ) → (c == s.0 && k == s.1) ≡ (s.0 == c && s.1 == k)
   turned s = ap (λ b. b && k == s.1) (same-number c s.0) ∙ ap (λ b. s.0 == c && b) (same-number k s.1)
 
+  -- the step's row put with what became of it gives the rows of steps after the act
   pub put-step : put same_step (record (step_row A (c, k)) { state = state; at = Some at }) (steps A) ≡ steps (entry ∷ A)
   put-step =
       put-at same_step (step_row A) (step_row (entry ∷ A)) (record (step_row A (c, k)) { state = state; at = Some at })
@@ -251,6 +254,7 @@ module _ (A : History) (h : IsRegister A) (entry : Entry) (c k at : ℕ) (state 
 abbrev is_seat_of : ℕ → ℕ → ℕ → SeatingRow → Bool
 is_seat_of c k j row = row.ceremony == c && row.step == k && row.seat == j
 
+-- the rows of new seats are pushed one after the other onto the seatings
 pub put-seats : (c k i : ℕ) (people : List (List ℕ)) (t : Tables) → ((j : ℕ) → i < j → list_any (is_seat_of c k j) t.seatings ≡ false)
     → all_changed (map PutSeating (seat_rows c k i people)) t ≡ record t { seatings = pushed_onto (seat_rows c k i people) t.seatings }
 put-seats c k i [] t fresh = refl
@@ -272,7 +276,7 @@ fresh-seats [] h c k j l = refl
 fresh-seats (entry ∷ A) h c k j l =
     let t = took A entry h.0 in
     let l2 : one_more (does_step c entry.command.act) (steps_done A c) < k = rw (done-after A entry c) at l in
-    any-stacked (is_seat_of c k j) (seating_rows (ceremony_of_step entry.command.act) entry.reply.step entry.reply.seating) (seatings A)
+    any-pushed (is_seat_of c k j) (seating_rows (ceremony_of_step entry.command.act) entry.reply.step entry.reply.seating) (seatings A)
     ∙ or_from _ _
     (ap (λ answer. list_any (is_seat_of c k j) (seating_rows (ceremony_of_step entry.command.act) answer.step answer.seating)) t.reply
     ∙ by_act entry.command.act t.people t.no_fault l2)
@@ -299,6 +303,7 @@ fresh-seats (entry ∷ A) h c k j l =
 abbrev is_numbered : ℕ → ℕ → ExceptionRow → Bool
 is_numbered c j row = row.ceremony == c && row.exception == j
 
+-- no exception has a higher number than the ceremony has exceptions
 pub fresh-exception : (A : History) → IsRegister A → (c j : ℕ) → exceptions_of A c < j → list_any (is_numbered c j) (exceptions A) ≡ false
 fresh-exception [] h c j l = refl
 fresh-exception (entry ∷ A) h c j l =

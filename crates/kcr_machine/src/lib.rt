@@ -8,7 +8,6 @@
 #![tactic(auto)]
 
 mod decision;
-mod laws;
 mod whole;
 
 pub use decision::{check_early, decide_new, decide_repeat};
@@ -18,5 +17,4 @@ pub use kcr_history::{
     Act, Asks, Change, Command, Deed, Finding, FullView as View, Reply, Selection, Verdict, asks,
     command_text,
 };
-pub use laws::{decisions_are_fixed, sheets_are_tested_alike};
 pub use whole::decide;

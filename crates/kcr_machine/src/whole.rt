@@ -1,5 +1,5 @@
 //! A command decided in one call, over a view that has all rows that it asks for, those of keys among them.
-ghost use Rattle.std.specs.Prelude.{◌≡◌, ℕ, IfErr, List};
+ghost use Rattle.std.specs.Prelude.{◌≡◌, IfErr};
 ghost use Rattle.kcr_history.specs.History.{History};
 ghost use Rattle.kcr_history.specs.Machine.{IsRegister, IsDecision};
 ghost use Rattle.kcr_history.specs.Views as Views;

@@ -9,11 +9,11 @@ use Rattle.sqlite_schema.specs.Names.{same_name}
 use Rattle.sqlite_trees.proofs.ListLemmas.{map-map}
 use Rattle.sqlite.specs.Change.{KeepsRows}
 use Rattle.sqlite.specs.Tree.{Trees}
-use Rattle.sqlite_trees.specs.View.{IsShaped}
 use Rattle.sqlite_trees.specs.declared.store.Shape.TheVariants as shape
-use Rattle.kcr_rows.specs.Keyed.{TreeHolds, TableLayout, cells}
+use Rattle.kcr_rows.specs.Keyed.{TreeHolds, cells}
 use Rattle.kcr_rows.specs.Rows.{version_row}
 use Rattle.kcr_rows.specs.declared.row_impls.Version.{Version}
+use Rattle.kcr_rows.proofs.TableLemmas.{keeps_on}
 use Rattle.kcr_tables.specs.StoredTables.{StoredTables, versions_place}
 use Rattle.kcr_tables.specs.Creation.{schema_prefix}
 use Rattle.kcr_tables.specs.Schema.{all_tables, versions}
@@ -55,15 +55,6 @@ held_version version known db rows schema keeps =
     let there : numbered_table db.schema ≡ Some versions = ap numbered_table schema ∙ has_versions version known in
     (rw there refl) ∙ sym (same_number (map number rows) (numbers_in versions db.trees) (subst₂ IsPermutation mine theirs same)) ∙ by_number rows
 
--- so a file of an older version that holds rows
-keeps_at : (place : TableLayout) (old new : Trees) (rows : List Row) → new place.tree ≡ old place.tree → TreeHolds place old rows → TreeHolds place new rows
-keeps_at place old new rows is k = record {
-  same = subst (λ l. IsPermutation rows (map (cells place) l)) (sym is) k.same;
-  rising = k.rising;
-  full = k.full;
-  shaped = subst (IsShaped shape.Table) (sym is) k.shaped;
-}
-
 shares_versions : (version : ℕ) → IsKnown version → (old new : Trees) → KeepsRows (take (14 + version) all_tables) old new → new 28 ≡ old 28
 shares_versions version (inl one) old new s =
     (subst (λ v. KeepsRows (take (14 + v) all_tables) old new) one s).1.1.1.1.1.1.1.1.1.1.1.1.1.0
@@ -76,7 +67,7 @@ shares_versions version (inr (inr three)) old new s =
 pub older_version : (version : ℕ) → IsKnown version → (db : Database) (t : StoredTables) → HoldsFirst (14 + version) db t → version_in db ≡ only_version t.versions
 older_version version known db t h =
     held_version version known db t.versions h.schema
-    (keeps_at versions_place h.kept.whole db.trees _ (shares_versions version known h.kept.whole db.trees h.kept.shared) h.kept.kept.versions)
+    (keeps_on versions_place h.kept.whole db.trees _ (shares_versions version known h.kept.whole db.trees h.kept.shared) h.kept.kept.versions)
 
 -- one number is one row
 pub is_numbered : (rows : List Version) (number : ℕ) → only_version rows ≡ Some (pos number) → rows ≡ numbered number

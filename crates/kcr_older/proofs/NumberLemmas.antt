@@ -3,7 +3,6 @@ use Rattle.std.specs.Prelude.{slice_get, option_and_then, IsSomeAnd}
 use Rattle.std.proofs.Common.{◌≡◌, ◌∙◌, ap, sym, subst, ℕ, negsuc, ◌<◌, ◌^◌, nat_le, arith, List, [], ◌∷◌, codes, Option, Some, None, refl, true, false}
 use Rattle.std.proofs.Common.{map, filter, inl, inr, subst₂, IsTrue}
 use Rattle.std.specs.Prelude.{is_some}
-use Rattle.std.specs.List.{AllZip}
 use Rattle.std.specs.List.Sorted.{IsPermutation}
 use Rattle.std.proofs.lemmas.List.{map-id}
 use Rattle.std.proofs.lemmas.List.Sorted.{IsPermutation-map, length_permutation}

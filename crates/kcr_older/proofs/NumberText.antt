@@ -274,6 +274,7 @@ module _ (schema : Schema) (at : ℕ) (table : Table) (c : Column) (finds : tabl
   unfolding Shown'
   shown_accepted old new rows has h = accepted_by accepted h.0 (sym understood-is ∙ ap (λ s. understood s text) (sym has) ∙ h.1.is)
 
+  -- the rows that the text shows are the answer to its query
   pub answered : (old new : SqlState) (rows : List Row) → old.now.schema ≡ schema → Shown' text [] old new rows
       → IsAnswer (query_of draft) (overlay old.now.trees []) [] rows
   answered old new rows has h =
@@ -282,5 +283,6 @@ module _ (schema : Schema) (at : ℕ) (table : Table) (c : Column) (finds : tabl
       let read = reads_as text [] old new schema has _ is (bare ok) reads_listing-is rows h in
       read.answer Null
 
+  -- a text that shows rows has no RETURNING and does not read the time
   pub plain : (old new : SqlState) (rows : List Row) → old.now.schema ≡ schema → Shown' text [] old new rows → IsPlain (understood schema text)
   plain old new rows has h = bare (shown_accepted old new rows has h)

@@ -1,4 +1,4 @@
--- Days on which the rows say something, and days from which on they do.
+-- Laws of days: what the rows say from a day on they say of that day or a later one, and of no other.
 use Rattle.std.proofs.Common.{◌≡◌, ℕ, ◌≤◌, Bool, true, not, ◌&&◌, nat_le, max, is_some, inl, inr, List, [], ◌∷◌, find, Option}
 use Rattle.std.proofs.Common.{option_map, refl, ◌∙◌, arith}
 use Rattle.std.specs.List.{list_any, list_all}
@@ -13,7 +13,7 @@ use Rattle.kcr_people.specs.declared.Appointment.{Appointment}
 use Rattle.kcr_people.specs.declared.Training.{Training}
 use Rattle.kcr_people.specs.declared.Withdrawal.{Withdrawal}
 use Rattle.kcr_people.specs.People.{is_of, is_withdrawn_by, trains, trained_by, trained_from_by, ends_after, lasts, lasts_beyond, holds}
-use Rattle.kcr_people.specs.People.{holder_by, place_held_from_by}
+use Rattle.kcr_people.specs.People.{holder_by, holds_some_by, place_held_from_by, person_holds_from_by}
 
 -- TRAININGS
 
@@ -36,7 +36,8 @@ trains-first ws who role day d row l h =
         → (((s && nat_le row.since (max row.since day)) && nat_le (max row.since day) row.until) && not v) ≡ true
     by_parts s w v e f = grind (arith, nat_tests)
 
--- who is trained on a day or later is trained on one of these days
+-- a withdrawal is refused as vacant if the person is trained for the role neither on its day nor on a later one: who is trained from a day on is trained on
+-- one of these days
 pub trained_on_some_day : (ts : List Training) (ws : List Withdrawal) (who : List ℕ) (role : Role) (day : ℕ) → trained_from_by ts ws who role day ≡ true
     → (d : ℕ) × (day ≤ d) × (trained_by ts ws who role d ≡ true)
 trained_on_some_day [] ws who role day h = absurd (false≢true h)
@@ -46,7 +47,7 @@ trained_on_some_day (row ∷ rows) ws who role day h =
       | inr e ↦ let w = trained_on_some_day rows ws who role day e in (w.0, w.1, or_right (trains ws who role w.0 row) (trained_by rows ws who role w.0) w.2)
     ]
 
--- who is trained on one of these days is trained on the day or later
+-- and it is refused so only then: who is trained on one of these days is trained from the day on
 pub trained_on_no_other : (ts : List Training) (ws : List Withdrawal) (who : List ℕ) (role : Role) (day d : ℕ) → day ≤ d → trained_by ts ws who role d ≡ true
     → trained_from_by ts ws who role day ≡ true
 trained_on_no_other ts ws who role day d l h =
@@ -67,6 +68,7 @@ module _ (s : Appointment → Bool) where
   abbrev held_on : ℕ → Appointment → Bool
   held_on d row = s row && nat_le row.since d && lasts_beyond d row
 
+  -- if a row of these lasts beyond the day, some row holds on the day or a later one
   pub held_on_some_day : (rows : List Appointment) (day : ℕ) → list_all lasts rows ≡ true → list_any (λ row. s row && lasts_beyond day row) rows ≡ true
       → (d : ℕ) × (day ≤ d) × (list_any (held_on d) rows ≡ true)
   held_on_some_day [] day l h = absurd (false≢true h)
@@ -80,6 +82,7 @@ module _ (s : Appointment → Bool) where
         | inr e ↦ let w = held_on_some_day rows day q.1 e in (w.0, w.1, or_right (held_on w.0 row) (list_any (held_on w.0) rows) w.2)
       ]
 
+  -- if some row holds on one of these days, a row of these lasts beyond the day
   pub held_on_no_other : (rows : List Appointment) (day d : ℕ) → day ≤ d → list_any (held_on d) rows ≡ true
       → list_any (λ row. s row && lasts_beyond day row) rows ≡ true
   held_on_no_other rows day d l h =
@@ -90,15 +93,26 @@ some-find : {X Y : Type 0} (f : X → Y) (test : X → Bool) (rows : List X) →
 some-find f test [] = refl
 some-find f test (row ∷ rows) = grind (arith, some-find f test rows)
 
--- a place that is held on a day or later has a holder on one of these days, if each appointment lasts
+-- where each appointment lasts beyond its first day, a place that is held from a day on, so that nobody is appointed to it then, has a holder on the day or
+-- a later one
 pub place_on_some_day : (rows : List Appointment) → list_all lasts rows ≡ true → (place : Place) (day : ℕ) → place_held_from_by rows place day ≡ true
     → (d : ℕ) × (day ≤ d) × (is_some (holder_by rows place d) ≡ true)
 place_on_some_day rows l place day h =
     let w = held_on_some_day (λ row. same_place row.place place) rows day l h in
     (w.0, w.1, some-find (λ row. row.who) (holds place w.0) rows ∙ w.2)
 
--- a place that has a holder on one of these days is held on the day or later
+-- and a place that has a holder on the day or a later one is held from the day on
 pub place_on_no_other : (rows : List Appointment) (place : Place) (day d : ℕ) → day ≤ d → is_some (holder_by rows place d) ≡ true
     → place_held_from_by rows place day ≡ true
 place_on_no_other rows place day d l h =
     held_on_no_other (λ row. same_place row.place place) rows day d l (rw some-find at h)
+
+-- where each appointment lasts beyond its first day, a person who holds places from a day on, and so is put in no other, holds one on the day or a later one
+pub person_on_some_day : (rows : List Appointment) → list_all lasts rows ≡ true → (who : List ℕ) (day : ℕ) → person_holds_from_by rows who day ≡ true
+    → (d : ℕ) × (day ≤ d) × (holds_some_by rows who d ≡ true)
+person_on_some_day rows l who day h = held_on_some_day (λ row. same_text row.who who) rows day l h
+
+-- and a person who holds a place on the day or a later one holds places from the day on
+pub person_on_no_other : (rows : List Appointment) (who : List ℕ) (day d : ℕ) → day ≤ d → holds_some_by rows who d ≡ true
+    → person_holds_from_by rows who day ≡ true
+person_on_no_other rows who day d l h = held_on_no_other (λ row. same_text row.who who) rows day d l h

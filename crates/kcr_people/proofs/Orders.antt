@@ -18,14 +18,14 @@ trains-order : (ws vs : List Withdrawal) → IsPermutation ws vs → (who : List
 trains-order ws vs p who role day row =
     ap (λ b. covers who role day row && not b) (sym (list_any-IsPermutation (λ w. is_of row w && nat_le w.day day) ws vs p))
 
--- who is trained on a day is the same for trainings and withdrawals in any order
+-- who is trained on a day does not depend on the order of trainings and withdrawals
 pub trained-order : (ts us : List Training) (ws vs : List Withdrawal) → IsPermutation ts us → IsPermutation ws vs → (who : List ℕ) (role : Role) (day : ℕ)
     → trained_by us vs who role day ≡ trained_by ts ws who role day
 trained-order ts us ws vs p q who role day =
     any-same (trains vs who role day) (trains ws who role day) us (trains-order ws vs q who role day)
     ∙ sym (list_any-IsPermutation (trains ws who role day) ts us p)
 
--- who is trained on a day or later is the same for trainings and withdrawals in any order
+-- nor does who is trained from a day on
 pub trained_from-order : (ts us : List Training) (ws vs : List Withdrawal) → IsPermutation ts us → IsPermutation ws vs → (who : List ℕ) (role : Role) (day : ℕ)
     → trained_from_by us vs who role day ≡ trained_from_by ts ws who role day
 trained_from-order ts us ws vs p q who role day =

@@ -1,4 +1,4 @@
--- After a withdrawal: whose training counts on which day.
+-- The law of withdrawals: whose training counts on which day after one.
 use Rattle.std.proofs.Common.{◌≡◌, ℕ, ◌≤◌, Bool, true, false, not, ◌||◌, ◌&&◌, cond, nat_le, eqb, min, List, [], ◌∷◌, map, filter, refl, sym, ap, ◌∙◌}
 use Rattle.std.proofs.Common.{arith, inl, inr}
 use Rattle.std.specs.Prelude.{fold}
@@ -183,7 +183,8 @@ trains-after ts ws who role day p r d t own =
         ∙ rest (same_text p who && same_role r role && nat_le day d) (is_withdrawn_by ws t d)
     by_cover false e = refl
 
--- after a withdrawal all are trained as before, but the person for the role on no day from its day on
+-- after a withdrawal, its rows put in place of those of the same trainings, the person is trained for the role before the day as before, and neither on the
+-- day nor later; for everybody else, and for the other roles, nothing changes
 pub trained-after : (ts : List Training) (ws : List Withdrawal) (who : List ℕ) (role : Role) (day : ℕ) (p : List ℕ) (r : Role) (d : ℕ)
     → trained_by ts (put_all same_withdrawn (withdrawn_rows ts ws who role day) ws) p r d
     ≡ (trained_by ts ws p r d && not (same_text p who && same_role r role && nat_le day d))

@@ -1,10 +1,10 @@
 //! People, their training and its withdrawals, and the custodians of places, by rows: what the rows
-//! say of a day, and what each act makes of them, or the first reason why it is refused.
+//! say of a day, and what each act makes of them, or the first reason why it is refused. Their laws
+//! are lemmas, which `proofs/Laws.antt` lists.
 #![tactic(auto)]
 
 mod checks;
 pub mod custodians;
-pub mod laws;
 pub mod people;
 pub mod queries;
 pub mod withdrawals;

@@ -230,10 +230,10 @@ drop_both (suc n) m [] = drop_none (suc n + m) ∙ sym (drop_none m)
 drop_both (suc n) m (x ∷ xs) = let e : suc n + m ≡ suc (n + m) = omega arith in ap (λ k. drop k (x ∷ xs)) e ∙ drop_both n m xs
 
 -- the requests up to a number, and then those from it on, are the requests of both
-pub joined : (A : History) (after middle until : ℕ) → after ≤ middle → middle ≤ until
+pub exports_join : (A : History) (after middle until : ℕ) → after ≤ middle → middle ≤ until
     → requests_between after until A ≡ requests_between after middle A ++ requests_between middle until A
 unfolding commands_between
-joined A after middle until first second =
+exports_join A after middle until first second =
     let f : Entry → Command = λ entry. entry.command in
     let all : until - after ≡ (middle - after) + (until - middle) = omega arith in
     let at : middle ≡ after + (middle - after) = omega arith in

@@ -1,7 +1,5 @@
 //! The lines of the journal.
 
-ghost use Rattle.std.specs.Prelude.{◌≡◌, ◌++◌, OnOk};
-
 use crate::print_lines::PrintLines;
 use kcr_base::Refusal;
 use kcr_journal::JournalLine;

@@ -19,5 +19,5 @@ mod write_rows;
 mod writing;
 
 pub use fault::{PrintFault, WriteFailed};
-pub use reports::{annotated, attendance_csv, custody, export, exports_join, journal};
+pub use reports::{annotated, attendance_csv, custody, export, journal};
 pub use writing::write_whole;

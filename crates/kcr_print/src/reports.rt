@@ -1,7 +1,6 @@
 //! The three reports, and the export.
 
-ghost use Rattle.std.specs.Prelude.{◌≡◌, ◌≤◌, ◌++◌, ℕ};
-ghost use Rattle.kcr_history.specs.History.{History};
+ghost use Rattle.std.specs.Prelude.{◌≡◌};
 ghost use Rattle.kcr_history.specs.Prints as prints;
 ghost use Rattle.kcr_store.specs.Register.{IsConsistent};
 ghost use Rattle.kcr_base.specs.Counted.{inner_of};
@@ -11,7 +10,7 @@ ghost use Rattle.kcr_store.specs.Calls.{OfRows};
 ghost use Rattle.kcr_print.specs.ByRows.{annotated_by, attendance_by, custody_by};
 ghost use Rattle.kcr_print.specs.Reports.{KeepsRegister, Prints, PrintsPlanned, PrintsRows, RefusesBetweenRows};
 ghost use Rattle.kcr_print.specs.Journal.{PrintsJournal, row_journal};
-ghost use Rattle.kcr_print.specs.Requests.{Exports, requests_between, row_request, row_requests};
+ghost use Rattle.kcr_print.specs.Requests.{Exports, row_request, row_requests};
 
 use crate::fault::PrintFault;
 use crate::parts::{print_attendance, print_custody, print_journal, print_requests, print_script};
@@ -139,12 +138,6 @@ pub fn export<S: Alter, W: Write>(
 {
     export_rows(alloc, register, after, until, writer)
 }
-
-/// Exports, one after the other, are the export of both.
-pub fn exports_join()
-    ensures { (A : History) (after middle until : ℕ) → after ≤ middle → middle ≤ until
-        → requests_between after until A ≡ requests_between after middle A ++ requests_between middle until A }
-{}
 
 /// Writes the lines of the journal, by the rows of accepted commands.
 fn journal_rows<S: Alter, W: Write>(

@@ -1,6 +1,6 @@
 //! The requests of the accepted commands, one after the other.
 
-ghost use Rattle.std.specs.Prelude.{◌≡◌, ◌++◌, map, IfOk, IfErr, OnOk};
+ghost use Rattle.std.specs.Prelude.{◌≡◌, map, IfOk, IfErr};
 ghost use Rattle.kcr_history.specs.Tables as machine;
 ghost use Rattle.kcr_reading.specs.Commands.{commands_within};
 ghost use Rattle.kcr_tables.specs.Refusals.{IsFault};

@@ -1,6 +1,6 @@
 //! The lines of an annotated script.
 
-ghost use Rattle.std.specs.Prelude.{◌≡◌, ◌++◌, codes, All, OnOk, IfErr};
+ghost use Rattle.std.specs.Prelude.{◌≡◌, ◌++◌, All, OnOk, IfErr};
 ghost use Rattle.kcr_script.specs.Seat.{seat_text, IsSeat};
 ghost use Rattle.kcr_history.specs.Prints as report;
 ghost use Rattle.kcr_tables.specs.Refusals.{IsFault};

@@ -108,6 +108,7 @@ module _ {X : Type 0} (row_of : X → Row) (ceremony_of number_of : X → ℕ)
         several_come row_of nat_cmp nat_cmp_total number_of past (number_later number_of) 2 (is_of ceremony) (among ceremony) ts up come come_is last rows
         (begin_take count low (come last) rows (chosen_next last (λ l. rows ≡ take count l) first))
 
+    -- each of several rows is of the ceremony, past the last one before them and not past the last of them
     pub within : (last : Option ℕ) (count : ℕ) (rows : List X) → AreFirst count row_of (numbered ceremony last) ts rows
         → AllByRecursion (λ x. (is_of ceremony x ≡ true) × ((past last x ≡ true) × (past (moved_on nat_cmp nat_cmp_total number_of last rows) x ≡ false))) rows
     within last count rows first =
@@ -151,12 +152,14 @@ module _ (ceremony : ℕ) (last : Option ℕ) (m : machine.Tables) {db : Trees} 
   abbrev reached : Option ℕ
   reached = moved nat_cmp nat_cmp_total (λ (x : StepRow). x.step) last found
 
+  -- the rows are the ceremony's next steps, and the others come after the last of them
   pub next_steps : 0 < count → IsNextBatchOf (rows_past last ceremony m) rows (rows_past reached ceremony m)
   next_steps low =
       subst (λ l. IsNextBatchOf (rows_past last ceremony m) rows (rows_past l ceremony m))
       (moved_to nat_cmp nat_cmp_total (λ (x : StepRow). x.step) last rows found ends)
       (several step_row (λ x. x.ceremony) (λ x. x.step) (λ x. refl) ceremony k.stands.rows.steps k.kept.steps.rising last count low rows first)
 
+  -- each of the rows is a step of the ceremony, past the last one before them and not past the last of them
   pub steps_within : AllByRecursion (IsStepWithin ceremony last reached) rows
   steps_within =
       subst (λ l. AllByRecursion (IsStepWithin ceremony last l) rows)

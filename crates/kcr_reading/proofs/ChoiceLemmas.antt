@@ -1,6 +1,6 @@
 -- Rows of a table, read one at a time: what a text chooses, and which of them comes next.
 use Rattle.std.proofs.Common.{◌≡◌, ℕ, ◌&&◌, Bool, true, List, [], ◌∷◌, ◌++◌, map, filter, take, slice_get, Option, Some, Ordering, Less, Result}
-use Rattle.std.proofs.Common.{false, refl, sym, ap, subst, ◌∙◌}
+use Rattle.std.proofs.Common.{false, sym, ap, subst, ◌∙◌}
 use Rattle.std.specs.List.{AllByRecursion}
 use Rattle.std.proofs.lemmas.List.{map-append}
 use Rattle.std.specs.Prelude.{IfOk}
@@ -16,6 +16,7 @@ use Rattle.kcr_base.specs.declared.refusal.Refusal.{Refusal}
 use Rattle.kcr_rows.specs.Keyed.{TableLayout, by_key}
 use Rattle.kcr_rows.proofs.FailLemmas.{if_ok}
 use Rattle.kcr_rows.proofs.FilterLemmas.{filter_as}
+use Rattle.kcr_rows.proofs.GreatestLemmas.{none_from}
 use Rattle.kcr_room.proofs.Lists.{filter-and}
 use Rattle.kcr_history.specs.Tables as machine
 use Rattle.kcr_tables.specs.StoredTables.{StoredTables, Holds}
@@ -56,12 +57,8 @@ pub several_made : {X Y : Type 0} (make : X → Y) (all rows rest : List X) → 
     → IsNextBatchOf (map make all) made (map make rest)
 several_made make all rows rest gives made is = record {
   next = ap (map make) gives.next ∙ map-append make rows rest ∙ ap (λ l. l ++ map make rest) (sym is);
-  ends = λ none. ap (map make) (gives.ends (unmade make rows (sym is ∙ none)));
+  ends = λ none. ap (map make) (gives.ends (none_from make rows (sym is ∙ none)));
 }
-  where
-    unmade : {X Y : Type 0} (make : X → Y) (xs : List X) → map make xs ≡ [] → xs ≡ []
-    unmade make [] h = refl
-    unmade make (x ∷ xs) h = absurd (let none : make x ∷ map make xs ≡ [] = h in cc)
 
 -- what is made of the row that was found is the next of what is made of the rows
 pub gives_made : {X Y : Type 0} (make : X → Y) (all rest : List X) (found : Option X) (row : X) → found ≡ Some row → IsNextOf all found rest
@@ -82,6 +79,7 @@ module _ {X K : Type 0} (row_of : X → Row) (compare : K → K → Ordering) (t
   by_keys : IsAscending ByKey ts
   by_keys = ascending_from_map (λ a b. by_key keys a b ≡ Less) row_of ts rising
 
+  -- the rows that pass the test rise by the key
   pub rise : IsAscending (λ a b. compare (key a) (key b) ≡ Less) (filter test ts)
   rise = rises_among test _ ts (ascending_weaker ByKey _ (λ a b h p q. sym (among a b p q) ∙ h) ts by_keys)
 

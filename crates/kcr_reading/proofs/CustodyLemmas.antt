@@ -72,6 +72,7 @@ module _ {X : Type 0} (row_of : X → Row) (key : X → List ℕ) (row_is : (x :
   those xs = in_order (λ a b. is_before (key a) (key b)) xs
 
   module _ {ms ts : List X} (same : IsPermutation ms ts) (up : IsAscending (λ a b. by_key 1 a b ≡ Less) (map row_of ts)) where
+    -- the machine's rows in the order of their keys are those of the table
     pub are : those ms ≡ ts
     are =
         ordered (slice_cmp nat_cmp) nat_list_cmp_total key ms ts same
@@ -85,12 +86,14 @@ module _ {X : Type 0} (row_of : X → Row) (key : X → List ℕ) (row_is : (x :
       come_is : (l : Option (List ℕ)) → come l ≡ filter (past l) (filter test ts)
       come_is l = sym (filter-and test (past l) (those ms)) ∙ ap (λ xs. filter (past l) (filter test xs)) are
 
+      -- the first row that the text chooses is the first of those to come
       pub first_behind : (terms : List Term) (params : Row) → ((x : X) → (by_test 1 terms params).passes (row_of x) ≡ (test x && past last x))
           → (found : Option X) → IsFirstRow row_of (by_test 1 terms params) ts found → found ≡ slice_get (come last) 0
       first_behind terms params chosen found =
           chosen_come row_of (slice_cmp nat_cmp) nat_list_cmp_total key past (text_later key) 1 test (λ a b _ _. keyed a b) ts up come come_is last
           terms params chosen (λ l. found ≡ slice_get l 0)
 
+      -- the first of those to come is the next row, and the others come after it
       pub next_behind : (found : Option X) → found ≡ slice_get (come last) 0
           → IsNextOf (come last) found (come (moved (slice_cmp nat_cmp) nat_list_cmp_total key last found))
       next_behind = next_come row_of (slice_cmp nat_cmp) nat_list_cmp_total key past (text_later key) 1 test (λ a b _ _. keyed a b) ts up come come_is last

@@ -61,6 +61,7 @@ module _ (count : ℕ) (sql : List ℕ) (place : TableLayout) (params : Row) (ch
       a.shown ∙ ap (λ l. take count (map (λ (o : Output). o.1) l)) ordered ∙ ap (take count) (map-map (λ (o : Output). o.1) ranked those ∙ map-id those)
 
   module _ {X : Type 0} (row_of : X → Row) where
+    -- the values that the text shows are the first N of those that pass, in their order
     pub shown_first : (IsRead IsStored : X → Type 0) → ((x y : X) → IsRead x → IsStored y → row_of x ≡ row_of y → x ≡ y) → (old new : State) (xs : List X)
         → old.now.schema ≡ register_schema
         → Shown sql params old new (map row_of xs) → AllByRecursion IsRead xs → (ys : List X) → AllByRecursion IsStored ys

@@ -99,6 +99,7 @@ module _ {K : Type 0} (compare : K → K → Ordering) (total : IsTotalOrder com
   moved_on last [] = last
   moved_on last (x ∷ rows) = moved_on (Some (key x)) rows
 
+  -- the last moves over some rows to the last of these
   pub moved_last : (last : Option K) (rows : List X) → moved last (slice_get rows (length rows - 1)) ≡ moved_on last rows
   moved_last last [] = refl
   moved_last last (x ∷ rows) = ap (λ k. moved last (slice_get (x ∷ rows) k)) (omega arith) ∙ on last x rows
@@ -107,6 +108,7 @@ module _ {K : Type 0} (compare : K → K → Ordering) (total : IsTotalOrder com
       on last x [] = refl
       on last x (y ∷ rows) = on last y rows
 
+  -- the last moves over some rows to the row that is found at their end
   pub moved_to : (last : Option K) (rows : List X) (found : Option X) → found ≡ slice_get rows (length rows - 1) → moved_on last rows ≡ moved last found
   moved_to last rows found ends = sym (ap (moved last) ends ∙ moved_last last rows)
 
@@ -119,6 +121,7 @@ module _ {K : Type 0} (compare : K → K → Ordering) (total : IsTotalOrder com
       let more : filter (past (Some (key x))) xs ≡ rows ++ rest = cc in
       gives_rest past same (Some (key x)) xs up rows rest more
 
+  -- the first of the rows past the last are the next ones, and the others come after them
   pub gives_several : (past : Option K → X → Bool) → ((last : Option K) (x : X) → past last x ≡ later last x) → (last : Option K) (xs : List X)
       → IsAscending Rises xs → (rows : List X) → Begin (filter (past last) xs) rows
       → IsNextBatchOf (filter (past last) xs) rows (filter (past (moved_on last rows)) xs)
@@ -132,6 +135,7 @@ module _ {K : Type 0} (compare : K → K → Ordering) (total : IsTotalOrder com
   at_most_last k x h [] all = h
   at_most_last k x h (y ∷ rows) all = at_most_last (key y) x (lt_is_gt x y ∙ ap is_gt all.0) rows all.1
 
+  -- no row that was taken is past the last of them
   pub none_past : (last : Option K) (rows : List X) → IsAscending Rises rows → AllByRecursion (λ x. later (moved_on last rows) x ≡ false) rows
   none_past last [] up = tt
   none_past last (x ∷ rows) up =
@@ -146,6 +150,7 @@ module _ {K : Type 0} (compare : K → K → Ordering) (total : IsTotalOrder com
   StaysApart : List X → List X → Type 0
   StaysApart xs ys = ((y : X) → AllByRecursion (Apart y) xs → AllByRecursion (Apart y) ys) × (IsAscending Apart xs → IsAscending Apart ys)
 
+  -- if no two rows tie, no two do in another order
   pub apart_on : (xs ys : List X) → IsPermutation xs ys → IsAscending Apart xs → IsAscending Apart ys
   unfolding StaysApart
   apart_on xs ys same =
@@ -155,6 +160,7 @@ module _ {K : Type 0} (compare : K → K → Ordering) (total : IsTotalOrder com
       (λ a b c p q. (λ y all. q.0 y (p.0 y all), λ up. q.1 (p.1 up)))
       xs ys same).1
 
+  -- rows that rise are sorted
   pub sorted : (xs : List X) → IsAscending Rises xs → IsSorted cmp xs
   sorted xs up k d low within = lt_is_gt (get_or xs k d) (get_or xs (k + 1) d) ∙ ap is_gt (ascending-get_or Rises xs k (k + 1) d up (omega arith) within)
 
@@ -166,6 +172,7 @@ module _ {K : Type 0} (compare : K → K → Ordering) (total : IsTotalOrder com
   order_is [] = refl
   order_is (x ∷ xs) = put_is x (in_order before xs) ∙ ap (insert_sorted cmp x) (order_is xs)
 
+  -- rows in any order, put in order, are the rows that rise
   pub ordered : (xs ys : List X) → IsPermutation xs ys → IsAscending Rises ys → in_order before xs ≡ ys
   ordered xs ys same up =
       let apart : IsAscending Apart xs = apart_on ys xs (IsPermutation-sym _ _ same) (ascending_weaker Rises Apart (λ a b h. ap is_eq h) ys up) in

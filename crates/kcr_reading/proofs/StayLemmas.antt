@@ -1,12 +1,11 @@
 -- The stays of a ceremony by their beginning, then initials, and the name of a person.
 use Rattle.std.proofs.Common.{◌≡◌, ℕ, pos, arith, ◌&&◌, ◌||◌, ◌==◌, nat_lt, not, Bool, true, false, cond, List, [], ◌∷◌, ◌++◌, map, filter, slice_get, length}
-use Rattle.std.proofs.Common.{◌-◌, ◌<◌, append_assoc, option_map, unwrap_or, inl, Option, Some, None, Ordering, Less, Equal, Greater, is_lt, refl, sym}
+use Rattle.std.proofs.Common.{◌-◌, ◌<◌, append_assoc, Option, Some, None, Ordering, Less, Equal, Greater, is_lt, refl, sym}
 use Rattle.std.proofs.Common.{codes, ap, ap₂, subst, ◌∙◌}
 use Rattle.std.specs.List.{AllByRecursion, list_all}
 use Rattle.std.specs.Ordering.{is_eq, nat_cmp, then_cmp, ordering_then, ordering_reverse}
 use Rattle.std.specs.Cmp.{IsTotalOrder, tied_then}
 use Rattle.std.specs.Cmp.Lexicographic.{slice_cmp}
-use Rattle.std.specs.Option.{option_to_list}
 use Rattle.std.specs.List.Sorted.{IsPermutation}
 use Rattle.std.proofs.Math.Bool.{and_comm}
 use Rattle.std.proofs.lemmas.Bool.{and_parts, eqb-true}
@@ -21,10 +20,7 @@ use Rattle.sqlite.specs.Ops.{binary}
 use Rattle.sqlite.specs.Collation.TheVariants.{Binary}
 use Rattle.sqlite.specs.Tree.{Trees, IsAscending}
 use Rattle.sqlite.specs.Listing.{understood}
-use Rattle.std.proofs.lemmas.Slice.Eq.{bytes_eq-Decides}
-use Rattle.sqlite_keyed.proofs.ListLemmas.{all_from_test, slice_get-filter}
-use Rattle.sqlite_rules.specs.Lists.{Has}
-use Rattle.kcr_base.specs.Same.{same_text}
+use Rattle.sqlite_keyed.proofs.ListLemmas.{all_from_test}
 use Rattle.sqlite_keyed.proofs.SortLemmas.{sorted_unique}
 use Rattle.sqlite_sql.specs.declared.ops.BinaryOp.TheVariants.{Compare}
 use Rattle.sqlite_sql.specs.declared.ops.CompareOp.TheVariants.{Eq, Gt}
@@ -34,25 +30,21 @@ use Rattle.sqlite_tied.specs.Compute.{everything}
 use Rattle.sqlite_trees.proofs.ListLemmas.{all_both, all_weaker, filter_none, ascending_weaker, ascending_from_map, ascending-filter, IsPermutation-filter}
 use Rattle.kcr_rows.specs.Keyed.{by_key}
 use Rattle.kcr_rows.proofs.FilterLemmas.{filter_as}
-use Rattle.kcr_rows.proofs.PutLemmas.{has_same}
-use Rattle.kcr_rows.specs.Rows.{person_row, stay_row}
-use Rattle.kcr_people.specs.declared.Person.{Person}
+use Rattle.kcr_rows.specs.Rows.{stay_row}
 use Rattle.kcr_room.proofs.Listed.{attendance-moves, attendance-listed}
 use Rattle.kcr_room.proofs.Lists.{filter-and}
 use Rattle.kcr_room.specs.Stays.{is_listed_before, are_listed, attendance_in_by}
 use Rattle.kcr_room.specs.declared.Stay.{Stay}
-use Rattle.kcr_history.specs.Prints.{name_of}
 use Rattle.kcr_history.specs.Tables as machine
 use Rattle.kcr_tables.specs.StoredTables.{stays_place}
 use Rattle.kcr_tables.specs.MachineTables.{TreesHoldTables}
 use Rattle.kcr_tables.specs.StaysLaws as laws
-use Rattle.kcr_tables.proofs.HasLemmas.{has_right, filter_from, filter_to, filter_is, one_key_of}
 use Rattle.kcr_tables.specs.Statements.{key_order, Choice}
 use Rattle.kcr_reading.specs.FirstRows.{ShowsSome, AreFirst, bound_of}
 use Rattle.kcr_reading.specs.Remaining.{Begin, IsNextBatchOf, is_behind, since_of, begins_with, begins_after, is_stay_past, listed_past}
 use Rattle.kcr_reading.proofs.ChoiceLemmas.{by_test}
 use Rattle.kcr_reading.proofs.FirstLemmas.{begin_take}
-use Rattle.kcr_reading.proofs.NumberLemmas.{number_cmp, behind_number, behind_text, equal_number, one_test, with_tests, text_key, rises_among}
+use Rattle.kcr_reading.proofs.NumberLemmas.{number_cmp, behind_number, behind_text, equal_number, one_test, with_tests, rises_among}
 use Rattle.kcr_reading.proofs.OrderLemmas.{later, moved, moved_to, apart_on, sorted, gives_several}
 
 -- ---- the order

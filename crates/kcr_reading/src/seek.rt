@@ -1,6 +1,6 @@
 //! The first rows of a table that pass a test, or the first one.
 
-ghost use Rattle.std.specs.Prelude.{◌≡◌, ℕ, Option, pos, ℤ};
+ghost use Rattle.std.specs.Prelude.{◌≡◌, ℕ, Option};
 ghost use Rattle.sqlite.specs.Values.{bound, bound_value};
 ghost use Rattle.sqlite.specs.Value.{owned};
 ghost use Rattle.sqlite.specs.declared.types.Value.TheVariants.{Int};

@@ -1,4 +1,5 @@
--- Rows of which no two of one person share a moment tell the same in any order.
+-- A law: rows of which no two of one person share a moment, as those made in turn (`sheet-shares`), may come in any order. Their stays are the same up to
+-- their order (`stays-order`), and the same people are in a room (`rows-present`).
 use Rattle.std.proofs.Common.{◌≡◌, ℕ, Bool, true, false, cond, not, ◌||◌, ◌&&◌, ◌==◌, nat_le, nat_lt, List, [], ◌∷◌, ◌++◌, map, Option}
 use Rattle.std.proofs.Common.{Some, None, refl, sym, ap, ◌∙◌, subst, arith, append_assoc}
 use Rattle.std.specs.List.{list_any, filter, count_by, AllByRecursion}
@@ -65,12 +66,12 @@ stays-plain : (xs ys : List SheetRow) → IsPermutation xs ys → (rows : List S
 stays-plain xs ys p [] = refl
 stays-plain xs ys p (row ∷ rows) = grind (arith, nat_tests, next-order xs ys p row, stays-plain xs ys p rows)
 
--- rows of which no two of one person share a moment are so in any order
+-- if no two rows of one person share a moment, no two do in another order
 pub share-order : (xs ys : List SheetRow) → IsPermutation xs ys → ShareNoMoment xs → ShareNoMoment ys
 share-order xs ys p h =
     λ who t. let e = sum_by-IsPermutation (λ row. cond (same_text row.who who && row.at == t) 1 0) xs ys p in let n = h who t in omega (arith, e, n)
 
--- the stays of such rows are the same in any order, up to their own order
+-- the stays of such rows are the same whatever the order of the rows, up to their own order
 pub stays-order : (xs ys : List SheetRow) → IsPermutation xs ys → ShareNoMoment xs → IsPermutation (stays_by xs) (stays_by ys)
 stays-order xs ys p h =
     let moved = IsPermutation-map (plain xs) xs ys p in
@@ -79,7 +80,7 @@ stays-order xs ys p h =
     (subst (IsPermutation (stays_of (map (plain xs) xs))) same
     (IsPermutation-map _ _ _ (filter-order (λ followed. is_enter followed.row.way) (map (plain xs) xs) (map (plain xs) ys) moved)))
 
--- of such rows, those present are the same in any order
+-- of such rows the same people are in a room, whatever the order of the rows
 pub rows-present : (xs ys : List SheetRow) → IsPermutation xs ys → ShareNoMoment xs → (c t : ℕ) → present_by ys c t ≡ present_by xs c t
 rows-present xs ys p h c t = sym (same-present ys c t) ∙ present-order (stays_by xs) (stays_by ys) (stays-order xs ys p h) c t ∙ same-present xs c t
 
@@ -119,6 +120,6 @@ share-next before row s turn h who t =
         let d = and_parts (same_text row.who who) (row.at == t) e in
         rw (← same-is row.who who d.0, ← eqb-true row.at t d.1) new
 
--- rows made in turn share no moment
+-- of rows made in turn no two of one person share a moment
 pub sheet-shares : (rows : List SheetRow) → IsSheet rows → ShareNoMoment rows
 sheet-shares = made-in-turn ShareNoMoment share-next (λ who t. omega arith)

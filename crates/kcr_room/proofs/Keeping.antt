@@ -1,4 +1,5 @@
--- What holds of every sheet that requests have made.
+-- Laws of every sheet: rows that are not refused keep every row in its turn (`turns_keep`), and those present are those in the room by their last rows
+-- (`present_are_in`).
 use Rattle.std.proofs.Common.{◌≡◌, ℕ, Bool, true, false, not, ◌||◌, ◌&&◌, nat_le, List, [], ◌∷◌, ◌++◌, map, Option, Some, None, refl, sym, ap, ◌∙◌}
 use Rattle.std.proofs.Common.{arith, append-nil, append_assoc}
 use Rattle.std.specs.List.{list_any, filter, find}
@@ -67,7 +68,7 @@ turns-more rows c way at (who ∷ rest) a h =
     let more = turn-others rows c way at who rest (not-true (list_any (same_text who) rest) d.0) n.1 in
     rw n.0 (turns-more (rows ++ (new_row c way at who ∷ [])) c way at rest d.1 more)
 
--- after a request that is not refused, each row came in its turn if each had before
+-- rows that are not refused keep every row in its turn: after them each came in its turn if each had before
 pub turns_keep : TurnsKeep
 turns_keep rows c mark full way people at apart h s =
     in_turn-append [] rows (map (new_row c way at) people)

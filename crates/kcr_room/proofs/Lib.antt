@@ -17,3 +17,4 @@ pub mod Steps
 pub mod AnyOrder
 pub mod Counting
 pub mod Ways
+pub mod Laws

@@ -1,4 +1,4 @@
--- The stays of a ceremony by beginning, then initials.
+-- A law: an attendance has each stay of the ceremony once and no other (`attendance-moves`), by beginning, then initials (`attendance-listed`).
 use Rattle.std.proofs.Common.{◌≡◌, ℕ, Bool, true, false, cond, not, ◌==◌, List, [], ◌∷◌, ◌++◌, refl, arith}
 use Rattle.std.specs.List.{list_all, filter}
 use Rattle.std.specs.List.Sorted.{IsPermutation}
@@ -24,7 +24,7 @@ order-moves (stay ∷ rest) =
     IsPermutation-trans (stay ∷ rest) (stay ∷ in_order rest) (put_stay stay (in_order rest))
     (IsPermutation-cons stay rest (in_order rest) (order-moves rest)) (put-moves stay (in_order rest))
 
--- the attendance of a ceremony has its stays, in some order
+-- the attendance of a ceremony has each of its stays once and no other, in some order
 pub attendance-moves : (stays : List Stay) (c : ℕ) → IsPermutation (filter (λ stay. stay.ceremony == c) stays) (attendance_in_by stays c)
 attendance-moves stays c = order-moves (filter (λ stay. stay.ceremony == c) stays)
 
@@ -54,7 +54,7 @@ order-listed : (stays : List Stay) → are_listed (in_order stays) ≡ true
 order-listed [] = refl
 order-listed (stay ∷ rest) = listed-put stay (in_order rest) (order-listed rest)
 
--- in the attendance no stay stands behind one that it is listed before
+-- the attendance is listed by beginning, then initials
 pub attendance-listed : (stays : List Stay) (c : ℕ) → are_listed (attendance_in_by stays c) ≡ true
 attendance-listed stays c = order-listed (filter (λ stay. stay.ceremony == c) stays)
 

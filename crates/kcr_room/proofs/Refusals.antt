@@ -1,4 +1,5 @@
--- Of a sheet whose rows came in their turn, a request is refused alike by rows and by stays.
+-- A law: of a sheet made in turn, a request that is not refused changes rows and stays alike (`same_stays`), and it is refused by both alike where nobody
+-- was ever alone in the room, nor too many (`same_refusal`).
 use Rattle.std.proofs.Common.{◌≡◌, ℕ, Bool, true, false, cond, ◌||◌, ◌==◌, nat_le, nat_lt, List, [], ◌∷◌, Option, Some, None, refl, sym}
 use Rattle.std.proofs.Common.{ap, ◌∙◌, subst, arith}
 use Rattle.std.specs.List.{find}
@@ -82,7 +83,7 @@ third-alike (Some r) b c d h = refl
 third-alike None (Some r) c d h = refl
 third-alike None None c d h = rw (h refl)
 
--- of a sheet made in turn, whose room was never lone or crowded, rows and stays refuse a request alike
+-- of a sheet made in turn, where in the room of the ceremony nobody was ever alone, nor too many, rows and stays refuse a request alike
 pub same_refusal : SameRefusal
 same_refusal rows s c mark full way people at a settled =
     let stays = stays_by rows in

@@ -1,4 +1,4 @@
--- Those present are listed in byte order, each once.
+-- A law: those present are listed in byte order, each once (`present_are_rising`).
 use Rattle.std.proofs.Common.{◌≡◌, ℕ, ◌≤◌, Bool, true, false, not, nat_eq, List, [], ◌∷◌, map, length, Option, Some, None, refl, sym, ap, ◌∙◌, arith}
 use Rattle.std.specs.List.{list_any, list_all, filter}
 use Rattle.std.specs.declared.cmp.Ordering.{Ordering}

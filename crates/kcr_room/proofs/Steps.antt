@@ -163,6 +163,7 @@ module _ (rows : List SheetRow) (all front : List SheetEvent) (step : SheetEvent
   unfolding back
   split = sym (append_assoc front (step ∷ []) (drop (length (front ++ (step ∷ []))) all)) ∙ told.left
 
+  -- the step has its place among the ends
   pub place-within : step.place < length ends
   place-within =
       let w =
@@ -194,6 +195,7 @@ module _ (rows : List SheetRow) (all front : List SheetEvent) (step : SheetEvent
         ∙ ap not (sym (followed front back step t in-order once) ∙ ap (list_any (λ other. follows step other && nat_le other.at t)) split
         ∙ sym (list_any-IsPermutation (λ other. follows step other && nat_le other.at t) (sheet_events_by rows) all moved))
 
+    -- once this step has its end, what was known with it left is known with only those before it left
     pub told-next : (later : List ℕ → Option ℕ) → ((who : List ℕ) → later who ≡ cond (same_text step.who who) (Some step.at) (next who))
         → Told rows all front later (set ends step.place (next step.who))
     unfolding back

@@ -1,15 +1,17 @@
 //! The rooms of ceremonies: their entry and exit sheet, the stays that its rows tell of, who is in a
 //! room at a moment, and what a request of the sheet adds, or the first reason why it is refused.
+//!
+//! The laws of sheets are lemmas in `proofs/`: `Agreement` and `Refusals` (a sheet answers as its stays do), `Keeping` and
+//! `Rising` (rows keep their turns, and who is present), `AnyOrder` (rows come in any order) and `Listed` (attendance).
 #![tactic(auto)]
 
-pub mod laws;
 mod occupancy;
 pub mod presence;
 pub mod requests;
 pub mod sheet;
 pub mod stays;
 
-ghost use Rattle.std.specs.Prelude.{⊤, codes, ◌≡◌, false};
+ghost use Rattle.std.specs.Prelude.{⊤, ◌≡◌, false};
 ghost use Rattle.kcr_base.specs.Reads.{HasText, ReadsText};
 ghost use Rattle.kcr_room.specs.Forms.{way_of};
 ghost use Rattle.kcr_room.specs.Room.{way_text};

@@ -32,6 +32,7 @@ module _ (schema : Schema) (text : List ℕ) (table : Table) (after : Schema)
     (after_is : (found : Table) → table_defined_by text ≡ Ok found → created schema found ≡ after)
     (tree_is : next_tree schema ≡ table.tree)
     (uncounted : lacks_sequence after ≡ false) where
+  -- the statement leaves the schema with the table, and each of its tables empty
   pub creates : (old new : State) (count : ℕ) → old.now.schema ≡ schema → AreEmpty schema.tables old.now.trees → Executes text [] old new (Ok count)
       → (new.now.schema ≡ after) × AreEmpty (schema.tables ++ table ∷ []) new.now.trees × IsSound after new.now.trees
   creates old new count has empty h =

@@ -1,6 +1,6 @@
 -- A query for the row with the greatest number, among those that pass a test.
 use Rattle.std.proofs.Common.{◌≡◌, inl, inr, ℕ, suc, ◌≤◌, ◌^◌, nat_le, pos, length, List, [], ◌∷◌, map, filter, take, slice_index_or, true, false}
-use Rattle.std.proofs.Common.{Bool, Ordering, Equal, is_lt, IsSorted, refl, sym, ap, subst, ◌∙◌, arith}
+use Rattle.std.proofs.Common.{Bool, Ordering, is_lt, IsSorted, refl, sym, ap, subst, ◌∙◌, arith}
 use Rattle.std.specs.Bool.{⊤}
 use Rattle.std.specs.List.{AllByRecursion, list_all}
 use Rattle.std.specs.List.Sorted.{IsPermutation}
@@ -57,7 +57,8 @@ module _ {X : Type 0} (cmp : X → X → Ordering) (total : IsTotalOrder cmp) wh
 number_order : (a b : ℕ) → is_gt (int_cmp (pos b) (pos a)) ≡ false → b ≤ a
 number_order a b h = grind (arith, nat_tests)
 
-none_from : {X Y : Type 0} (f : X → Y) (xs : List X) → map f xs ≡ [] → xs ≡ []
+-- if no image is there, no element is
+pub none_from : {X Y : Type 0} (f : X → Y) (xs : List X) → map f xs ≡ [] → xs ≡ []
 none_from f xs h = nil_from_length xs (sym (length-map xs f) ∙ ap length h)
 
 module _ (place : TableLayout) (schema : Schema) (sql : List ℕ) (params : Row) (test project : List Term) (at : ℕ) (names : List (List ℕ)) (passes : Row → Bool)
@@ -108,6 +109,7 @@ module _ (place : TableLayout) (schema : Schema) (sql : List ℕ) (params : Row)
         ]),
       )
 
+  -- of the rows that pass the query shows one with the greatest number, or none if there is none
   pub shown_greatest : (old new : State) (xs : List X) → old.now.schema ≡ schema → Shown sql params old new (map row_of xs) → (ys : List X)
       → TreeHolds place old.now.trees (map row_of ys)
       → IsGreatest number (filter (λ y. passes (row_of y)) ys) xs

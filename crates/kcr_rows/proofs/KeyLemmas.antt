@@ -17,17 +17,18 @@ use Rattle.sqlite_rules.specs.Lists.{Has}
 use Rattle.sqlite_rules.specs.Edit.{id_in, is_taken}
 use Rattle.kcr_rows.specs.Keyed.{TableLayout, cells, by_key, is_full}
 
--- the places of so many columns, from this one on
+-- the places of N columns, from this one on
 abbrev pub places_from : ℕ → ℕ → List ℕ
 places_from at zero = []
 places_from at (suc count) = at ∷ places_from (suc at) count
 
--- none of so many columns of a row, from this one on, is NULL
+-- none of N columns of a row, from this one on, is NULL
 abbrev pub full : ℕ → ℕ → Row → Bool
 full at zero row = true
 full at (suc count) row = not (is_null (column row at)) && full (suc at) count row
 
-truth_is : (b : Bool) → is_true (from_truth (Some b)) ≡ b
+-- SQL's truth of a truth value is that value
+pub truth_is : (b : Bool) → is_true (from_truth (Some b)) ≡ b
 truth_is b = grind arith
 
 -- SQL's `=` of two values that are there is a tie
@@ -71,6 +72,7 @@ module _ (place : TableLayout) (entry values : Row)
     (compares : (a b : Row) → by_key place.keys (cells place a) (cells place b) ≡ key_cmp 1 (rising place.keys []) a b)
     (fulls : (a : Row) → is_full place.keys (cells place a) ≡ full 1 place.keys a)
     (shown : cells place entry ≡ values) where
+  -- an entry agrees with the new one on the key's columns if and only if it has the key of these values
   pub agrees : (r : Row) → is_full place.keys (cells place r) ≡ true → is_full place.keys values ≡ true
       → agree plain (places_from 1 place.keys) r (places_from 1 place.keys) entry ≡ is_eq (by_key place.keys (cells place r) values)
   agrees r whole filled =
@@ -78,12 +80,12 @@ module _ (place : TableLayout) (entry values : Row)
       agree_is place.keys 1 r entry (sym (fulls r) ∙ whole) new_full
       ∙ ap is_eq (sym (compares r entry)) ∙ ap (λ v. is_eq (by_key place.keys (cells place r) v)) shown
 
--- the row has, from this column on, the same values in so many columns
+-- the row has the same values in N columns, from this one on
 abbrev pub same_from : ℕ → ℕ → Row → Row → Bool
 same_from at zero row values = true
 same_from at (suc count) row values = equal Binary (column row at) (column values at) && same_from (suc at) count row values
 
--- two rows have the same values in so many columns if and only if they agree on these
+-- two rows have the same values in N columns if and only if they agree on these
 pub same_is : (count at : ℕ) (a b : Row) → same_from at count a b ≡ agree plain (places_from at count) a (places_from at count) b
 same_is zero at a b = refl
 same_is (suc count) at a b = rw first_key-plain (ap (λ more. equal Binary (column a at) (column b at) && more) (same_is count (suc at) a b))
@@ -105,6 +107,7 @@ module _ (place : TableLayout) (entries : List Row) (entry : Row) (id : ℤ) (va
   apart : (r : Row) → Has entries r → is_eq (value_cmp (rowid r) (rowid entry)) ≡ false
   apart r h = not_any (λ x. is_eq (value_cmp (rowid x) (rowid entry))) entries r free h
 
+  -- an entry that does not clash with the new one on the key's columns does not have the key of these values
   pub fresh_key : (r : Row) → Has entries r → rowid r ≡ Int (id_in (rowid r)) → is_full place.keys (cells place r) ≡ true → is_full place.keys values ≡ true
       → (agree plain target r target entry && differ (rowid r) (rowid entry)) ≡ false
       → is_eq (by_key place.keys (cells place r) values) ≡ false

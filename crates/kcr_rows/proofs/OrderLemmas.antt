@@ -45,6 +45,7 @@ module _ {X : Type 0} (keys : ℕ) (row_of : X → Row) (new : X) where
   none_behind : (x : X) → cmp x new ≢ Less → (xs : List X) → AllByRecursion (λ y. cmp x y ≡ Less) xs → All (λ y. same new y ≡ false) xs
   none_behind x n xs a = All-from_recursion _ xs (all_weaker _ (λ y. same new y ≡ false) (past x n) xs a)
 
+  -- a row put under its key gives the rows with it in its place, in some order
   pub put-in : (xs : List X) → IsAscending (λ a b. cmp a b ≡ Less) xs → IsPermutation (put same new xs) (put_in keys row_of new xs)
   put-in [] r = IsPermutation-refl (new ∷ [])
   put-in (x ∷ xs) r = by_order (cmp x new) refl (put-in xs r.1)

@@ -94,6 +94,7 @@ module _ (place : TableLayout) (db : Trees) (rows : List Row) (keeps : TreeHolds
   abbrev has : Row → Bool
   has r = has_key place.keys values (cells place r)
 
+  -- two entries that have the key are one
   pub one_row : (x y : Row) → Has (db place.tree) x → Has (db place.tree) y → has x ≡ true → has y ≡ true → x ≡ y
   one_row x y h k p q =
       let entries = db place.tree in
@@ -137,6 +138,7 @@ module _ (place : TableLayout) (like : Table) (values : Row)
   abbrev that : Table
   that = simple_as place.tree like
 
+  -- after the edit the tree holds the rows with the new values put under their key
   pub keeps_changed : (old new : Trees) (rows : List Row) → TreeHolds place old rows → (r : Row) → Has (old place.tree) r
       → has_key place.keys values (cells place r) ≡ true → (answer : List Row) → answer ≡ (rowid r ∷ rowid r ∷ values) ∷ []
       → are_fresh (left_by old (rewriting old that answer)) (rewriting old that answer).news ≡ true

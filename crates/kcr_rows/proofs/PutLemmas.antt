@@ -41,6 +41,7 @@ module _ (keys : ℕ) (new : Row) where
   other_above : (row : Row) → by_key keys new row ≡ Less → is_other row ≡ true
   other_above row h = ap (λ o. not (is_eq o)) (total.antisymm row new ∙ ap ordering_reverse h)
 
+  -- a row put among rising rows joins those of other keys
   pub put_same : (rows : List Row) → IsAscending (λ a b. by_key keys a b ≡ Less) rows → IsPermutation (put keys new rows) (new ∷ filter is_other rows)
   put_same [] up = IsPermutation-refl _
   put_same (row ∷ rows) up = go (by_key keys row new) refl (put_same rows up.1)
@@ -61,6 +62,7 @@ module _ (keys : ℕ) (new : Row) where
   all-put P (row ∷ rows) h all = elim (by_key keys row new) as
       (λ o. AllByRecursion P (Put o row rows)) [ Less ↦ (all.0, all-put P rows h all.1) | Equal ↦ (h, all.1) | Greater ↦ (h, all) ]
 
+  -- rows that rise by their keys still do with a row that is put
   pub put_rising : (rows : List Row) → IsAscending (λ a b. by_key keys a b ≡ Less) rows → IsAscending (λ a b. by_key keys a b ≡ Less) (put keys new rows)
   put_rising [] up = (tt, tt)
   put_rising (row ∷ rows) up = go (by_key keys row new) refl (put_rising rows up.1)
@@ -97,6 +99,7 @@ module _ (place : TableLayout) (db : Trees) (new : Row) (values : Row) (rest : L
   abbrev others : List Row
   others = filter (λ r. not (is_eq (by_key place.keys (cells place r) values))) (db place.tree)
 
+  -- the tree then holds the rows with the new one put under its key
   pub keeps_put : rest ≡ others → (rows : List Row) → TreeHolds place db rows → (next : Trees) → is_full place.keys values ≡ true → cells place new ≡ values
       → IsTrue (is_int (rowid new))
       → is_taken rest new ≡ false → next place.tree ≡ put_row new rest → TreeHolds place next (put place.keys values rows)

@@ -90,6 +90,7 @@ module _ (place : TableLayout) (test : List Term) (project : List Term) (order :
       → a.kept ≡ map (with_key place.keys) (filter passes (map (cells place) (db place.tree)))
   outs = kept_cells place test project order (negsuc 0) params passes (with_key place.keys) shows tests low
 
+  -- the answer is the rows that pass, in the order of their keys
   pub reads_rows : (db : Trees) (rows kept : List Row) → TreeHolds place db kept → IsAnswer q (overlay db []) params rows → rows ≡ filter passes kept
   reads_rows db rows kept keeps a =
       let same = IsPermutation-map (with_key place.keys) _ _ (IsPermutation-filter passes _ _ keeps.same) in

@@ -11,6 +11,7 @@ use Rattle.sqlite.specs.Order.{Row, value_cmp}
 use Rattle.sqlite_value.specs.Keys.{rising}
 use Rattle.sqlite_value.proofs.OrderLemmas.{value_cmp-Text, value_cmp-Int}
 use Rattle.sqlite_sql.proofs.QueryLemmas.{key_cmp_total}
+pub use Rattle.kcr_base.proofs.ValueLemmas.{one_place}
 use Rattle.kcr_base.specs.Facility.{facility_text}
 use Rattle.kcr_base.specs.Role.{role_text}
 use Rattle.kcr_base.specs.Place.{place_text}
@@ -109,10 +110,6 @@ one_facility f g h = grind arith
 -- roles with one text are equal
 pub one_role : (q r : Role) → role_text q ≡ role_text r → q ≡ r
 one_role q r h = grind arith
-
--- places with one text are equal
-pub one_place : (p q : Place) → place_text p ≡ place_text q → p ≡ q
-one_place p q h = grind arith
 
 -- numbers, or none, that are one value are equal
 pub one_number : (x y : Option ℕ) → int_or_null x ≡ int_or_null y → x ≡ y

@@ -64,9 +64,11 @@ rule_of rule schema db at table here kept = all_at
 
 -- the entries that a tree keeps have integers as rowids, and no NULL in their keys
 module _ (place : TableLayout) (db : Trees) (rows : List Row) (keeps : TreeHolds place db rows) (r : Row) (h : Has (db place.tree) r) where
+  -- the rowid of an entry is an integer
   pub own_id : rowid r ≡ Int (id_in (rowid r))
   own_id = int_is (rowid r) (all_has (λ x. IsTrue (is_int (rowid x))) (db place.tree) r keeps.shaped.1 h)
 
+  -- no value of an entry's key is NULL
   pub whole : is_full place.keys (cells place r) ≡ true
   whole =
       all_has (λ x. is_full place.keys (cells place x) ≡ true) (db place.tree) r
@@ -161,6 +163,7 @@ keeps_still schema tree place old new rows others apart bare =
 -- ---- values in place of rows
 
 module _ {X : Type 0} (keys : ℕ) (row_of : X → Row) where
+  -- a value put in its place gives the rows with its row put in its place
   pub put_in_rows : (new : X) (xs : List X) → map row_of (put_in keys row_of new xs) ≡ put keys (row_of new) (map row_of xs)
   put_in_rows new [] = refl
   put_in_rows new (x ∷ xs) =
@@ -170,6 +173,7 @@ module _ {X : Type 0} (keys : ℕ) (row_of : X → Row) where
 
 -- rows of values of which one list was read and the other was put
 module _ {X : Type 0} (row_of : X → Row) (IsRead IsStored : X → Type 0) (one : (x y : X) → IsRead x → IsStored y → row_of x ≡ row_of y → x ≡ y) where
+  -- values that were read are those that were stored if their rows are the same
   pub same_values : (xs ys : List X) → AllByRecursion IsRead xs → AllByRecursion IsStored ys → map row_of xs ≡ map row_of ys → xs ≡ ys
   same_values [] [] r p h = refl
   same_values [] (y ∷ ys) r p h = absurd (cc)
@@ -199,6 +203,7 @@ module _ (place : TableLayout) (schema : Schema) (sql : List ℕ) (params : Row)
     (sorts : (a b : Row) → output_cmp (reading place.tree test project order) (with_key place.keys a) (with_key place.keys b) ≡ by_key place.keys a b)
     (low : nat_le (2 ^ 31) place.tree ≡ false)
     {X : Type 0} (row_of : X → Row) where
+  -- the values that the query shows are the stored ones whose rows pass
   pub shown_checked : (IsRead IsStored : X → Type 0) → ((x y : X) → IsRead x → IsStored y → row_of x ≡ row_of y → x ≡ y) → (old new : State) (xs : List X)
       → old.now.schema ≡ schema → Shown sql params old new (map row_of xs)
       → AllByRecursion IsRead xs → (ys : List X) → AllByRecursion IsStored ys → TreeHolds place old.now.trees (map row_of ys)

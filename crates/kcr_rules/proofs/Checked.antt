@@ -7,6 +7,7 @@ use Rattle.kcr_history.specs.declared.commands.Act.{Act}
 use Rattle.kcr_history.specs.declared.views.View.{View}
 use Rattle.kcr_rules.specs.ByRows.{IsCheckResult, early_refusal_by, has_too_many_steps}
 
+-- if the rows have no more steps done than a script has, what the act's test gives is the check's result
 pub checked : {X : Type 0} (view : View) (full : Bool) (act : Act) (result : Result X Refusal) → has_too_many_steps view act ≡ false
     → IsTestResult (early_refusal_by view full act) result → IsCheckResult view full act result
 checked view full act (Ok x) few told = (told, few)

@@ -15,6 +15,7 @@ not-full view full (Ceremony ceremony at (RecordSheet way people)) e l = grind (
 not-full view full (Ceremony ceremony at deed) e l = grind (arith, e)
 not-full view full act e l = grind (arith, l)
 
+-- if an act is not refused, the register is not full
 pub not-full-result : (view : View) (full : Bool) (act : Act) (result : Result Effect Refusal) → early_refusal_by view full act ≡ None
     → IsEffectResult view full act result → OnOk result (full ≡ false)
 not-full-result view full act (Ok acted) e is = not-full view full act e is.fine

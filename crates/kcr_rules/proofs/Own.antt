@@ -26,6 +26,7 @@ trained_own : (trainings : List Training) (withdrawals : List Withdrawal) (who :
 trained_own trainings withdrawals who role day =
     any-filter_same (trains withdrawals who role day) (is_training_of who) true (trains_own withdrawals who role day) trainings
 
+-- a person fits a seat by the person's own trainings if and only if by all trainings
 pub fits_own : (trainings : List Training) (withdrawals : List Withdrawal) (rows : List Appointment) (facility : Facility) (day : ℕ)
     (seat : Seat) (who : List ℕ)
     → fits_by (filter (is_training_of who) trainings) withdrawals rows facility day seat who ≡ fits_by trainings withdrawals rows facility day seat who

@@ -1,11 +1,12 @@
 -- The first refusal of an act is one that its kind may get.
-use Rattle.std.proofs.Common.{◌≡◌, ◌≢◌, ◌⊎◌, inl, inr, ℕ, zero, suc, Bool, true, false, List, [], ◌∷◌, take, drop, Option, Some, None, Result, Ok, Err, refl, sym, subst, ap, ◌∙◌, arith}
+use Rattle.std.proofs.Common.{◌≡◌, ◌≢◌, inl, inr, ℕ, zero, suc, Bool, true, false, List, [], ◌∷◌, take, drop, Option, Some, None, Result, Ok, Err, refl, sym, subst, ap, ◌∙◌, arith}
 use Rattle.std.specs.Prelude.{IfErr, MatchOption}
 use Rattle.std.proofs.lemmas.Option.{none-some}
 use Rattle.std.specs.Prelude.{find, ◌||◌}
 use Rattle.kcr_base.specs.Refuse.{first_of, not_after_mark_refusal}
 use Rattle.kcr_base.specs.declared.refusal.Refusal.{Refusal}
 use Rattle.kcr_base.specs.declared.refusal.Refusal.TheVariants.{Memory}
+use Rattle.kcr_base.proofs.RefuseLemmas.{is_memory}
 use Rattle.kcr_room.specs.declared.Stay.{Stay}
 use Rattle.kcr_room.specs.declared.Way.{Way}
 use Rattle.kcr_room.specs.Requests.{stays_from_moment, turn_refusal, is_out_of_turn_in, occupancy_refusal, is_overfull}
@@ -112,10 +113,6 @@ own-late view full act r h = absurd (none-some r h)
 
 -- RESULTS
 
-is_memory : (r : Refusal) → (r ≡ Memory) ⊎ (r ≢ Memory)
-is_memory Memory = inl refl
-is_memory r = inr (λ e. cc)
-
 -- what holds of out of memory, and of a refusal that is no such
 by_memory : (P : Refusal → Bool) → P Memory ≡ true → (r : Refusal) → (r ≢ Memory → P r ≡ true) → P r ≡ true
 by_memory P memory r other = elim (is_memory r) [
@@ -141,6 +138,7 @@ own view full act r is = by_late (late_refusal_by view full act) refl is
     by_late None e u = own-unseated view act r u
     by_late (Some told) e same = own-late view full act r (e ∙ ap Some (sym same))
 
+-- an act is refused only for what acts of its kind may be refused for
 pub effect-kind : (view : View) (full : Bool) (act : Act) (result : Result Effect Refusal) → IsEffectResult view full act result
     → IfErr result (λ r. may_refuse act r ≡ true)
 effect-kind view full act (Ok acted) is = tt

@@ -10,6 +10,7 @@ use Rattle.kcr_rules.specs.declared.effects.Effect.{Effect}
 use Rattle.kcr_rules.specs.ByRows.{IsChangesResult, IsEffectResult, IsSeatedFor, alone, all_changes_by, changes_by}
 use Rattle.kcr_rules.specs.ByRows.{seat_request_by, exception_by, reply_step_by}
 
+-- if an act needs no seats and states no exception, the result of its changes is that of the act
 pub plain_acts : (premises : DecisionContext) (act : Act) (changes : Result (Vec Change Global) Refusal) (result : Result Effect Refusal)
     → result ≡ alone changes → IsChangesResult premises act changes → seat_request_by premises.view.now act ≡ None
     → exception_by premises.view.now act ≡ None → reply_step_by premises.view.now act ≡ None

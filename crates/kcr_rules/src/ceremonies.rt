@@ -1,11 +1,7 @@
 //! Boxes added, and ceremonies planned and opened, over the rows of a view.
 ghost use Rattle.std.specs.Prelude.{◌≡◌, ◌≤◌, ◌++◌, length, map, Ok, Err, IfOk};
 ghost use Rattle.std.specs.List.{list_any};
-ghost use Rattle.kcr_base.specs.Refuse.{unless};
 ghost use Rattle.kcr_base.specs.declared.limits.TheConstants.{MAX_STEPS};
-ghost use Rattle.kcr_custody.specs.Custody;
-ghost use Rattle.kcr_script.specs.Fault.{IfRow};
-ghost use Rattle.kcr_script.specs.Reading.{script_of};
 ghost use Rattle.kcr_history.specs.declared.commands.Act.TheVariants as Kinds;
 ghost use Rattle.kcr_history.specs.declared.commands.Deed.TheVariants as Deeds;
 ghost use Rattle.kcr_history.specs.declared.views.Change.TheVariants.{PutStep};

@@ -4,8 +4,6 @@
 ghost use Rattle.std.specs.Prelude.{◌≡◌, IfOk, map};
 ghost use Rattle.kcr_history.specs.declared.commands.Act.TheVariants as Kinds;
 ghost use Rattle.kcr_history.specs.declared.views.Change.TheVariants.{PutWithdrawal};
-ghost use Rattle.kcr_base.specs.Refuse.{unless};
-ghost use Rattle.kcr_people.specs.People;
 ghost use Rattle.kcr_rules.specs.ByRows.{IsChangesResult, IsRoster};
 ghost use Rattle.kcr_history.specs.History.{greatest, max_option};
 

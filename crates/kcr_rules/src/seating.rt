@@ -1,5 +1,5 @@
 //! Who is seated: the people in the room, the seats that each of them fits, and the search over both.
-ghost use Rattle.std.specs.Prelude.{◌≡◌, ◌≢◌, ◌&&◌, [], ◌<◌, ◌≤◌, nat_le, MatchResult, IfOk, EachIndex, slice_index};
+ghost use Rattle.std.specs.Prelude.{◌≡◌, ◌≢◌, [], ◌<◌, ◌≤◌, MatchResult, IfOk, EachIndex, slice_index};
 ghost use Rattle.std.specs.Prelude.{get_or, length, map, filter};
 ghost use Rattle.kcr_base.specs.declared.refusal.Refusal.TheVariants.{Memory};
 ghost use Rattle.kcr_history.specs.Fitting.{fits_by};

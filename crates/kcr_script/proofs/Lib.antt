@@ -5,3 +5,5 @@ pub mod OnLiterals
 pub mod SeatReading
 pub mod RowLemmas
 pub mod ScriptReading
+pub mod Laws
+pub mod Examples

@@ -187,7 +187,7 @@ read_breaks text row e = rw e at (told_text text)
 
 -- ---- the form of what is read
 
--- a script that is read has at least one step, and at most `MAX_STEPS`
+-- a script has 1 to `MAX_STEPS` steps
 pub script_has_steps : (text : List ℕ) (steps : List Step) → script_of text ≡ Ok steps → HasSteps steps
 script_has_steps text steps e = by (read_is_script text steps e)
   where
@@ -205,7 +205,7 @@ each_step k [] (step ∷ steps) h = absurd h
 each_step k (row ∷ rows) [] h = absurd h
 each_step k (row ∷ rows) (step ∷ steps) h = ((h.1.activity, stands_are_seats h.1.seat_text step.seats h.1.seats), each_step (k + 1) rows steps h.2)
 
--- each step that is read has this form
+-- each step of a script has an activity of 1 to 500 bytes, and 1 to 16 seats whose numbers are 1 to 7
 pub steps_have_form : (text : List ℕ) (steps : List Step) → script_of text ≡ Ok steps → All HasForm steps
 steps_have_form text steps e = by (read_is_script text steps e)
   where

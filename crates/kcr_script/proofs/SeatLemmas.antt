@@ -176,6 +176,7 @@ more_than all done tail back seat count e f =
 
 -- the steps of the loop, on the two facts that it keeps
 module _ (text rest : List ℕ) (done new : List Seat) (seat : Seat) (count : ℕ) (e : new ≡ done ++ replicate count seat) where
+  -- the seats done, the item's own and those of the text after it are seats of the whole text
   pub on_step : (after : List ℕ) → ((tail : List Seat) → Spells rest tail → Spells text (done ++ tail)) → Leads rest seat count after
       → (tail : List Seat) → Spells after tail → Spells text (new ++ tail)
   on_step after on leads tail h =
@@ -185,12 +186,14 @@ module _ (text rest : List ℕ) (done new : List Seat) (seat : Seat) (count : �
   abbrev Back : List ℕ → List Seat → Type 0
   Back left before = (all : List Seat) → Spells text all → (tail : List Seat) × Spells left tail × (all ≡ before ++ tail)
 
+  -- all seats of the text are those done, the item's own, and some of what comes after it
   pub back_step : (after : List ℕ) → Back rest done → Leads rest seat count after → Back after new
   back_step after back leads all h =
       let b = back all h in
       let l = leads.back b.0 b.1 in
       (l.0, l.1, b.2 ∙ ap (λ (xs : List Seat). done ++ xs) l.2 ∙ rw e (sym (append_assoc done (replicate count seat) l.0)))
 
+  -- if the item is the last, all seats of the text are those done and the item's own
   pub last_step : Back rest done → IsLast rest seat count → (all : List Seat) → Spells text all → new ≡ all
   last_step back last all h = let b = back all h in e ∙ ap (λ (xs : List Seat). done ++ xs) (sym (last.only b.0 b.1)) ∙ sym b.2
 

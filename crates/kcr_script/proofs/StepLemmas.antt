@@ -23,9 +23,11 @@ module _ (k : ℕ) (row : Fields) (rows rest : List Fields) (first : rest ≡ ro
       by [] h = absurd h
       by (step ∷ steps) h = (step, only step h.1, (steps, h.2, refl))
 
+  -- the step of the first row, before the steps of the others, gives the steps of all
   pub on_row : (step : Step) → k ≤ 400 → IsRow k row step → (tail : List Step) → AreSteps (k + 1) rows tail → AreSteps k rest (step ∷ tail)
   on_row step low is tail h = rw first (low, is, h)
 
+  -- if the first row is that of its step, the rows break where the others do
   pub breaks_row : (step : Step) → k ≤ 400 → IsRow k row step → (r : ℕ) → BreaksFrom (k + 1) rows r → BreaksFrom k rest r
   breaks_row step low is r h = rw first (inr (low, step, is, h))
 

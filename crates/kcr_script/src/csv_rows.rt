@@ -1,5 +1,5 @@
 //! The rows of a script file, as `csv` reads them.
-ghost use Rattle.std.specs.Prelude.{◌≡◌, ℕ, IfOk, IfErr, map};
+ghost use Rattle.std.specs.Prelude.{IfOk, IfErr, map};
 ghost use Rattle.csv.specs.Records.{fields_of};
 ghost use Rattle.kcr_script.specs.Script.{AreRows};
 ghost use Rattle.kcr_script.specs.CsvFault.{IsNoLength};

@@ -1,8 +1,8 @@
 //! The seats of a step with their texts, and the scripts of ceremonies, as files of comma-separated values.
+//! What is read of a text is what it stands for: the laws are in `proofs/Laws.antt`.
 #![tactic(auto)]
 
 pub mod csv_rows;
-pub mod laws;
 pub mod reader;
 mod round_trips;
 pub mod script;

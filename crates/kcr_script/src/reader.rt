@@ -1,5 +1,5 @@
 //! Scripts read from their files.
-ghost use Rattle.std.specs.Prelude.{◌≡◌, ℕ, List, IfOk, IfErr, IfSome, Some, MatchResult, map};
+ghost use Rattle.std.specs.Prelude.{◌≡◌, List, IfOk, IfErr, IfSome, Some, MatchResult, map};
 ghost use Rattle.csv.specs.Records.{fields_of};
 ghost use Rattle.kcr_script.specs.Script.{IsRow, AreSteps, BreaksFrom, IsScriptRows, BreaksAt, IsScript, BreaksScript};
 ghost use Rattle.kcr_script.specs.Reading.{script_of};

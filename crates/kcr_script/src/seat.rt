@@ -1,6 +1,5 @@
 //! The seats of a step.
-ghost use Rattle.std.specs.Prelude.{⊤, ◌≡◌, ◌≢◌, ℕ, ◌+◌, ◌≤◌, List, [], ◌∷◌, ◌++◌, length, IsTrue, ◌↔◌, Some, true};
-ghost use Rattle.std.specs.Prelude.{IfOk};
+ghost use Rattle.std.specs.Prelude.{◌≡◌, Some, true};
 ghost use Rattle.kcr_base.specs.Reads.{HasText, ReadsText};
 ghost use Rattle.kcr_script.specs.Seat.{seat_text, IsSeat, can_repeat};
 

@@ -2,8 +2,8 @@
 //!
 //! A seat text is a list of items joined by `;` without spaces. An item is a seat; one without a number may be followed
 //! by `*m`, m from 2 to 7, and then stands for m such seats. The list that results has 1 to 16 seats.
-ghost use Rattle.std.specs.Prelude.{◌≡◌, ◌≢◌, ◌↔◌, IsTrue, ℕ, ◌+◌, ◌≤◌, ◌<◌, List, [], ◌∷◌, ◌++◌, All, length};
-ghost use Rattle.std.specs.Prelude.{replicate, drop, string_bytes, Some, IfSome, IfOk, OnOk, MatchOption, option_map};
+ghost use Rattle.std.specs.Prelude.{◌≡◌, ◌≢◌, ◌↔◌, IsTrue, ◌+◌, ◌≤◌, ◌<◌, List, [], ◌∷◌, ◌++◌, All, length};
+ghost use Rattle.std.specs.Prelude.{replicate, drop, string_bytes, Some, IfSome, IfOk, OnOk, MatchOption};
 ghost use Rattle.kcr_script.specs.Seats.{Item, IsItem, item_text, pair_item, Spells, StandsFor, IsLast, Leads, IsSeats};
 ghost use Rattle.kcr_script.specs.Seats.{runs, groups, appended, all_appended, written};
 ghost use Rattle.kcr_script.specs.Reading.{seats_of};

@@ -1,4 +1,5 @@
--- The theorem of Hall, by one seat after the other.
+-- The theorem of Hall, by one seat after the other: of every relation there is a seating (`seating_or_short`) or there is a short list of seats, and never
+-- both (`not_both`).
 use Rattle.std.proofs.Common.{◌≡◌, ◌≢◌, ℕ, zero, suc, ◌+◌, ◌<◌, ◌≤◌, ◌⊎◌, inl, inr, Bool, true, false, cond, ◌==◌, List, [], ◌∷◌, ◌++◌}
 use Rattle.std.proofs.Common.{length, get_or, set, replicate, refl, arith, sym, ◌∙◌, subst, eq-eqb, add-one, length-append}
 use Rattle.std.proofs.lemmas.Bool.{eqb-true}
@@ -13,7 +14,7 @@ use Rattle.kcr_seats.proofs.Least.{first_below, rising_apart, short}
 use Rattle.kcr_seats.proofs.SearchLemmas.{can_take_at, can_take_some, last_or_not, marked_more, order_short, placed, reached_more}
 use Rattle.kcr_seats.proofs.SearchLemmas.{root_marked, root_reached, some_more, way_back}
 
--- a seating gives the seats of a list as many people who fit one of them
+-- a relation that has a seating has no short list of seats: a seating gives the seats of a list as many people who fit one of them
 pub not_both : NotBoth
 not_both fits seats people w s y z =
     let enough = length_under s (λ k. get_or w k 0) (can_take fits s) people
@@ -189,6 +190,7 @@ module _ (fits : ℕ → ℕ → Bool) (seats people n : ℕ) (w : List ℕ) (y 
         (a.0, high, (λ e. absurd (omega arith), is, λ f. all_reached.closed i a.0 h (omega arith) high (rw is fit))));
   }
 
+  -- one seat more is seated with the others, or some seats are short of people
   pub one_more : ((v : List ℕ) × IsSeating fits (n + 1) people v) ⊎ ((s : List ℕ) × IsShort fits seats people s)
   one_more = elim (some_pair (λ i p. cond (sits p) false (fits (get_or all_reached.order i 0) p)) (length all_reached.order) people) [
     | inl a ↦

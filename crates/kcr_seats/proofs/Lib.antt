@@ -9,3 +9,4 @@ pub mod PeopleBits
 pub mod SearchLemmas
 pub mod TableLemmas
 pub mod Turns
+pub mod Laws

@@ -47,6 +47,7 @@ some_more xs y j (inl (i, l, e)) = (i, (simp length-append (omega arith)), get_o
 some_more xs y j (inr e) = (length xs, (simp length-append (omega arith)), get_or-append_seam xs y [] 0 ∙ e)
 
 module _ {fits : ℕ → ℕ → Bool} {root fixed : ℕ} {w order from : List ℕ} (r : IsReached fits root fixed w order from) where
+  -- no more seats are reached than there are
   pub order_short : length order ≤ length w
   order_short = pigeonhole order (length w) r.high r.distinct
 
@@ -117,6 +118,7 @@ marked_more {w} {order} {marked} other m lo =
 
 -- the root alone is reached from the root
 module _ {root : ℕ} {w order from : List ℕ} {marked : List Bool} (alone : IsRootAlone (length w) root order from marked) (lo : root < length w) where
+  -- the root is reached from itself, and as yet no other seat
   pub root_reached : (fits : ℕ → ℕ → Bool) (fixed : ℕ) → fixed ≤ root → IsReached fits root fixed w order from
   root_reached fits fixed fi =
       let first : (i : ℕ) → i < 1 → i ≡ 0 = λ (i : ℕ) (l : i < 1). omega arith in
@@ -131,6 +133,7 @@ module _ {root : ℕ} {w order from : List ℕ} {marked : List Bool} (alone : Is
         edge = λ i p l. absurd (omega arith);
       })
 
+  -- the root is marked, and as yet no other seat
   pub root_marked : IsMarked w order marked
   root_marked =
       let blank = replicate (length w) false in

@@ -1,12 +1,12 @@
 //! Seats people: each seat one person who fits it, and nobody two seats.
 //!
 //! `seat` always decides. It finds the first seating in the order of numbers, or names a least list of seats that fewer
-//! people fit than it has seats. By the theorem of Hall exactly one of a seating and such a list exists.
+//! people fit than it has seats. By the theorem of Hall, which `proofs/HallLemmas.antt` proves, exactly one of a seating
+//! and such a list exists.
 #![tactic(auto)]
 
 ghost use Rattle.std.specs.Prelude.{◌≡◌, ℕ, ◌+◌, ◌*◌, ◌<◌, ◌≤◌, Bool, IfOk};
 ghost use Rattle.kcr_seats.specs.Answer.{IsAnswer};
-ghost use Rattle.kcr_seats.specs.Hall.{NotBoth, SeatingOrShort};
 ghost use Rattle.kcr_seats.specs.declared.TheConstants.{MAX_PEOPLE};
 
 mod check;
@@ -105,9 +105,3 @@ pub fn seat_uncounted<F: Fits>(alloc: Global, fits: &F) -> Result<Answer, AllocE
 {
     seat_from::<F, Brand>(alloc, fits, Blank::new(2))
 }
-
-/// The theorem of Hall: of every relation there is a seating or there is a short list of seats, and never both.
-pub fn halls_theorem()
-    ensures either { SeatingOrShort }
-    ensures not_both { NotBoth }
-{}

@@ -1,5 +1,5 @@
 //! Which people fit which seats, asked for once.
-ghost use Rattle.std.specs.Prelude.{◌≡◌, ℕ, ◌+◌, ◌*◌, ◌<◌, ◌≤◌, Bool, IfOk, IsTrue, true, slice_index_or};
+ghost use Rattle.std.specs.Prelude.{◌≡◌, ℕ, ◌+◌, ◌*◌, ◌<◌, ◌≤◌, IfOk, true, slice_index_or};
 ghost use Rattle.kcr_seats.specs.People.{contains, nobody};
 ghost use Rattle.kcr_seats.specs.declared.TheConstants.{MAX_PEOPLE};
 

@@ -8,7 +8,7 @@ use Rattle.sqlite.specs.Held.{Held, state}
 use Rattle.sqlite.specs.State.{State, HasCleanDisk, Shows}
 use Rattle.sqlite.specs.Store.{Ghosts}
 use Rattle.kcr_base.specs.declared.refusal.Refusal.{Refusal}
-use Rattle.kcr_base.specs.declared.refusal.Refusal.TheVariants.{Broken, Disk}
+use Rattle.kcr_base.specs.declared.refusal.Refusal.TheVariants.{Disk}
 use Rattle.kcr_history.specs.AsksByKind.{asks_of}
 use Rattle.kcr_history.specs.Changes.{all_changed}
 use Rattle.kcr_history.specs.Early.{early_asks}
@@ -34,6 +34,7 @@ use Rattle.kcr_store.specs.declared.transaction.TransactionResult.{TransactionRe
 use Rattle.kcr_store.specs.declared.transaction.TransactionResult.TheVariants.{Accepted, Refused, InDoubt}
 
 module _ (m : Tables) (last : ℕ) (x : Command) (after : Database) where
+  -- out of memory, or an I/O error, is a result by any rows
   pub by_fault : (e : Refusal) → IsFault e → DecidesBy m last x (Err e) after
   by_fault e fault = record { decided = inl fault; holds = tt }
 
@@ -52,10 +53,12 @@ module _ (m : Tables) (last : ℕ) (x : Command) (after : Database) where
   by_repeat row (Err e) there is held = record { decided = inr (rw there is); holds = tt }
 
   module _ (new : row_of_key x.key m.keys ≡ None) where
+    -- a refusal by the rows that are read first is one by the tables, if the key is new
     pub by_early : (view : View) (e : Refusal) → IsViewOf (early_asks (asks_of x)) m view → IsCheckResult {X = ⊤} view (is_full_by last) x.act (Err e)
         → DecidesBy m last x (Err e) after
     by_early view e rows told = record { decided = inr (rw new (inl (record { view = view; rows = rows; told = told }))); holds = tt }
 
+    -- a decision by the rows that are asked for is one by the tables, if the key is new and those read first clear it
     pub by_late : (view : View) (r : Result Verdict Refusal) → IsViewOf (asks_of x) m view → IsCleared view (is_full_by last) x.act
         → IsRowDecision view last x r → IfOk r (λ v. HoldsTables (all_changed v.changes.items m) after) → DecidesBy m last x r after
     by_late view (Ok v) rows cleared told held = record {
@@ -152,9 +155,3 @@ module _ {S : Type 0} (g : Ghosts S) (old new : RegisterState S) (x : Command) w
 -- one that stays whole, and is told no fault of the device
 pub calm_breaks : {is_broken : Bool} {r : Result Reply Refusal} → is_broken ≡ false → (r ≡ Err Disk → ⊥) → IsTrue is_broken ↔ (r ≡ Err Disk)
 calm_breaks still other = (λ yes. absurd (true≢false (sym yes ∙ still)), λ disk. absurd (other disk))
-
--- a broken register stays as it was
-pub broken_rows_lead : {S : Type 0} (g : Ghosts S) (old : RegisterState S) (x : Command) → IsTrue old.is_broken
-    → RowsLead g old old (λ t after. TakesStepByRows t x (Err Broken) after)
-broken_rows_lead g old x is clean t at =
-    (t, at, record { broken = λ _. (refl, refl); decides = λ whole. absurd (true≢false (sym is ∙ at.broken ∙ whole)) })

@@ -137,6 +137,7 @@ known_by Foreign s stands read = absurd (read (inr refl))
 
 module _ (A : History) (old : State) (settled : IsTrue old.is_open → old.now ≡ old.committed) (lives : IsLive old) (clean : HasCleanDisk old)
     (live : IsTrue old.is_open) (f : IsGenuine A old) where
+  -- a view of a genuine database lists the tables of its history
   pub own_by : (standing : DatabaseKind) (result : Result FullView OpenFault) → IsOfKind old.now.schema standing → Gives standing old.now result
       → IfOk result (IsListed (tables A))
   own_by Empty result stands gives =

@@ -42,6 +42,7 @@ pub apart : {s a b : Schema} → s ≡ a → s ≡ b → count a ≡ count b
 apart one other = ap count (sym one ∙ other)
 
 module _ {S : Type 0} (g : Ghosts S) (settled : (s : S) (db : Trees) → IsTrue (g.view s).is_open → g.recovers s db → db ≡ (g.view s).committed) where
+  -- a genuine database whose opening shows its history is a durable register of it
   pub adopted : (accepted : History) (old : State) (new : Held S) → IsGenuine accepted old
       → (HasCleanDisk (state g new) → (all : History) → IsGenuine all old → IsSynced all (state g new) × IsTrue (state g new).is_open)
       → IsDurable accepted (state g new)
@@ -163,6 +164,7 @@ module _ (accepted : History) (old : State) (settled : IsTrue old.is_open → ol
   schema_is : IsTables accepted old.committed.trees → old.now.schema ≡ register_schema
   schema_is t = ap (λ (d : Database). d.schema) now_is ∙ (stored t).schema
 
+  -- a genuine database without a schema has the empty history
   pub nothing_accepted : old.now.schema ≡ no_schema → accepted ≡ []
   nothing_accepted none = elim (f clean live) [
     | inl nothing ↦ nothing.1
@@ -171,12 +173,14 @@ module _ (accepted : History) (old : State) (settled : IsTrue old.is_open → ol
     | inr (inr (inr two)) ↦ absurd (let e : 0 ≡ 16 = ap count (sym none ∙ (stored_as 2 two).schema) in omega (arith, e))
   ]
 
+  -- an empty database that becomes a new register shows its history
   pub of_empty : (new : State) → old.now.schema ≡ no_schema → IsSynced [] new → IsSynced accepted new
   of_empty new none made = subst (λ l. IsSynced l new) (sym (nothing_accepted none)) made
 
   now_stores : IsTables accepted old.committed.trees → Stores accepted old.now
   now_stores t = subst (Stores accepted) (sym now_is) (stored t)
 
+  -- a genuine database with the schema of this version shows its history
   pub of_ours : old.now.schema ≡ schema_prefix 17 → IsSynced accepted old
   of_ours is = elim (f clean live) [
     | inl nothing ↦ absurd (let e : 0 ≡ 17 = apart nothing.0 is in omega (arith, e))
@@ -185,6 +189,7 @@ module _ (accepted : History) (old : State) (settled : IsTrue old.is_open → ol
     | inr (inr (inr two)) ↦ absurd (let e : 16 ≡ 17 = apart (stored_as 2 two).schema is in omega (arith, e))
   ]
 
+  -- a genuine database with the schema of version 1 holds its history as that version does
   pub of_first_version : old.now.schema ≡ schema_prefix 15 → HoldsHistoryAs 1 accepted old.now
   of_first_version is = elim (f clean live) [
     | inl nothing ↦ absurd (let e : 0 ≡ 15 = apart nothing.0 is in omega (arith, e))
@@ -193,6 +198,7 @@ module _ (accepted : History) (old : State) (settled : IsTrue old.is_open → ol
     | inr (inr (inr two)) ↦ absurd (let e : 16 ≡ 15 = apart (stored_as 2 two).schema is in omega (arith, e))
   ]
 
+  -- a genuine database with the schema of version 2 holds its history as that version does
   pub of_second_version : old.now.schema ≡ schema_prefix 16 → HoldsHistoryAs 2 accepted old.now
   of_second_version is = elim (f clean live) [
     | inl nothing ↦ absurd (let e : 0 ≡ 16 = apart nothing.0 is in omega (arith, e))
@@ -210,6 +216,7 @@ module _ (accepted : History) (old : State) (settled : IsTrue old.is_open → ol
   older_stored : (version : ℕ) → IsKnown version → HoldsHistoryAs version accepted old.now → IsOfVersion version old.now
   older_stored version known s = (s.schema, older_version version known old.now _ (record { schema = s.schema; kept = s.tables.kept }))
 
+  -- a genuine database is taken
   pub founded_taken : IsTaken old.now
   founded_taken = elim (f clean live) [
     | inl nothing ↦ inl nothing.0
@@ -218,6 +225,7 @@ module _ (accepted : History) (old : State) (settled : IsTrue old.is_open → ol
     | inr (inr (inr two)) ↦ inr (inr (inl (older_stored 2 (inr (inl refl)) (stored_as 2 two))))
   ]
 
+  -- the schema of a genuine database is not foreign
   pub of_strange : ¬ IsForeignSchema old.now.schema
   of_strange strange = never_taken old.now strange founded_taken
 
@@ -273,6 +281,7 @@ still_shows A old new same s = record {
 -- ---- a reading that is rolled back
 
 module _ {S : Type 0} (g : Ghosts S) (old begun : Held S) (is : begun ≡ record old { in_transaction = true }) where
+  -- the connection is in the transaction that it began
   pub begun_inside : IsTrue (state g begun).in_transaction
   begun_inside = rw is refl
 
@@ -281,6 +290,7 @@ module _ {S : Type 0} (g : Ghosts S) (old begun : Held S) (is : begun ≡ record
       → IsLive (state g old) → (state g old).now.schema ≡ schema → P (state g old).now
   begun_says P schema h = rw is at h
 
+  -- the history that the connection shows it also shows as the transaction begins
   pub begun_shows : (accepted : History) → (IsTrue (state g old).is_open → IsSynced accepted (state g old)) → IsTrue (state g begun).is_open
       → IsSynced accepted (state g begun)
   begun_shows accepted shows = rw is (λ live. let s = shows live in record { now = s.now; committed = s.committed })

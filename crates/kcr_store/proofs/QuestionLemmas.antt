@@ -136,6 +136,7 @@ module _ (A : History) (ceremony : ℕ) where
   found : ceremony_by (ceremonies A) ceremony ≡ some_if (is_ceremony A ceremony) (ceremony_row A ceremony)
   found = ceremony-shown A ceremony (ceremonies A) (IsPermutation-refl (filter (is_of_number ceremony) (ceremonies A)))
 
+  -- a ceremony's row by the tables is its row by the history
   pub row_of_history : (row : CeremonyRow) → IsRowBy (tables A) ceremony row → IsRowOf A ceremony row
   row_of_history row is = says (is_ceremony A ceremony) refl (sym found ∙ is)
     where
@@ -143,6 +144,7 @@ module _ (A : History) (ceremony : ℕ) where
       says true e some = record { planned = e; row_is = let p = rw e at some in cc }
       says false e some = absurd (let p = rw e at some in cc)
 
+  -- a ceremony without a row was not planned
   pub none_of_history : ceremony_by (ceremonies A) ceremony ≡ None → is_ceremony A ceremony ≡ false
   none_of_history is = says (is_ceremony A ceremony) refl (sym found ∙ is)
     where
@@ -150,6 +152,7 @@ module _ (A : History) (ceremony : ℕ) where
       says true e none = absurd (let p = rw e at none in cc)
       says false e none = e
 
+  -- a ceremony with a row was planned
   pub planned_of_history : IsSome (ceremony_by (ceremonies A) ceremony) → IsTrue (is_ceremony A ceremony)
   planned_of_history some = says (is_ceremony A ceremony) refl (ap is_some (sym found) ∙ some)
     where
@@ -157,6 +160,7 @@ module _ (A : History) (ceremony : ℕ) where
       says true e there = e
       says false e there = absurd (let p = rw e at there in cc)
 
+  -- a ceremony that is not planned by the tables is not so by the history, and the refusal names it
   pub unplanned_of_history : (refusal : Refusal) → IsNotPlannedBy (tables A) ceremony refusal
       → (is_ceremony A ceremony ≡ false) × (refusal ≡ Unknown (Things.Ceremony ceremony))
   unplanned_of_history refusal none = (none_of_history none.0, none.1)
@@ -173,6 +177,7 @@ pub spot_shown : (A : History) → IsRegister A → (serial : List ℕ) → spot
 spot_shown A register serial = spot-shown A register serial (bags A) (IsPermutation-refl (filter (is_of_serial serial) (bags A)))
 
 module _ (A : History) (register : IsRegister A) where
+  -- the custodians shown by the tables are those of the history
   pub custodians_of_history : (day : ℕ) (shown : CustodiansShown) → AreCustodiansShownBy (tables A) day shown → AreCustodiansShown A day shown
   custodians_of_history day shown are = record {
     day = are.day;
@@ -181,11 +186,13 @@ module _ (A : History) (register : IsRegister A) where
         ∙ (λ i. holders_from (λ place. holder-lasting A register are.rows day (passing (lasts_beyond day) (appointments A) are.rows are.lasting) place i));
   }
 
+  -- the bag shown by the tables is that of the history
   pub bag_of_history : (serial : List ℕ) (bag : BagShown) → IsBagShownBy (tables A) serial bag → IsBagShown A serial bag
   bag_of_history serial bag is =
       record { serial = is.serial; spot = sym (spot_shown A register serial) ∙ is.spot; items = is.items; order = is.order }
 
 module _ (A : History) (ceremony : ℕ) where
+  -- the room shown by the tables is that of the history
   pub room_of_history : (at : ℕ) (room : RoomShown) → IsRoomShownBy (tables A) ceremony at room → IsRoomShown A ceremony at room
   room_of_history at room is = record {
     planned = planned_of_history A ceremony is.planned;
@@ -193,6 +200,7 @@ module _ (A : History) (ceremony : ℕ) where
     people = is.people ∙ present-shown A ceremony at (tables A).stays (IsPermutation-refl (filter (stay_reaches ceremony at) (tables A).stays));
   }
 
+  -- the steps shown by the tables are those of the history
   pub steps_of_history : (steps : StepsShown) → AreStepsShownBy (tables A) ceremony steps → AreStepsShown A ceremony steps
   steps_of_history steps are =
       let row = row_of_history A ceremony steps.ceremony are.row in

@@ -35,6 +35,7 @@ module _ (m : Tables) (begun mid : State) (b : BeganWith m begun) (kept : Surviv
       let is = r.undone live in
       record { now = subst (HoldsTables m) (sym is.0) was; committed = subst (HoldsTables m) (sym is.1) was }
 
+  -- after a rollback the database has the rows over which the transaction began
   pub rows_undone : (end : State) → Survives mid end (λ _. ⊥) → (HasCleanDisk end → IsRolledBack mid end) → HasRows m end
   rows_undone end then back clean live = rows_back end (was_clean mid end _ then clean) (back clean) live
 

@@ -1,6 +1,6 @@
 -- What a decision makes of the tables, and what a reading of them shows.
-use Rattle.std.proofs.Common.{◌≡◌, false, true, inl, inr, ℕ, List, [], ◌∷◌, map, Option, Some, None, Ok, Err, Less, IsTrue, refl, sym, ap, subst, ◌∙◌}
-use Rattle.std.specs.Prelude.{MatchOption, AllPairs, IsPermutation, Result, IfOk, IfErr, IsErr, IsErrAnd, length}
+use Rattle.std.proofs.Common.{◌≡◌, inl, inr, ℕ, List, [], ◌∷◌, map, Option, Some, None, Ok, Err, Less, IsTrue, refl, sym, ap, subst, ◌∙◌}
+use Rattle.std.specs.Prelude.{MatchOption, AllPairs, IsPermutation, Result, IfErr, length}
 use Rattle.std.specs.Ordering.{is_lt}
 use Rattle.sqlite.specs.declared.types.Value.TheVariants.{Text}
 use Rattle.sqlite.specs.Effect.{Database}
@@ -16,7 +16,6 @@ use Rattle.kcr_people.specs.declared.Person.{Person}
 use Rattle.kcr_history.specs.declared.commands.ReplyData.{ReplyData}
 use Rattle.kcr_history.specs.declared.commands.Command.{Command}
 use Rattle.kcr_history.specs.declared.commands.Entry.{Entry}
-use Rattle.kcr_history.specs.declared.row_types.KeyRow.{KeyRow}
 use Rattle.kcr_history.specs.declared.views.Change.{Change}
 use Rattle.kcr_history.specs.declared.views.Finding.{Finding}
 use Rattle.kcr_history.specs.declared.views.Verdict.{Verdict}
@@ -37,10 +36,7 @@ use Rattle.kcr_tables.specs.Table.{TableSpec, machine_rows}
 use Rattle.kcr_tables.proofs.JointLemmas.{same_holds}
 use Rattle.kcr_tables.specs.Refusals.{IsFault}
 use Rattle.kcr_history.specs.Questions.{IsByInitials}
-use Rattle.kcr_machine.specs.RowDecision.{IsOfKind, IsRowRepeat, MayBeRefused}
-use Rattle.kcr_machine.proofs.Decided.{fault-refused, repeat-kind}
-use Rattle.kcr_store.specs.TransactionResult.{ends_with}
-use Rattle.kcr_store.specs.Commands.{AppliesCommand, MayBeReplied, with_reply, number_after}
+use Rattle.kcr_store.specs.Commands.{AppliesCommand, with_reply, number_after}
 use Rattle.kcr_store.specs.Stored.{Stores}
 use Rattle.kcr_store.specs.FullView.{AreRows, IsListed, Lists}
 
@@ -57,6 +53,7 @@ abbrev Decides : History → Command → Verdict → Option ReplyData → Type 0
 Decides A x v answer = MatchOption answer ((kept : Entry) × IsRepeat A x v kept) (IsAcceptance A x v)
 
 module _ (A : History) (x : Command) (v : Verdict) where
+  -- a decision with this reply applies the command
   pub steps : (answer : Option ReplyData) → Decides A x v answer → AppliesCommand A x (Ok v.reply) (with_reply A x answer)
   steps (Some a) d = (a, d.step, d.reply)
   steps None d = (d.0.reply, d.1.step, d.1.reply)
@@ -71,6 +68,7 @@ module _ (A : History) (x : Command) (v : Verdict) where
   next_holds (Some a) new d h = same_holds (all_changed v.changes.items (tables A)) (tables (with_reply A x (Some a))) new d.tables h
   next_holds None new d h = subst (λ (l : List Change). HoldsTables (all_changed l (tables A)) new) d.1.changes h
 
+  -- a database with the changed tables stores the history after the command
   pub next_stores : (answer : Option ReplyData) (old new : Database) → Stores A old → Decides A x v answer
       → HoldsTables (all_changed v.changes.items (tables A)) new → Stores (with_reply A x answer) new
   next_stores answer old new s d h =

@@ -85,6 +85,7 @@ module _ (accepted : History) (begun mid : State) (b : Began accepted begun) (ke
   }
 
   module _ (after : History) (end : State) (then : Survives mid end (λ db. db ≡ mid.now.trees)) where
+    -- a crash leaves the history before the commit, or the one after it
     pub either : (HasCleanDisk mid → Stores after mid.now) → AfterCrash accepted after end
     either done clean db may =
         let before = was_clean mid end _ then clean in
@@ -108,6 +109,7 @@ module _ (accepted : History) (begun mid : State) (b : Began accepted begun) (ke
     }
 
     module _ (last : State) (probed : Survives end last (λ _. ⊥)) where
+      -- a crash after a later look at the store leaves the history before the commit, or the one after it
       pub either_last : (HasCleanDisk mid → Stores after mid.now) → AfterCrash accepted after last
       either_last done clean db may =
           elim (probed.crash clean db may) [ inl before ↦ either done (was_clean end last _ probed clean) db before | inr none ↦ absurd none ]
@@ -159,6 +161,7 @@ module _ {S : Type 0} (g : Ghosts S) (old begun : Held S) (is : begun ≡ record
         let s = subst (λ (h : Held S). Survives (state g h) mid (λ _. ⊥)) is kept in
         record { clean = s.clean; shield = s.shield; counts = s.counts; limit = s.limit; closes = s.closes; crash = s.crash }
 
+    -- a transaction that was rolled back ends outside of one, and has committed nothing
     pub undone_outside : (end : Held S) → Survives mid (state g end) (λ _. ⊥) → end.in_transaction ≡ false → StaysOutside g (λ _. ⊥) old end
     undone_outside end then out = record { autocommit = out; survives = survives_on (state g old) mid (state g end) within then }
 
@@ -307,9 +310,11 @@ not_in_doubt None _ = refl
 not_in_doubt (Some B) is = absurd (true≢false is)
 
 module _ {S : Type 0} {g : Ghosts S} {r : RegisterState S} {s : RegisterHistory} (is : r.is_broken ≡ false) (at : StandsAt g s r) where
+  -- no history of a register that is not broken is in doubt
   pub none_in_doubt : s.in_doubt ≡ None
   none_in_doubt = not_in_doubt s.in_doubt (sym at.broken ∙ is)
 
+  -- a register that is not broken is durable, with the number of its last command
   pub counted_at : IsDurableWith r.last_number s.accepted (state g r.conn)
   counted_at = at.shows none_in_doubt
 
@@ -325,6 +330,7 @@ module _ {S : Type 0} (g : Ghosts S) (old new : RegisterState S) (x : Command) (
     tried = λ _. tried;
   }
 
+  -- a command that gets a reply takes the machine's step, and leaves the register whole
   pub accepted_leads : (v : Verdict) → new.is_broken ≡ false → new.last_number ≡ number_after old.last_number v.new_reply
       → (HasCleanDisk (state g new.conn) → (A : History) → IsDurableWith old.last_number A (state g old.conn)
       → EndsCommand old.last_number A x (Accepted v) (state g new.conn))
@@ -336,6 +342,7 @@ module _ {S : Type 0} (g : Ghosts S) (old new : RegisterState S) (x : Command) (
         takes s (whole e.next) (Ok v.reply) (none_in_doubt is at) e.step (λ some. absurd (true≢false (sym some)), λ ok. absurd (let p = ok in cc)) e.candidate,
       )
 
+  -- a command that an I/O error ends breaks the register, and leaves its history
   pub failed_leads : IsTrue new.is_broken
       → (HasCleanDisk (state g new.conn) → (A : History) → IsDurableWith old.last_number A (state g old.conn)
       → EndsCommand old.last_number A x (Refused Disk) (state g new.conn))
@@ -347,6 +354,7 @@ module _ {S : Type 0} (g : Ghosts S) (old new : RegisterState S) (x : Command) (
         takes s (record { accepted = s.accepted; in_doubt = Some s.accepted }) (Err Disk) (none_in_doubt is at) e.step (λ _. refl, λ _. refl) (inl refl),
       )
 
+  -- a command whose commit is in doubt breaks the register, and a crash leaves its history or the next one
   pub doubtful_leads : (error : Error) → IsTrue new.is_broken
       → (HasCleanDisk (state g new.conn) → (A : History) → IsDurableWith old.last_number A (state g old.conn)
       → EndsCommand old.last_number A x (InDoubt error) (state g new.conn))
@@ -446,6 +454,7 @@ module _ {S A : Type 0} {r : Result A Refusal} {g : Ghosts S} {MayFail : Refusal
     kept = record { autocommit = left.autocommit };
   }
 
+  -- a call that reads keeps the register's history, and only an I/O error breaks it
   pub looked : BreaksOnFault mid new r → ReadsHistory g MayFail old new r
   looked settled = elim settled [
     | inl fault ↦ subst (λ (n : RegisterState S). ReadsHistory g MayFail old n r) (sym fault.1) (reads_broken fault.0)

@@ -1,5 +1,5 @@
 -- What a call of a register says of its history, and what it leaves.
-use Rattle.std.specs.Prelude.{◌≡◌, ◌↔◌, Bool, true, false, if◌then◌else◌, Some, IsTrue, IsSome, Result, Err, IfErr, unwrap_or}
+use Rattle.std.specs.Prelude.{◌≡◌, ◌↔◌, Bool, true, false, if◌then◌else◌, Some, IsTrue, Result, Err, IfErr, unwrap_or}
 use Rattle.std.specs.Prelude.{◌⊎◌, ◌≢◌}
 use Rattle.sqlite.specs.Store.{Ghosts}
 use Rattle.sqlite.specs.State.{HasCleanDisk, Survives}

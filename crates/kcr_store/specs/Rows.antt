@@ -1,5 +1,5 @@
 -- What a register gives one row at a time, and the row of one ceremony.
-use Rattle.std.specs.Prelude.{◌≡◌, ◌⊎◌, ℕ, false, IsTrue, List, Option, None, Result, Err, IfOk, OnErr}
+use Rattle.std.specs.Prelude.{◌≡◌, ◌⊎◌, ℕ, false, IsTrue, List, Option, Result, Err, IfOk, OnErr}
 use Rattle.std.specs.Borrow.{Fml, RattleType, MutBor, RestsIfErr}
 use Rattle.sqlite.specs.Store.{Ghosts}
 use Rattle.kcr_base.specs.declared.refusal.Refusal.{Refusal}

@@ -1,6 +1,6 @@
 -- What the rows of the tables show to a question, exactly: whoever wrote them, and in whatever order they are. Over the
 -- tables of a history it is what the history shows.
-use Rattle.std.specs.Prelude.{◌≡◌, ◌⊎◌, ℕ, List, map, filter, Option, Some, None, All, AllPairs, IsPermutation, IsSome, IsTrue}
+use Rattle.std.specs.Prelude.{◌≡◌, ◌⊎◌, ℕ, List, map, filter, Some, None, All, AllPairs, IsPermutation, IsSome, IsTrue}
 use Rattle.std.specs.Prelude.{Result, MatchResult}
 use Rattle.kcr_base.specs.Same.{is_before}
 use Rattle.kcr_base.specs.declared.refusal.Refusal.{Refusal}

@@ -10,7 +10,7 @@ ghost use Rattle.kcr_tables.specs.Frame.{OfTables, Reads};
 ghost use Rattle.kcr_store.specs.Frame.{IfCleanOver, OfDurable, OnlyReads};
 ghost use Rattle.kcr_store.specs.FullView.{FindsIn, IsListed, AreRows, Lists};
 
-use kcr_audit::{audit, registers_pass};
+use kcr_audit::audit;
 use kcr_base::Refusal;
 use kcr_history::{Finding, FullView, View};
 use kcr_tables::{TableRow, all_rows};
@@ -132,6 +132,5 @@ pub(crate) fn audit_database<S: Alter>(
     ensures frame { OnlyReads S.Store IsFault conn.old conn.new result }
 {
     let view = full_view(alloc, conn)?;
-    registers_pass();
     Ok(audit(alloc, &view)?)
 }

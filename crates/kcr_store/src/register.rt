@@ -1,5 +1,5 @@
 //! The register itself.
-ghost use Rattle.std.specs.Prelude.{[], false, true, ◌≡◌, ◌↔◌, IsTrue, IfOk, IfErr, OnOk, Ok, Err, None, is_some};
+ghost use Rattle.std.specs.Prelude.{[], false, ◌≡◌, ◌↔◌, IsTrue, IfOk, IfErr, OnOk, Ok, Err, None, is_some};
 ghost use Rattle.sqlite.specs.State.{HasCleanDisk};
 ghost use Rattle.sqlite.specs.Held.{state};
 ghost use Rattle.kcr_history.specs.History.{History};

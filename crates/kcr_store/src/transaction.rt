@@ -1,14 +1,12 @@
 //! One command as one transaction, and one question or one row of a report as one that changes nothing.
-ghost use Rattle.std.specs.Prelude.{◌≡◌, false, [], length, Ok, IsTrue, IsSome, IfOk, OnOk, MatchResult, ⊤};
+ghost use Rattle.std.specs.Prelude.{◌≡◌, false, length, Ok, IsTrue, IfOk, OnOk, MatchResult, ⊤};
 ghost use Rattle.sqlite.specs.State.{HasCleanDisk, Survives};
 ghost use Rattle.sqlite.specs.Held.{state};
 ghost use Rattle.kcr_history.specs.History.{History};
-ghost use Rattle.kcr_history.specs.Machine.{IsDecision};
-ghost use Rattle.kcr_history.specs.Tables.{Tables, tables};
-ghost use Rattle.kcr_history.specs.Views.{row_of_key};
+ghost use Rattle.kcr_history.specs.Tables.{Tables};
 ghost use Rattle.kcr_tables.specs.MachineTables.{HoldsTables};
 ghost use Rattle.kcr_tables.specs.Refusals.{IsFault};
-ghost use Rattle.kcr_rows.specs.Frame.{state_in, IfClean, ImpliesOpen, StaysInTransaction};
+ghost use Rattle.kcr_rows.specs.Frame.{IfClean, StaysInTransaction};
 ghost use Rattle.kcr_store.specs.Frame.{IfCleanOver, OfDurable, OfRowsOver, OnlyReads};
 ghost use Rattle.kcr_store.specs.Stored.{Stores, OfStoredRows, OfStored};
 ghost use Rattle.kcr_history.specs.Questions.{ArePeopleShown, AreCustodiansShown, IsBagShown, IsRoomShown};

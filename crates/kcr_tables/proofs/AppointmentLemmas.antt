@@ -46,6 +46,7 @@ module _ (test : Appointment → Bool) (table shown : List Appointment) (last : 
       in-any (λ (y : Appointment). test y && nat_le x.since y.since) over.0 rows (among over.0 (has_in over.0 shown over.1))
       (and_from _ _ (filter_is test table over.0 (there over.0 over.1)) (le-leb x.since over.0.since over.2))))
 
+  -- what is shown is the table's, and none of the table's that passes began later
   pub last_shown : ((x : Appointment) → IsIn x shown → IsIn x table) × ShowsLastOf test table shown
   last_shown = (from_table, none_later shown (λ x i. i))
 

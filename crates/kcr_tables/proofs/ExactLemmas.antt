@@ -38,18 +38,21 @@ module _ {X : Type 0} (row_of : X → Row) where
       → IfOk r (λ all. AreShown row_of all.items rows)
   shown_in rows r h = if_ok _ _ (λ all same. are_shown rows all.items same) r h
 
+  -- values of the rows under a key show what is asked for under this key
   pub under_asked : {K : Type 0} (place : TableLayout) (is_under : K → Row → Bool) (asked : Selection K) (db : Trees) (key : K) → asked ≡ Matching key
       → (r : Result (Vec X Global) Refusal) → IfOk r (λ all. IsPermutation (filter (is_under key) (rows_at place db)) (map row_of all.items))
       → IfOk r (λ all. AreShown row_of all.items (asked_of is_under asked (rows_at place db)))
   under_asked place is_under asked db key is r h = subst (λ q. IfOk r (λ all. AreShown row_of all.items
       (asked_of is_under q (rows_at place db)))) (sym is) (shown_in _ r h)
 
+  -- values of all rows show what is asked for, if all of it is
   pub all_asked : {K : Type 0} (place : TableLayout) (is_under : K → Row → Bool) (asked : Selection K) (db : Trees) → asked ≡ All
       → (r : Result (Vec X Global) Refusal) → IfOk r (λ all. IsPermutation (rows_at place db) (map row_of all.items))
       → IfOk r (λ all. AreShown row_of all.items (asked_of is_under asked (rows_at place db)))
   all_asked place is_under asked db is r h = subst (λ q. IfOk r (λ all. AreShown row_of all.items
       (asked_of is_under q (rows_at place db)))) (sym is) (shown_in _ r h)
 
+  -- values of all rows show a table that is asked for as a whole
   pub whole_asked : (place : TableLayout) (asked : Bool) (db : Trees) → asked ≡ true
       → (r : Result (Vec X Global) Refusal) → IfOk r (λ all. IsPermutation (rows_at place db) (map row_of all.items))
       → IfOk r (λ all. AreShown row_of all.items (asked_all asked (rows_at place db)))
@@ -78,6 +81,7 @@ module _ {X : Type 0} (row_of : X → Row) where
             (filter_to (under k) rows row there e)
         by_test false e is later = later is
 
+    -- values that show the rows of each key show the rows of any of the keys
     pub each_any : (shown : List X) (keys : List K) → EachAreShown shown keys → AreShown row_of shown (filter (is_under_any under keys) rows)
     each_any shown keys each =
         all_from (λ row. (x : X) × Has shown x × (row ≡ row_of x)) (filter (is_under_any under keys) rows)

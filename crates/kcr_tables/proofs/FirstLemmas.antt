@@ -12,6 +12,7 @@ use Rattle.kcr_tables.specs.NewTables.{empty_tables}
 use Rattle.kcr_tables.specs.Schema.{all_tables}
 use Rattle.kcr_tables.specs.Creation.{schema_prefix}
 
+-- a database with the schema of a register and no entries holds no rows
 pub holds_nothing : (db : Database) → db.schema ≡ schema_prefix 17 → AreEmpty all_tables db.trees → IsSound (schema_prefix 17) db.trees → Holds db empty_tables
 holds_nothing db is empty sound =
     let (people, (trainings, (appointments, (boxes, (safes, (bags, (items, (ceremonies, (marks, others))))))))) = empty in

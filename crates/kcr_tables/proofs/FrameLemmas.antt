@@ -37,6 +37,7 @@ module _ {A S : Type 0} {g : Ghosts S} where
       reads_of r (λ clean has.
       on_ok_then _ _ (λ unchanged. unchanged.0.now_is) r (same clean (plain_in register_schema sql plain (state_in g old) has))) within
 
+  -- a call that does nothing leaves the tables as they are
   pub reads_none : (tx : Transaction S) (a : A) → Survives (state_in g tx) (state_in g tx) (λ _. ⊥) → Reads g tx tx (Ok a)
   reads_none tx a s =
       reads_of (Ok a) (λ clean has. refl)

@@ -52,69 +52,85 @@ use Rattle.kcr_tables.proofs.HoldLemmas.{tables_of}
 
 -- ---- two rows of one key, by the machine's tests
 
+-- the machine's test of two rows of `people` is a tie of their keys
 pub key_of_people : (new old : Person) → same_person new old ≡ is_eq (by_key 1 (person_row old) (person_row new))
 key_of_people new old = text_ties old.who new.who ∙ one_column (Text old.who) (Text new.who) (drop 1 (person_row old)) (drop 1 (person_row new))
 
+-- the machine's test of two rows of `trainings` is a tie of their keys
 pub key_of_trainings : (new old : Training) → same_training new old ≡ is_eq (by_key 4 (training_row old) (training_row new))
 key_of_trainings new old =
     (λ i. text_ties new.who old.who i && role_ties new.role old.role i && number_ties new.since old.since i && number_ties new.until old.until i)
     ∙ four_columns (Text new.who) (Text (role_text new.role)) (Int (pos new.since)) (Int (pos new.until)) (Text old.who) (Text (role_text old.role))
     (Int (pos old.since)) (Int (pos old.until)) (drop 4 (training_row new)) (drop 4 (training_row old)) ∙ turned 4 (training_row new) (training_row old)
 
+-- the machine's test of two rows of `appointments` is a tie of their keys
 pub key_of_appointments : (new old : Appointment) → same_appointment new old ≡ is_eq (by_key 2 (appointment_row old) (appointment_row new))
 key_of_appointments new old = (λ i. place_ties old.place new.place i && number_ties old.since new.since i)
     ∙ two_columns (Text (place_text old.place)) (Int (pos old.since)) (Text (place_text new.place)) (Int (pos new.since)) (drop 2 (appointment_row old))
     (drop 2 (appointment_row new))
 
+-- the machine's test of two rows of `boxes` is a tie of their keys
 pub key_of_boxes : (new old : BoxRow) → same_box new old ≡ is_eq (by_key 2 (box_row old) (box_row new))
 key_of_boxes new old = (λ i. facility_ties old.facility new.facility i && number_ties old.number new.number i)
     ∙ two_columns (Text (facility_text old.facility)) (Int (pos old.number)) (Text (facility_text new.facility)) (Int (pos new.number)) (drop 2 (box_row old))
     (drop 2 (box_row new))
 
+-- the machine's test of two rows of `safes` is a tie of their keys
 pub key_of_safes : (new old : SafeRow) → same_safe_row new old ≡ is_eq (by_key 2 (safe_row old) (safe_row new))
 key_of_safes new old = (λ i. facility_ties old.facility new.facility i && safe_ties old.safe new.safe i)
     ∙ two_columns (Text (facility_text old.facility)) (Int (pos (safe_digit old.safe))) (Text (facility_text new.facility)) (Int (pos (safe_digit new.safe)))
     (drop 2 (safe_row old)) (drop 2 (safe_row new))
 
+-- the machine's test of two rows of `bags` is a tie of their keys
 pub key_of_bags : (new old : Bag) → same_bag new old ≡ is_eq (by_key 1 (bag_row old) (bag_row new))
 key_of_bags new old = text_ties old.serial new.serial ∙ one_column (Text old.serial) (Text new.serial) (drop 1 (bag_row old)) (drop 1 (bag_row new))
 
+-- the machine's test of two rows of `items` is a tie of their keys
 pub key_of_items : (new old : Item) → same_item new old ≡ is_eq (by_key 1 (item_row old) (item_row new))
 key_of_items new old = text_ties old.code new.code ∙ one_column (Text old.code) (Text new.code) (drop 1 (item_row old)) (drop 1 (item_row new))
 
+-- the machine's test of two rows of `ceremonies` is a tie of their keys
 pub key_of_ceremonies : (new old : CeremonyRow) → same_ceremony new old ≡ is_eq (by_key 1 (ceremony_row old) (ceremony_row new))
 key_of_ceremonies new old = number_ties old.number new.number
     ∙ one_column (Int (pos old.number)) (Int (pos new.number)) (drop 1 (ceremony_row old)) (drop 1 (ceremony_row new))
 
+-- the machine's test of two rows of `marks` is a tie of their keys
 pub key_of_marks : (new old : MarkRow) → same_mark new old ≡ is_eq (by_key 1 (mark_row old) (mark_row new))
 key_of_marks new old = number_ties old.ceremony new.ceremony
     ∙ one_column (Int (pos old.ceremony)) (Int (pos new.ceremony)) (drop 1 (mark_row old)) (drop 1 (mark_row new))
 
+-- the machine's test of two rows of `steps` is a tie of their keys
 pub key_of_steps : (new old : StepRow) → same_step new old ≡ is_eq (by_key 2 (step_row old) (step_row new))
 key_of_steps new old = (λ i. number_ties old.ceremony new.ceremony i && number_ties old.step new.step i)
     ∙ two_columns (Int (pos old.ceremony)) (Int (pos old.step)) (Int (pos new.ceremony)) (Int (pos new.step)) (drop 2 (step_row old)) (drop 2 (step_row new))
 
+-- the machine's test of two rows of `seatings` is a tie of their keys
 pub key_of_seatings : (new old : SeatingRow) → same_seating new old ≡ is_eq (by_key 3 (seating_row old) (seating_row new))
 key_of_seatings new old = (λ i. number_ties old.ceremony new.ceremony i && number_ties old.step new.step i && number_ties old.seat new.seat i)
     ∙ three_columns (Int (pos old.ceremony)) (Int (pos old.step)) (Int (pos old.seat)) (Int (pos new.ceremony)) (Int (pos new.step)) (Int (pos new.seat))
     (drop 3 (seating_row old)) (drop 3 (seating_row new))
 
+-- the machine's test of two rows of `sheet` is a tie of their keys
 pub key_of_sheet : (new old : SheetRow) → same_sheet_row new old ≡ is_eq (by_key 2 (sheet_row old) (sheet_row new))
 key_of_sheet new old = (λ i. text_ties old.who new.who i && number_ties old.at new.at i)
     ∙ two_columns (Text old.who) (Int (pos old.at)) (Text new.who) (Int (pos new.at)) (drop 2 (sheet_row old)) (drop 2 (sheet_row new))
 
+-- the machine's test of two rows of `exceptions` is a tie of their keys
 pub key_of_exceptions : (new old : ExceptionRow) → same_exception new old ≡ is_eq (by_key 2 (exception_row old) (exception_row new))
 key_of_exceptions new old = (λ i. number_ties old.ceremony new.ceremony i && number_ties old.exception new.exception i)
     ∙ two_columns (Int (pos old.ceremony)) (Int (pos old.exception)) (Int (pos new.ceremony)) (Int (pos new.exception)) (drop 2 (exception_row old))
     (drop 2 (exception_row new))
 
+-- the machine's test of two rows of `keys` is a tie of their keys
 pub key_of_keys : (new old : KeyRow) → same_key_row new old ≡ is_eq (by_key 1 (key_row old) (key_row new))
 key_of_keys new old = text_ties old.key new.key ∙ one_column (Text old.key) (Text new.key) (drop 1 (key_row old)) (drop 1 (key_row new))
 
+-- the machine's test of two rows of `stays` is a tie of their keys
 pub key_of_stays : (new old : Stay) → same_stay new old ≡ is_eq (by_key 2 (stay_row old) (stay_row new))
 key_of_stays new old = (λ i. text_ties old.who new.who i && number_ties old.since new.since i)
     ∙ two_columns (Text old.who) (Int (pos old.since)) (Text new.who) (Int (pos new.since)) (drop 2 (stay_row old)) (drop 2 (stay_row new))
 
+-- the machine's test of two rows of `withdrawals` is a tie of their keys
 pub key_of_withdrawals : (new old : Withdrawal) → same_withdrawn new old ≡ is_eq (by_key 4 (withdrawal_row old) (withdrawal_row new))
 key_of_withdrawals new old =
     (λ i. text_ties old.who new.who i && role_ties old.role new.role i && number_ties old.since new.since i && number_ties old.until new.until i)
@@ -123,7 +139,7 @@ key_of_withdrawals new old =
 
 -- ---- changes
 
--- the rows of values rise by so many keys
+-- the rows of values rise by the first N columns
 abbrev pub Rise : {X : Type 0} → ℕ → (X → Row) → List X → Type 0
 Rise keys row_of xs = IsAscending (λ a b. by_key keys a b ≡ Less) (map row_of xs)
 
@@ -146,6 +162,7 @@ pub record Rises (t : machine.Tables) : Type 0 where
   pub stays : Rise 2 stay_row t.stays
   pub withdrawals : Rise 4 withdrawal_row t.withdrawals
 
+-- the rows that trees hold rise by their keys
 pub kept_rises : (db : Trees) (t : StoredTables) → TreesHold db t → Rises t.rows
 kept_rises db t k = search rules
 
@@ -200,6 +217,7 @@ all_stand (c ∷ more) m t r s =
 
 -- ---- what the store holds
 
+-- a database that holds the rows after some changes holds the tables after them
 pub changes_hold : (list : List Change) (m : machine.Tables) (old new : Database) (h : HoldsTables m old) → Holds new (changed_all list h.tables.t)
     → HoldsTables (changes.all_changed list m) new
 changes_hold list m old new h held =
@@ -209,6 +227,7 @@ changes_hold list m old new h held =
 same_itself : (t : machine.Tables) → machine.SameTables t t
 same_itself t = search (rules, IsPermutation-refl)
 
+-- a database of the new tables holds those of an empty history
 pub first_holds : (db : Database) → Holds db new_tables → HoldsTables (machine.tables []) db
 first_holds db held = tables_of (machine.tables []) db new_tables (record { rows = same_itself (machine.tables []); versions = refl }) held
 
@@ -217,11 +236,14 @@ first_holds db held = tables_of (machine.tables []) db new_tables (record { rows
 of_both : {X : Type 0} {xs ys zs : List X} → IsPermutation xs ys → IsPermutation xs zs → IsPermutation ys zs
 of_both p q = IsPermutation-trans _ _ _ (IsPermutation-sym _ _ p) q
 
+-- stored rows are those of any tables with the same rows
 pub same_stands : (m n : machine.Tables) (t : StoredTables) → machine.SameTables m n → SameRows m t → SameRows n t
 same_stands m n t same s = search (rules, of_both)
 
+-- trees that hold some tables hold any with the same rows
 pub same_keeps : (m n : machine.Tables) (db : Trees) → machine.SameTables m n → TreesHoldTables m db → TreesHoldTables n db
 same_keeps m n db same h = record { t = h.t; kept = h.kept; stands = same_stands m n h.t same h.stands }
 
+-- a database that holds some tables holds any with the same rows
 pub same_holds : (m n : machine.Tables) (db : Database) → machine.SameTables m n → HoldsTables m db → HoldsTables n db
 same_holds m n db same h = record { schema = h.schema; tables = same_keeps m n db.trees same h.tables }

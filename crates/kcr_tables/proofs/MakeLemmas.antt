@@ -28,6 +28,7 @@ Makes at table =
     × (next_tree (schema_prefix at) ≡ table.tree)
     × (lacks_sequence (schema_prefix (at + 1)) ≡ false)
 
+-- whatever table the text defines, the schema with it is the next one
 pub defines : (at : ℕ) (table : Table) → Makes at table → (found : Table) → table_defined_by (text_at at) ≡ Ok found
     → created (schema_prefix at) found ≡ schema_prefix (at + 1)
 defines at table makes found h =
@@ -54,6 +55,7 @@ makes_withdrawals = (refl, refl, (refl, refl), refl, refl, refl, refl)
 abbrev pub Next : ℕ → State → State → Type 0
 Next at old new = (new.now.schema ≡ schema_prefix (at + 1)) × AreEmpty (take (at + 1) all_tables) new.now.trees × IsSound (schema_prefix (at + 1)) new.now.trees
 
+-- a text that is executed in its turn leaves the next schema, and all its tables empty
 pub create_next : (at : ℕ) → at < 17 → (old new : State) (count : ℕ) → old.now.schema ≡ schema_prefix at → AreEmpty (take at all_tables) old.now.trees
     → Executes (text_at at) [] old new (Ok count) → Next at old new
 unfolding understood everything

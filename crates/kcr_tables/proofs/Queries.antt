@@ -29,6 +29,7 @@ use Rattle.kcr_rows.specs.Rows.{appointment_row, key_row, seating_row, stay_row,
 use Rattle.kcr_rows.specs.Values.{int_or_null}
 use Rattle.kcr_rows.proofs.FilterLemmas.{value_is}
 use Rattle.kcr_rows.proofs.SameLemmas.{text_ties, place_ties, number_ties}
+use Rattle.kcr_rows.proofs.KeyLemmas.{truth_is}
 use Rattle.kcr_tables.specs.Exact.{has_number, has_text, has_from, is_beyond_row, is_lasting_row, is_row_of_step}
 use Rattle.kcr_tables.specs.Query.{Ordered, Unordered, Last, SelectsLast, Query}
 use Rattle.kcr_tables.specs.Statements.{is_given, key_order, SelectsRows}
@@ -128,10 +129,6 @@ last_seating ceremony = query seating_sql (Int (pos ceremony) ∷ []) (Last (λ 
 pub with_true : (b : Bool) → (b && true) ≡ b
 with_true true = refl
 with_true false = refl
-
-truth_is : (b : Bool) → is_true (from_truth (Some b)) ≡ b
-truth_is true = refl
-truth_is false = refl
 
 -- NULL is not compared, and whatever else there is stands in the order of values
 pub compared_is : (op : CompareOp) (v : Value) (n : ℕ)

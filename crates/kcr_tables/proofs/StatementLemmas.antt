@@ -32,6 +32,7 @@ use Rattle.kcr_tables.specs.Table.{TableSpec, IsTable, with_put}
 use Rattle.kcr_tables.specs.Unordered.{SelectsUnordered}
 
 module _ {X : Type 0} (sql : List ℕ) (place : TableLayout) (params : Row) (passes : Row → Bool) (s : SelectsRows sql place params passes) (row_of : X → Row) where
+  -- the values that the query shows are the stored ones that pass the test
   pub rows_shown : (IsRead IsStored : X → Type 0) → ((x y : X) → IsRead x → IsStored y → row_of x ≡ row_of y → x ≡ y) → (test : X → Bool)
       → ((x : X) → passes (row_of x) ≡ test x)
       → (old new : State) (xs : List X) → old.now.schema ≡ register_schema → Shown sql params old new (map row_of xs) → AllByRecursion IsRead xs
@@ -102,6 +103,7 @@ module _ {place : TableLayout} {sql : List ℕ} {params : Row} {passes : Row →
   -- so much a call tells that runs the text: of the values that the table holds, and of its rows, whatever these are
   module _ {X : Type 0} (row_of : X → Row) (one : (x y : X) → ⊤ → ⊤ → row_of x ≡ row_of y → x ≡ y) (old new : State)
       (result : Result (Vec X Global) Refusal) (shown : HasCleanDisk new → IfOk result (λ all. Shown sql params old new (map row_of all.items))) where
+    -- of the values that the table holds the call returns those that pass the test
     pub passing_told : (rows_in : StoredTables → List X) → ((t : StoredTables) → TreesHold old.now.trees t → TreeHolds place old.now.trees (map row_of (rows_in t)))
         → (test : X → Bool) → ((x : X) → passes (row_of x) ≡ test x)
         → HasCleanDisk new → (t : StoredTables) → Holds old.now t → IfOk result (λ all. IsPermutation (filter test (rows_in t)) all.items)
@@ -115,6 +117,7 @@ module _ {X : Type 0} (sql : List ℕ) (place : TableLayout) (row_of : X → Row
   abbrev Put : Type 0
   Put = (new.now.schema ≡ register_schema) × Changes place register_schema (row_of x) old.now.trees new.now.trees
 
+  -- a text that inserts a row puts it under its key
   pub row_put : InsertsRow sql place row_of → Put
   row_put p =
       executes_insert place register_schema p.at p.table (λ i. (p.is i).giving.writing.here) (λ olds news i. (p.is i).giving.writing.alone olds news)

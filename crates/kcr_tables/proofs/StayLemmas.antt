@@ -127,6 +127,7 @@ module _ (table rows : List Stay) (apart : Apart table) (within : (x : Stay) →
   one_of s there is xs inside x h since = apart x s (inside x (filter_from (is_of who) xs x h)) there
       (same_who who x.who s.who (filter_is (is_of who) xs x h) is) since
 
+  -- the person's last stay among the rows is the last one in the table
   pub same_last : HasLast table rows who → last_stay rows who ≡ last_stay table who
   same_last (last, greatest, shown) = elim greatest [
     | inl none ↦ (
@@ -203,6 +204,7 @@ module _ (mine : Stay → Bool) (people : List (List ℕ)) (table rows last foun
           (has_left (filter mine table) had.more x (filter_to mine table x (in_table x h) e)))
       by_test false e = has_right rows found x (subst (λ l. Has l x) (sym found_is) (filter_to (λ y. not (mine y)) last x h (ap not e)))
 
+  -- with one person's last stay added, the rows have the last stay of one person more
   pub more_gathered : Gathered mine (people ++ who ∷ []) table (rows ++ found)
   more_gathered = record {
     more = had.more ++ found;

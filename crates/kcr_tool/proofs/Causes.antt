@@ -1,18 +1,15 @@
 -- What the fault of a task was caused by.
-use Rattle.std.proofs.Common.{◌≡◌, ◌⊎◌, inl, inr, ℕ, List, Option, Some, None, Bool, false, ◌∙◌, Result, Ok, Err, OnErr, refl, sym, subst, length, arith}
+use Rattle.std.proofs.Common.{◌≡◌, inl, inr, ℕ, List, Option, Some, None, Bool, false, ◌∙◌, Result, Ok, Err, OnErr, refl, sym, subst, length, arith}
 use Rattle.std.proofs.lemmas.Bool.{true≢false}
 use Rattle.std.proofs.lemmas.List.{take_all}
 use Rattle.std.specs.Io.KnownBytes.{Appends}
 use Rattle.std.specs.Prelude.{IfSome, IsTrue, option_map}
 use Rattle.kcr_base.specs.declared.refusal.Refusal.{Refusal}
 use Rattle.kcr_base.specs.declared.refusal.Refusal.TheVariants.{Disk}
-use Rattle.kcr_desk.specs.Streams.{Streams, Writing, HasFailed, IsUntouched, WritesNothing, WritesPart, WritesText, bytes_before, bytes_after}
-use Rattle.kcr_print.specs.Reports.{Stops}
-use Rattle.kcr_print.specs.declared.fault.PrintFault.{PrintFault}
+use Rattle.kcr_desk.specs.Streams.{Streams, Writing, IsUntouched, WritesNothing, WritesPart, WritesText, bytes_before, bytes_after}
 use Rattle.kcr_print.specs.declared.fault.PrintFault.TheVariants as print
 use Rattle.kcr_store.specs.Register.{RegisterState}
-use Rattle.kcr_tables.specs.Refusals.{IsFault}
-use Rattle.kcr_fault.specs.Faults.{HasCause, IsMaking, MayMeet, MeetsOver, StopsMaking, StopsOpening, StopsReading, StopsRebuild, StopsReplay, StopsReport, StopsServing, StopsTask, WantsCommands, fault_of_print}
+use Rattle.kcr_fault.specs.Faults.{HasCause, MayMeet, MeetsOver, StopsMaking, StopsOpening, StopsReading, StopsRebuild, StopsReplay, StopsReport, StopsServing, StopsTask}
 use Rattle.kcr_fault.specs.Notes.{IsMissing, IsUnfilled}
 use Rattle.kcr_fault.specs.declared.fault.Missing.{Missing}
 use Rattle.kcr_fault.specs.declared.fault.Missing.TheVariants.{Unnamed, Absent, Empty}

@@ -1,6 +1,6 @@
 -- A report whose fault has an invalid row in place of an I/O error.
-use Rattle.std.proofs.Common.{◌≡◌, ◌⊎◌, inl, inr, ◌∙◌, ℕ, Bool, Result, Ok, Err, sym, subst}
-use Rattle.std.specs.Prelude.{IfErr, IsTrue}
+use Rattle.std.proofs.Common.{inl, inr, ◌∙◌, ℕ, Bool, Result, sym, subst}
+use Rattle.std.specs.Prelude.{IfErr}
 use Rattle.kcr_base.specs.declared.refusal.Refusal.{Refusal}
 use Rattle.kcr_desk.specs.Streams.{Writing}
 use Rattle.kcr_fault.specs.Faults.{StopsReport}

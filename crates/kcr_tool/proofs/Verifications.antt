@@ -1,11 +1,11 @@
 -- What the status of a verification says of its line.
-use Rattle.std.proofs.Common.{◌≡◌, ◌⊎◌, inl, inr, ℕ, List, Result, Ok, Err, OnErr, refl}
+use Rattle.std.proofs.Common.{◌⊎◌, inl, inr, ℕ, List, Result, Ok, Err, OnErr, refl}
 use Rattle.std.specs.Prelude.{IfOk}
 use Rattle.kcr_desk.specs.Streams.{Writing, WritesNothing, WritesPart}
 use Rattle.kcr_fault.specs.Lines.{difference_line, whole_line}
 use Rattle.kcr_fault.specs.declared.fault.Fault.{Fault}
-use Rattle.kcr_tool.specs.Runs.{Finishes, FinishesOrFinds}
-use Rattle.kcr_tool.specs.Verifications.{EndsVerification, WritesVerification, WritesVerified, WritesDifference, WritesVerificationPrefix, TellsWholeFront, verified_line}
+use Rattle.kcr_tool.specs.Runs.{Finishes}
+use Rattle.kcr_tool.specs.Verifications.{EndsVerification, WritesVerification, WritesVerified, WritesVerificationPrefix, TellsWholeFront, verified_line}
 use Rattle.kcr_verify.specs.declared.verification.Verification.{Verification}
 use Rattle.kcr_verify.specs.declared.verification.Verification.TheVariants.{Verified, Differs}
 
@@ -17,6 +17,7 @@ module _ {W : Type 0} (head : List ℕ) (w : Writing W) where
   verified_front (Verified count) (inr front) = inr (whole_line head count, inl (count, refl), front)
   verified_front (Differs difference) (inr front) = inr (difference_line difference, inr (difference, refl), front)
 
+  -- a verification whose lines, or a prefix of them, were written ends so
   pub verification_ends : (Comes : Verification → Type 0) (told : Verification) (result : Result ℕ Fault) → Comes told
       → IfOk result (WritesVerification head told w) → OnErr result (WritesNothing w ⊎ WritesPart w (verified_line head told))
       → EndsVerification head Comes w result

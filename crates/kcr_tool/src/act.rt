@@ -3,7 +3,6 @@ ghost use Rattle.std.specs.Prelude.{◌≡◌, ◌≢◌, ◌≤◌, ◌⊎◌, 
 ghost use Rattle.sqlite.specs.Steps.{over_memory};
 ghost use Rattle.kcr_desk.specs.Streams.{IsUntouched, WritesNothing, streams, writing};
 ghost use Rattle.kcr_fault.specs.declared.fault.Fault.{Fault as WhyNot};
-ghost use Rattle.kcr_arguments.specs.declared.words.Task.{Task as Order_task};
 ghost use Rattle.kcr_fault.specs.Faults.{HasCause, MayMeet, StopsOpening, StopsReport, TellsFault};
 ghost use Rattle.kcr_fault.specs.Notes.{IsMissing, IsNoted, IsNotedOf, MayNote};
 ghost use Rattle.kcr_tool.specs.Runs.{Completes, CompletesInPart, CompletesUnknown, CompletesUnknownInPart, EndsReport};

@@ -10,7 +10,7 @@ ghost use Rattle.kcr_tables.specs.MachineTables.{HoldsTables};
 ghost use Rattle.kcr_tool.specs.Audits.{EndsAudit, WritesAudit, WritesAuditPrefix};
 ghost use Rattle.kcr_tables.specs.Refusals.{IsFault};
 ghost use Rattle.kcr_fault.specs.Faults.{MeetsOver, StopsReport};
-ghost use Rattle.kcr_fault.specs.Lines.{clean_line, finding_line, found_line};
+ghost use Rattle.kcr_fault.specs.Lines.{finding_line};
 
 use itoa::Buffer;
 use kcr_base::{Counted, Refusal};

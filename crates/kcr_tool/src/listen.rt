@@ -92,7 +92,7 @@ fn serve_each<S: Alter>(
 /// Listens on a port of 127.0.0.1, says so in a line, and serves connections, one after the other. It ends once the
 /// register's file is gone.
 ///
-/// A register of the machine stays one over all connections: `connections_keep_registers` of `kcr_desk`.
+/// A register of the machine stays one over all connections: `leads_follow` of `kcr_desk`.
 pub fn listen<S: Alter, W: Write>(
     rt: &HostRuntime,
     serving: Serving,

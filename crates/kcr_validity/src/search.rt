@@ -1,7 +1,6 @@
 //! The first invalid row of a table.
 
-ghost use Rattle.std.specs.Prelude.{◌≡◌, map, IfErr, IfOk, IfSome, IsPermutation};
-ghost use Rattle.sqlite_rules.specs.Lists.{Has};
+ghost use Rattle.std.specs.Prelude.{map, IfErr, IfOk, IfSome, IsPermutation};
 ghost use Rattle.kcr_rows.specs.Refusals.{IsFault};
 ghost use Rattle.kcr_tables.specs.Exact.{rows_at};
 ghost use Rattle.kcr_tables.specs.Frame.{OfTrees, Reads};

@@ -10,6 +10,7 @@ use Rattle.kcr_store.proofs.OpenLemmas.{apart}
 use Rattle.kcr_store.specs.Opening.{IsOpeningOf}
 use Rattle.kcr_verify.specs.Fresh.{IsNewOf}
 
+-- a database of any kind but the empty one has a schema
 pub has_something : (schema : Schema) (standing : DatabaseKind) → IsOfKind schema standing → standing ≢ Empty → schema ≢ no_schema
 has_something schema Empty stands other is = other refl
 has_something schema Current stands other is = let e : 17 ≡ 0 = apart stands is in omega (arith, e)
@@ -25,6 +26,7 @@ made_of old db empty (inr (inl made)) = inr made
 made_of old db empty (inr (inr (inl first))) = absurd (let e : 15 ≡ 0 = apart first.0 empty in omega (arith, e))
 made_of old db empty (inr (inr (inr second))) = absurd (let e : 16 ≡ 0 = apart second.0 empty in omega (arith, e))
 
+-- after the opening of an empty database a crash leaves it so, or with the tables of an empty register
 pub makes_new : (old new : State) → old.now.schema ≡ no_schema → Survives old new (IsOpeningOf old.now) → Survives old new (IsNewOf old.now)
 makes_new old new empty out = record {
   clean = out.clean;

@@ -32,6 +32,7 @@ one_more entry A = reverse-append (key_row entry ∷ []) (map key_row A)
 abbrev pub NumbersCount : Type 0
 NumbersCount = (A : History) (entry : Entry) → IsRegister (entry ∷ A) → entry.reply.accepted ≡ length (entry ∷ A)
 
+-- what holds of a list and of one more element holds of the list with it at the end
 pub all_end : {X : Type 0} (P : X → Type 0) (xs : List X) (x : X) → AllByRecursion P xs → P x → AllByRecursion P (xs ++ x ∷ [])
 all_end P [] x all h = (h, tt)
 all_end P (y ∷ ys) x all h = (all.0, all_end P ys x all.1 h)
@@ -91,6 +92,7 @@ pub grown_from : (before A : History) → IsRegister (before ++ A) → IsRegiste
 grown_from [] A h = h
 grown_from (entry ∷ before) A h = grown_from before A h.1
 
+-- what a history of values grew from is of values
 pub values_of : (before A : History) → AreValues (before ++ A) → AreValues A
 values_of [] A h = h
 values_of (entry ∷ before) A h = values_of before A h.1
@@ -109,10 +111,12 @@ pub record IsNextRow (A : History) (rows : List KeyRow) (index : ℕ) (accepted 
   pub number : row.accepted ≡ index + 1
   pub then : IsGiven A rows (index + 1) (entry ∷ accepted)
 
+-- an element at the end of a first list comes before the second one
 pub append_one : {X : Type 0} (before after : List X) (x : X) → (before ++ x ∷ []) ++ after ≡ before ++ x ∷ after
 append_one [] after x = refl
 append_one (y ∷ before) after x = ap (λ l. y ∷ l) (append_one before after x)
 
+-- the row at the index is that of the next entry, if the commands before it were accepted again
 pub next_row : NumbersCount → (A : History) → IsRegister A → AreValues A → (rows : List KeyRow) (index : ℕ) (accepted : History) (row : KeyRow)
     → IsGiven A rows index accepted → index < length rows → get_or rows index row ≡ row → IsNextRow A rows index accepted row
 next_row count A h values rows index accepted row given low at =

@@ -10,15 +10,18 @@ use Rattle.kcr_verify.specs.declared.quoted.Column.{Column}
 doubled_end : (text : List ℕ) (byte : ℕ) → doubled (text ++ byte ∷ []) ≡ doubled text ++ doubled (byte ∷ [])
 doubled_end text byte = flat_map-append _ text (byte ∷ [])
 
+-- one more byte of a text adds its own doubled text
 pub doubled_more : (text : List ℕ) (i : ℕ) → i < length text → doubled (take (i + 1) text) ≡ doubled (take i text) ++ doubled (get_or text i 0 ∷ [])
 doubled_more text i h = rw (take_more text i 0 h) (doubled_end (take i text) (get_or text i 0))
 
+-- a single quote is doubled
 pub quote_doubled : (byte : ℕ) → byte ≡ 39 → doubled (byte ∷ []) ≡ byte ∷ 39 ∷ []
 quote_doubled byte e = rw e refl
 
 other_than : (byte : ℕ) → ¬ (byte ≡ 39) → nat_eq byte 39 ≡ false
 other_than byte e = grind arith
 
+-- any other byte is kept
 pub other_kept : (byte : ℕ) → ¬ (byte ≡ 39) → doubled (byte ∷ []) ≡ byte ∷ []
 other_kept byte e = rw (other_than byte e) refl
 

@@ -16,8 +16,8 @@ use Rattle.kcr_history.specs.declared.commands.ReplyData.{ReplyData}
 use Rattle.kcr_history.specs.declared.commands.Command.{Command}
 use Rattle.kcr_history.specs.declared.commands.Entry.{Entry}
 use Rattle.kcr_history.specs.declared.row_types.KeyRow.{KeyRow}
-use Rattle.kcr_history.proofs.Steps.{of_machine}
-use Rattle.kcr_laws.proofs.Accepted.{same_reply, other_outcome}
+use Rattle.kcr_history.proofs.Steps.{of_machine, same_reply}
+use Rattle.kcr_laws.proofs.Accepted.{other_outcome}
 use Rattle.kcr_verify.specs.Verification.{AreValues, Declines, HaveOwnKeys, IsNotNext, StopsFor, StopsIn, Takes, rows_by_number}
 use Rattle.kcr_verify.specs.declared.verification.Difference.{Difference}
 use Rattle.kcr_verify.specs.declared.verification.Difference.TheVariants as Differences
@@ -54,6 +54,7 @@ pub record IsKeptRow (A : History) (key : List ℕ) (kept : Entry) : Type 0 wher
   pub among : IsIn (key_row kept) (rows_by_number A)
   pub low : kept.reply.accepted ≤ length A
 
+-- a key with an entry has a row among the history's, with a number that was given
 pub kept_row : NumbersCount → (A : History) (key : List ℕ) (kept : Entry) → IsOfMachine A → entry_of A key ≡ Some kept → IsKeptRow A key kept
 kept_row count [] key kept made e = cc
 kept_row count (entry ∷ A) key kept made e = by (same_text entry.command.key key) refl (kept_row count A key kept made.1)

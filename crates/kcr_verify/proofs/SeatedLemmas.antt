@@ -1,5 +1,5 @@
 -- Whether people fill the seats of a command by the rows of a register is whether they do by its history.
-use Rattle.std.proofs.Common.{◌≡◌, ℕ, Bool, true, false, ◌==◌, List, [], Option, Some, None, is_some, option_map, unwrap_or, refl, sym, ap, ◌∙◌, inl, inr}
+use Rattle.std.proofs.Common.{◌≡◌, ℕ, true, false, ◌==◌, List, [], Option, Some, None, is_some, option_map, unwrap_or, refl, sym, ap, ◌∙◌, inl, inr}
 use Rattle.std.proofs.lemmas.Bool.{cases_Bool}
 use Rattle.std.proofs.lemmas.List.Sorted.{list_any-IsPermutation}
 use Rattle.kcr_base.proofs.ListLemmas.{any-map, find-none, some_if}
@@ -56,5 +56,6 @@ module _ (A : History) (h : IsRegister A) (view : FullView) (same : SameTables (
     | inr e ↦ rw (no_ceremony A view same s.ceremony e, e) refl
   ]
 
+  -- people fill the seats of an act by the rows if and only if by the history
   pub act_filled : (act : Act) (people : List (List ℕ)) → fill_by view (seat_request_by view.view act) people ≡ fill A (seat_request A act) people
   act_filled act people = ap (λ s. fill_by view s people) (request_same act) ∙ fill_same (seat_request A act) people

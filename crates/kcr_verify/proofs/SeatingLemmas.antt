@@ -37,7 +37,8 @@ use Rattle.kcr_forms.specs.Acts.{IsAct}
 use Rattle.kcr_forms.specs.Split.{split_at_byte}
 use Rattle.kcr_forms.proofs.Cutting.{Lacks, cut-again}
 use Rattle.kcr_forms.proofs.Readers.{lacks-below}
-use Rattle.kcr_laws.proofs.Accepted.{same_reply, other_outcome}
+use Rattle.kcr_laws.proofs.Accepted.{other_outcome}
+use Rattle.kcr_history.proofs.Steps.{same_reply}
 use Rattle.kcr_laws.proofs.Fixed.{accepted_fixed}
 use Rattle.kcr_laws.proofs.Halves.{one_half}
 use Rattle.kcr_laws.proofs.Trials.{same_people, people-are, rest_seated}
@@ -184,6 +185,7 @@ module _ (A : History) (key : List ℕ) where
   abbrev IsFree : Act → Type 0
   IsFree act = (entry_of A key ≡ None) × (fault A act ≡ None)
 
+  -- an act that nothing refuses gets this reply, or, if its seating is not the first one, a reply with another text
   pub accepted_step : AreValues A → (act : Act) (this answer : ReplyData) (A' : History) → IsFree act → IsReplyTo A act this (seat_request A act)
       → machine A (of act) (Accepts answer) A' → IsThisOrOther A (of act) this answer A'
   accepted_step v (Ceremony c at (Sign k)) this answer A' free (q, fill, is) m = by_seats (rw (free.0, free.1) at m)
@@ -234,6 +236,7 @@ module _ (A : History) (key : List ℕ) where
   never_refused act this refusal A' (Some s) is (inl w) = other_outcome _ _ (sym w.2.0)
   never_refused act this refusal A' (Some s) is (inr w) = one_half A s.ceremony s.at s.seats is.0 w.0 is.1 w.1.short
 
+  -- an act that no condition refuses, and whose seats people can fill, is not refused
   pub refused_step : (act : Act) (this : ReplyData) (refusal : Refusal) (A' : History) → IsFree act → IsReplyTo A act this (seat_request A act)
       → machine A (of act) (Refuses refusal) A' → ⊥
   refused_step act this refusal A' free is m = never_refused act this refusal A' (seat_request A act) is (rw (free.0, free.1) at m)

@@ -5,6 +5,7 @@ use Rattle.std.specs.Prelude.{Option, Some, None, IfSome}
 use Rattle.std.proofs.lemmas.List.{length-map, take_more, drop_more, take-append-drop}
 use Rattle.std.proofs.lemmas.List.Sorted.{IsPermutation-sym, IsPermutation-trans, length_permutation}
 use Rattle.kcr_base.proofs.Members.{in-order}
+use Rattle.kcr_base.proofs.ListLemmas.{each-weaker}
 use Rattle.kcr_history.specs.History.{History}
 use Rattle.kcr_history.specs.Tables.{Tables, tables, key_row}
 use Rattle.kcr_history.specs.declared.row_types.KeyRow.{KeyRow}
@@ -75,10 +76,6 @@ same_rows m view rows o table = subst (λ v. (HasRows table m v → HasRows tabl
       λ h. IsPermutation-trans m.keys view.keys.items rows.keys.items h o.keys,
     )
 
-all_weaker : {X : Type 0} (P Q : X → Type 0) → ((x : X) → P x → Q x) → (xs : List X) → AllByRecursion P xs → AllByRecursion Q xs
-all_weaker P Q weaker [] all = tt
-all_weaker P Q weaker (x ∷ xs) all = (weaker x all.0, all_weaker P Q weaker xs all.1)
-
 -- and so is the first table that differs
 pub first_in_view : (tables_in : List TableName) (A : History) (view rows : FullView) → IsInOrder view rows → (table : TableName)
     → IsFirstTable tables_in A rows table → IsFirstTable tables_in A view table
@@ -86,7 +83,7 @@ first_in_view tables_in A view rows o table f = record {
   before = f.before;
   behind = f.behind;
   listed = f.listed;
-  same = all_weaker (λ one. HasRows one (tables A) rows) (λ one. HasRows one (tables A) view) (λ one. (same_rows (tables A) view rows o one).0) f.before f.same;
+  same = each-weaker (λ one. HasRows one (tables A) rows) (λ one. HasRows one (tables A) view) (λ one. (same_rows (tables A) view rows o one).0) f.before f.same;
   other = λ h. f.other ((same_rows (tables A) view rows o table).1 h);
 }
 
@@ -209,6 +206,7 @@ first_at A view tables_in i table low at all not = record {
   other = not;
 }
 
+-- a weaker statement holds of an optional value if a stronger one does
 pub some_weaker : {X : Type 0} (P Q : X → Type 0) → ((x : X) → P x → Q x) → (found : Option X) → IfSome found P → IfSome found Q
 some_weaker P Q weaker None h = tt
 some_weaker P Q weaker (Some x) h = weaker x h
@@ -224,6 +222,7 @@ first_with_keys A view table keys f = record {
   other = f.other;
 }
 
+-- if the accepted commands differ, theirs is the first table that does
 pub first_is_keys : (A : History) (view : FullView) → ¬ HasRows Keys (tables A) view → IsFirstTable compared A view Keys
 first_is_keys A view not = record { before = []; behind = other_tables; listed = refl; same = tt; other = not }
 

@@ -19,10 +19,7 @@ use crate::quoted::Quoted;
 use crate::sort::sort_by_number;
 use kcr_base::{Refusal, Text};
 use kcr_custody::{Bag, BoxRow, Item, SafeRow};
-use kcr_history::{
-    CeremonyRow, ExceptionRow, FullView, KeyRow, MarkRow, SeatingRow, StepRow,
-    numbers_count_commands,
-};
+use kcr_history::{CeremonyRow, ExceptionRow, FullView, KeyRow, MarkRow, SeatingRow, StepRow};
 use kcr_people::{Appointment, Person, Training, Withdrawal};
 use kcr_room::{SheetRow, Stay};
 use kcr_script::Seat;
@@ -363,7 +360,6 @@ fn compare_commands<S: Alter>(
     ensures register { OfHistory S.Store register.old register.new (λ A. IfOk result (λ _. IsRegister A)) }
     ensures frame { OnlyLooks S.Store register.old register.new result }
 {
-    numbers_count_commands();
     let mut commands = register.table_rows::<KeyRow>()?;
     sort_by_number(&mut commands);
     first_row(alloc, &commands, rows)

@@ -5,7 +5,7 @@ ghost use Rattle.kcr_verify.specs.Verification.{EndsAt, GivesRow, GivesRows, IsF
 use crate::seated::seating_told;
 use crate::verification::Difference;
 use kcr_base::Refusal;
-use kcr_history::{Command, KeyRow, numbers_count_commands};
+use kcr_history::{Command, KeyRow};
 use kcr_store::Register;
 use kcr_wire::RouteTable;
 use sqlite::Alter;
@@ -69,7 +69,6 @@ pub(crate) fn replay<S: Alter>(
     ensures frame { StaysIntact S.Store register.old register.new result }
     ensures led { EndsAt S.Store register.new (λ B. GivesRows rows.now B result) }
 {
-    numbers_count_commands();
     let paths = RouteTable::new(alloc)?;
     for (index, row) in rows.iter().enumerate() {
         if row.accepted as usize != index + 1 {

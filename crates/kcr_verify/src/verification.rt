@@ -3,18 +3,17 @@ ghost use Rattle.std.specs.Prelude.{◌≡◌, IfOk, IfErr, length};
 ghost use Rattle.sqlite.specs.Steps.{over_memory};
 ghost use Rattle.kcr_history.specs.History.{History};
 ghost use Rattle.kcr_history.specs.Machine.{IsOfMachine, IsRegister};
-ghost use Rattle.kcr_history.specs.Tables.{Tables, tables};
-ghost use Rattle.kcr_history.specs.declared.views.FullView.{FullView as View};
+ghost use Rattle.kcr_history.specs.Tables.{tables};
 ghost use Rattle.kcr_store.specs.FullView.{IsListed};
 ghost use Rattle.kcr_tables.specs.Refusals.{IsFault};
-ghost use Rattle.kcr_verify.specs.Verification.{AreValues, EndsAt, HaveOwnKeys, IsFresh, IsToldOf, IsVerification};
+ghost use Rattle.kcr_verify.specs.Verification.{AreValues, EndsAt, IsFresh, IsToldOf, IsVerification};
 ghost use Rattle.kcr_verify.specs.Verification.{Rebuilds, StaysIntact};
 
 use crate::compare::{RowDifference, TableName, first_difference};
 use crate::replay::replay;
 use crate::sort::sort_by_number;
 use kcr_base::{Refusal, Text};
-use kcr_history::{FullView, numbers_count_commands};
+use kcr_history::FullView;
 use kcr_store::{OpenFault, Register};
 use sqlite::{Alter, MemStore};
 use std::alloc::Global;
@@ -96,7 +95,6 @@ pub fn rebuild<S: Alter>(
     // Only a fault breaks it: out of memory or one of its device.
     ensures frame { StaysIntact S.Store fresh.old fresh.new result }
 {
-    numbers_count_commands();
     let mut rows = rows;
     sort_by_number(&mut rows.keys);
     if let Some(difference) = replay(alloc, &rows.keys, fresh)? {
@@ -131,8 +129,3 @@ pub fn verify(alloc: Global, rows: FullView) -> Result<Verification, Refusal>
     let mut fresh = empty(alloc)?;
     rebuild(alloc, rows, &mut fresh)
 }
-
-/// Each accepted command has a key of its own among all rows of a database.
-pub fn listed_commands_have_own_keys()
-    ensures { (m : Tables) (view : View) → IsListed m view → HaveOwnKeys view.keys.items }
-{}

@@ -1,6 +1,6 @@
 -- What is shown has no float, so its text is exact.
 use Rattle.std.proofs.Common.{◌≡◌, ℕ, false, List, [], ◌∷◌, map, refl, Option, Some, None}
-use Rattle.serde_json.specs.Data.{Data, string}
+use Rattle.serde_json.specs.Data.{Data}
 use Rattle.serde_json.specs.View.{items_of}
 use Rattle.serde_json.specs.Written.{has_float, items_have_float, members_have_float, compact_text}
 use Rattle.kcr_history.specs.declared.questions.RoleShown.{RoleShown}
@@ -9,6 +9,7 @@ use Rattle.kcr_history.specs.declared.questions.HolderShown.{HolderShown}
 use Rattle.kcr_history.specs.declared.questions.Shown.{Shown}
 use Rattle.kcr_history.specs.declared.questions.Shown.TheVariants as shown
 use Rattle.kcr_wire.specs.ShownJson.{withdrawn_member, role_json, person_json, holder_json, shown_json, shown_text}
+use Rattle.kcr_wire.proofs.BodyPieces.{texts-whole}
 
 withdrawn-no_float : (o : Option ℕ) → members_have_float (withdrawn_member o) ≡ false
 withdrawn-no_float None = refl
@@ -32,15 +33,11 @@ holders-no_float : (held : List HolderShown) → items_have_float (items_of (map
 holders-no_float [] = refl
 holders-no_float (h ∷ held) = holders-no_float held
 
-texts-no_float : (texts : List (List ℕ)) → items_have_float (items_of (map string texts)) ≡ false
-texts-no_float [] = refl
-texts-no_float (t ∷ texts) = texts-no_float texts
-
 shown-no_float : (answer : Shown) → has_float (shown_json answer) ≡ false
 shown-no_float (shown.People people) = rw (persons-no_float people.items) refl
 shown-no_float (shown.Custodians custodians) = rw (holders-no_float custodians.holders.items) refl
-shown-no_float (shown.Bag bag) = rw (texts-no_float bag.items.items) refl
-shown-no_float (shown.Room room) = rw (texts-no_float room.people.items) refl
+shown-no_float (shown.Bag bag) = rw (texts-whole bag.items.items) refl
+shown-no_float (shown.Room room) = rw (texts-whole room.people.items) refl
 shown-no_float (shown.Steps steps) = refl
 shown-no_float (shown.Sheet stays) = refl
 shown-no_float (shown.Custody custody) = refl

@@ -2,7 +2,6 @@
 ghost use Rattle.std.specs.Prelude.{◌≡◌, ◌≢◌, None, Some, option_map, option_and_then, IfOk, IfErr};
 ghost use Rattle.serde_json.specs.Find.{as_str, as_array};
 ghost use Rattle.serde_json.specs.View.{view, items_view};
-ghost use Rattle.kcr_base.specs.Refusal.{member_text};
 ghost use Rattle.kcr_forms.specs.Forms.{listed_of};
 ghost use Rattle.kcr_forms.specs.OrMemory.{OrMemory};
 ghost use Rattle.kcr_forms.specs.Reading.{formed};

@@ -1,4 +1,3 @@
-use Rattle.std.proofs.Common.{refl}
 use Rattle.kcr_desk.specs.Streams.{writing}
 use Rattle.kcr_fault.specs.Lines.{verified_head}
 use Rattle.kcr_history.specs.History.{History}

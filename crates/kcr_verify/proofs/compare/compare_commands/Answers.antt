@@ -1,6 +1,7 @@
 use Rattle.std.proofs.Common.{map, sym, ◌∙◌, subst, IsPermutation, IsSorted}
 use Rattle.std.proofs.lemmas.List.Sorted.{IsPermutation-refl, IsPermutation-trans}
 use Rattle.std.proofs.lemmas.Result.{IfOk-weaker}
+use Rattle.kcr_history.proofs.Steps.{numbers}
 use Rattle.kcr_history.specs.Tables.{key_row}
 use Rattle.kcr_verify.proofs.FirstRowLemmas.{compared_commands}
 use Rattle.kcr_verify.proofs.NumberLemmas.{in_number_order}
@@ -18,7 +19,7 @@ returns-clause-rows g c clean A at =
     let rows = c.args.rows.now in
     let shown = c.in_ok-commands.ensures.shown clean A at in
     let same : IsPermutation (map key_row A) read = shown.1.same in
-    let count = c.numbers_count_commands.ensures in
+    let count = numbers in
     let put = c.sort_by_number.ensures in
     let value = c.deref.ensures.value in
     let one = λ (these : IsPermutation (map key_row A) rows). value ∙ in_number_order count A read own shown.0 same put.same put.order

@@ -1,5 +1,6 @@
 use Rattle.std.proofs.Common.{rules, ◌≡◌, ◌≢◌, ◌+◌, ◌<◌, length, get_or, [], refl, sym, subst, arith}
 use Rattle.std.proofs.lemmas.List.{append-nil}
+use Rattle.kcr_history.proofs.Steps.{numbers}
 use Rattle.kcr_laws.proofs.Seatings.{machine_first}
 use Rattle.kcr_store.proofs.WholeLemmas.{counted_at, stands_whole}
 use Rattle.kcr_store.specs.Register.{whole}
@@ -19,7 +20,7 @@ returns-then-row-index-clause-led g c clean =
         of_machine = at.2.of_machine;
         told = stops_number c.args.rows.now c.loop-index.index at.0 c.index-rows-index.result at.2.taken low here number;
         own = λ A h values is.
-            let next = next_row c.numbers_count_commands.ensures A h values c.args.rows.now c.loop-index.index at.0 c.index-rows-index.result
+            let next = next_row numbers A h values c.args.rows.now c.loop-index.index at.0 c.index-rows-index.result
             (at.2.own A h values is) low here in
             absurd (number next.number);
       },
@@ -39,7 +40,7 @@ returns-in-Ok-Some-clause-led g c clean =
         told = stops_for _ c.args.rows.now c.loop-index.index at.0 c.index-rows-index.result end.0.accepted at.2.taken low here number
             (rw c.in-Ok-Some.field-0-is at end.2.told);
         own = λ A h values is.
-            let next = next_row c.numbers_count_commands.ensures A h values c.args.rows.now c.loop-index.index at.0 c.index-rows-index.result
+            let next = next_row numbers A h values c.args.rows.now c.loop-index.index at.0 c.index-rows-index.result
             (at.2.own A h values is) low here in
             let differs = rw c.in-Ok-Some.field-0-is at end.2.own next.entry next.grown next.values next.row_is in (
               next.entry.reply.accepted,
@@ -49,7 +50,7 @@ returns-in-Ok-Some-clause-led g c clean =
                 entry = next.entry;
                 before = at.0;
                 whole = next.then.1;
-                counted = c.numbers_count_commands.ensures at.0 next.entry next.grown;
+                counted = numbers at.0 next.entry next.grown;
                 first = machine_first at.0 at.2.of_machine;
                 other = differs.1;
               },
@@ -93,10 +94,10 @@ loop-index-preserved g c = record {
         stands_whole unbroken (counted_at unbroken end.1),
         record {
           taken = λ own.
-              taken_on c.numbers_count_commands.ensures c.args.rows.now c.loop-index.index at.0 c.index-rows-index.result at.2.of_machine own
+              taken_on numbers c.args.rows.now c.loop-index.index at.0 c.index-rows-index.result at.2.of_machine own
               (at.2.taken own) low here number end.0.accepted (rw c.in-Ok-None.field-0-is at end.2.told);
           own = λ A h values is.
-              let next = next_row c.numbers_count_commands.ensures A h values c.args.rows.now c.loop-index.index at.0 c.index-rows-index.result
+              let next = next_row numbers A h values c.args.rows.now c.loop-index.index at.0 c.index-rows-index.result
               (at.2.own A h values is) low here in
               let has = rw c.in-Ok-None.field-0-is at end.2.own next.entry next.grown next.values next.row_is in
               subst (IsGiven A c.args.rows.now (c.loop-index.index + 1)) (sym has) next.then;

@@ -6,7 +6,7 @@ use Rattle.kcr_history.specs.Machine.{IsOfMachine, IsRegister}
 use Rattle.kcr_history.specs.Tables.{tables, key_row}
 use Rattle.kcr_history.specs.declared.row_types.KeyRow.{KeyRow}
 use Rattle.kcr_history.specs.declared.views.FullView.{FullView}
-use Rattle.kcr_history.proofs.Steps.{of_machine}
+use Rattle.kcr_history.proofs.Steps.{of_machine, numbers}
 use Rattle.kcr_store.specs.Calls.{left_at}
 use Rattle.kcr_store.specs.FullView.{IsListed}
 use Rattle.kcr_store.specs.Register.{whole}
@@ -30,7 +30,7 @@ returns-in-Some-clause-led g c clean =
     let stops = rw is at end.2.told in
     let all : (A : History) → IsRegister A → AreValues A → IsListed (tables A) c.args.rows → HasAll A B (Some c.in-Some.difference) =
     λ A h values listed.
-    let rows = in_number_order c.numbers_count_commands.ensures A c.args.rows.keys.items c.sort_by_number.new.rows.items h listed.same.keys
+    let rows = in_number_order numbers A c.args.rows.keys.items c.sort_by_number.new.rows.items h listed.same.keys
     c.sort_by_number.ensures.same c.sort_by_number.ensures.order in
     subst (HasAll A B) is (end.2.own A h values (c.deref.ensures.value ∙ rows)) in (
       end.0,
@@ -63,12 +63,12 @@ returns-clause-led g c clean =
     let some = c.in_ok-table.ensures.some clean B at in
     let again : (A : History) → IsRegister A → AreValues A → IsListed (tables A) c.args.rows → B ≡ A =
     λ A h values listed.
-    let by_number = in_number_order c.numbers_count_commands.ensures A c.args.rows.keys.items rows.keys.items h listed.same.keys
+    let by_number = in_number_order numbers A c.args.rows.keys.items rows.keys.items h listed.same.keys
     c.sort_by_number.ensures.same c.sort_by_number.ensures.order in
     let has : HasAll A B None = subst (HasAll A B) nothing (given.2.own A h values (c.deref.ensures.value ∙ by_number)) in has in
     let register : (A : History) → IsRegister A → AreValues A → IsListed (tables A) c.args.rows → (c.match-branch-4.result ≡ Verified (length A)) =
     λ A h values listed.
-    let by_number = in_number_order c.numbers_count_commands.ensures A c.args.rows.keys.items rows.keys.items h listed.same.keys
+    let by_number = in_number_order numbers A c.args.rows.keys.items rows.keys.items h listed.same.keys
     c.sort_by_number.ensures.same c.sort_by_number.ensures.order in
     let none : c.in_ok-table.field-0 ≡ None = none_differs B c.args.rows rows o
     (subst (λ (C : History). IsListed (tables C) c.args.rows) (sym (again A h values listed)) listed) c.in_ok-table.field-0 some in

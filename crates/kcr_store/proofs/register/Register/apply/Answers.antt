@@ -1,6 +1,6 @@
-use Rattle.std.proofs.Common.{◌≡◌, ◌≢◌, refl, rules, sym}
+use Rattle.std.proofs.Common.{◌≡◌, ◌≢◌, refl, rules}
 use Rattle.kcr_base.specs.declared.refusal.Refusal.TheVariants.{Disk}
-use Rattle.kcr_store.proofs.ByRows.{broken_rows_lead, calm_breaks, rows_led}
+use Rattle.kcr_store.proofs.ByRows.{calm_breaks, rows_led}
 use Rattle.kcr_store.specs.declared.transaction.TransactionResult.TheVariants.{Accepted, Refused, InDoubt}
 use Rattle.kcr_store.proofs.WholeLemmas.{accepted_leads, doubtful_leads, failed_leads, seen_unbroken}
 use Rattle.kcr_store.proofs.register.Register.apply.Goals as goal
