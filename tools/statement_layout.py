@@ -1,7 +1,7 @@
 """Lays out the definitions of the statement: the same words as in their files, on as few lines as they need."""
 import textwrap
 
-from statement_antt import Definition, antt_members, pieces, rust_members
+from statement_antt import Definition, antt_members, flat, pieces, rust_members, top_level
 
 WIDTH = 120
 OPERATORS = set("∷ ++ && || → × ⊎ ↔ ≡ ≢ ≤ < + * : | if then else let where".split())
@@ -41,8 +41,19 @@ def item_lines(item, lines, model):
         if item.kind == "data":
             return packed(head, ["| " + text for text, _ in members])
         return members_lines(head + " where", members, ";", "")
+    if item.kind == "constant":
+        return constant_lines(flat("\n".join(lines)).removeprefix("pub ").rstrip(";"))
     head, members = rust_members(lines)
     return members_lines(head + " {", members, ",", " }") if members else filled(head)
+
+
+def constant_lines(text):
+    """A constant; of a list as many elements on a line as fit."""
+    head, listed, elements = text.partition(" = [")
+    if not listed:
+        return filled(text)
+    elements = [element.strip() for element in top_level(elements.rstrip("], "), ",")]
+    return packed(head + listed, [element + "," for element in elements[:-1]] + [elements[-1] + "]"])
 
 
 def definition_lines(definition):

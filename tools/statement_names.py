@@ -322,8 +322,16 @@ def in_laws(library, examples):
             named = wanted.setdefault(f"crates/{crate}/proofs/{module}.antt", set())
             if named is not None:
                 named.update(re.findall(r"[\w-]+", names))
-    return [found for path, names in wanted.items() for source, name, text in lemmas(library, path)
-            if names is None or name in names for found in Names(library, source).of_piece(text)]
+    found = []
+    for path, names in wanted.items():
+        there = {name: (source, text) for source, name, text in lemmas(library, path)}
+        lacking = sorted((names or set()) - there.keys())
+        if lacking:
+            raise Stop(f"docs/PROVED.md names {', '.join(lacking)}, which {path} has not")
+        for name in there if names is None else sorted(names):
+            source, text = there[name]
+            found += Names(library, source).of_piece(text)
+    return found
 
 
 def used_by_tactics(library):

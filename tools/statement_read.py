@@ -143,14 +143,16 @@ KINDS = {"enum": "type", "struct": "type", "type": "alias", "trait": "trait", "c
 
 
 def item_end(text, at):
-    """Where the item that begins at `at` ends: behind its closing brace, or at a semicolon before one."""
-    plain = blanked(text)
-    brace, stop, paren = plain.find("{", at), plain.find(";", at), plain.find("(", at)
-    if 0 <= paren < stop and (brace < 0 or paren < brace):
-        stop = plain.find(";", closing(text, paren))
-    if brace < 0 or 0 <= stop < brace:
-        return stop + 1
-    return closing(text, brace) + 1
+    """Where the item that begins at `at` ends: behind its closing brace, or behind a semicolon, whichever comes first
+    outside of all brackets."""
+    plain, depth = blanked(text), 0
+    for place in range(at, len(text)):
+        if plain[place] == ";" and depth == 0:
+            return place + 1
+        depth += (plain[place] in "{([") - (plain[place] in "})]")
+        if plain[place] == "}" and depth == 0:
+            return place + 1
+    raise ValueError("an item does not end")
 
 
 def read_rust(path, text):

@@ -39,7 +39,7 @@ later_year y later h = day_count-later_year (pos y) (pos later) (omega (arith, s
 
 -- ---- years and months, one after the other
 
--- periods of so many days, of which each starts where the one before ends, and the walk over them that looks for a day
+-- periods of N days, each of which starts where the one before ends, and the walk over them that looks for a day
 record IsWalk (days start : ℕ → ℕ) (first : ℕ) (walk : ℕ → ℕ → ℕ → ℕ × ℕ) : Type 0 where
   next : (y : ℕ) → first ≤ y → start (y + 1) ≡ start y + days y
   later : (y z : ℕ) → first ≤ y → y < z → start y + days y ≤ start z

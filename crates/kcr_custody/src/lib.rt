@@ -4,7 +4,8 @@
 //! one Crypto Officer's place of its facility. An item is loose at a facility or within a bag; a bag is on the
 //! facility's table, in safe 1, in a box, or spent. The `check_` of an act answers the first refusal that it has whoever is
 //! in the room, in the order of the refusals' numbers; `check_ca`, `check_keepers` and `check_operator` answer who is
-//! missing there. Nothing is changed in place. That every act keeps balance is proved in `proofs/Balance.antt`.
+//! missing there. Nothing is changed in place. Every act keeps balance: the laws are lemmas in
+//! `proofs/Laws.antt`.
 #![tactic(auto)]
 
 use kcr_base::{BoxNumber, Facility, Initials, ItemCode, Moment, Place, Serial};

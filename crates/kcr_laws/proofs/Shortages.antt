@@ -58,7 +58,7 @@ least_of_short (suc fuel) A c t seats positions l h = trial A c t seats position
 
 -- POSITIONS
 
--- so many numbers from the first one on
+-- N numbers from the first one on
 abbrev from : ℕ → ℕ → List ℕ
 from low zero = []
 from low (suc n) = low ∷ from (suc low) n

@@ -35,10 +35,10 @@ there A rows p = IsPermutation-trans _ _ _ (IsPermutation-reverse (sheet A)) p
 pub shared_none : (A : History) → IsRegister A → (rows : List SheetRow) → IsPermutation (reverse (sheet A)) rows → ShareNoMoment rows
 shared_none A h rows p = share-order (sheet A) rows (there A rows p) (sheet-shares (sheet A) (sheet-made A h))
 
--- the stays of a register's sheet are the same, up to their order, for its rows in any order
-pub stays_meet : (A : History) → IsRegister A → (rows : List SheetRow) → IsPermutation (reverse (sheet A)) rows
-    → IsPermutation (reverse (stays_by (sheet A))) (stays_by rows)
-stays_meet A h rows p =
+-- a law: the stays that are told by a register's sheet, whatever the order of its rows, are the register's stays
+pub stays_follow_from_sheet : (A : History) → IsRegister A → (rows : List SheetRow) → IsPermutation (tables A).sheet rows
+    → IsPermutation (tables A).stays (stays_by rows)
+stays_follow_from_sheet A h rows p =
     IsPermutation-trans _ _ _ (IsPermutation-sym _ _ (IsPermutation-reverse (stays_by (sheet A))))
     (stays-order (sheet A) rows (there A rows p) (sheet-shares (sheet A) (sheet-made A h)))
 
@@ -122,4 +122,4 @@ filled A h rows p =
     = ap (λ changes. all_changed changes bare) (sym (append-nil (map PutStay (stays_by rows)))) ∙ all_changed-stays (stays_by rows) [] bare in
     subst (λ (t : Tables). SameTables t (tables A)) (sym put_is)
     (other-stays (tables A) (put_all same_stay (stays_by rows) [])
-    (IsPermutation-trans _ _ _ (stays-put rows (shared_none A h rows p)) (IsPermutation-sym _ _ (stays_meet A h rows p))))
+    (IsPermutation-trans _ _ _ (stays-put rows (shared_none A h rows p)) (IsPermutation-sym _ _ (stays_follow_from_sheet A h rows p))))

@@ -5,3 +5,4 @@ pub mod Bringing
 pub mod NumberText
 pub mod NumberLemmas
 pub mod NumberHeld
+pub mod Laws

@@ -1,15 +1,14 @@
-//! Registers of older versions, migrated to this version, and what a database is.
+//! Registers of older versions, migrated to this version, and what a database is. That the stays follow from the sheet is
+//! proved in `proofs/Filling.antt`.
 #![tactic(auto)]
 
 mod backfill;
 mod kind;
-mod laws;
 mod migration;
 mod missing_tables;
 mod number;
 mod schemas;
 
 pub use kind::{DatabaseKind, database_kind};
-pub use laws::stays_follow_from_sheet;
 pub use migration::{OldVersion, migrate};
 pub use number::version_in;

@@ -1,6 +1,6 @@
 //! People, their training and its withdrawals, and the custodians of places, by rows: what the rows
-//! say of a day, and what each act makes of them, or the first reason why it is refused. Their laws
-//! are lemmas, which `proofs/Laws.antt` lists.
+//! say of a day, and what each act makes of them, or the first reason why it is refused. The laws
+//! are lemmas in `proofs/Laws.antt`.
 #![tactic(auto)]
 
 mod checks;

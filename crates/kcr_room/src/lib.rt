@@ -1,8 +1,7 @@
 //! The rooms of ceremonies: their entry and exit sheet, the stays that its rows tell of, who is in a
 //! room at a moment, and what a request of the sheet adds, or the first reason why it is refused.
 //!
-//! The laws of sheets are lemmas in `proofs/`: `Agreement` and `Refusals` (a sheet answers as its stays do), `Keeping` and
-//! `Rising` (rows keep their turns, and who is present), `AnyOrder` (rows come in any order) and `Listed` (attendance).
+//! A sheet answers as its stays do: the laws are lemmas in `proofs/Laws.antt`.
 #![tactic(auto)]
 
 mod occupancy;

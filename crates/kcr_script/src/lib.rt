@@ -1,5 +1,5 @@
 //! The seats of a step with their texts, and the scripts of ceremonies, as files of comma-separated values.
-//! What is read of a text is what it stands for: the laws are in `proofs/Laws.antt`.
+//! What is read of a text is what it stands for: the laws are lemmas in `proofs/Laws.antt`.
 #![tactic(auto)]
 
 pub mod csv_rows;

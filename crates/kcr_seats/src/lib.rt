@@ -1,8 +1,8 @@
 //! Seats people: each seat one person who fits it, and nobody two seats.
 //!
 //! `seat` always decides. It finds the first seating in the order of numbers, or names a least list of seats that fewer
-//! people fit than it has seats. By the theorem of Hall, which `proofs/HallLemmas.antt` proves, exactly one of a seating
-//! and such a list exists.
+//! people fit than it has seats. By the theorem of Hall (`proofs/Laws.antt`), exactly one of a seating and such a list
+//! exists.
 #![tactic(auto)]
 
 ghost use Rattle.std.specs.Prelude.{◌≡◌, ℕ, ◌+◌, ◌*◌, ◌<◌, ◌≤◌, Bool, IfOk};

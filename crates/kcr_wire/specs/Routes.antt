@@ -1,54 +1,17 @@
 -- The routes, and what a router that took them in their order holds.
-use Rattle.std.specs.Prelude.{ℕ, List, [], ◌∷◌, map, codes, Result, Ok, Err, Bool, true, false, ◌&&◌, Option, Some, None}
+use Rattle.std.specs.Prelude.{ℕ, List, [], ◌∷◌, map, Result, Ok, Err, Bool, true, false, ◌&&◌, Option, Some, None}
 use Rattle.std.specs.Borrow.{Bor}
 use Rattle.matchit.specs.Rows.{RowsOf}
 use Rattle.matchit.specs.Route.{parse_route, Scan}
 use Rattle.matchit.specs.Router.{RouteOf, route_from, nearest}
 use Rattle.matchit.specs.Order.{placed}
 use Rattle.matchit.specs.declared.error.InsertError.{InsertError}
-use Rattle.kcr_forms.specs.declared.post.CollectionPath.TheVariants.{People, Custodians, Boxes, Items, Ceremonies}
-use Rattle.kcr_forms.specs.declared.post.PersonPath.TheVariants.{Roles, Withdrawals}
-use Rattle.kcr_forms.specs.declared.post.PlacePath.TheVariants.{Replacement, Release}
-use Rattle.kcr_forms.specs.declared.post.CeremonyPath.TheVariants.{Opening, Closing, Sheet, Exceptions}
-use Rattle.kcr_forms.specs.declared.post.BagPath.TheVariants.{Seal, Take, Put, Cut}
 use Rattle.kcr_wire.specs.declared.route.Route.{Route}
-use Rattle.kcr_wire.specs.declared.route.Route.TheVariants.{Collection, Person, Place, Ceremony, Signature, Safe, Bag}
-use Rattle.kcr_wire.specs.declared.route.Route.TheVariants.{CustodiansOn, BagShown, Room, Script, Attendance, Custody, Commands}
+use Rattle.kcr_wire.specs.declared.route.TheConstants.{ROUTES}
 
 -- a route as `matchit` reads it, and what it stands for
 abbrev pub Row : Type 0
 Row = List ℕ × Route
-
--- the routes in the order in which the router takes them
-abbrev pub all_routes : List Row
-all_routes =
-    (codes "/people", Collection People)
-    ∷ (codes "/people/{who}/roles", Person Roles)
-    ∷ (codes "/people/{who}/withdrawals", Person Withdrawals)
-    ∷ (codes "/custodians", Collection Custodians)
-    ∷ (codes "/custodians/{place}/replacement", Place Replacement)
-    ∷ (codes "/custodians/{place}/release", Place Release)
-    ∷ (codes "/boxes", Collection Boxes)
-    ∷ (codes "/items", Collection Items)
-    ∷ (codes "/ceremonies", Collection Ceremonies)
-    ∷ (codes "/ceremonies/{ceremony}/opening", Ceremony Opening)
-    ∷ (codes "/ceremonies/{ceremony}/closing", Ceremony Closing)
-    ∷ (codes "/ceremonies/{ceremony}/sheet", Ceremony Sheet)
-    ∷ (codes "/ceremonies/{ceremony}/steps/{step}/signature", Signature)
-    ∷ (codes "/ceremonies/{ceremony}/exceptions", Ceremony Exceptions)
-    ∷ (codes "/ceremonies/{ceremony}/safes/{safe}", Safe)
-    ∷ (codes "/ceremonies/{ceremony}/bags/{serial}/seal", Bag Seal)
-    ∷ (codes "/ceremonies/{ceremony}/bags/{serial}/take", Bag Take)
-    ∷ (codes "/ceremonies/{ceremony}/bags/{serial}/put", Bag Put)
-    ∷ (codes "/ceremonies/{ceremony}/bags/{serial}/cut", Bag Cut)
-    ∷ (codes "/custodians/{day}", CustodiansOn)
-    ∷ (codes "/bags/{serial}", BagShown)
-    ∷ (codes "/ceremonies/{ceremony}/room/{at}", Room)
-    ∷ (codes "/ceremonies/{ceremony}/script", Script)
-    ∷ (codes "/ceremonies/{ceremony}/attendance.csv", Attendance)
-    ∷ (codes "/custody", Custody)
-    ∷ (codes "/commands/{after}", Commands)
-    ∷ []
 
 -- a row of a table in the code, and what it tells
 abbrev pub CodeRow : Type 0
@@ -59,6 +22,10 @@ row_of row = (row.0.now, row.1)
 
 abbrev pub rows_of : List CodeRow → List Row
 rows_of rows = map row_of rows
+
+-- the routes in the order in which the router takes them: those of the code
+abbrev pub all_routes : List Row
+all_routes = map (λ row. (row.0.now, row.1)) ROUTES
 
 -- what a router holds
 abbrev pub RouterState : Type 0
