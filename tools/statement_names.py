@@ -39,10 +39,10 @@ class Library:
             self.read(path, read_antt)
         return self.sources.get(path)
 
-    def is_whole(self, module):
-        """Whether nothing of a module was passed over, so that each of its names is known."""
+    def lacks(self, module, name):
+        """Whether a module of which nothing was passed over has no such name, and hands none on from proofs."""
         source = self.file_of(module) if ".declared." not in module else None
-        return source is None or source.is_whole
+        return source is None or source.is_whole and all(other != name for other, _, _ in source.exports)
 
     def find(self, module, name):
         """What a module of our crates calls by a name, or None if it has no such name."""
@@ -55,7 +55,7 @@ class Library:
             return source.items.get(name) or source.constructors[name]
         for other, place, there in source.exports:
             if other == name:
-                return self.find(place, there)
+                return self.find(place, there) if place.startswith("Rattle.kcr_") else (place.split(".")[1], there)
         return None
 
     def declared(self, module, name):
@@ -174,7 +174,7 @@ class Names:
         if ".specs.contracts." in module:
             return None
         found = self.library.find(module, name)
-        if found is None and self.library.is_whole(module):
+        if found is None and self.library.lacks(module, name):
             raise Stop(f"{self.source.path} names `{name}` of {module}, which is not found there")
         return found
 

@@ -7,8 +7,8 @@ from table_writer import codes
 class Kind:
     """How a field of a value stands in one column."""
 
-    def __init__(self, cell, sql, column, value, read, write, one=None, cast=None, ties=None, words=(), prelude=None, casts=(), dates=None):
-        self.variant = cell  # what the cells are, as kcr_validity names it
+    def __init__(self, cell, sql, column, value, read, write, one=None, cast=None, ties=None, words=(), casts=()):
+        self.variant = cell  # what the cells are, as `Kind` of kcr_rows names it
         self.sql = sql  # the type in CREATE TABLE
         self.column = column  # the column of the schema
         self.value = value  # the value of a row; {x} is the field
@@ -18,12 +18,10 @@ class Kind:
         self.cast = cast or value  # the value as it is stored, along the line i
         self.ties = ties  # the lemma that the test of a key is a tie of values
         self.words = words  # definitions that the value names
-        self.prelude = prelude  # what stands before the cell
         self.casts = casts  # lemmas that the cast names
-        self.dates = dates  # "Day" or "Moment" if these are its numbers
 
     def cell(self):
-        return self.write.split("(")[0]
+        return re.split(r"\(|::", self.write)[0]
 
     def reader(self):
         return re.split(r"\(|::", self.read)[0]
@@ -37,33 +35,33 @@ TEXT_AT = "text_at(alloc, row, {at})?"
 
 
 def text(cell):
-    return Kind(cell, "TEXT NOT NULL", "words", "Text {x}", TEXT_AT, "text_cell({x}.as_str())", ties="text_ties")
+    return Kind(cell, "TEXT NOT NULL", "words", "Text {x}", TEXT_AT, "Cell::Text({x}.as_str())", ties="text_ties")
 
 
-def integer(cell, dates=None):
-    return Kind(cell, "INT NOT NULL", "number", "Int (pos {x})", "number_at(row, {at})?", "number_cell({x})", cast="cast_int (pos {x}) i", ties="number_ties", casts=("cast_int",), dates=dates)
+def integer(cell, read="number_at(row, {at})?"):
+    return Kind(cell, "INT NOT NULL", "number", "Int (pos {x})", read, "number({x})", cast="cast_int (pos {x}) i", ties="number_ties", casts=("cast_int",))
 
 
-def integer_or_null(dates):
-    return Kind(f"{dates}OrNull", "INT", "number_or_null", "int_or_null {x}", "number_or_null_at(row, {at})?", "number_or_null_cell({x})", one="one_number", cast="cast_or_null {x} i", words=("int_or_null",), casts=("cast_or_null",), dates=dates)
+def integer_or_null(cell, read="number_or_null_at(row, {at})?"):
+    return Kind(f"{cell}OrNull", "INT", "number_or_null", "int_or_null {x}", read, "number_or_null({x})", one="one_number", cast="cast_or_null {x} i", words=("int_or_null",), casts=("cast_or_null",))
 
 
 def counted(kind):
     """A number from 1 to the greatest of its kind."""
-    return Kind(kind[2:], "INT NOT NULL", "number", "Int (pos {x})", f"counted_at::<{kind}>(row, {{at}})?", "number_cell({x})", cast="cast_int (pos {x}) i", ties="number_ties", casts=("cast_int",))
+    return integer(kind[2:], f"counted_at::<{kind}>(row, {{at}})?")
 
 
 def counted_or_null(kind):
-    return Kind(f"{kind[2:]}OrNull", "INT", "number_or_null", "int_or_null {x}", f"counted_or_null_at::<{kind}>(row, {{at}})?", "number_or_null_cell({x})", one="one_number", cast="cast_or_null {x} i", words=("int_or_null",), casts=("cast_or_null",))
+    return integer_or_null(kind[2:], f"counted_or_null_at::<{kind}>(row, {{at}})?")
 
 
 def numbered(name, word, ties=None):
-    return Kind("".join(part.capitalize() for part in name.split("_")), "INT NOT NULL", "number", f"Int (pos ({word} {{x}}))", "number_at(row, {at})?", "number_cell({x})", one=f"one_{name}", cast=f"cast_int (pos ({word} {{x}})) i", ties=ties, words=(word,), casts=("cast_int",))
+    return Kind("".join(part.capitalize() for part in name.split("_")), "INT NOT NULL", "number", f"Int (pos ({word} {{x}}))", "number_at(row, {at})?", "number({x})", one=f"one_{name}", cast=f"cast_int (pos ({word} {{x}})) i", ties=ties, words=(word,), casts=("cast_int",))
 
 
-def named(name, write="text_cell({x}.text())", prelude=None, read=TEXT_AT, cell=None):
+def named(name, write="Cell::Text({x}.text())", read=TEXT_AT, cell=None):
     word = f"{name}_text"
-    return Kind(cell or name.capitalize(), "TEXT NOT NULL", "words", f"Text ({word} {{x}})", read, write, one=f"one_{name}", ties=f"{name}_ties", words=(word,), prelude=prelude)
+    return Kind(cell or name.capitalize(), "TEXT NOT NULL", "words", f"Text ({word} {{x}})", read, write, one=f"one_{name}", ties=f"{name}_ties", words=(word,))
 
 
 INITIALS = text("Initials")
@@ -74,33 +72,33 @@ NAME = text("Name")
 ACTIVITY = text("Activity")
 REMARK = text("Remark")
 TEXT = text("Text")
-NUMBER = integer(None)
+VERSION = integer("Version")
 CEREMONY = counted("OfCeremony")
 BOX = counted("OfBox")
 STEP = counted("OfStep")
 SEAT = counted("OfSeat")
 EXCEPTION = counted("OfException")
 COMMAND = counted("OfCommand")
-DAY = integer("Day", "Day")
-MOMENT = integer("Moment", "Moment")
+DAY = integer("Day")
+MOMENT = integer("Moment")
 DAY_OR_NULL = integer_or_null("Day")
 MOMENT_OR_NULL = integer_or_null("Moment")
 STEP_OR_NULL = counted_or_null("OfStep")
 FACILITY = named("facility")
 ROLE = named("role")
-PLACE = named("place", "text_cell({f}.as_str())", "let {f} = {x}.text();")
+PLACE = named("place", "Cell::Place({x}.text())")
 # the place of a box: a Crypto Officer's of its facility
-OFFICER = named("place", "text_cell({f}.as_str())", "let {f} = {x}.text();", read="officer_at(alloc, row, {at}, facility)?", cell="Officer")
+OFFICER = named("place", "Cell::Place({x}.text())", "officer_at(alloc, row, {at}, facility)?", "Officer")
 SAFE = numbered("safe", "safe_digit", "safe_ties")
 TRUTH = numbered("truth", "truth_number")
 WAY = numbered("way", "way_number")
 CEREMONY_STATE = numbered("ceremony_state", "ceremony_number")
 STEP_STATE = numbered("step_state", "step_number")
-SPOT = Kind("Spot", "TEXT NOT NULL", "words", "Text (spot_text {x})", "spot_at(row, {at})?", "text_cell({f}.as_str())", one="one_spot", words=("spot_text",), prelude="let {f} = spot_words(alloc, {x})?;")
-SEATS = Kind("Seats", "TEXT NOT NULL", "words", "Text (written {x})", "seats_at(alloc, row, {at})?", "text_cell({f}.as_str())", one="one_seats", words=("written",), prelude="let {f} = seats_words(alloc, &{x})?;")
+SPOT = Kind("Spot", "TEXT NOT NULL", "words", "Text (spot_text {x})", "spot_at(row, {at})?", "spot(alloc, {x})?", one="one_spot", words=("spot_text",))
+SEATS = Kind("Seats", "TEXT NOT NULL", "words", "Text (written {x})", "seats_at(alloc, row, {at})?", "seats(alloc, &{x})?", one="one_seats", words=("written",))
 # the two columns of an item's rest
-LOOSE = Kind("Loose", "TEXT", "words_or_null", "loose_value {x}", "rest_at(row, {at})?", "loose_cell({x})", cast="cast_loose {x} i", words=("loose_value",), casts=("cast_loose",))
-WITHIN = Kind("Within", "TEXT", "words_or_null", "within_value {x}", None, "within_cell(&{x})", cast="cast_within {x} i", words=("within_value",), casts=("cast_within",))
+LOOSE = Kind("Loose", "TEXT", "words_or_null", "loose_value {x}", "rest_at(row, {at})?", "loose({x})", cast="cast_loose {x} i", words=("loose_value",), casts=("cast_loose",))
+WITHIN = Kind("Within", "TEXT", "words_or_null", "within_value {x}", None, "within(&{x})", cast="cast_within {x} i", words=("within_value",), casts=("cast_within",))
 
 
 class Column:
@@ -139,7 +137,7 @@ class Table:
         self.row_of = f"{row}_row"
         self.place = f"{name}_place"
         self.laws = "".join(p.capitalize() for p in name.split("_")) + "Laws"
-        self.needs_alloc = any("alloc" in (c.kind.prelude or "") for c in columns)
+        self.needs_alloc = any("alloc" in c.kind.write for c in columns)
         self.put = "put_allocating" if self.needs_alloc else "put"
 
     def names(self):
@@ -251,7 +249,7 @@ TABLES = [
     Table("exceptions", "exception", "ExceptionRow", "kcr_history", "row_types.", [Column("ceremony", CEREMONY), Column("exception", EXCEPTION), Column("text", REMARK), Column("at", MOMENT), Column("passed", STEP_OR_NULL)], 2,
           "a script exception of a ceremony under both numbers", "PutException", "same_exception", always_new=True,
           readings=[of_ceremony("exceptions", "is_exception_of")]),
-    Table("versions", "version", "Version", "kcr_rows", "row_impls.", [Column("number", NUMBER)], 1,
+    Table("versions", "version", "Version", "kcr_rows", "row_impls.", [Column("number", VERSION)], 1,
           "one row with the number of the schema", always_new=True),
     Table("keys", "key", "KeyRow", "kcr_history", "row_types.", [Column("key", KEY), Column("accepted", COMMAND), Column("command", TEXT), Column("reply", TEXT)], 1,
           "a row for each accepted command, under its key; its number is the row id, and that of no other row",

@@ -1,11 +1,10 @@
 """Writes what lists all tables inside files that are edited by hand: between a line that begins such a list and one that
-ends it. Also the rows as texts, in a file of their own."""
+ends it."""
 import os
 
 from table_layout import DEFINITIONS, laid_out
 from table_list import MACHINE, TABLES
-from table_source import put_cells
-from table_writer import codes, listed, write
+from table_writer import codes, listed
 
 BEGIN = "begin: written by tools/tables.py"
 END = "end: written by tools/tables.py"
@@ -140,72 +139,31 @@ abbrev pub DiffersIn : TableName → Tables → FullView → RowDifference → T
             differs += f"DiffersIn Keys m view row = IsFirstCommand m.keys {shown} row\n"
         else:
             name += f"HasRows {variant(t)} m view = AreRows {own} m {shown}\n"
-            differs += equation(f"DiffersIn {variant(t)} m view row", f"IsFirstRow {own} columns.{t.row}_columns stored.{t.row_of} m {shown} row")
+            differs += equation(f"DiffersIn {variant(t)} m view row", f"IsFirstRow {own} kinds.{t.row}_kinds stored.{t.row_of} m {shown} row")
     order = "-- the order in which tables are compared\nabbrev pub compared : List TableName\ncompared =\n    " + listed([variant(t) for t in LISTED if t.name == "keys"] + [variant(t) for t in LISTED if t.name != "keys"])
     fill("kcr_verify/specs/Verification.antt", *[laid_out(it, DEFINITIONS) for it in (name, order, differs)])
 
 
-def column(c):
-    """What the numbers of a column are."""
-    return f"{c.kind.dates}s" if c.kind.dates else "Plain"
-
-
-def columns():
-    out = "-- What the numbers of each table's columns are.\nuse Rattle.std.specs.Prelude.{List, [], ◌∷◌}\nuse Rattle.kcr_verify.specs.declared.quoted.Column.{Column}\nuse Rattle.kcr_verify.specs.declared.quoted.Column.TheVariants.{Plain, Days, Moments}\n"
-    for t in LISTED:
-        out += f"\nabbrev pub {t.row}_columns : List Column\n{t.row}_columns = {listed([column(c) for c in t.columns])}\n"
-    write("specs/Columns.antt", out, "kcr_verify")
-
-
-def quoted_rows():
-    head = "//! The rows of the tables as sqlite3 prints them: the cells of each.\n\n"
-    for at in range(0, len(LISTED), 4):
-        head += f"ghost use Rattle.kcr_verify.specs.Columns.{{{', '.join(t.row + '_columns' for t in LISTED[at : at + 4])}}};\n"
-    body = ""
-    for t in LISTED:
-        body += f"\nimpl Quoted for {t.type} {{\n    ghost columns = {{ {t.row}_columns }};\n\n    fn quoted(&self, alloc: Global) -> Result<Text, Refusal> {{\n"
-        prelude, cells = put_cells(t)
-        kinds = ", ".join(f"Column::{column(c)}" for c in t.columns)
-        body += f"{prelude}        text_of(alloc, self, &[{kinds}], &[{cells}])\n    }}\n}}\n"
-    types = {}
-    for t in LISTED:
-        types.setdefault(t.crate, set()).add(t.type)
-    named = {c.kind.cell() for t in LISTED for c in t.columns} | {c.kind.prelude.split("= ")[1].split("(")[0] for t in LISTED for c in t.columns if "(alloc" in (c.kind.prelude or "")}
-    imports = ["use crate::quoted::{Column, Quoted, text_of};", "use kcr_base::{Refusal, Text};"]
-    imports += [f"use {crate}::{{{', '.join(sorted(types[crate]))}}};" for crate in sorted(types)]
-    imports += [f"use kcr_rows::cells::{{{', '.join(sorted(named))}}};", "use std::alloc::Global;"]
-    write("src/quoted_rows.rt", head + "\n" + "\n".join(sorted(imports)) + "\n" + body, "kcr_verify")
-
-
-def key_columns(t):
-    """What the numbers of the columns of its key are."""
-    return [column(c) for c in t.columns[: t.keys]]
-
-
 def searched():
     out = "-- of each table\nabbrev pub searched : TableName → Searched\n"
-    for t in LISTED:
-        out += f"searched {variant(t)} =\n    record {{ place = {t.place}; kinds = {t.row}_kinds; key = {listed(key_columns(t))} }}\n"
-    fill("kcr_verify/specs/Invalid.antt", laid_out(out, DEFINITIONS))
-
-
-def searched_rows():
-    names = [variant(t) for t in LISTED]
-    head = "//! The tables that are searched for an invalid row.\n\nghost use Rattle.std.specs.Prelude.{refl};\n"
-    for at in range(0, len(names), 8):
-        head += f"ghost use Rattle.kcr_verify.specs.declared.compare.TableName.TheVariants.{{{', '.join(names[at : at + 8])}}};\n"
-    types = {}
-    body = ""
-    for t in LISTED:
-        types.setdefault(t.crate, set()).add(t.type)
-        kinds = ", ".join(f"Column::{kind}" for kind in key_columns(t))
-        body += f"\nimpl Searched for {t.type} {{\n    ghost name = {{ {variant(t)} }};\n\n    fn name() -> TableName {{\n        TableName::{variant(t)}\n    }}\n\n"
-        body += f"    fn key(alloc: Global, row: &Row) -> Result<Text, AllocError> {{\n        key_of(alloc, &[{kinds}], row)\n    }}\n\n"
-        body += "    ghost place = { refl };\n\n    ghost cells = { refl };\n}\n"
-    imports = ["use crate::compare::TableName;", "use crate::invalid::{Searched, key_of};", "use crate::quoted::Column;", "use kcr_base::Text;"]
-    imports += [f"use {crate}::{{{', '.join(sorted(types[crate]))}}};" for crate in sorted(types)]
-    imports += ["use sqlite::Row;", "use std::alloc::{AllocError, Global};"]
-    write("src/searched_rows.rt", head + "\n" + "\n".join(imports) + "\n" + body, "kcr_verify")
+    out += "".join(f"searched {variant(t)} = record {{ place = {t.place}; kinds = {t.row}_kinds }}\n" for t in LISTED)
+    fill("kcr_verify/specs/Invalid.antt", out)
+    stored = [t for t in TABLES if t in LISTED]
+    names = f"/// Every table of the register. Those that a file of an older version lacks are the last.\nconst STORED: [TableName; {len(stored)}] = [\n"
+    names += "".join(f"    TableName::{variant(t)},\n" for t in stored) + "];\n"
+    one = """/// The first invalid row of this table.
+fn search_table<S: Alter>(
+    alloc: Global,
+    tx: &mut Transaction<'_, S>,
+    table: TableName,
+) -> Result<Option<InvalidRow>, Refusal>
+    ensures found { OfTrees S.Store tx.old tx.new result (λ db found. IfSome found (IsInvalidIn db)) }
+    ensures frame { Reads S.Store tx.old tx.new result }
+{
+    match table {
+"""
+    one += "".join(f"        TableName::{variant(t)} => search_rows::<S, {t.type}>(alloc, tx, table, {t.keys}),\n" for t in LISTED) + "    }\n}\n"
+    fill("kcr_verify/src/invalid.rt", names, one)
 
 
 def lists():
@@ -214,7 +172,4 @@ def lists():
     all_rows()
     names()
     differences()
-    columns()
-    quoted_rows()
     searched()
-    searched_rows()

@@ -9,6 +9,14 @@ from table_writer import ROWS_CRATE, write, rust_text
 KEY_TYPES = {"&Initials": "Initials", "&Serial": "Serial", "&ItemCode": "ItemCode", "&Key": "Key", "u32": "u32"}
 
 
+def types_by_crate(tables):
+    """The types of the rows of these tables, by their crates."""
+    types = {}
+    for t in tables:
+        types.setdefault(t.crate, set()).add(t.type)
+    return types
+
+
 def text_method(name, text):
     return f"    fn {name}() -> &'static str {{\n        {rust_text(text)}\n    }}\n\n"
 
@@ -21,27 +29,14 @@ def impl(trait, t, body):
     return f"impl {trait} for {t.type} {{\n{body.rstrip()}\n}}\n\n"
 
 
-def put_cells(t):
-    """What stands before the cells of a row's columns, and the cells."""
-    made = [(c.kind, {"f": c.field, "x": f"self.{c.field}"}) for c in t.columns]
-    prelude = "".join("        " + kind.prelude.format(**names) + "\n" for kind, names in made if kind.prelude)
-    return prelude, ", ".join(kind.write.format(**names) for kind, names in made)
-
-
 def put_source(t):
-    """How a row is put: the cells of its columns, as the parameters of the text."""
-    lead = "alloc: Global, " if t.needs_alloc else ""
-    out = f"    fn {t.put}<S: Alter>(&self, {lead}tx: &mut Transaction<'_, S>) -> Result<(), Refusal> {{\n"
-    prelude, cells = put_cells(t)
-    out += prelude
+    """How a row is put: by these texts, with the cells of its row as their parameters."""
+    lead, cells = ("alloc: Global, ", "self.cells_allocating(alloc)?") if t.needs_alloc else ("", "self.cells()")
     update, insert = rust_text(t.update_text()), rust_text(t.insert_text())
-    if not t.may_change:
-        return out + f"        insert_row(tx, self, {insert}, &[{cells}])\n    }}\n"
-    if not t.new_where:
-        return out + f"        update_or_insert_row(tx, self, {update}, {insert}, &[{cells}])\n    }}\n"
-    out += f"        let insert = {insert};\n        let cells = [{cells}];\n"
-    out += f"        if {t.new_where} {{\n            insert_row(tx, self, insert, &cells)\n        }} else {{\n"
-    return out + f"            update_or_insert_row(tx, self, {update}, insert, &cells)\n        }}\n    }}\n"
+    put = f"update_or_insert_row(tx, self, {update}, insert, &cells)" if t.may_change else "insert_row(tx, self, insert, &cells)"
+    if t.new_where:
+        put = f"if {t.new_where} {{ insert_row(tx, self, insert, &cells) }} else {{ {put} }}"
+    return f"    fn {t.put}<S: Alter>(&self, {lead}tx: &mut Transaction<'_, S>) -> Result<(), Refusal> {{\n        let cells = {cells};\n        let insert = {insert};\n        {put}\n    }}\n"
 
 
 def put_calls(t):
@@ -62,14 +57,13 @@ def source(t):
     out += impl("PutAllocating" if t.needs_alloc else "Put", t, lemmas + put_source(t))
     keys = {KEY_TYPES[r.ty] for r in found}
     base = sorted(keys & {"Initials", "Serial", "ItemCode", "Key"} | {"Refusal"})
-    cells = {c.kind.cell() for c in t.columns} | {c.kind.prelude.split("= ")[1].split("(")[0] for c in t.columns if "(alloc" in (c.kind.prelude or "")}
     named = re.findall(r"\b(\w+)::", t.new_where or "")
     table = ["TableRow", "PutAllocating" if t.needs_alloc else "Put"] + ["LookupBy"] * bool(found) + put_calls(t)
     imports = [
         f"use crate::table::{{{', '.join(sorted(table, key=lambda n: (n[0].islower(), n)))}}};",
         f"use kcr_base::{{{', '.join(base)}}};",
         f"use {t.crate}::{{{', '.join([t.type, *named])}}};" if named else f"use {t.crate}::{t.type};",
-        f"use kcr_rows::cells::{{{', '.join(sorted(cells))}}};",
+        f"use kcr_rows::to_row::{'ToRowAllocating' if t.needs_alloc else 'ToRow'};",
         "use sqlite::{Alter, Transaction};",
         "use std::alloc::Global;" if t.needs_alloc else "",
     ]
@@ -101,37 +95,66 @@ pub struct Version {
 """
 
 
-def decoded(t):
-    """How the row of a value is read back."""
-    uses_alloc = any("alloc" in (c.kind.read or "") for c in t.columns)
-    out = VERSION if t.name == "versions" else ""
-    out += f"impl FromRow for {t.type} {{\n    ghost row_of = {{ {t.row_of} }};\n\n    ghost is_read = {{ {t.is_read or 'λ _. ⊤'} }};\n\n"
-    out += f"    fn from_row({'alloc' if uses_alloc else '_alloc'}: Global, row: &Row) -> Result<{t.type}, Refusal> {{\n        if row.column_count() != {len(t.columns)} {{\n            return Err(Refusal::Disk);\n        }}\n"
-    fields = []
-    for i, c in enumerate(t.columns):
-        if c.kind.read:
-            out += f"        let {c.field} = {c.kind.read.format(at=i)};\n"
-            fields.append(c.field)
-    return out + f"        Ok({t.type} {{ {', '.join(fields)} }})\n    }}\n}}\n"
+def read_back(t):
+    """How the value of a row is read back."""
+    alloc = "alloc" if any("alloc" in (c.kind.read or "") for c in t.columns) else "_alloc"
+    read = [(i, c) for i, c in enumerate(t.columns) if c.kind.read]
+    lines = "".join(f"        let {c.field} = {c.kind.read.format(at=i)};\n" for i, c in read)
+    return f"""impl FromRow for {t.type} {{
+    ghost row_of = {{ {t.row_of} }};
+
+    ghost is_read = {{ {t.is_read or 'λ _. ⊤'} }};
+
+    fn from_row({alloc}: Global, row: &Row) -> Result<{t.type}, Refusal> {{
+        if row.column_count() != {len(t.columns)} {{
+            return Err(Refusal::Disk);
+        }}
+{lines}        Ok({t.type} {{ {', '.join(c.field for _, c in read)} }})
+    }}
+}}
+"""
+
+
+def cells(t):
+    """What the cells of its columns are, and the cells of a value's row, six with the NULLs behind them."""
+    of_columns = [c.kind.write.format(x=f"self.{c.field}") for c in t.columns]
+    listed = f"[{', '.join(of_columns + ['Cell::Null'] * (6 - len(of_columns)))}]"
+    told = f"    ghost is_told = {{ {t.is_stored} }};\n\n" if t.needs_alloc else ""
+    call = f"cells_allocating(&self, alloc: Global) -> Result<Cells<'_>, Refusal> {{ Ok({listed}) }}" if t.needs_alloc else f"cells(&self) -> Cells<'_> {{ {listed} }}"
+    return f"""
+impl Columns for {t.type} {{
+    ghost kinds = {{ {t.row}_kinds }};
+
+    fn kinds() -> &'static [Kind] {{
+        &[{', '.join(f'Kind::{c.kind.variant}' for c in t.columns)}]
+    }}
+}}
+
+impl {'ToRowAllocating' if t.needs_alloc else 'ToRow'} for {t.type} {{
+{told}    fn {call}
+}}
+"""
 
 
 def source_rows():
-    out = """//! The rows of the tables as values: how each is read back.
+    out = """//! The rows of the tables as values: how each is read back, what its cells are, and what the cells of its columns are.
 
 ghost use Rattle.std.specs.Prelude.{⊤};
 """
     for at in range(0, len(TABLES), 6):
+        out += f"ghost use Rattle.kcr_rows.specs.Kinds.{{{', '.join(t.row + '_kinds' for t in TABLES[at : at + 6])}}};\n"
         out += f"ghost use Rattle.kcr_rows.specs.Rows.{{{', '.join(t.row_of for t in TABLES[at : at + 6])}}};\n"
-    out += f"ghost use Rattle.kcr_rows.specs.States.{{{', '.join(t.is_read for t in TABLES if t.is_read)}}};\n\n"
-    readers = {c.kind.reader() for t in TABLES for c in t.columns if c.kind.read}
-    kinds = {kind for t in TABLES for c in t.columns for kind in c.kind.counted()}
+    facts = dict.fromkeys(fact for t in TABLES for fact in (t.is_read, t.is_stored) if fact)
+    out += f"ghost use Rattle.kcr_rows.specs.States.{{{', '.join(facts)}}};\n\n"
+    columns = [c.kind for t in TABLES for c in t.columns]
+    readers = {kind.reader() for kind in columns if kind.read}
+    kinds = {name for kind in columns for name in kind.counted()}
     own = sorted(kinds & {"OfSeat", "OfException", "OfCommand"})
-    types = {"kcr_base": {"Refusal"}, "kcr_base::number": kinds - set(own)}
-    for t in TABLES:
-        if t.crate != ROWS_CRATE:
-            types.setdefault(t.crate, set()).add(t.type)
-    imports = [f"use crate::cells::{{{', '.join(sorted(readers))}}};", "use crate::from_row::FromRow;", f"use crate::numbers::{{{', '.join(own)}}};"]
+    types = types_by_crate(t for t in TABLES if t.crate != ROWS_CRATE)
+    types |= {"kcr_base": {"Refusal"}, "kcr_base::number": kinds - set(own)}
+    writers = {kind.cell() for kind in columns} | {"Cells", "Columns", "ToRow", "ToRowAllocating"}
+    imports = [f"use crate::cells::{{{', '.join(sorted(readers))}}};", "use crate::from_row::FromRow;", "use crate::kinds::Kind;", f"use crate::numbers::{{{', '.join(own)}}};", f"use crate::to_row::{{{', '.join(sorted(writers))}}};"]
     imports += [f"use {crate}::{{{', '.join(sorted(types[crate]))}}};" for crate in sorted(types)]
     imports += ["use sqlite::Row;", "use std::alloc::Global;"]
-    out += "\n".join(imports) + "\n\n" + "\n".join(decoded(t) for t in TABLES)
+    out += "\n".join(imports) + "\n\n" + "\n".join((VERSION if t.name == "versions" else "") + read_back(t) + cells(t) for t in TABLES)
     write("src/row_impls.rt", out, ROWS_CRATE)

@@ -40,6 +40,18 @@ def spec_rows():
     write("specs/Rows.antt", out, ROWS_CRATE)
 
 
+def spec_kinds():
+    variants = ", ".join(sorted({c.kind.variant for t in TABLES for c in t.columns}))
+    out = f"""-- What the cells of each table's columns are.
+use Rattle.std.specs.Prelude.{{List, [], ◌∷◌}}
+use Rattle.kcr_rows.specs.declared.kinds.Kind.{{Kind}}
+use Rattle.kcr_rows.specs.declared.kinds.Kind.TheVariants.{{{variants}}}
+"""
+    for t in TABLES:
+        out += f"\nabbrev pub {t.row}_kinds : List Kind\n{t.row}_kinds = {listed([c.kind.variant for c in t.columns])}\n"
+    write("specs/Kinds.antt", out, ROWS_CRATE)
+
+
 def spec_schema():
     out = "-- The schema: a table for each kind of row, with the index that its key gets.\n"
     out += "use Rattle.std.specs.Prelude.{List, [], ◌∷◌, codes}\nuse Rattle.sqlite.specs.Table.{Table}\nuse Rattle.sqlite.specs.Schema.{Schema}\nuse Rattle.kcr_rows.specs.Columns.{words, number, words_or_null, number_or_null, keyed, aliased, schema_of}\n"

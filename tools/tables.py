@@ -1,12 +1,12 @@
 #!/usr/bin/env python3
 """Writes the modules of the tables in crates/kcr_tables, one for each table and all alike, with what each proves of its
-texts, the rows as values in crates/kcr_rows, what their cells are in crates/kcr_validity, the rows as texts in
-crates/kcr_verify, and the lists of all tables in these, in crates/kcr_history and in crates/kcr_audit.
+texts, the rows as values and what their cells are in crates/kcr_rows, and the lists of all tables in these, in
+crates/kcr_history, in crates/kcr_audit and in crates/kcr_verify.
 
 Run it at the top of the repository, then lay the files out and check:
 
     python3 tools/tables.py
-    for crate in kcr_history kcr_audit kcr_rows kcr_tables kcr_validity kcr_verify; do (cd crates/$crate && rt fmt && rt check); done
+    for crate in kcr_history kcr_audit kcr_rows kcr_tables kcr_verify; do (cd crates/$crate && rt fmt && rt check); done
 
 With the word `schema` it writes nothing, and prints the texts that make the tables instead, one on a line and in their
 order, as `tests/program.py` compares them with what sqlite3 reads in a register's file.
@@ -19,13 +19,12 @@ import sys
 
 sys.dont_write_bytecode = True  # no files beside these
 
-from table_checks import checks
 from table_joint import lemmas_joint, lemmas_make
 from table_laws import laws
 from table_list import TABLES
 from table_lists import lists
 from table_source import source, source_rows, source_texts
-from table_specs import spec_changed, spec_first, spec_held, spec_joint, spec_made, spec_rows, spec_schema, spec_still
+from table_specs import spec_changed, spec_first, spec_held, spec_joint, spec_kinds, spec_made, spec_rows, spec_schema, spec_still
 
 
 def main():
@@ -35,6 +34,7 @@ def main():
         return
     spec_schema()
     spec_rows()
+    spec_kinds()
     spec_held()
     spec_made()
     spec_changed()
@@ -46,7 +46,6 @@ def main():
     lemmas_make()
     lemmas_joint()
     lists()
-    checks()
     for t in TABLES:
         source(t)
         laws(t)

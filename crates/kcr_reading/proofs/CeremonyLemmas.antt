@@ -28,12 +28,12 @@ use Rattle.kcr_history.specs.Tables as machine
 use Rattle.kcr_history.specs.declared.row_types.ExceptionRow.{ExceptionRow}
 use Rattle.kcr_history.specs.declared.row_types.SeatingRow.{SeatingRow}
 use Rattle.kcr_history.specs.declared.row_types.StepRow.{StepRow}
-use Rattle.kcr_tables.specs.ExceptionsLaws as exceptions
+use Rattle.kcr_tables.specs.Schema as schema
 use Rattle.kcr_tables.specs.StoredTables.{StoredTables, Holds, exceptions_place, steps_place, seatings_place}
 use Rattle.kcr_tables.specs.MachineTables.{TreesHoldTables, SameRows}
 use Rattle.kcr_tables.specs.SeatingsLaws as seatings
-use Rattle.kcr_tables.specs.Statements.{key_order, Choice, SelectsRows}
-use Rattle.kcr_tables.specs.StepsLaws as steps
+use Rattle.kcr_tables.specs.Statements.{Choice, SelectsRows}
+use Rattle.kcr_tables.specs.TableTexts.{shows}
 use Rattle.kcr_tables.proofs.StatementLemmas.{rows_shown}
 use Rattle.kcr_reading.specs.FirstRows.{ShowsSome, ShowsFirst, InOrder, AreFirst, IsFirstRow, bound_of}
 use Rattle.kcr_history.specs.Questions.{with_seated}
@@ -125,8 +125,7 @@ exceptions_text =
 -- it shows the first of the ceremony's exceptions past the last
 pub exceptions_shown : (ceremony : ℕ) (last : Option ℕ) → ShowsFirst exceptions_text exceptions_place (number_params ceremony last) (numbered ceremony last)
 unfolding understood everything
-exceptions_shown ceremony last =
-    record { test = number_test; project = exceptions.project; order = key_order exceptions_place; names = exceptions.names; bare = (refl, refl); is = refl }
+exceptions_shown ceremony last = shows schema.exceptions number_test (refl, refl) refl
 
 -- the first exception past the last is the next of those to come
 pub next_exception : (ceremony : ℕ) (last : Option ℕ) (m : machine.Tables) {db : Trees} (k : TreesHoldTables m db) (found : Option ExceptionRow)
@@ -144,8 +143,7 @@ steps_text = codes "SELECT ceremony, step, activity, seats, state, at FROM steps
 -- it shows the first 16 of the ceremony's steps past the last
 pub steps_shown : (ceremony : ℕ) (last : Option ℕ) → ShowsSome 16 steps_text steps_place (number_params ceremony last) (numbered ceremony last)
 unfolding understood everything
-steps_shown ceremony last =
-    record { test = number_test; project = steps.project; order = key_order steps_place; names = steps.names; bare = (refl, refl); is = refl }
+steps_shown ceremony last = shows schema.steps number_test (refl, refl) refl
 
 module _ (ceremony : ℕ) (last : Option ℕ) (m : machine.Tables) {db : Trees} (k : TreesHoldTables m db) (rows : List StepRow) (found : Option StepRow)
     (ends : found ≡ slice_get rows (length rows - 1)) (count : ℕ) (first : AreFirst count step_row (numbered ceremony last) k.t.rows.steps rows) where
@@ -191,8 +189,7 @@ passes ceremony from until = (by_test 3 seatings_test (seatings_params ceremony 
 pub seatings_shown : (ceremony : ℕ) (from until : Option ℕ)
     → SelectsRows seatings_text seatings_place (seatings_params ceremony from until) (passes ceremony from until)
 unfolding understood everything
-seatings_shown ceremony from until =
-    record { test = seatings_test; project = seatings.project; order = key_order seatings_place; names = seatings.names; bare = (refl, refl); is = refl }
+seatings_shown ceremony from until = shows schema.seatings seatings_test (refl, refl) refl
 
 abbrev is_within : ℕ → Option ℕ → Option ℕ → SeatingRow → Bool
 is_within ceremony from until x = x.ceremony == ceremony && is_past_until from until x.step
@@ -231,7 +228,7 @@ seated ceremony from until old new rows m t held stands h step inside =
     let at = is_at ceremony step in
     let there : rows ≡ filter (is_within ceremony from until) t.rows.seatings =
     rows_shown seatings_text seatings_place _ (passes ceremony from until) (seatings_shown ceremony from until) seating_row
-    (λ _. Unit {0}) (λ _. Unit {0}) seatings.one (is_within ceremony from until) (passes_within ceremony from until)
+    (λ _. Unit {0}) (λ _. Unit {0}) seatings.one_value (is_within ceremony from until) (passes_within ceremony from until)
     old new rows held.schema h (each_is rows) t.rows.seatings (each_is t.rows.seatings) held.kept.seatings in
     let mine : filter (λ row. row.step == step) rows ≡ filter at t.rows.seatings =
     ap (filter (λ row. row.step == step)) there ∙ of_step ceremony from until step inside t.rows.seatings in

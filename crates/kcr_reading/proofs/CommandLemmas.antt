@@ -14,8 +14,9 @@ use Rattle.kcr_rows.proofs.SameLemmas.{number_ties}
 use Rattle.kcr_history.specs.Tables as machine
 use Rattle.kcr_history.specs.declared.row_types.KeyRow.{KeyRow}
 use Rattle.kcr_tables.specs.StoredTables.{keys_place}
-use Rattle.kcr_tables.specs.KeysLaws as laws
-use Rattle.kcr_tables.specs.Statements.{is_given}
+use Rattle.kcr_tables.specs.Schema as schema
+use Rattle.kcr_tables.specs.Statements.{is_given, shown_columns}
+use Rattle.kcr_tables.specs.TableTexts.{column_names}
 use Rattle.kcr_tables.specs.Unordered.{SelectsUnordered}
 use Rattle.kcr_reading.specs.Commands.{only, numbered, commands_past, commands_within}
 use Rattle.kcr_reading.specs.Remaining.{IsNextOf}
@@ -30,7 +31,7 @@ number_text = codes "SELECT \"key\", accepted, command, reply FROM keys WHERE ac
 pub number_shown : (number : ℕ) → SelectsUnordered number_text keys_place (Int (pos number) ∷ []) (has_value 1 (Int (pos number)))
 unfolding understood everything
 number_shown number =
-    record { test = is_given 0; project = laws.project; order = []; names = laws.names; bare = (refl, refl); is = refl }
+    record { test = is_given 0; project = shown_columns keys_place; order = []; names = column_names schema.keys; bare = (refl, refl); is = refl }
 
 -- a row has this number as a value if and only if it is its accepted command's
 pub is_numbered : (number : ℕ) (x : KeyRow) → has_value 1 (Int (pos number)) (key_row x) ≡ (x.accepted == number)

@@ -33,11 +33,11 @@ use Rattle.kcr_custody.specs.declared.SafeNumber.{SafeNumber}
 use Rattle.kcr_custody.specs.declared.SafeRow.{SafeRow}
 use Rattle.kcr_history.specs.Prints.{in_order}
 use Rattle.kcr_history.specs.Tables as machine
-use Rattle.kcr_tables.specs.BagsLaws as bags
+use Rattle.kcr_tables.specs.Schema as schema
 use Rattle.kcr_tables.specs.StoredTables.{bags_place, items_place}
-use Rattle.kcr_tables.specs.ItemsLaws as items
 use Rattle.kcr_tables.specs.MachineTables.{TreesHoldTables}
-use Rattle.kcr_tables.specs.Statements.{key_order, Choice}
+use Rattle.kcr_tables.specs.Statements.{Choice}
+use Rattle.kcr_tables.specs.TableTexts.{shows}
 use Rattle.kcr_reading.specs.FirstRows.{ShowsFirst, IsFirstRow}
 use Rattle.kcr_history.specs.Questions.{is_loose}
 use Rattle.kcr_reading.specs.Remaining.{IsNextOf, is_past, is_behind, loose_past, items_by_code, serials_past, safe_place, safes_in_order, safes_past}
@@ -112,10 +112,8 @@ bags_choice last = by_test 1 (behind_test last) (behind_params last)
 -- the text shows the first of these bags
 pub bags_shown : (last : Option (List ℕ)) → ShowsFirst (bags_text last) bags_place (behind_params last) (bags_choice last)
 unfolding understood everything
-bags_shown None =
-    record { test = behind_test None; project = bags.project; order = key_order bags_place; names = bags.names; bare = (refl, refl); is = refl }
-bags_shown (Some last) =
-    record { test = behind_test (Some last); project = bags.project; order = key_order bags_place; names = bags.names; bare = (refl, refl); is = refl }
+bags_shown None = shows schema.bags (behind_test None) (refl, refl) refl
+bags_shown (Some last) = shows schema.bags (behind_test (Some last)) (refl, refl) refl
 
 -- the first row that is shown is the first bag past the last serial
 pub first_bag : (last : Option (List ℕ)) (m : machine.Tables) {db : Trees} (k : TreesHoldTables m db) (found : Option Bag)
@@ -152,10 +150,8 @@ loose_choice last = by_test 1 (loose_test last) (behind_params last)
 -- the text shows the first of these items
 pub loose_shown : (last : Option (List ℕ)) → ShowsFirst (loose_text last) items_place (behind_params last) (loose_choice last)
 unfolding understood everything
-loose_shown None =
-    record { test = loose_test None; project = items.project; order = key_order items_place; names = items.names; bare = (refl, refl); is = refl }
-loose_shown (Some last) =
-    record { test = loose_test (Some last); project = items.project; order = key_order items_place; names = items.names; bare = (refl, refl); is = refl }
+loose_shown None = shows schema.items (loose_test None) (refl, refl) refl
+loose_shown (Some last) = shows schema.items (loose_test (Some last)) (refl, refl) refl
 
 is_chosen : (last : Option (List ℕ)) (x : Item) → (loose_choice last).passes (item_row x) ≡ (is_loose x && is_behind last x.code)
 unfolding binary value_cmp

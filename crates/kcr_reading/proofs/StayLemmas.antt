@@ -38,8 +38,9 @@ use Rattle.kcr_room.specs.declared.Stay.{Stay}
 use Rattle.kcr_history.specs.Tables as machine
 use Rattle.kcr_tables.specs.StoredTables.{stays_place}
 use Rattle.kcr_tables.specs.MachineTables.{TreesHoldTables}
-use Rattle.kcr_tables.specs.StaysLaws as laws
-use Rattle.kcr_tables.specs.Statements.{key_order, Choice}
+use Rattle.kcr_tables.specs.Schema as schema
+use Rattle.kcr_tables.specs.Statements.{shown_columns, Choice}
+use Rattle.kcr_tables.specs.TableTexts.{column_names, shows}
 use Rattle.kcr_reading.specs.FirstRows.{ShowsSome, AreFirst, bound_of}
 use Rattle.kcr_reading.specs.Remaining.{Begin, IsNextBatchOf, is_behind, since_of, begins_with, begins_after, is_stay_past, listed_past}
 use Rattle.kcr_reading.proofs.ChoiceLemmas.{by_test}
@@ -154,8 +155,7 @@ together ceremony last = by_test 2 together_test (together_params ceremony last)
 -- the text shows the first 16 of them
 pub shows_together : (ceremony : ℕ) (last : Stay) → ShowsSome 16 together_text stays_place (together_params ceremony last) (together ceremony last)
 unfolding understood everything
-shows_together ceremony last =
-    record { test = together_test; project = laws.project; order = key_order stays_place; names = laws.names; bare = (refl, refl); is = refl }
+shows_together ceremony last = shows schema.stays together_test (refl, refl) refl
 
 passes_together : (ceremony : ℕ) (last x : Stay) → (together ceremony last).passes (stay_row x) ≡ (is_of ceremony x && begins_with last x)
 unfolding binary
@@ -205,9 +205,9 @@ pub shows_later : (ceremony : ℕ) (last : Option Stay) → ShowsSome 16 later_t
 unfolding understood everything
 shows_later ceremony last = record {
   test = later_test;
-  project = laws.project;
+  project = shown_columns stays_place;
   order = (col 1 2, ascending Binary) ∷ (col 1 1, ascending Binary) ∷ [];
-  names = laws.names;
+  names = column_names schema.stays;
   bare = (refl, refl);
   is = refl;
 }

@@ -14,3 +14,4 @@ pub mod StateLemmas
 pub mod FrameLemmas
 pub mod OverLemmas
 pub mod UpdateLemmas
+pub mod CellLemmas

@@ -7,3 +7,5 @@ pub mod States
 pub mod Rows
 pub mod Frame
 pub mod CountRow
+pub mod Cells
+pub mod Kinds

@@ -1,7 +1,7 @@
 //! One value of a row: read from a column, counted from 0, and made into a parameter of a statement. Each reader's error
 //! is `Disk` if the column has no such value; those that take an allocator answer `Memory` when out of memory.
 
-ghost use Rattle.std.specs.Prelude.{◌≡◌, ◌≢◌, ℕ, ◌+◌, ◌<◌, List, length, pos, Err, IfOk, IfErr, IfSome, OnOk, OnErr};
+ghost use Rattle.std.specs.Prelude.{◌≡◌, ◌≢◌, ℕ, ◌+◌, ◌<◌, List, length, pos, Err, IfOk, IfErr, IfSome, OnErr};
 ghost use Rattle.std.specs.Prelude.{true, false, IsTrue};
 ghost use Rattle.sqlite.specs.declared.types.Value.TheVariants.{Null, Int, Text as Chars};
 ghost use Rattle.sqlite.specs.Order.{column};
@@ -20,7 +20,7 @@ ghost use Rattle.kcr_rows.specs.States.{loose_value, within_value, IsNumbered};
 
 use crate::numbers::AsNumber;
 use kcr_base::number::{Number, Numbered};
-use kcr_base::{Facility, Place, Refusal, Serial, Text, Written};
+use kcr_base::{Facility, Place, Refusal, Serial, Written};
 use kcr_custody::{Rest, Spot};
 use kcr_script::{Seats, read_seats, write_seats};
 use sqlite::Row;
@@ -208,54 +208,4 @@ pub fn number_cell<T: AsNumber>(value: T) -> ValueRef<'static>
     ensures { bound_value (owned result) ≡ Int (pos (T.number value)) }
 {
     ValueRef::Int(value.number())
-}
-
-/// The value of a number, or NULL if there is none.
-pub fn number_or_null_cell<T: AsNumber>(value: Option<T>) -> ValueRef<'static>
-    ensures { bound_value (owned result) ≡ or_null T.number value }
-{
-    match value {
-        Some(value) => number_cell(value),
-        None => ValueRef::Null,
-    }
-}
-
-/// The text of a spot. The error is `Memory`.
-pub fn spot_words(alloc: Global, spot: Spot) -> Result<Text, Refusal>
-    ensures text { IfOk result (λ text. text ≡ spot_text spot) }
-    ensures stored { OnOk result (IsNumbered spot) }
-    ensures cause { IfErr result IsFault }
-{
-    let text = spot.text(alloc)?;
-    Ok(Text::from_string(text))
-}
-
-/// The one written text of seats. The error is `Memory`.
-pub fn seats_words(alloc: Global, seats: &Seats) -> Result<Text, Refusal>
-    ensures text { IfOk result (λ text. text ≡ written seats.now) }
-    ensures stored { OnOk result (StandsFor (written seats.now) seats.now) }
-    ensures cause { IfErr result IsFault }
-{
-    let text = write_seats(alloc, seats)?;
-    Ok(Text::from_string(text))
-}
-
-/// The facility where an item is loose, or NULL.
-pub fn loose_cell(rest: Rest) -> ValueRef<'static>
-    ensures { bound_value (owned result) ≡ loose_value rest }
-{
-    match rest {
-        Rest::Loose(facility) => text_cell(facility.text()),
-        Rest::Within(_) => ValueRef::Null,
-    }
-}
-
-/// The serial of the bag that an item is in, or NULL.
-pub fn within_cell(rest: &Rest) -> ValueRef<'_>
-    ensures { bound_value (owned result) ≡ within_value rest.now }
-{
-    match rest {
-        Rest::Loose(_) => ValueRef::Null,
-        Rest::Within(serial) => text_cell(serial.as_str()),
-    }
 }

@@ -8,9 +8,12 @@
 pub mod cells;
 mod count_row;
 pub mod from_row;
+mod kinds;
 pub mod numbers;
 mod row_impls;
 pub mod statements;
+pub mod to_row;
 
 pub use count_row::CountRow;
+pub use kinds::Kind;
 pub use row_impls::Version;

@@ -32,13 +32,15 @@ use Rattle.kcr_rows.proofs.SameLemmas.{text_ties, place_ties, number_ties}
 use Rattle.kcr_rows.proofs.KeyLemmas.{truth_is}
 use Rattle.kcr_tables.specs.Exact.{has_number, has_text, has_from, is_beyond_row, is_lasting_row, is_row_of_step}
 use Rattle.kcr_tables.specs.Query.{Ordered, Unordered, Last, SelectsLast, Query}
-use Rattle.kcr_tables.specs.Statements.{is_given, key_order, SelectsRows}
+use Rattle.kcr_tables.specs.Schema as schema
+use Rattle.kcr_tables.specs.Statements.{is_given, shown_columns, SelectsRows}
 use Rattle.kcr_tables.specs.StoredTables.{appointments_place, keys_place, seatings_place, stays_place, steps_place, trainings_place}
 use Rattle.kcr_tables.specs.AppointmentsLaws as appointments
 use Rattle.kcr_tables.specs.KeysLaws as keys
 use Rattle.kcr_tables.specs.SeatingsLaws as seatings
 use Rattle.kcr_tables.specs.StaysLaws as stays
 use Rattle.kcr_tables.specs.StepsLaws as steps
+use Rattle.kcr_tables.specs.TableTexts.{column_names, shows}
 use Rattle.kcr_tables.specs.TrainingsLaws as trainings
 use Rattle.kcr_tables.specs.Unordered.{SelectsUnordered}
 use Rattle.kcr_tables.proofs.QueryLemmas.{query}
@@ -60,11 +62,11 @@ key_sql = codes "SELECT \"key\", accepted, command, reply FROM keys ORDER BY acc
 -- the text shows the row of keys with the greatest number of a command
 pub selects_key : SelectsLast key_sql keys_place [] (λ _. true) 1
 unfolding understood everything
-selects_key = record { test = []; project = keys.project; names = keys.names; bare = (refl, refl); is = refl }
+selects_key = record { test = []; project = shown_columns keys_place; names = column_names schema.keys; bare = (refl, refl); is = refl }
 
 -- the query for the row of the last accepted command
 abbrev pub last_key : Query keys.table key_row
-last_key = query key_sql [] (Last (λ x. x.accepted)) (λ _. true) (λ _. true) (λ x. refl) (λ x y. keys.one x y tt tt, (1, selects_key, λ x. refl))
+last_key = query key_sql [] (Last (λ x. x.accepted)) (λ _. true) (λ _. true) (λ x. refl) (λ x y. keys.one_value x y tt tt, (1, selects_key, λ x. refl))
 
 -- the stay of a person that began last
 abbrev stay_sql : List ℕ
@@ -73,12 +75,12 @@ stay_sql = codes "SELECT who, since, ceremony, until FROM stays WHERE who = ?1 O
 -- the text shows the stay of the person with the latest beginning
 pub selects_stay : (who : List ℕ) → SelectsLast stay_sql stays_place (Text who ∷ []) (has_text 0 who) 1
 unfolding understood everything
-selects_stay who = record { test = is_given 1; project = stays.project; names = stays.names; bare = (refl, refl); is = refl }
+selects_stay who = record { test = is_given 1; project = shown_columns stays_place; names = column_names schema.stays; bare = (refl, refl); is = refl }
 
 -- the query for the stay of a person that began last
 abbrev pub last_stay : List ℕ → Query stays.table stay_row
 last_stay who = query stay_sql (Text who ∷ []) (Last (λ x. x.since)) (λ x. same_text x.who who) (has_text 0 who) (λ x. same_text_is x.who who)
-    (λ x y. stays.one x y tt tt, (1, selects_stay who, λ x. refl))
+    (λ x y. stays.one_value x y tt tt, (1, selects_stay who, λ x. refl))
 
 -- the appointment to a place that began last
 abbrev to_sql : List ℕ
@@ -87,13 +89,14 @@ to_sql = codes "SELECT place, since, who, until FROM appointments WHERE place = 
 -- the text shows the appointment to the place with the latest beginning
 pub selects_to : (place : List ℕ) → SelectsLast to_sql appointments_place (Text place ∷ []) (has_text 0 place) 1
 unfolding understood everything
-selects_to place = record { test = is_given 1; project = appointments.project; names = appointments.names; bare = (refl, refl); is = refl }
+selects_to place =
+    record { test = is_given 1; project = shown_columns appointments_place; names = column_names schema.appointments; bare = (refl, refl); is = refl }
 
 -- the query for the appointment to a place that began last
 abbrev pub last_to : Custodian → Query appointments.table appointment_row
 last_to place = query to_sql (Text (place_text place) ∷ []) (Last (λ x. x.since)) (is_appointment_to place) (has_text 0 (place_text place))
     (λ x. value_is (Text (place_text x.place)) (Text (place_text place)) refl refl ∙ sym (place_ties x.place place))
-    (λ x y. appointments.one x y tt tt, (1, selects_to (place_text place), λ x. refl))
+    (λ x y. appointments.one_value x y tt tt, (1, selects_to (place_text place), λ x. refl))
 
 -- the appointment of a person that began last
 abbrev of_sql : List ℕ
@@ -102,12 +105,13 @@ of_sql = codes "SELECT place, since, who, until FROM appointments WHERE who = ?1
 -- the text shows the appointment of the person with the latest beginning
 pub selects_of : (who : List ℕ) → SelectsLast of_sql appointments_place (Text who ∷ []) (has_text 2 who) 1
 unfolding understood everything
-selects_of who = record { test = is_given 3; project = appointments.project; names = appointments.names; bare = (refl, refl); is = refl }
+selects_of who =
+    record { test = is_given 3; project = shown_columns appointments_place; names = column_names schema.appointments; bare = (refl, refl); is = refl }
 
 -- the query for the appointment of a person that began last
 abbrev pub last_of : List ℕ → Query appointments.table appointment_row
 last_of who = query of_sql (Text who ∷ []) (Last (λ x. x.since)) (is_appointment_of who) (has_text 2 who) (λ x. same_text_is x.who who)
-    (λ x y. appointments.one x y tt tt, (1, selects_of who, λ x. refl))
+    (λ x y. appointments.one_value x y tt tt, (1, selects_of who, λ x. refl))
 
 -- the last step of a ceremony that has a seating
 abbrev seating_sql : List ℕ
@@ -116,12 +120,13 @@ seating_sql = codes "SELECT ceremony, step, seat, who FROM seatings WHERE ceremo
 -- the text shows a seating of the ceremony with the greatest step
 pub selects_seating : (ceremony : ℕ) → SelectsLast seating_sql seatings_place (Int (pos ceremony) ∷ []) (has_number 0 ceremony) 1
 unfolding understood everything
-selects_seating ceremony = record { test = is_given 1; project = seatings.project; names = seatings.names; bare = (refl, refl); is = refl }
+selects_seating ceremony =
+    record { test = is_given 1; project = shown_columns seatings_place; names = column_names schema.seatings; bare = (refl, refl); is = refl }
 
 -- the query for a seating of the last step of a ceremony that has one
 abbrev pub last_seating : ℕ → Query seatings.table seating_row
 last_seating ceremony = query seating_sql (Int (pos ceremony) ∷ []) (Last (λ x. x.step)) (is_seating_of ceremony) (has_number 0 ceremony)
-    (λ x. same_number_is x.ceremony ceremony) (λ x y. seatings.one x y tt tt, (1, selects_seating ceremony, λ x. refl))
+    (λ x. same_number_is x.ceremony ceremony) (λ x y. seatings.one_value x y tt tt, (1, selects_seating ceremony, λ x. refl))
 
 -- ---- how a text compares an end with a number
 
@@ -188,9 +193,9 @@ pub selects_lasting : (day : ℕ)
 unfolding understood everything
 selects_lasting day = record {
   test = op2 (Compare Ge Binary) (col 1 4) (col 0 0) ∷ [];
-  project = trainings.project;
+  project = shown_columns trainings_place;
   order = (col 1 0, ascending Binary) ∷ [];
-  names = trainings.names;
+  names = column_names schema.trainings;
   bare = (refl, refl);
   is = refl;
 }
@@ -198,7 +203,7 @@ selects_lasting day = record {
 -- the query for the trainings that last to a day, in any order
 abbrev pub lasting : ℕ → Query trainings.table training_row
 lasting day = query lasting_sql (Int (pos day) ∷ []) Unordered (training_reaches day) (has_from 3 day) (λ x. number_from x.until day) (
-  λ x y. trainings.one x y tt tt,
+  λ x y. trainings.one_value x y tt tt,
   subst (SelectsUnordered lasting_sql trainings_place _) (λ i row. (with_true _ ∙ compared_is Ge (column row 3) day) i) (selects_lasting day),
 )
 
@@ -211,9 +216,9 @@ pub selects_beyond : (day : ℕ) → SelectsUnordered beyond_sql appointments_pl
 unfolding understood everything
 selects_beyond day = record {
   test = op2 Or (op2 (Is Binary) (col 1 4) (lit Null)) (op2 (Compare Gt Binary) (col 1 4) (col 0 0)) ∷ [];
-  project = appointments.project;
+  project = shown_columns appointments_place;
   order = (col 1 0, ascending Binary) ∷ [];
-  names = appointments.names;
+  names = column_names schema.appointments;
   bare = (refl, refl);
   is = refl;
 }
@@ -227,7 +232,7 @@ beyond_is day (Some until) = number_beyond until day
 -- the query for the appointments that last beyond a day, in any order
 abbrev pub beyond : ℕ → Query appointments.table appointment_row
 beyond day = query beyond_sql (Int (pos day) ∷ []) Unordered (lasts_beyond day) (is_beyond_row day) (λ x. beyond_is day x.until) (
-  λ x y. appointments.one x y tt tt,
+  λ x y. appointments.one_value x y tt tt,
   subst (SelectsUnordered beyond_sql appointments_place _) (λ i row. (with_true _ ∙ ends_is Gt (column row 3) day) i) (selects_beyond day),
 )
 
@@ -243,9 +248,9 @@ selects_room ceremony at = record {
   test = op2 (Compare Eq Binary) (col 1 3) (col 0 0)
       ∷ op2 Or (op2 (Is Binary) (col 1 4) (lit Null)) (op2 (Compare Ge Binary) (col 1 4) (col 0 1))
       ∷ [];
-  project = stays.project;
+  project = shown_columns stays_place;
   order = (col 1 2, ascending Binary) ∷ (col 1 1, ascending Binary) ∷ [];
-  names = stays.names;
+  names = column_names schema.stays;
   bare = (refl, refl);
   is = refl;
 }
@@ -260,7 +265,7 @@ room_is at (Some until) = number_from until at
 abbrev pub room : ℕ → ℕ → Query stays.table stay_row
 room ceremony at = query room_sql (Int (pos ceremony) ∷ Int (pos at) ∷ []) Unordered (stay_reaches ceremony at) (is_lasting_row ceremony at)
     (λ x i. same_number_is x.ceremony ceremony i && room_is at x.until i) (
-      λ x y. stays.one x y tt tt,
+      λ x y. stays.one_value x y tt tt,
       subst (SelectsUnordered room_sql stays_place _)
           (λ i row. sym (with_true (equal Binary (column row 2) (Int (pos ceremony)))) i && (with_true _ ∙ ends_is Ge (column row 3) at) i) (selects_room ceremony at),
     )
@@ -274,14 +279,8 @@ step_sql = codes "SELECT ceremony, step, activity, seats, state, at FROM steps W
 pub selects_step : (ceremony step : ℕ) → SelectsRows step_sql steps_place (Int (pos ceremony) ∷ Int (pos step) ∷ [])
     (λ row. equal Binary (column row 0) (Int (pos ceremony)) && has_number 1 step row)
 unfolding understood everything
-selects_step ceremony step = record {
-  test = op2 (Compare Eq Binary) (col 1 1) (col 0 0) ∷ op2 (Compare Eq Binary) (col 1 2) (col 0 1) ∷ [];
-  project = steps.project;
-  order = key_order steps_place;
-  names = steps.names;
-  bare = (refl, refl);
-  is = refl;
-}
+selects_step ceremony step =
+    shows schema.steps (op2 (Compare Eq Binary) (col 1 1) (col 0 0) ∷ op2 (Compare Eq Binary) (col 1 2) (col 0 1) ∷ []) (refl, refl) refl
 
 -- the query for the row of a step
 abbrev pub row_of_step : ℕ → ℕ → Query steps.table step_row

@@ -1,34 +1,17 @@
 -- Written by tools/tables.py from tools/table_list.py: do not edit.
 -- What the table boxes proves of its texts, and of its place among the others.
-use Rattle.std.proofs.Common.{◌≡◌, ℕ, pos, List, [], ◌∷◌, map, codes, true, refl, ap}
+use Rattle.std.proofs.Common.{◌≡◌, pos, [], ◌∷◌, map, codes, true, refl, ap}
 use Rattle.std.specs.Bool.{⊤}
-use Rattle.sqlite.specs.declared.types.Value.TheVariants.{Null, Text}
-use Rattle.sqlite.specs.Term.{Term}
-use Rattle.sqlite.specs.Listing.{understood}
-use Rattle.sqlite_value.specs.declared.keys.Key.{Key}
-use Rattle.sqlite_tied.specs.Compute.{everything}
-use Rattle.kcr_base.specs.Place.{place_text}
-use Rattle.kcr_rows.proofs.WriteLemmas.{cast_null, cast_int}
-use Rattle.kcr_rows.proofs.TableLemmas.{each_is}
-use Rattle.kcr_rows.proofs.SameLemmas.{one_facility, one_place}
+use Rattle.sqlite.specs.declared.types.Value.TheVariants.{Text}
 use Rattle.kcr_base.specs.Facility.{facility_text}
+use Rattle.kcr_base.specs.Place.{place_text}
 use Rattle.kcr_rows.specs.Rows.{box_row}
 use Rattle.kcr_custody.specs.declared.BoxRow.{BoxRow}
 use Rattle.kcr_tables.specs.Schema.{boxes}
 use Rattle.kcr_tables.specs.StoredTables.{boxes_place}
-use Rattle.kcr_tables.specs.Still.{still_at}
-use Rattle.kcr_tables.specs.Parts.{text_in, number_in}
-use Rattle.kcr_tables.specs.Statements.{shown_columns, key_order, SelectsRows, new_terms, InsertsRow}
-use Rattle.kcr_tables.specs.Table.{TableSpec, IsTable}
-
-abbrev pub project : List Term
-project = shown_columns boxes_place
-
-abbrev order : List (Term × Key)
-order = key_order boxes_place
-
-abbrev pub names : List (List ℕ)
-names = codes "facility" ∷ codes "box" ∷ codes "place" ∷ []
+use Rattle.kcr_tables.specs.TableTexts.{shows, inserts_row, cast_all, cast_int, each_is, everything, number_in}
+use Rattle.kcr_tables.specs.TableTexts.{one_facility, one_place, still_at, text_in, understood, InsertsRow, IsTable}
+use Rattle.kcr_tables.specs.TableTexts.{SelectsRows, TableSpec}
 
 abbrev pub table : TableSpec BoxRow
 table = record {
@@ -40,8 +23,8 @@ table = record {
 }
 
 -- no two values stand for one row
-pub one : (x y : BoxRow) → ⊤ → ⊤ → box_row x ≡ box_row y → x ≡ y
-one x y read held h = λ i. record {
+pub one_value : (x y : BoxRow) → ⊤ → ⊤ → box_row x ≡ box_row y → x ≡ y
+one_value x y read held h = λ i. record {
   facility = one_facility x.facility y.facility (ap (text_in 0) h) i;
   number = number_in 1 (h i);
   place = one_place x.place y.place (ap (text_in 2) h) i;
@@ -49,31 +32,21 @@ one x y read held h = λ i. record {
 
 lists : SelectsRows table.all_sql boxes_place [] (λ _. true)
 unfolding understood everything
-lists = record { test = []; project = project; order = order; names = names; bare = (refl, refl); is = refl }
+lists = shows boxes [] (refl, refl) refl
 
--- ---- a row put under its key
+-- its values are stored as they are
+casts : (x : BoxRow) → cast_all boxes.columns (box_row x) ≡ box_row x
+casts x i = Text (facility_text x.facility) ∷ cast_int (pos x.number) i ∷ Text (place_text x.place) ∷ []
 
-abbrev insert_sql : List ℕ
-insert_sql = codes "INSERT INTO boxes (facility, box, place) VALUES (?1, ?2, ?3)"
-
-pub inserts : InsertsRow insert_sql boxes_place box_row
+-- the text that adds the row of a value
+pub inserts : InsertsRow (codes "INSERT INTO boxes (facility, box, place) VALUES (?1, ?2, ?3)") boxes_place box_row
 unfolding understood everything
-inserts = record {
-  at = 3;
-  table = boxes;
-  terms = new_terms 3;
-  given = λ x. Null ∷ box_row x;
-  others = [];
-  casts = λ x i. cast_null i ∷ Text (facility_text x.facility) ∷ cast_int (pos x.number) i ∷ Text (place_text x.place)
-      ∷ [];
-  bare = (refl, refl);
-  is = refl;
-}
+inserts = inserts_row 3 boxes casts (refl, refl) refl
 
 pub table_laws : IsTable table box_row (λ _. ⊤)
 table_laws = record {
   lists = lists;
-  one = one;
+  one_value = one_value;
   keeps = λ db t k. k.boxes;
   stores = λ db t k. each_is t.rows.boxes;
   still = λ old new rows t sound keeps stored others k. still_at 3 7 old new t _

@@ -15,6 +15,7 @@ pub mod Unordered
 pub mod Query
 pub mod Parts
 pub mod Still
+pub mod TableTexts
 pub mod AppointmentsLaws
 pub mod BagsLaws
 pub mod BoxesLaws

@@ -41,7 +41,7 @@ pub record IsTable {X : Type 0} (table : TableSpec X) (row_of : X → Row) (is_r
   -- the text shows every row
   pub lists : SelectsRows table.all_sql table.place [] (λ _. true)
   -- a value that was read is the one that was put
-  pub one : (x y : X) → is_read x → table.is_stored y → row_of x ≡ row_of y → x ≡ y
+  pub one_value : (x y : X) → is_read x → table.is_stored y → row_of x ≡ row_of y → x ≡ y
   -- if the tables are kept, the rows are kept in their place
   pub keeps : (db : Trees) (t : StoredTables) → TreesHold db t → TreeHolds table.place db (map row_of (table.rows_in t))
   -- what is known of each value that was put

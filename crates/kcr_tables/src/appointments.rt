@@ -6,7 +6,7 @@ ghost use Rattle.kcr_tables.specs.AppointmentsLaws as laws;
 use crate::table::{Put, TableRow, update_or_insert_row};
 use kcr_base::Refusal;
 use kcr_people::Appointment;
-use kcr_rows::cells::{number_cell, number_or_null_cell, text_cell};
+use kcr_rows::to_row::ToRow;
 use sqlite::{Alter, Transaction};
 
 impl TableRow for Appointment {
@@ -22,18 +22,14 @@ impl TableRow for Appointment {
 impl Put for Appointment {
     #[tactic(auto, using(crate::specs::AppointmentsLaws::inserts, crate::specs::AppointmentsLaws::updates))]
     fn put<S: Alter>(&self, tx: &mut Transaction<'_, S>) -> Result<(), Refusal> {
-        let place = self.place.text();
+        let cells = self.cells();
+        let insert = "INSERT INTO appointments (place, since, who, until) VALUES (?1, ?2, ?3, ?4)";
         update_or_insert_row(
             tx,
             self,
             "UPDATE appointments SET place = ?1, since = ?2, who = ?3, until = ?4 WHERE place = ?1 AND since = ?2",
-            "INSERT INTO appointments (place, since, who, until) VALUES (?1, ?2, ?3, ?4)",
-            &[
-                text_cell(place.as_str()),
-                number_cell(self.since),
-                text_cell(self.who.as_str()),
-                number_or_null_cell(self.until),
-            ],
+            insert,
+            &cells,
         )
     }
 }

@@ -6,7 +6,7 @@ ghost use Rattle.kcr_tables.specs.BagsLaws as laws;
 use crate::table::{LookupBy, PutAllocating, TableRow, update_or_insert_row};
 use kcr_base::{Refusal, Serial};
 use kcr_custody::Bag;
-use kcr_rows::cells::{spot_words, text_cell};
+use kcr_rows::to_row::ToRowAllocating;
 use sqlite::{Alter, Transaction};
 use std::alloc::Global;
 
@@ -38,13 +38,14 @@ impl PutAllocating for Bag {
         alloc: Global,
         tx: &mut Transaction<'_, S>,
     ) -> Result<(), Refusal> {
-        let spot = spot_words(alloc, self.spot)?;
+        let cells = self.cells_allocating(alloc)?;
+        let insert = "INSERT INTO bags (serial, spot) VALUES (?1, ?2)";
         update_or_insert_row(
             tx,
             self,
             "UPDATE bags SET serial = ?1, spot = ?2 WHERE serial = ?1",
-            "INSERT INTO bags (serial, spot) VALUES (?1, ?2)",
-            &[text_cell(self.serial.as_str()), text_cell(spot.as_str())],
+            insert,
+            &cells,
         )
     }
 }

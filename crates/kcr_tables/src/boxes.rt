@@ -6,7 +6,7 @@ ghost use Rattle.kcr_tables.specs.BoxesLaws as laws;
 use crate::table::{Put, TableRow, insert_row};
 use kcr_base::Refusal;
 use kcr_custody::BoxRow;
-use kcr_rows::cells::{number_cell, text_cell};
+use kcr_rows::to_row::ToRow;
 use sqlite::{Alter, Transaction};
 
 impl TableRow for BoxRow {
@@ -22,16 +22,8 @@ impl TableRow for BoxRow {
 impl Put for BoxRow {
     #[tactic(auto, using(crate::specs::BoxesLaws::inserts))]
     fn put<S: Alter>(&self, tx: &mut Transaction<'_, S>) -> Result<(), Refusal> {
-        let place = self.place.text();
-        insert_row(
-            tx,
-            self,
-            "INSERT INTO boxes (facility, box, place) VALUES (?1, ?2, ?3)",
-            &[
-                text_cell(self.facility.text()),
-                number_cell(self.number),
-                text_cell(place.as_str()),
-            ],
-        )
+        let cells = self.cells();
+        let insert = "INSERT INTO boxes (facility, box, place) VALUES (?1, ?2, ?3)";
+        insert_row(tx, self, insert, &cells)
     }
 }

@@ -6,7 +6,7 @@ ghost use Rattle.kcr_tables.specs.CeremoniesLaws as laws;
 use crate::table::{LookupBy, Put, TableRow, update_or_insert_row};
 use kcr_base::Refusal;
 use kcr_history::CeremonyRow;
-use kcr_rows::cells::{number_cell, number_or_null_cell, text_cell};
+use kcr_rows::to_row::ToRow;
 use sqlite::{Alter, Transaction};
 
 impl TableRow for CeremonyRow {
@@ -33,19 +33,15 @@ impl LookupBy<u32> for CeremonyRow {
 impl Put for CeremonyRow {
     #[tactic(auto, using(crate::specs::CeremoniesLaws::inserts, crate::specs::CeremoniesLaws::updates))]
     fn put<S: Alter>(&self, tx: &mut Transaction<'_, S>) -> Result<(), Refusal> {
+        let cells = self.cells();
+        let insert =
+            "INSERT INTO ceremonies (number, facility, day, state, opened, closed) VALUES (?1, ?2, ?3, ?4, ?5, ?6)";
         update_or_insert_row(
             tx,
             self,
             "UPDATE ceremonies SET number = ?1, facility = ?2, day = ?3, state = ?4, opened = ?5, closed = ?6 WHERE number = ?1",
-            "INSERT INTO ceremonies (number, facility, day, state, opened, closed) VALUES (?1, ?2, ?3, ?4, ?5, ?6)",
-            &[
-                number_cell(self.number),
-                text_cell(self.facility.text()),
-                number_cell(self.day),
-                number_cell(self.state),
-                number_or_null_cell(self.opened),
-                number_or_null_cell(self.closed),
-            ],
+            insert,
+            &cells,
         )
     }
 }

@@ -6,7 +6,7 @@ ghost use Rattle.kcr_tables.specs.ExceptionsLaws as laws;
 use crate::table::{LookupBy, Put, TableRow, insert_row};
 use kcr_base::Refusal;
 use kcr_history::ExceptionRow;
-use kcr_rows::cells::{number_cell, number_or_null_cell, text_cell};
+use kcr_rows::to_row::ToRow;
 use sqlite::{Alter, Transaction};
 
 impl TableRow for ExceptionRow {
@@ -33,17 +33,9 @@ impl LookupBy<u32> for ExceptionRow {
 impl Put for ExceptionRow {
     #[tactic(auto, using(crate::specs::ExceptionsLaws::inserts))]
     fn put<S: Alter>(&self, tx: &mut Transaction<'_, S>) -> Result<(), Refusal> {
-        insert_row(
-            tx,
-            self,
-            "INSERT INTO exceptions (ceremony, exception, text, at, passed) VALUES (?1, ?2, ?3, ?4, ?5)",
-            &[
-                number_cell(self.ceremony),
-                number_cell(self.exception),
-                text_cell(self.text.as_str()),
-                number_cell(self.at),
-                number_or_null_cell(self.passed),
-            ],
-        )
+        let cells = self.cells();
+        let insert =
+            "INSERT INTO exceptions (ceremony, exception, text, at, passed) VALUES (?1, ?2, ?3, ?4, ?5)";
+        insert_row(tx, self, insert, &cells)
     }
 }

@@ -6,7 +6,7 @@ ghost use Rattle.kcr_tables.specs.ItemsLaws as laws;
 use crate::table::{LookupBy, Put, TableRow, update_or_insert_row};
 use kcr_base::{ItemCode, Refusal, Serial};
 use kcr_custody::Item;
-use kcr_rows::cells::{loose_cell, text_cell, within_cell};
+use kcr_rows::to_row::ToRow;
 use sqlite::{Alter, Transaction};
 
 impl TableRow for Item {
@@ -44,16 +44,14 @@ impl LookupBy<Serial> for Item {
 impl Put for Item {
     #[tactic(auto, using(crate::specs::ItemsLaws::inserts, crate::specs::ItemsLaws::updates))]
     fn put<S: Alter>(&self, tx: &mut Transaction<'_, S>) -> Result<(), Refusal> {
+        let cells = self.cells();
+        let insert = "INSERT INTO items (code, facility, serial) VALUES (?1, ?2, ?3)";
         update_or_insert_row(
             tx,
             self,
             "UPDATE items SET code = ?1, facility = ?2, serial = ?3 WHERE code = ?1",
-            "INSERT INTO items (code, facility, serial) VALUES (?1, ?2, ?3)",
-            &[
-                text_cell(self.code.as_str()),
-                loose_cell(self.rest),
-                within_cell(&self.rest),
-            ],
+            insert,
+            &cells,
         )
     }
 }

@@ -6,7 +6,7 @@ ghost use Rattle.kcr_tables.specs.KeysLaws as laws;
 use crate::table::{LookupBy, Put, TableRow, insert_row};
 use kcr_base::{Key, Refusal};
 use kcr_history::KeyRow;
-use kcr_rows::cells::{number_cell, text_cell};
+use kcr_rows::to_row::ToRow;
 use sqlite::{Alter, Transaction};
 
 impl TableRow for KeyRow {
@@ -33,16 +33,8 @@ impl LookupBy<Key> for KeyRow {
 impl Put for KeyRow {
     #[tactic(auto, using(crate::specs::KeysLaws::inserts))]
     fn put<S: Alter>(&self, tx: &mut Transaction<'_, S>) -> Result<(), Refusal> {
-        insert_row(
-            tx,
-            self,
-            "INSERT INTO keys (\"key\", accepted, command, reply) VALUES (?1, ?2, ?3, ?4)",
-            &[
-                text_cell(self.key.as_str()),
-                number_cell(self.accepted),
-                text_cell(self.command.as_str()),
-                text_cell(self.reply.as_str()),
-            ],
-        )
+        let cells = self.cells();
+        let insert = "INSERT INTO keys (\"key\", accepted, command, reply) VALUES (?1, ?2, ?3, ?4)";
+        insert_row(tx, self, insert, &cells)
     }
 }

@@ -2,8 +2,8 @@
 //! caller.
 //!
 //! What a table is stands once, in `table`, with the calls for all of them. A table has a module of its own, which only
-//! gives its SQL texts, the cells of a row, and what it proves of the texts. These modules are written by the program
-//! `tools/tables.py`; the rows as values, and what is general of them, stand in the crate `kcr_rows`.
+//! gives its SQL texts, and what it proves of them. These modules are written by the program `tools/tables.py`; the rows
+//! as values, their cells, and what is general of them, stand in the crate `kcr_rows`.
 #![tactic(auto)]
 
 mod appointments;

@@ -6,7 +6,7 @@ ghost use Rattle.kcr_tables.specs.MarksLaws as laws;
 use crate::table::{LookupBy, Put, TableRow, update_or_insert_row};
 use kcr_base::Refusal;
 use kcr_history::MarkRow;
-use kcr_rows::cells::number_cell;
+use kcr_rows::to_row::ToRow;
 use sqlite::{Alter, Transaction};
 
 impl TableRow for MarkRow {
@@ -33,12 +33,14 @@ impl LookupBy<u32> for MarkRow {
 impl Put for MarkRow {
     #[tactic(auto, using(crate::specs::MarksLaws::inserts, crate::specs::MarksLaws::updates))]
     fn put<S: Alter>(&self, tx: &mut Transaction<'_, S>) -> Result<(), Refusal> {
+        let cells = self.cells();
+        let insert = "INSERT INTO marks (ceremony, at) VALUES (?1, ?2)";
         update_or_insert_row(
             tx,
             self,
             "UPDATE marks SET ceremony = ?1, at = ?2 WHERE ceremony = ?1",
-            "INSERT INTO marks (ceremony, at) VALUES (?1, ?2)",
-            &[number_cell(self.ceremony), number_cell(self.at)],
+            insert,
+            &cells,
         )
     }
 }

@@ -6,7 +6,7 @@ ghost use Rattle.kcr_tables.specs.PeopleLaws as laws;
 use crate::table::{LookupBy, Put, TableRow, insert_row};
 use kcr_base::{Initials, Refusal};
 use kcr_people::Person;
-use kcr_rows::cells::text_cell;
+use kcr_rows::to_row::ToRow;
 use sqlite::{Alter, Transaction};
 
 impl TableRow for Person {
@@ -33,11 +33,8 @@ impl LookupBy<Initials> for Person {
 impl Put for Person {
     #[tactic(auto, using(crate::specs::PeopleLaws::inserts))]
     fn put<S: Alter>(&self, tx: &mut Transaction<'_, S>) -> Result<(), Refusal> {
-        insert_row(
-            tx,
-            self,
-            "INSERT INTO people (who, name) VALUES (?1, ?2)",
-            &[text_cell(self.who.as_str()), text_cell(self.name.as_str())],
-        )
+        let cells = self.cells();
+        let insert = "INSERT INTO people (who, name) VALUES (?1, ?2)";
+        insert_row(tx, self, insert, &cells)
     }
 }

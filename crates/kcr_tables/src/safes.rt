@@ -6,7 +6,7 @@ ghost use Rattle.kcr_tables.specs.SafesLaws as laws;
 use crate::table::{Put, TableRow, update_or_insert_row};
 use kcr_base::Refusal;
 use kcr_custody::SafeRow;
-use kcr_rows::cells::{number_cell, text_cell};
+use kcr_rows::to_row::ToRow;
 use sqlite::{Alter, Transaction};
 
 impl TableRow for SafeRow {
@@ -22,16 +22,14 @@ impl TableRow for SafeRow {
 impl Put for SafeRow {
     #[tactic(auto, using(crate::specs::SafesLaws::inserts, crate::specs::SafesLaws::updates))]
     fn put<S: Alter>(&self, tx: &mut Transaction<'_, S>) -> Result<(), Refusal> {
+        let cells = self.cells();
+        let insert = "INSERT INTO safes (facility, safe, state) VALUES (?1, ?2, ?3)";
         update_or_insert_row(
             tx,
             self,
             "UPDATE safes SET facility = ?1, safe = ?2, state = ?3 WHERE facility = ?1 AND safe = ?2",
-            "INSERT INTO safes (facility, safe, state) VALUES (?1, ?2, ?3)",
-            &[
-                text_cell(self.facility.text()),
-                number_cell(self.safe),
-                number_cell(self.is_open),
-            ],
+            insert,
+            &cells,
         )
     }
 }

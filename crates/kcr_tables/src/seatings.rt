@@ -6,7 +6,7 @@ ghost use Rattle.kcr_tables.specs.SeatingsLaws as laws;
 use crate::table::{Put, TableRow, insert_row};
 use kcr_base::Refusal;
 use kcr_history::SeatingRow;
-use kcr_rows::cells::{number_cell, text_cell};
+use kcr_rows::to_row::ToRow;
 use sqlite::{Alter, Transaction};
 
 impl TableRow for SeatingRow {
@@ -22,16 +22,8 @@ impl TableRow for SeatingRow {
 impl Put for SeatingRow {
     #[tactic(auto, using(crate::specs::SeatingsLaws::inserts))]
     fn put<S: Alter>(&self, tx: &mut Transaction<'_, S>) -> Result<(), Refusal> {
-        insert_row(
-            tx,
-            self,
-            "INSERT INTO seatings (ceremony, step, seat, who) VALUES (?1, ?2, ?3, ?4)",
-            &[
-                number_cell(self.ceremony),
-                number_cell(self.step),
-                number_cell(self.seat),
-                text_cell(self.who.as_str()),
-            ],
-        )
+        let cells = self.cells();
+        let insert = "INSERT INTO seatings (ceremony, step, seat, who) VALUES (?1, ?2, ?3, ?4)";
+        insert_row(tx, self, insert, &cells)
     }
 }

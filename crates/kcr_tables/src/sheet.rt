@@ -6,7 +6,7 @@ ghost use Rattle.kcr_tables.specs.SheetLaws as laws;
 use crate::table::{Put, TableRow, insert_row};
 use kcr_base::Refusal;
 use kcr_room::SheetRow;
-use kcr_rows::cells::{number_cell, text_cell};
+use kcr_rows::to_row::ToRow;
 use sqlite::{Alter, Transaction};
 
 impl TableRow for SheetRow {
@@ -22,16 +22,8 @@ impl TableRow for SheetRow {
 impl Put for SheetRow {
     #[tactic(auto, using(crate::specs::SheetLaws::inserts))]
     fn put<S: Alter>(&self, tx: &mut Transaction<'_, S>) -> Result<(), Refusal> {
-        insert_row(
-            tx,
-            self,
-            "INSERT INTO sheet (who, at, ceremony, way) VALUES (?1, ?2, ?3, ?4)",
-            &[
-                text_cell(self.who.as_str()),
-                number_cell(self.at),
-                number_cell(self.ceremony),
-                number_cell(self.way),
-            ],
-        )
+        let cells = self.cells();
+        let insert = "INSERT INTO sheet (who, at, ceremony, way) VALUES (?1, ?2, ?3, ?4)";
+        insert_row(tx, self, insert, &cells)
     }
 }

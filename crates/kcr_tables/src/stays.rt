@@ -6,7 +6,7 @@ ghost use Rattle.kcr_tables.specs.StaysLaws as laws;
 use crate::table::{Put, TableRow, insert_row, update_or_insert_row};
 use kcr_base::Refusal;
 use kcr_room::Stay;
-use kcr_rows::cells::{number_cell, number_or_null_cell, text_cell};
+use kcr_rows::to_row::ToRow;
 use sqlite::{Alter, Transaction};
 
 impl TableRow for Stay {
@@ -22,13 +22,8 @@ impl TableRow for Stay {
 impl Put for Stay {
     #[tactic(auto, using(crate::specs::StaysLaws::inserts, crate::specs::StaysLaws::updates))]
     fn put<S: Alter>(&self, tx: &mut Transaction<'_, S>) -> Result<(), Refusal> {
+        let cells = self.cells();
         let insert = "INSERT INTO stays (who, since, ceremony, until) VALUES (?1, ?2, ?3, ?4)";
-        let cells = [
-            text_cell(self.who.as_str()),
-            number_cell(self.since),
-            number_cell(self.ceremony),
-            number_or_null_cell(self.until),
-        ];
         if self.until.is_none() {
             insert_row(tx, self, insert, &cells)
         } else {

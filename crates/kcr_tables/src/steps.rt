@@ -6,7 +6,7 @@ ghost use Rattle.kcr_tables.specs.StepsLaws as laws;
 use crate::table::{PutAllocating, TableRow, insert_row, update_or_insert_row};
 use kcr_base::Refusal;
 use kcr_history::{StepRow, StepState};
-use kcr_rows::cells::{number_cell, number_or_null_cell, seats_words, text_cell};
+use kcr_rows::to_row::ToRowAllocating;
 use sqlite::{Alter, Transaction};
 use std::alloc::Global;
 
@@ -27,17 +27,9 @@ impl PutAllocating for StepRow {
         alloc: Global,
         tx: &mut Transaction<'_, S>,
     ) -> Result<(), Refusal> {
-        let seats = seats_words(alloc, &self.seats)?;
+        let cells = self.cells_allocating(alloc)?;
         let insert =
             "INSERT INTO steps (ceremony, step, activity, seats, state, at) VALUES (?1, ?2, ?3, ?4, ?5, ?6)";
-        let cells = [
-            number_cell(self.ceremony),
-            number_cell(self.step),
-            text_cell(self.activity.as_str()),
-            text_cell(seats.as_str()),
-            number_cell(self.state),
-            number_or_null_cell(self.at),
-        ];
         if self.state == StepState::Undone {
             insert_row(tx, self, insert, &cells)
         } else {

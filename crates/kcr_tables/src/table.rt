@@ -1,11 +1,12 @@
 //! What a table of the register is, and the calls that read and change any of them inside a transaction.
 
-ghost use Rattle.std.specs.Prelude.{◌≡◌, map, filter, IsPermutation};
+ghost use Rattle.std.specs.Prelude.{◌≡◌, length, map, take, filter, IsPermutation};
 ghost use Rattle.sqlite.specs.declared.types.Value.{Value as Cell};
 ghost use Rattle.sqlite.specs.declared.types.Value.TheVariants.{Int, Text};
 ghost use Rattle.std.specs.Prelude.{pos};
 ghost use Rattle.sqlite.specs.Values.{bound, bound_value};
 ghost use Rattle.sqlite.specs.Value.{owned};
+ghost use Rattle.kcr_rows.specs.Cells.{cell_value};
 ghost use Rattle.kcr_rows.specs.Refusals.{IsFault};
 ghost use Rattle.kcr_rows.proofs.FilterLemmas.{has_value};
 ghost use Rattle.kcr_rows.specs.Frame.{ImpliesOpen, StaysInTransaction};
@@ -22,6 +23,7 @@ use kcr_history::Selection;
 use kcr_rows::cells::{number_cell, text_cell};
 use kcr_rows::from_row::FromRow;
 use kcr_rows::statements::{execute, query_rows, run_statement};
+use kcr_rows::to_row::{Cells, Columns, values};
 use sqlite::types::ValueRef;
 use sqlite::{Alter, Transaction};
 use std::alloc::Global;
@@ -210,44 +212,47 @@ pub fn select_all<S: Alter, T: TableRow>(
     }
 }
 
-/// Puts the row of a value whose key no row has by the text `sql`, whose parameters are `cells`, those of the row; the
-/// errors are those of `Put::put`.
-pub fn insert_row<S: Alter, T: TableRow>(
+/// Puts the row of a value whose key no row has by the text `sql`, whose parameters are the cells of the row; the errors
+/// are those of `Put::put`.
+pub fn insert_row<S: Alter, T: TableRow + Columns>(
     tx: &mut Transaction<'_, S>,
     row: &T,
     sql: &str,
-    cells: &[ValueRef<'_>],
+    cells: &Cells<'_>,
 ) -> Result<(), Refusal>
     requires inserts { InsertsRow sql.now T.table.place T.row_of }
-    requires cells { bound cells.now ≡ T.row_of row.now }
+    requires cells { take (length T.kinds) (map cell_value cells.now) ≡ T.row_of row.now }
     requires stored { T.table.is_stored row.now }
     ensures holds { ChangesTables S.Store tx.old tx.new result (λ t. with_put T.table T.row_of row.now t) }
     ensures frame { StaysInTransaction S.Store IsFault tx.old tx.new result }
 {
     let _value = row;
-    run_statement(tx, sql, cells)
+    let values = values(cells);
+    run_statement(tx, sql, &values[..T::kinds().len()])
 }
 
 /// Puts the row of a value under its key, which a row may have already: the text `update_sql` changes that row, and
-/// if it changed none `insert_sql` puts the row. The parameters of both are `cells`, those of the row; the errors
-/// are those of `Put::put`.
-pub fn update_or_insert_row<S: Alter, T: TableRow>(
+/// if it changed none `insert_sql` puts the row. The parameters of both are the cells of the row; the errors are those
+/// of `Put::put`.
+pub fn update_or_insert_row<S: Alter, T: TableRow + Columns>(
     tx: &mut Transaction<'_, S>,
     row: &T,
     update_sql: &str,
     insert_sql: &str,
-    cells: &[ValueRef<'_>],
+    cells: &Cells<'_>,
 ) -> Result<(), Refusal>
     requires updates { UpdatesRow update_sql.now T.table.place T.row_of }
     requires inserts { InsertsRow insert_sql.now T.table.place T.row_of }
-    requires cells { bound cells.now ≡ T.row_of row.now }
+    requires cells { take (length T.kinds) (map cell_value cells.now) ≡ T.row_of row.now }
     requires stored { T.table.is_stored row.now }
     ensures holds { ChangesTables S.Store tx.old tx.new result (λ t. with_put T.table T.row_of row.now t) }
     ensures frame { StaysInTransaction S.Store IsFault tx.old tx.new result }
 {
     let _value = row;
-    if execute(tx, update_sql, cells)? == 0 {
-        run_statement(tx, insert_sql, cells)
+    let values = values(cells);
+    let values = &values[..T::kinds().len()];
+    if execute(tx, update_sql, values)? == 0 {
+        run_statement(tx, insert_sql, values)
     } else {
         Ok(())
     }

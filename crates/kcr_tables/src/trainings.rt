@@ -6,7 +6,7 @@ ghost use Rattle.kcr_tables.specs.TrainingsLaws as laws;
 use crate::table::{LookupBy, Put, TableRow, insert_row};
 use kcr_base::{Initials, Refusal};
 use kcr_people::Training;
-use kcr_rows::cells::{number_cell, text_cell};
+use kcr_rows::to_row::ToRow;
 use sqlite::{Alter, Transaction};
 
 impl TableRow for Training {
@@ -33,16 +33,8 @@ impl LookupBy<Initials> for Training {
 impl Put for Training {
     #[tactic(auto, using(crate::specs::TrainingsLaws::inserts))]
     fn put<S: Alter>(&self, tx: &mut Transaction<'_, S>) -> Result<(), Refusal> {
-        insert_row(
-            tx,
-            self,
-            "INSERT INTO trainings (who, role, since, until) VALUES (?1, ?2, ?3, ?4)",
-            &[
-                text_cell(self.who.as_str()),
-                text_cell(self.role.text()),
-                number_cell(self.since),
-                number_cell(self.until),
-            ],
-        )
+        let cells = self.cells();
+        let insert = "INSERT INTO trainings (who, role, since, until) VALUES (?1, ?2, ?3, ?4)";
+        insert_row(tx, self, insert, &cells)
     }
 }

@@ -6,7 +6,7 @@ ghost use Rattle.kcr_tables.specs.VersionsLaws as laws;
 use crate::table::{Put, TableRow, insert_row};
 use kcr_base::Refusal;
 use kcr_rows::Version;
-use kcr_rows::cells::number_cell;
+use kcr_rows::to_row::ToRow;
 use sqlite::{Alter, Transaction};
 
 impl TableRow for Version {
@@ -22,11 +22,8 @@ impl TableRow for Version {
 impl Put for Version {
     #[tactic(auto, using(crate::specs::VersionsLaws::inserts))]
     fn put<S: Alter>(&self, tx: &mut Transaction<'_, S>) -> Result<(), Refusal> {
-        insert_row(
-            tx,
-            self,
-            "INSERT INTO versions (number) VALUES (?1)",
-            &[number_cell(self.number)],
-        )
+        let cells = self.cells();
+        let insert = "INSERT INTO versions (number) VALUES (?1)";
+        insert_row(tx, self, insert, &cells)
     }
 }

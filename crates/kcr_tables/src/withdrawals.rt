@@ -6,7 +6,7 @@ ghost use Rattle.kcr_tables.specs.WithdrawalsLaws as laws;
 use crate::table::{LookupBy, Put, TableRow, update_or_insert_row};
 use kcr_base::{Initials, Refusal};
 use kcr_people::Withdrawal;
-use kcr_rows::cells::{number_cell, text_cell};
+use kcr_rows::to_row::ToRow;
 use sqlite::{Alter, Transaction};
 
 impl TableRow for Withdrawal {
@@ -33,18 +33,15 @@ impl LookupBy<Initials> for Withdrawal {
 impl Put for Withdrawal {
     #[tactic(auto, using(crate::specs::WithdrawalsLaws::inserts, crate::specs::WithdrawalsLaws::updates))]
     fn put<S: Alter>(&self, tx: &mut Transaction<'_, S>) -> Result<(), Refusal> {
+        let cells = self.cells();
+        let insert =
+            "INSERT INTO withdrawals (who, role, since, until, day) VALUES (?1, ?2, ?3, ?4, ?5)";
         update_or_insert_row(
             tx,
             self,
             "UPDATE withdrawals SET who = ?1, role = ?2, since = ?3, until = ?4, day = ?5 WHERE who = ?1 AND role = ?2 AND since = ?3 AND until = ?4",
-            "INSERT INTO withdrawals (who, role, since, until, day) VALUES (?1, ?2, ?3, ?4, ?5)",
-            &[
-                text_cell(self.who.as_str()),
-                text_cell(self.role.text()),
-                number_cell(self.since),
-                number_cell(self.until),
-                number_cell(self.day),
-            ],
+            insert,
+            &cells,
         )
     }
 }

@@ -6,7 +6,7 @@ use Rattle.sqlite.specs.Order.{Row}
 use Rattle.sqlite_rules.specs.Lists.{Has}
 use Rattle.kcr_rows.proofs.PutLemmas.{has_same}
 use Rattle.kcr_validity.specs.Rows.{IsInvalidOf}
-use Rattle.kcr_validity.specs.declared.cells.Kind.{Kind}
+use Rattle.kcr_rows.specs.declared.kinds.Kind.{Kind}
 
 -- what is made of an element of a list is among what is made of all
 pub has_mapped : {X Y : Type 0} (f : X → Y) (xs : List X) (i : ℕ) (x : X) → i < length xs → x ≡ get_or xs i x → Has (map f xs) (f x)

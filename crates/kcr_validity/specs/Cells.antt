@@ -1,5 +1,5 @@
 -- Which cells are values of their column.
-use Rattle.std.specs.Prelude.{◌≡◌, ◌≢◌, ◌⊎◌, ⊤, ℕ, pos, List, IsTrue, IsUtf8}
+use Rattle.std.specs.Prelude.{◌≡◌, ◌≢◌, ◌⊎◌, ⊤, ℕ, ◌<◌, ◌^◌, pos, List, IsTrue, IsUtf8}
 use Rattle.sqlite.specs.Order.{Row, column}
 use Rattle.sqlite.specs.declared.types.Value.{Value}
 use Rattle.sqlite.specs.declared.types.Value.TheVariants.{Null, Int, Text}
@@ -20,10 +20,10 @@ use Rattle.kcr_custody.specs.Custody.{is_co_place_of}
 use Rattle.kcr_custody.specs.Spots.{IsSpot, spot_text}
 use Rattle.kcr_rows.specs.States.{ceremony_number, safe_digit, step_number, way_number}
 use Rattle.kcr_rows.specs.Values.{truth_number}
+use Rattle.kcr_rows.specs.declared.kinds.Kind.{Kind}
+use Rattle.kcr_rows.specs.declared.kinds.Kind.TheVariants as Kinds
 use Rattle.kcr_script.specs.Seats.{StandsFor, written}
 use Rattle.kcr_script.specs.declared.seat.Seat.{Seat}
-use Rattle.kcr_validity.specs.declared.cells.Kind.{Kind}
-use Rattle.kcr_validity.specs.declared.cells.Kind.TheVariants as Kinds
 
 -- the text of some value
 abbrev pub HasTextOf : {V : Type 0} → (V → Type 0) → (V → List ℕ) → Value → Type 0
@@ -74,6 +74,7 @@ IsCell Kinds.StepOrNull row at = OrNull (IsCount MAX_STEPS) (column row at)
 IsCell Kinds.Seat row at = IsCount 16 (column row at)
 IsCell Kinds.Exception row at = IsCount MAX_EXCEPTIONS (column row at)
 IsCell Kinds.Command row at = IsCount MAX_COMMANDS (column row at)
+IsCell Kinds.Version row at = HasNumberOf (λ n. n < 2 ^ 32) (λ n. n) (column row at)
 IsCell Kinds.Facility row at = HasTextOf (λ _. ⊤) facility_text (column row at)
 IsCell Kinds.Role row at = HasTextOf (λ _. ⊤) role_text (column row at)
 IsCell Kinds.Place row at = HasTextOf IsPlace place_text (column row at)

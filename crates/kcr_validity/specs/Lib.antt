@@ -1,4 +1,3 @@
 pub mod Cells
-pub mod Kinds
 pub mod Rows
 pub mod Stored

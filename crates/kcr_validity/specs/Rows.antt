@@ -3,7 +3,7 @@ use Rattle.std.specs.Prelude.{◌≡◌, ℕ, List, length, slice_get, Some}
 use Rattle.sqlite.specs.Order.{Row}
 use Rattle.sqlite_rules.specs.Lists.{Has}
 use Rattle.kcr_validity.specs.Cells.{IsCell}
-use Rattle.kcr_validity.specs.declared.cells.Kind.{Kind}
+use Rattle.kcr_rows.specs.declared.kinds.Kind.{Kind}
 
 -- a row has these columns, and each cell is a value of its column
 pub record IsValid (kinds : List Kind) (row : Row) : Type 0 where

@@ -1,4 +1,4 @@
-//! What the cells of a column are, and whether a cell is none of them. The error of each test is `Memory`, or `Disk` as a
+//! Whether a cell is no value of its column. The error of each test is `Memory`, or `Disk` as a
 //! reader tells it.
 
 ghost use Rattle.std.specs.Prelude.{◌≡◌, ◌≢◌, ◌<◌, List, ℕ, length, true, false, Ok, Err, IfErr, MatchOption};
@@ -9,6 +9,7 @@ ghost use Rattle.kcr_custody.specs.Spots.{IsSpot, spot_text};
 ghost use Rattle.kcr_script.specs.Seats.{written};
 ghost use Rattle.kcr_rows.specs.Refusals.{IsFault};
 ghost use Rattle.kcr_validity.specs.Cells.{HasNumberOf, HasTextOf, IsAlone, IsCell, IsOfficer, IsWritten, OrNull};
+ghost use Rattle.kcr_validity.specs.Rows.{IsValid};
 
 use kcr_base::number::{Numbered, OfBox, OfCeremony, OfStep};
 use kcr_base::{
@@ -18,6 +19,7 @@ use kcr_base::{
 use kcr_custody::{SafeNumber, Spot};
 use kcr_history::{CeremonyState, StepState};
 use kcr_room::Way;
+use kcr_rows::Kind;
 use kcr_rows::cells::{
     counted_at, counted_or_null_at, number_at, number_or_null_at, officer_at, text_at,
 };
@@ -26,46 +28,6 @@ use kcr_script::{read_seats, write_seats};
 use sqlite::Row;
 use sqlite::types::ValueRef;
 use std::alloc::Global;
-
-/// What the cells of a column are.
-#[derive(Clone, Copy)]
-pub enum Kind {
-    Initials,
-    Key,
-    /// A bag's serial or an item's code.
-    Serial,
-    Name,
-    Activity,
-    Remark,
-    Text,
-    Day,
-    DayOrNull,
-    Moment,
-    MomentOrNull,
-    Ceremony,
-    Box,
-    Step,
-    StepOrNull,
-    Seat,
-    Exception,
-    Command,
-    Facility,
-    Role,
-    Place,
-    /// A Crypto Officer's place of the facility in column 0.
-    Officer,
-    Safe,
-    Truth,
-    Way,
-    CeremonyState,
-    StepState,
-    Spot,
-    Seats,
-    /// The facility where an item is, or NULL if column 2 is not NULL.
-    Loose,
-    /// The bag that an item is in, or NULL if column 1 is not NULL.
-    Within,
-}
 
 /// Whether a column was refused, as it has no such value.
 fn is_refused<T: Drop>(read: Result<T, Refusal>) -> Result<bool, Refusal>
@@ -201,7 +163,7 @@ fn lacks_alone<T: Written + Drop>(
 }
 
 /// Whether a cell is no value of its column.
-pub(crate) fn is_wrong(alloc: Global, kind: Kind, row: &Row, at: usize) -> Result<bool, Refusal>
+fn is_wrong(alloc: Global, kind: Kind, row: &Row, at: usize) -> Result<bool, Refusal>
     requires { at < length row.now }
     ensures wrong { result ≡ Ok true → ¬ IsCell kind row.now at }
     ensures cause { IfErr result IsFault }
@@ -225,6 +187,7 @@ pub(crate) fn is_wrong(alloc: Global, kind: Kind, row: &Row, at: usize) -> Resul
         Kind::Seat => lacks_count::<OfSeat>(row, at),
         Kind::Exception => lacks_count::<OfException>(row, at),
         Kind::Command => lacks_count::<OfCommand>(row, at),
+        Kind::Version => lacks_number::<u32>(row, at),
         Kind::Facility => lacks_text::<Facility>(alloc, row, at),
         Kind::Role => lacks_text::<Role>(alloc, row, at),
         Kind::Place => lacks_text::<Place>(alloc, row, at),
@@ -239,4 +202,22 @@ pub(crate) fn is_wrong(alloc: Global, kind: Kind, row: &Row, at: usize) -> Resul
         Kind::Loose => lacks_alone::<Facility>(alloc, row, at, 2),
         Kind::Within => lacks_alone::<Serial>(alloc, row, at, 1),
     }
+}
+
+/// Whether a row is invalid: it has other columns, or a cell that is no value of its column. The error is `Memory`,
+/// or `Disk` as a reader tells it.
+pub(crate) fn is_invalid(alloc: Global, kinds: &[Kind], row: &Row) -> Result<bool, Refusal>
+    ensures invalid { result ≡ Ok true → ¬ IsValid kinds.now row.now }
+    ensures cause { IfErr result IsFault }
+{
+    if row.column_count() != kinds.len() {
+        return Ok(true);
+    }
+    for at in 0..kinds.len() {
+        match is_wrong(alloc, kinds[at], row, at) {
+            Ok(false) => {}
+            other => return other,
+        }
+    }
+    Ok(false)
 }

@@ -7,10 +7,11 @@ ghost use Rattle.kcr_tables.specs.Frame.{OfTrees, Reads};
 ghost use Rattle.kcr_validity.specs.Rows.{IsInvalidOf};
 ghost use Rattle.kcr_validity.specs.Stored.{cells_of};
 
-use crate::checked::Checked;
+use crate::cells::is_invalid;
 use kcr_base::Refusal;
 use kcr_rows::from_row::FromRow;
 use kcr_rows::statements::query_rows;
+use kcr_rows::to_row::Columns;
 use kcr_tables::TableRow;
 use sqlite::{Alter, Row, Transaction};
 use std::alloc::Global;
@@ -47,12 +48,12 @@ fn stored_rows<S: Alter, T: TableRow>(
 }
 
 /// The first of these rows that is invalid, or `None`.
-fn first_among<T: Checked>(alloc: Global, rows: &[StoredRow]) -> Result<Option<Row>, Refusal>
+fn first_among<T: Columns>(alloc: Global, rows: &[StoredRow]) -> Result<Option<Row>, Refusal>
     ensures found { IfOk result (λ found. IfSome found (IsInvalidOf T.kinds (map cells_of rows.now))) }
     ensures cause { IfErr result IsFault }
 {
     for row in rows {
-        if T::is_invalid(alloc, &row.cells)? {
+        if is_invalid(alloc, T::kinds(), &row.cells)? {
             return Ok(Some(row.cells.copy()?));
         }
     }
@@ -61,7 +62,7 @@ fn first_among<T: Checked>(alloc: Global, rows: &[StoredRow]) -> Result<Option<R
 
 /// The first invalid row of a table in the order of its keys, or `None` if none is found. Its memory grows with the
 /// number of rows. Nothing is changed. The error is `Memory`, or `Disk` if the table cannot be read.
-pub fn first_invalid<S: Alter, T: Checked>(
+pub fn first_invalid<S: Alter, T: TableRow + Columns>(
     alloc: Global,
     tx: &mut Transaction<'_, S>,
 ) -> Result<Option<Row>, Refusal>

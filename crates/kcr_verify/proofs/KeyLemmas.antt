@@ -11,30 +11,26 @@ use Rattle.sqlite.specs.Store.{Ghosts}
 use Rattle.sqlite.specs.Values.{bound_value}
 use Rattle.sqlite.specs.declared.types.Value.{Value}
 use Rattle.sqlite.specs.declared.types.Value.TheVariants.{Null, Int, Real, Text, Blob}
+use Rattle.kcr_rows.specs.declared.kinds.Kind.{Kind}
 use Rattle.kcr_verify.proofs.QuotedLemmas.{first_value, next_value}
 use Rattle.kcr_verify.specs.Quoted.{cell_text, date_behind, row_text, value_text}
-use Rattle.kcr_verify.specs.declared.quoted.Column.{Column}
-use Rattle.kcr_verify.specs.declared.quoted.Column.TheVariants.{Plain, Days, Moments}
 
 -- a value that is bound has the same text
-bound_text : (k : Column) (v : Value) → cell_text k (bound_value v) ≡ cell_text k v
+bound_text : (k : Kind) (v : Value) → cell_text k (bound_value v) ≡ cell_text k v
 bound_text k Null = refl
 bound_text k (Int n) = refl
-bound_text k (Real x) = elim (is_nan x) as (λ b. cell_text k (if b then Null else Real x) ≡ cell_text k (Real x)) [
-  | true ↦ elim k as (λ k. cell_text k Null ≡ cell_text k (Real x)) [ Plain ↦ refl | Days ↦ refl | Moments ↦ refl ]
-  | false ↦ refl
-]
+bound_text k (Real x) = elim (is_nan x) as (λ b. cell_text k (if b then Null else Real x) ≡ cell_text k (Real x)) [ true ↦ refl | false ↦ refl ]
 bound_text k (Text t) = refl
 bound_text k (Blob b) = refl
 
 -- the cell in a position
-cell_at : (k : Column) (row : Row) (n i e : ℕ) (v : Value) → i < n → v ≡ column row i
+cell_at : (k : Kind) (row : Row) (n i e : ℕ) (v : Value) → i < n → v ≡ column row i
     → cell_text k (column row (get_or (range_with_len 0 n) i e)) ≡ value_text (bound_value v) ++ date_behind k (bound_value v)
 cell_at k row n i e v h is =
     ap (λ at. cell_text k (column row at)) (get_or-range_with_len 0 n i e h ∙ zero-add i) ∙ ap (cell_text k) (sym is) ∙ sym (bound_text k v)
 
 -- the text of the first cells of a row
-module _ (columns : List Column) (row : Row) where
+module _ (columns : List Kind) (row : Row) where
   abbrev pub cells_before : ℕ → List ℕ
   cells_before i = row_text (take i columns) (map (column row) (take i (range_with_len 0 (length columns))))
 
@@ -42,14 +38,14 @@ module _ (columns : List Column) (row : Row) where
   in_places i h = omega (arith, length-range_with_len 0 (length columns))
 
   -- with the first cell
-  pub key_first : (i : ℕ) (d : Column) (v : Value) → i < length columns → v ≡ column row i → i ≡ 0
+  pub key_first : (i : ℕ) (d : Kind) (v : Value) → i < length columns → v ≡ column row i → i ≡ 0
       → cells_before (i + 1) ≡ cells_before i ++ (value_text (bound_value v) ++ date_behind (get_or columns i d) (bound_value v))
   key_first i d v h is z =
       first_value (column row) columns (range_with_len 0 (length columns)) i d 0 h (in_places i h) z
       ∙ ap (λ t. cells_before i ++ t) (cell_at (get_or columns i d) row (length columns) i 0 v h is)
 
   -- with a later cell, behind a comma
-  pub key_more : (i : ℕ) (d : Column) (v : Value) → i < length columns → v ≡ column row i → 0 < i
+  pub key_more : (i : ℕ) (d : Kind) (v : Value) → i < length columns → v ≡ column row i → 0 < i
       → cells_before (i + 1) ≡ (cells_before i ++ 44 ∷ []) ++ (value_text (bound_value v) ++ date_behind (get_or columns i d) (bound_value v))
   key_more i d v h is p =
       next_value (column row) columns (range_with_len 0 (length columns)) i d 0 h (in_places i h) p

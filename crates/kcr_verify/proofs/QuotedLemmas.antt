@@ -4,8 +4,8 @@ use Rattle.std.specs.List.{join_with_byte}
 use Rattle.std.proofs.lemmas.List.{take_more}
 use Rattle.std.proofs.lemmas.List.Concat.{flat_map-append}
 use Rattle.sqlite.specs.declared.types.Value.{Value}
+use Rattle.kcr_rows.specs.declared.kinds.Kind.{Kind}
 use Rattle.kcr_verify.specs.Quoted.{cell_text, cell_texts, doubled, row_text}
-use Rattle.kcr_verify.specs.declared.quoted.Column.{Column}
 
 doubled_end : (text : List ℕ) (byte : ℕ) → doubled (text ++ byte ∷ []) ≡ doubled text ++ doubled (byte ∷ [])
 doubled_end text byte = flat_map-append _ text (byte ∷ [])
@@ -32,10 +32,10 @@ joined_end (y ∷ z ∷ ys) x h = rw (joined_end (z ∷ ys) x (omega arith)) (si
 
 -- of values in columns
 module _ {X : Type 0} (value : X → Value) where
-  abbrev texts : List Column → List X → List (List ℕ)
+  abbrev texts : List Kind → List X → List (List ℕ)
   texts ks xs = cell_texts ks (map value xs)
 
-  texts_more : (ks : List Column) (xs : List X) (i : ℕ) (d : Column) (e : X) → i < length ks → i < length xs
+  texts_more : (ks : List Kind) (xs : List X) (i : ℕ) (d : Kind) (e : X) → i < length ks → i < length xs
       → texts (take (suc i) ks) (take (suc i) xs) ≡ texts (take i ks) (take i xs) ++ cell_text (get_or ks i d) (value (get_or xs i e)) ∷ []
   texts_more [] xs i d e h g = absurd (omega arith)
   texts_more (k ∷ ks) [] i d e h g = absurd (omega arith)
@@ -43,14 +43,14 @@ module _ {X : Type 0} (value : X → Value) where
   texts_more (k ∷ ks) (x ∷ xs) (suc i) d e h g =
       ap (λ (t : List (List ℕ)). cell_text k (value x) ∷ t) (texts_more ks xs i d e (omega arith) (omega arith))
 
-  some_texts : (ks : List Column) (xs : List X) (i : ℕ) → 0 < i → i < length ks → i < length xs → 0 < length (texts (take i ks) (take i xs))
+  some_texts : (ks : List Kind) (xs : List X) (i : ℕ) → 0 < i → i < length ks → i < length xs → 0 < length (texts (take i ks) (take i xs))
   some_texts [] xs i p h g = absurd (omega arith)
   some_texts (c ∷ ks) [] i p h g = absurd (omega arith)
   some_texts (c ∷ ks) (x ∷ xs) zero p h g = absurd (omega arith)
   some_texts (c ∷ ks) (x ∷ xs) (suc i) p h g = omega arith
 
   -- the first value
-  pub first_value : (ks : List Column) (xs : List X) (i : ℕ) (d : Column) (e : X) → i < length ks → i < length xs → i ≡ 0
+  pub first_value : (ks : List Kind) (xs : List X) (i : ℕ) (d : Kind) (e : X) → i < length ks → i < length xs → i ≡ 0
       → row_text (take (i + 1) ks) (map value (take (i + 1) xs))
       ≡ row_text (take i ks) (map value (take i xs)) ++ cell_text (get_or ks i d) (value (get_or xs i e))
   first_value ks xs i d e h g z =
@@ -58,7 +58,7 @@ module _ {X : Type 0} (value : X → Value) where
       rw (add-one, more, z) refl
 
   -- each later one stands behind a comma
-  pub next_value : (ks : List Column) (xs : List X) (i : ℕ) (d : Column) (e : X) → i < length ks → i < length xs → 0 < i
+  pub next_value : (ks : List Kind) (xs : List X) (i : ℕ) (d : Kind) (e : X) → i < length ks → i < length xs → 0 < i
       → row_text (take (i + 1) ks) (map value (take (i + 1) xs))
       ≡ (row_text (take i ks) (map value (take i xs)) ++ 44 ∷ []) ++ cell_text (get_or ks i d) (value (get_or xs i e))
   next_value ks xs i d e h g p =

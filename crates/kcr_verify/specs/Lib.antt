@@ -3,5 +3,4 @@ pub mod Seated
 pub mod Verification
 pub mod FirstRow
 pub mod Quoted
-pub mod Columns
 pub mod Invalid

@@ -8,8 +8,8 @@ use Rattle.sqlite.specs.declared.types.Value.{Value}
 use Rattle.sqlite.specs.declared.types.Value.TheVariants.{Int, Text}
 use Rattle.kcr_base.specs.Day.{day_text}
 use Rattle.kcr_base.specs.Moment.{moment_text}
-use Rattle.kcr_verify.specs.declared.quoted.Column.{Column}
-use Rattle.kcr_verify.specs.declared.quoted.Column.TheVariants.{Days, Moments}
+use Rattle.kcr_rows.specs.declared.kinds.Kind.{Kind}
+use Rattle.kcr_rows.specs.declared.kinds.Kind.TheVariants.{Day, DayOrNull, Moment, MomentOrNull}
 use Rattle.kcr_verify.specs.declared.compare.RowDifference.{RowDifference}
 
 -- a text in which each single quote is doubled
@@ -36,23 +36,29 @@ abbrev pub behind : Option (List ℕ) → List ℕ
 behind None = []
 behind (Some date) = codes " (" ++ (date ++ codes ")")
 
--- the date of a value in this column
-abbrev pub date_behind : Column → Value → List ℕ
-date_behind Days (Int n) = behind (option_map day_text (day_in n))
-date_behind Moments (Int n) = behind (option_map moment_text (moment_in n))
-date_behind column value = []
+-- the date of a number in a column of days or of moments
+abbrev pub date_in : Kind → ℤ → Option (List ℕ)
+date_in Day n = option_map day_text (day_in n)
+date_in DayOrNull n = option_map day_text (day_in n)
+date_in Moment n = option_map moment_text (moment_in n)
+date_in MomentOrNull n = option_map moment_text (moment_in n)
+date_in kind n = None
 
-abbrev pub cell_text : Column → Value → List ℕ
-cell_text column value = value_text value ++ date_behind column value
+abbrev pub date_behind : Kind → Value → List ℕ
+date_behind kind (Int n) = behind (date_in kind n)
+date_behind kind value = []
+
+abbrev pub cell_text : Kind → Value → List ℕ
+cell_text kind value = value_text value ++ date_behind kind value
 
 -- the values in these columns, each as a text
-abbrev pub cell_texts : List Column → Row → List (List ℕ)
-cell_texts (column ∷ columns) (value ∷ row) = cell_text column value ∷ cell_texts columns row
-cell_texts columns row = []
+abbrev pub cell_texts : List Kind → Row → List (List ℕ)
+cell_texts (kind ∷ kinds) (value ∷ row) = cell_text kind value ∷ cell_texts kinds row
+cell_texts kinds row = []
 
 -- the values with commas between them
-abbrev pub row_text : List Column → Row → List ℕ
-row_text columns row = join_with_byte 44 (cell_texts columns row)
+abbrev pub row_text : List Kind → Row → List ℕ
+row_text kinds row = join_with_byte 44 (cell_texts kinds row)
 
 -- what stands for no row
 abbrev pub no_row : List ℕ

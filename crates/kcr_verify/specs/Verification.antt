@@ -27,8 +27,8 @@ use Rattle.kcr_store.specs.Calls.{left_at}
 use Rattle.kcr_store.specs.FullView.{AreRows, IsListed}
 use Rattle.kcr_store.specs.Register.{RegisterHistory, RegisterState, IsConsistent, StandsAt, whole}
 use Rattle.kcr_tables.specs.Refusals.{IsFault}
+use Rattle.kcr_rows.specs.Kinds as kinds
 use Rattle.kcr_rows.specs.Rows as stored
-use Rattle.kcr_verify.specs.Columns as columns
 use Rattle.kcr_verify.specs.FirstRow.{DiffersAt, IsFirstRow}
 use Rattle.kcr_verify.specs.Seated.{TellsSeating}
 use Rattle.kcr_verify.specs.declared.compare.RowDifference.{RowDifference}
@@ -135,7 +135,7 @@ pub record IsFirstCommand (own rows : List KeyRow) (row : RowDifference) : Type 
   pub sorted : List KeyRow
   pub own_order : AreInOrder own own_sorted
   pub order : AreInOrder rows sorted
-  pub differs : DiffersAt columns.key_columns stored.key_row own_sorted sorted row
+  pub differs : DiffersAt kinds.key_kinds stored.key_row own_sorted sorted row
 
 -- each row has a key of its own, as it has in every database
 abbrev pub HaveOwnKeys : List KeyRow → Type 0
@@ -230,34 +230,27 @@ pub record IsFirstTable (tables_in : List TableName) (A : History) (view : FullV
 -- of this table, this is the first row in which the view differs from the machine
 abbrev pub DiffersIn : TableName → Tables → FullView → RowDifference → Type 0
 DiffersIn People m view row =
-    IsFirstRow (λ t. t.rows.people) columns.person_columns stored.person_row m view.view.people.items row
+    IsFirstRow (λ t. t.rows.people) kinds.person_kinds stored.person_row m view.view.people.items row
 DiffersIn Trainings m view row =
-    IsFirstRow (λ t. t.rows.trainings) columns.training_columns stored.training_row m view.view.trainings.items row
+    IsFirstRow (λ t. t.rows.trainings) kinds.training_kinds stored.training_row m view.view.trainings.items row
 DiffersIn Withdrawals m view row =
-    IsFirstRow (λ t. t.rows.withdrawals) columns.withdrawal_columns stored.withdrawal_row m view.view.withdrawals.items row
+    IsFirstRow (λ t. t.rows.withdrawals) kinds.withdrawal_kinds stored.withdrawal_row m view.view.withdrawals.items row
 DiffersIn Appointments m view row =
-    IsFirstRow (λ t. t.rows.appointments) columns.appointment_columns stored.appointment_row m view.view.appointments.items row
-DiffersIn Boxes m view row =
-    IsFirstRow (λ t. t.rows.boxes) columns.box_columns stored.box_row m view.view.boxes.items row
-DiffersIn Safes m view row =
-    IsFirstRow (λ t. t.rows.safes) columns.safe_columns stored.safe_row m view.view.safes.items row
-DiffersIn Bags m view row = IsFirstRow (λ t. t.rows.bags) columns.bag_columns stored.bag_row m view.view.bags.items row
-DiffersIn Items m view row =
-    IsFirstRow (λ t. t.rows.items) columns.item_columns stored.item_row m view.view.items.items row
+    IsFirstRow (λ t. t.rows.appointments) kinds.appointment_kinds stored.appointment_row m view.view.appointments.items row
+DiffersIn Boxes m view row = IsFirstRow (λ t. t.rows.boxes) kinds.box_kinds stored.box_row m view.view.boxes.items row
+DiffersIn Safes m view row = IsFirstRow (λ t. t.rows.safes) kinds.safe_kinds stored.safe_row m view.view.safes.items row
+DiffersIn Bags m view row = IsFirstRow (λ t. t.rows.bags) kinds.bag_kinds stored.bag_row m view.view.bags.items row
+DiffersIn Items m view row = IsFirstRow (λ t. t.rows.items) kinds.item_kinds stored.item_row m view.view.items.items row
 DiffersIn Ceremonies m view row =
-    IsFirstRow (λ t. t.rows.ceremonies) columns.ceremony_columns stored.ceremony_row m view.view.ceremonies.items row
-DiffersIn Marks m view row =
-    IsFirstRow (λ t. t.rows.marks) columns.mark_columns stored.mark_row m view.view.marks.items row
-DiffersIn Steps m view row =
-    IsFirstRow (λ t. t.rows.steps) columns.step_columns stored.step_row m view.view.steps.items row
+    IsFirstRow (λ t. t.rows.ceremonies) kinds.ceremony_kinds stored.ceremony_row m view.view.ceremonies.items row
+DiffersIn Marks m view row = IsFirstRow (λ t. t.rows.marks) kinds.mark_kinds stored.mark_row m view.view.marks.items row
+DiffersIn Steps m view row = IsFirstRow (λ t. t.rows.steps) kinds.step_kinds stored.step_row m view.view.steps.items row
 DiffersIn Seatings m view row =
-    IsFirstRow (λ t. t.rows.seatings) columns.seating_columns stored.seating_row m view.view.seatings.items row
-DiffersIn Sheet m view row =
-    IsFirstRow (λ t. t.rows.sheet) columns.sheet_columns stored.sheet_row m view.sheet.items row
-DiffersIn Stays m view row =
-    IsFirstRow (λ t. t.rows.stays) columns.stay_columns stored.stay_row m view.view.stays.items row
+    IsFirstRow (λ t. t.rows.seatings) kinds.seating_kinds stored.seating_row m view.view.seatings.items row
+DiffersIn Sheet m view row = IsFirstRow (λ t. t.rows.sheet) kinds.sheet_kinds stored.sheet_row m view.sheet.items row
+DiffersIn Stays m view row = IsFirstRow (λ t. t.rows.stays) kinds.stay_kinds stored.stay_row m view.view.stays.items row
 DiffersIn Exceptions m view row =
-    IsFirstRow (λ t. t.rows.exceptions) columns.exception_columns stored.exception_row m view.view.exceptions.items row
+    IsFirstRow (λ t. t.rows.exceptions) kinds.exception_kinds stored.exception_row m view.view.exceptions.items row
 DiffersIn Keys m view row = IsFirstCommand m.keys view.keys.items row
 
 -- end: written by tools/tables.py

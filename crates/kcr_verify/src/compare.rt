@@ -15,13 +15,14 @@ ghost use Rattle.kcr_verify.specs.Quoted.{no_row, row_line};
 ghost use Rattle.kcr_verify.specs.Verification.{HasRows, IsCompared, IsFirst, IsFirstCommand, IsIntact, OnlyLooks};
 ghost use Rattle.kcr_verify.specs.Verification.{by_number, compared, name_of};
 
-use crate::quoted::Quoted;
+use crate::quoted::quoted;
 use crate::sort::sort_by_number;
 use kcr_base::{Refusal, Text};
 use kcr_custody::{Bag, BoxRow, Item, SafeRow};
 use kcr_history::{CeremonyRow, ExceptionRow, FullView, KeyRow, MarkRow, SeatingRow, StepRow};
 use kcr_people::{Appointment, Person, Training, Withdrawal};
 use kcr_room::{SheetRow, Stay};
+use kcr_rows::to_row::ToRowAllocating;
 use kcr_script::Seat;
 use kcr_store::Register;
 use kcr_tables::TableRow;
@@ -292,26 +293,30 @@ fn first_other<T: Compared>(own: &[T], rows: &[T]) -> Option<usize>
     }
 }
 
-/// The text of the row at this position, or `None` if there are no more rows. The errors are those of `Quoted::quoted`.
-fn quoted_at<R: Quoted>(alloc: Global, rows: &[R], position: usize) -> Result<Option<Text>, Refusal>
-    ensures text { IfOk result (λ text. text ≡ text_at R.columns R.row_of rows.now position) }
+/// The text of the row at this position, or `None` if there are no more rows. The errors are those of `quoted`.
+fn quoted_at<R: ToRowAllocating>(
+    alloc: Global,
+    rows: &[R],
+    position: usize,
+) -> Result<Option<Text>, Refusal>
+    ensures text { IfOk result (λ text. text ≡ text_at R.kinds R.row_of rows.now position) }
     ensures cause { IfErr result IsFault }
 {
     if position < rows.len() {
-        Ok(Some(rows[position].quoted(alloc)?))
+        Ok(Some(quoted(alloc, &rows[position])?))
     } else {
         Ok(None)
     }
 }
 
-/// The first row in which these differ, or `None` if they are the same. The errors are those of `Quoted::quoted`.
-fn first_row<R: Compared + Quoted>(
+/// The first row in which these differ, or `None` if they are the same. The errors are those of `quoted`.
+fn first_row<R: Compared + ToRowAllocating>(
     alloc: Global,
     own: &[R],
     rows: &[R],
 ) -> Result<Option<RowDifference>, Refusal>
     ensures row { IfOk result (λ found. MatchOption found (own.now ≡ rows.now)
-        (λ row. (own.now ≢ rows.now) × DiffersAt R.columns R.row_of own.now rows.now row)) }
+        (λ row. (own.now ≢ rows.now) × DiffersAt R.kinds R.row_of own.now rows.now row)) }
     ensures cause { IfErr result IsFault }
 {
     let Some(position) = first_other(own, rows) else {
@@ -328,7 +333,7 @@ fn first_row<R: Compared + Quoted>(
 
 /// The first row in which these, in the order of their keys, differ from those of a table of the register, which are in
 /// memory meanwhile; `None` if they are the same.
-fn compare_rows<S: Alter, R: TableRow + Compared + Quoted>(
+fn compare_rows<S: Alter, R: TableRow + Compared + ToRowAllocating>(
     alloc: Global,
     register: &mut Register<S>,
     rows: &[R],
@@ -337,7 +342,7 @@ fn compare_rows<S: Alter, R: TableRow + Compared + Quoted>(
     ensures rows { OfHistory S.Store register.old register.new (λ A. IfOk result (λ found.
         MatchOption found (AreRows R.table.rows_in (machine.tables A) rows.now)
         (λ row. (¬ AreRows R.table.rows_in (machine.tables A) rows.now)
-        × IsFirstRow R.table.rows_in R.columns R.row_of (machine.tables A) rows.now row))) }
+        × IsFirstRow R.table.rows_in R.kinds R.row_of (machine.tables A) rows.now row))) }
     ensures register { OfHistory S.Store register.old register.new (λ A. IfOk result (λ _. IsRegister A)) }
     ensures frame { OnlyLooks S.Store register.old register.new result }
 {

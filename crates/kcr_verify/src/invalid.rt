@@ -1,20 +1,23 @@
 //! The first invalid row of a register, by its table and its key.
-ghost use Rattle.std.specs.Prelude.{◌≡◌, IfOk, IfSome, false};
+ghost use Rattle.std.specs.Prelude.{◌≡◌, ◌≤◌, IfOk, IfSome, false, length};
 ghost use Rattle.sqlite.specs.Order.{column};
 ghost use Rattle.sqlite.specs.Value.{owned};
 ghost use Rattle.kcr_store.specs.Frame.{IfCleanOver, StaysOutside};
 ghost use Rattle.kcr_tables.specs.Frame.{OfTrees, Reads};
 ghost use Rattle.kcr_tables.specs.Schema.{register_schema};
-ghost use Rattle.kcr_verify.specs.Invalid.{IsInvalidIn, key_text};
+ghost use Rattle.kcr_verify.specs.Invalid.{IsInvalidIn, key_text, searched};
 
 use crate::compare::TableName;
-use crate::quoted::{Column, push_date_of, push_value};
+use crate::quoted::{push_date_of, push_value};
 use kcr_base::{Refusal, Text};
 use kcr_custody::{Bag, BoxRow, Item, SafeRow};
 use kcr_history::{CeremonyRow, ExceptionRow, KeyRow, MarkRow, SeatingRow, StepRow};
 use kcr_people::{Appointment, Person, Training, Withdrawal};
 use kcr_room::{SheetRow, Stay};
-use kcr_validity::{Checked, first_invalid};
+use kcr_rows::Kind;
+use kcr_rows::to_row::Columns;
+use kcr_tables::TableRow;
+use kcr_validity::first_invalid;
 use sqlite::types::ValueRef;
 use sqlite::{Alter, Connection, Row, Transaction};
 use std::alloc::{AllocError, Global};
@@ -38,7 +41,7 @@ fn cell(row: &Row, at: usize) -> ValueRef<'_>
 }
 
 /// The key of a row with these first columns. The error is out of memory.
-pub(crate) fn key_of(alloc: Global, columns: &[Column], row: &Row) -> Result<Text, AllocError>
+fn key_of(alloc: Global, columns: &[Kind], row: &Row) -> Result<Text, AllocError>
     ensures { IfOk result (λ key. key ≡ key_text columns.now row.now) }
 {
     let mut line = Vec::new(alloc);
@@ -53,97 +56,103 @@ pub(crate) fn key_of(alloc: Global, columns: &[Column], row: &Row) -> Result<Tex
     Ok(Text::from_string(String::from_utf8_lossy(alloc, &line)?))
 }
 
-/// A table that is searched for an invalid row.
-pub(crate) trait Searched: Checked {
-    ghost use Rattle.std.specs.Prelude.{◌≡◌};
-    ghost use Rattle.kcr_verify.specs.Invalid.{searched};
-    ghost use Rattle.kcr_verify.specs.declared.compare.TableName.{TableName as Named};
-
-    /// The table.
-    ghost name: { Named };
-
-    /// The table.
-    fn name() -> TableName
-        ensures { result ≡ name };
-
-    /// The key of a row. The error is out of memory.
-    fn key(alloc: Global, row: &Row) -> Result<Text, AllocError>
-        ensures { IfOk result (λ key. key ≡ key_text (searched name).key row.now) };
-
-    // Where it lies, and what its cells are.
-    ghost place: { (searched name).place ≡ Self.TableRow.table.place };
-
-    ghost cells: { (searched name).kinds ≡ Self.Checked.kinds };
-}
-
-/// A table, or several, one after the other.
-trait Search {
-    /// The first invalid row. Nothing is changed. The error is `Memory`, or `Disk` if a table cannot be read.
-    fn search<S: Alter>(
-        alloc: Global,
-        tx: &mut Transaction<'_, S>,
-    ) -> Result<Option<InvalidRow>, Refusal>
-        ensures found { OfTrees S.Store tx.old tx.new result (λ db found. IfSome found (IsInvalidIn db)) }
-        ensures frame { Reads S.Store tx.old tx.new result };
-}
-
-impl<T: Searched> Search for Vec<T> {
-    fn search<S: Alter>(
-        alloc: Global,
-        tx: &mut Transaction<'_, S>,
-    ) -> Result<Option<InvalidRow>, Refusal> {
-        match first_invalid::<S, T>(alloc, tx)? {
-            Some(row) => Ok(Some(InvalidRow {
-                table: T::name(),
-                key: T::key(alloc, &row)?,
-            })),
-            None => Ok(None),
-        }
-    }
-}
-
-impl<A: Search, B: Search> Search for (A, B) {
-    fn search<S: Alter>(
-        alloc: Global,
-        tx: &mut Transaction<'_, S>,
-    ) -> Result<Option<InvalidRow>, Refusal> {
-        match A::search(alloc, tx)? {
-            Some(found) => Ok(Some(found)),
-            None => B::search(alloc, tx),
-        }
-    }
-}
-
-/// Every table of the register. Those that a file of an older version lacks are the last.
-type AllTables = (
-    (
-        (
-            (Vec<Person>, Vec<Training>),
-            (Vec<Appointment>, Vec<BoxRow>),
-        ),
-        ((Vec<SafeRow>, Vec<Bag>), (Vec<Item>, Vec<CeremonyRow>)),
-    ),
-    (
-        (
-            (Vec<MarkRow>, Vec<StepRow>),
-            (Vec<SeatingRow>, Vec<SheetRow>),
-        ),
-        (
-            (Vec<ExceptionRow>, Vec<KeyRow>),
-            (Vec<Stay>, Vec<Withdrawal>),
-        ),
-    ),
-);
-
-/// The first invalid row among these tables.
-fn search_in<S: Alter, T: Search>(
+/// The first invalid row of the table with these rows, of which the first `keys` columns are the key. The error is `Memory`,
+/// or `Disk` if the table cannot be read.
+fn search_rows<S: Alter, T: TableRow + Columns>(
     alloc: Global,
     tx: &mut Transaction<'_, S>,
+    table: TableName,
+    keys: usize,
+) -> Result<Option<InvalidRow>, Refusal>
+    requires place { (searched table).place ≡ T.table.place }
+    requires kinds { (searched table).kinds ≡ T.kinds }
+    requires keys { keys ≡ T.table.place.keys }
+    requires fits { keys ≤ length T.kinds }
+    ensures found { OfTrees S.Store tx.old tx.new result (λ db found. IfSome found (IsInvalidIn db)) }
+    ensures frame { Reads S.Store tx.old tx.new result }
+{
+    match first_invalid::<S, T>(alloc, tx)? {
+        Some(row) => Ok(Some(InvalidRow {
+            table,
+            key: key_of(alloc, &T::kinds()[..keys], &row)?,
+        })),
+        None => Ok(None),
+    }
+}
+
+// begin: written by tools/tables.py
+
+/// Every table of the register. Those that a file of an older version lacks are the last.
+const STORED: [TableName; 16] = [
+    TableName::People,
+    TableName::Trainings,
+    TableName::Appointments,
+    TableName::Boxes,
+    TableName::Safes,
+    TableName::Bags,
+    TableName::Items,
+    TableName::Ceremonies,
+    TableName::Marks,
+    TableName::Steps,
+    TableName::Seatings,
+    TableName::Sheet,
+    TableName::Exceptions,
+    TableName::Keys,
+    TableName::Stays,
+    TableName::Withdrawals,
+];
+
+// end: written by tools/tables.py
+
+// begin: written by tools/tables.py
+
+/// The first invalid row of this table.
+fn search_table<S: Alter>(
+    alloc: Global,
+    tx: &mut Transaction<'_, S>,
+    table: TableName,
 ) -> Result<Option<InvalidRow>, Refusal>
     ensures found { OfTrees S.Store tx.old tx.new result (λ db found. IfSome found (IsInvalidIn db)) }
     ensures frame { Reads S.Store tx.old tx.new result }
 {
-    T::search(alloc, tx)
+    match table {
+        TableName::People => search_rows::<S, Person>(alloc, tx, table, 1),
+        TableName::Trainings => search_rows::<S, Training>(alloc, tx, table, 4),
+        TableName::Withdrawals => search_rows::<S, Withdrawal>(alloc, tx, table, 4),
+        TableName::Appointments => search_rows::<S, Appointment>(alloc, tx, table, 2),
+        TableName::Boxes => search_rows::<S, BoxRow>(alloc, tx, table, 2),
+        TableName::Safes => search_rows::<S, SafeRow>(alloc, tx, table, 2),
+        TableName::Bags => search_rows::<S, Bag>(alloc, tx, table, 1),
+        TableName::Items => search_rows::<S, Item>(alloc, tx, table, 1),
+        TableName::Ceremonies => search_rows::<S, CeremonyRow>(alloc, tx, table, 1),
+        TableName::Marks => search_rows::<S, MarkRow>(alloc, tx, table, 1),
+        TableName::Steps => search_rows::<S, StepRow>(alloc, tx, table, 2),
+        TableName::Seatings => search_rows::<S, SeatingRow>(alloc, tx, table, 3),
+        TableName::Sheet => search_rows::<S, SheetRow>(alloc, tx, table, 2),
+        TableName::Stays => search_rows::<S, Stay>(alloc, tx, table, 2),
+        TableName::Exceptions => search_rows::<S, ExceptionRow>(alloc, tx, table, 2),
+        TableName::Keys => search_rows::<S, KeyRow>(alloc, tx, table, 1),
+    }
+}
+
+// end: written by tools/tables.py
+
+/// The first invalid row of these tables, of which one is read after the other. Nothing is changed. The error is
+/// `Memory`, or `Disk` if a table cannot be read.
+fn search_tables<S: Alter>(
+    alloc: Global,
+    tx: &mut Transaction<'_, S>,
+    tables: &[TableName],
+) -> Result<Option<InvalidRow>, Refusal>
+    ensures found { OfTrees S.Store tx.old tx.new result (λ db found. IfSome found (IsInvalidIn db)) }
+    ensures frame { Reads S.Store tx.old tx.new result }
+{
+    for table in tables {
+        if let Some(found) = search_table(alloc, tx, *table)? {
+            return Ok(Some(found));
+        }
+    }
+    Ok(None)
 }
 
 /// The first invalid row of a database, in a transaction that is rolled back.
@@ -157,7 +166,7 @@ fn search_database<S: Alter>(
     ensures frame { StaysOutside S.Store (λ _. ⊥) conn.old conn.new }
 {
     let mut tx = conn.transaction();
-    let found = search_in::<S, AllTables>(alloc, &mut tx);
+    let found = search_tables(alloc, &mut tx, &STORED);
     tx.rollback();
     found
 }

@@ -7,7 +7,8 @@ ghost use Rattle.kcr_tables.specs.Refusals.{IsFault};
 ghost use Rattle.kcr_verify.specs.Quoted.{behind, date_behind, day_in, doubled, moment_in, row_text, value_text};
 
 use kcr_base::{Day, Moment, Refusal, Text};
-use kcr_rows::from_row::FromRow;
+use kcr_rows::Kind;
+use kcr_rows::to_row::{ToRowAllocating, values};
 use sqlite::types::ValueRef;
 use std::alloc::{AllocError, Global};
 
@@ -22,15 +23,6 @@ fn push_doubled(line: &mut Vec<u8>, text: &[u8]) -> Result<(), AllocError>
         }
     }
     Ok(())
-}
-
-/// What the numbers of a column are.
-#[derive(Clone, Copy)]
-pub(crate) enum Column {
-    /// No dates.
-    Plain,
-    Days,
-    Moments,
 }
 
 /// Adds a value: a whole number, a text in single quotes, or `NULL`, which also stands for values of other types. No
@@ -86,20 +78,23 @@ fn push_date(line: &mut Vec<u8>, date: &[u8]) -> Result<(), AllocError>
     Ok(())
 }
 
-/// Adds the date of a value, if it has one.
+/// Adds the date of a value in a column of days or of moments, if it has one.
 pub(crate) fn push_date_of(
     line: &mut Vec<u8>,
-    column: Column,
+    kind: Kind,
     value: &ValueRef<'_>,
 ) -> Result<(), AllocError>
-    ensures { OnOk result (line.new.items ≡ line.old.items ++ date_behind column (bound_value (owned value.now))) }
+    ensures { OnOk result (line.new.items ≡ line.old.items ++ date_behind kind (bound_value (owned value.now))) }
 {
-    match (column, value) {
-        (Column::Days, ValueRef::Int(number)) => match day_in(*number) {
+    let ValueRef::Int(number) = value else {
+        return Ok(());
+    };
+    match kind {
+        Kind::Day | Kind::DayOrNull => match day_in(*number) {
             Some(day) => push_date(line, &day.text()),
             None => Ok(()),
         },
-        (Column::Moments, ValueRef::Int(number)) => match moment_in(*number) {
+        Kind::Moment | Kind::MomentOrNull => match moment_in(*number) {
             Some(moment) => push_date(line, &moment.text()),
             None => Ok(()),
         },
@@ -108,7 +103,7 @@ pub(crate) fn push_date_of(
 }
 
 /// The values of a row in these columns, with commas between them. The error is out of memory.
-fn joined(alloc: Global, columns: &[Column], values: &[ValueRef<'_>]) -> Result<Vec<u8>, AllocError>
+fn joined(alloc: Global, columns: &[Kind], values: &[ValueRef<'_>]) -> Result<Vec<u8>, AllocError>
     requires { length columns.now ≡ length values.now }
     ensures { IfOk result (λ line. line.items ≡ row_text columns.now (bound values.now)) }
 {
@@ -123,37 +118,17 @@ fn joined(alloc: Global, columns: &[Column], values: &[ValueRef<'_>]) -> Result<
     Ok(line)
 }
 
-/// The text of a row with these values in these columns. The error is `Memory`, or `Disk` if a text is not UTF-8, as no
-/// row of a register has one.
-pub(crate) fn text_of<R: FromRow>(
-    alloc: Global,
-    row: &R,
-    columns: &[Column],
-    values: &[ValueRef<'_>],
-) -> Result<Text, Refusal>
-    requires count { length columns.now ≡ length values.now }
-    requires values { bound values.now ≡ R.row_of row.now }
-    ensures text { IfOk result (λ text. text ≡ row_text columns.now (R.row_of row.now)) }
+/// A row as sqlite3 prints it in its mode `quote`, with dates. The error is `Memory`, or `Disk` if a text is not UTF-8,
+/// as no row of a register has one.
+pub(crate) fn quoted<R: ToRowAllocating>(alloc: Global, row: &R) -> Result<Text, Refusal>
+    ensures text { IfOk result (λ text. text ≡ row_text R.kinds (R.row_of row.now)) }
     ensures cause { IfErr result IsFault }
 {
-    let _row = row;
-    match String::from_utf8(joined(alloc, columns, values)?) {
+    let cells = row.cells_allocating(alloc)?;
+    let columns = R::kinds();
+    let line = joined(alloc, columns, &values(&cells)[..columns.len()])?;
+    match String::from_utf8(line) {
         Ok(text) => Ok(Text::from_string(text)),
         Err(_) => Err(Refusal::Disk),
     }
-}
-
-/// A row of a table that can be shown.
-pub(crate) trait Quoted: FromRow {
-    ghost use Rattle.std.specs.Prelude.{List};
-    ghost use Rattle.kcr_verify.specs.declared.quoted.Column.{Column as Kind};
-
-    /// What the numbers of its columns are.
-    ghost columns: { List Kind };
-
-    /// The row as sqlite3 prints it in its mode `quote`, with dates. The error is `Memory`, or `Disk` if a text is not
-    /// UTF-8, as no row of a register has one.
-    fn quoted(&self, alloc: Global) -> Result<Text, Refusal>
-        ensures text { IfOk result (λ text. text ≡ row_text columns (Self.FromRow.row_of self.now)) }
-        ensures cause { IfErr result IsFault };
 }

@@ -23,7 +23,7 @@ returns g c =
     let text = number_shown number in
     let shown = λ (clean : HasCleanDisk new). subst (λ (v : Row). IfOk c.query_rows.result (λ all. Shown number_text v old new (map key_row all.items)))
     (λ i. c.number_cell.ensures i ∷ []) (did.shown clean) in
-    let told = passing_told text key_row laws.one old new c.query_rows.result shown laws.table.rows_in (laws.table_laws.keeps old.now.trees)
+    let told = passing_told text key_row laws.one_value old new c.query_rows.result shown laws.table.rows_in (laws.table_laws.keeps old.now.trees)
     (λ (row : KeyRow). row.accepted == number) (is_numbered number) in record {
       rows = λ clean m h. if_ok _ _ (λ all same.
           IsPermutation-trans _ _ _ (IsPermutation-filter (λ (row : KeyRow). row.accepted == number) _ _ h.tables.stands.rows.keys) same) c.query_rows.result

@@ -12,7 +12,7 @@ returns-clause-rows g c count choice shows clean t held =
     let old = state g.S.Store c.args.tx.now.conn.now in
     let new = state g.S.Store c.query_rows.new.tx.conn.now in
     if_both _ _ _ (λ all shown read.
-    shown_first count c.args.sql.now T.place (bound c.args.params.now) choice shows g.T.FromRow.row_of g.T.FromRow.is_read T.is_stored laws.one old new all.items
+    shown_first count c.args.sql.now T.place (bound c.args.params.now) choice shows g.T.FromRow.row_of g.T.FromRow.is_read T.is_stored laws.one_value old new all.items
     held.schema shown read (T.rows_in t) (laws.stores old.now.trees t held.kept) (laws.keeps old.now.trees t held.kept))
     c.query_rows.result (c.query_rows.ensures.shown clean) c.query_rows.ensures.read
 

@@ -1,7 +1,8 @@
-use Rattle.std.proofs.Common.{ℕ, Ok, OnOk, subst}
+use Rattle.std.proofs.Common.{ℕ, Ok, OnOk, ap, length, subst}
 use Rattle.sqlite.specs.Order.{Row}
 use Rattle.sqlite.specs.Held.{state}
 use Rattle.sqlite.specs.State.{Executes}
+use Rattle.kcr_rows.proofs.CellLemmas.{params_are}
 use Rattle.kcr_rows.proofs.FailLemmas.{on_ok_then}
 use Rattle.kcr_tables.proofs.StatementLemmas.{row_put, put_holds}
 use Rattle.kcr_tables.proofs.table.insert_row.Goals as goal
@@ -14,7 +15,8 @@ returns-clause-holds g c clean t held =
     let x = c.args.row.now in
     let old = state g.S.Store c.args.tx.now.conn.now in
     let new = state g.S.Store c.run_statement.new.tx.conn.now in
-    let ran = subst (λ (v : Row). OnOk c.run_statement.result ((count : ℕ) × Executes sql v old new (Ok count))) c.requires.cells (c.run_statement.ensures.runs clean) in
+    let params = params_are _ _ _ _ _ c.values-values.ensures (ap length c.kinds.ensures.kinds) c.requires.cells in
+    let ran = subst (λ (v : Row). OnOk c.run_statement.result ((count : ℕ) × Executes sql v old new (Ok count))) params (c.run_statement.ensures.runs clean) in
     on_ok_then _ _ (λ h.
     let it = row_put sql T.place row_of x old new h.0 held.schema h.1 c.requires.inserts in
     put_holds T row_of g.T.FromRow.is_read g.met.T.TableRow.table_laws x c.requires.stored old new it t held) c.run_statement.result ran

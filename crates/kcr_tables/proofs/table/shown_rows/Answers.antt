@@ -20,7 +20,7 @@ returns g c q text params =
     let shown = λ (clean : HasCleanDisk new). subst₂ (λ (sql : List ℕ) (v : Row). IfOk c.query_rows.result
     (λ all. Shown sql v old new (map row_of all.items))) text params (did.shown clean) in record {
       rows = λ clean t held. if_both _ _ _ (λ all h read.
-          values_told row_of q.sql T.place q.params q.passes g.T.FromRow.is_read T.is_stored laws.one q.test q.same q.which q.selects old new all.items
+          values_told row_of q.sql T.place q.params q.passes g.T.FromRow.is_read T.is_stored laws.one_value q.test q.same q.which q.selects old new all.items
           (T.rows_in t) held.schema h read (laws.stores old.now.trees t held.kept) (laws.keeps old.now.trees t held.kept))
           c.query_rows.result (shown clean) did.read;
       exact = λ clean has. if_ok _ _ (λ all h. rows_told row_of q.sql T.place q.params q.passes q.which q.selects old new all.items has h)

@@ -1,7 +1,8 @@
-use Rattle.std.proofs.Common.{rules, ◌≡◌, ◌≢◌, ℕ, Ok, OnOk, subst}
+use Rattle.std.proofs.Common.{rules, ◌≡◌, ◌≢◌, ℕ, Ok, OnOk, ap, length, subst}
 use Rattle.sqlite.specs.Order.{Row}
 use Rattle.sqlite.specs.Held.{state}
 use Rattle.sqlite.specs.State.{Executes}
+use Rattle.kcr_rows.proofs.CellLemmas.{params_are}
 use Rattle.kcr_rows.proofs.FailLemmas.{on_ok_then}
 use Rattle.kcr_rows.proofs.UpdateLemmas.{Updated, row_changed, changes_then}
 use Rattle.kcr_rows.proofs.FrameLemmas.{clean_before}
@@ -14,16 +15,17 @@ returns-then-branch-eq0-clause-holds g c clean t held =
     let T = g.T.TableRow.table in
     let row_of = g.T.FromRow.row_of in
     let x = c.args.row.now in
+    let params = params_are _ _ _ _ _ c.values-values.ensures (ap length c.kinds.ensures.kinds) c.requires.cells in
     let count = c.in_ok-execute.field-0 in
     let old = state g.S.Store c.args.tx.now.conn.now in
     let mid = state g.S.Store c.execute.new.tx.conn.now in
     let new = state g.S.Store c.run_statement.new.tx.conn.now in
     let before = clean_before c.run_statement.ensures.frame clean in
-    let tried = subst (λ (v : Row). Executes c.args.update_sql.now v old mid (Ok count)) c.requires.cells (c.in_ok-execute.ensures.runs before) in
+    let tried = subst (λ (v : Row). Executes c.args.update_sql.now v old mid (Ok count)) params (c.in_ok-execute.ensures.runs before) in
     let none : count ≡ 0 = search rules in
     let is = row_updated c.args.update_sql.now T.place row_of x old mid count held.schema tried c.requires.updates in
     let stays = subst (Updated T.place register_schema (row_of x) old.now.trees mid.now.trees) none is.1 in
-    let ran = subst (λ (v : Row). OnOk c.run_statement.result ((n : ℕ) × Executes c.args.insert_sql.now v mid new (Ok n))) c.requires.cells
+    let ran = subst (λ (v : Row). OnOk c.run_statement.result ((n : ℕ) × Executes c.args.insert_sql.now v mid new (Ok n))) params
     (c.run_statement.ensures.runs clean) in
     on_ok_then _ _ (λ h.
     let it = row_put c.args.insert_sql.now T.place row_of x mid new h.0 is.0 h.1 c.requires.inserts in
@@ -35,10 +37,11 @@ returns-else-branch-eq0-clause-holds g c clean t held =
     let T = g.T.TableRow.table in
     let row_of = g.T.FromRow.row_of in
     let x = c.args.row.now in
+    let params = params_are _ _ _ _ _ c.values-values.ensures (ap length c.kinds.ensures.kinds) c.requires.cells in
     let count = c.in_ok-execute.field-0 in
     let old = state g.S.Store c.args.tx.now.conn.now in
     let new = state g.S.Store c.execute.new.tx.conn.now in
-    let ran = subst (λ (v : Row). Executes c.args.update_sql.now v old new (Ok count)) c.requires.cells (c.in_ok-execute.ensures.runs clean) in
+    let ran = subst (λ (v : Row). Executes c.args.update_sql.now v old new (Ok count)) params (c.in_ok-execute.ensures.runs clean) in
     let some : count ≢ 0 = search rules in
     let is = row_updated c.args.update_sql.now T.place row_of x old new count held.schema ran c.requires.updates in
     put_holds T row_of g.T.FromRow.is_read g.met.T.TableRow.table_laws x c.requires.stored old new

@@ -10,7 +10,7 @@ returns-clause-rows g c clean A at =
     let table = g.R.TableRow.table in
     let own = (c.in_ok-own.ensures.shown clean A at).1 in
     IfOk-weaker c.first_row.result _ _
-    (compared_rows table g.R.Quoted.columns g.R.FromRow.row_of g.R.FromRow.is_read g.met.R.TableRow.table_laws (tables A) _ c.args.rows.now
+    (compared_rows table g.R.Columns.kinds g.R.FromRow.row_of g.R.FromRow.is_read g.met.R.TableRow.table_laws (tables A) _ c.args.rows.now
     (subst (AreRows table.rows_in (tables A)) (sym c.deref.ensures.value) own))
     c.first_row.ensures.row
 

@@ -1,22 +1,18 @@
 -- Written by tools/tables.py from tools/table_list.py: do not edit.
 -- What the cells of each table's columns are.
 use Rattle.std.specs.Prelude.{List, [], ◌∷◌}
-use Rattle.kcr_validity.specs.declared.cells.Kind.{Kind}
-use Rattle.kcr_validity.specs.declared.cells.Kind.TheVariants.{Activity, Box, Ceremony, CeremonyState, Command, Day}
-use Rattle.kcr_validity.specs.declared.cells.Kind.TheVariants.{DayOrNull, Exception}
-use Rattle.kcr_validity.specs.declared.cells.Kind.TheVariants.{Facility, Initials, Key, Loose, Moment, MomentOrNull}
-use Rattle.kcr_validity.specs.declared.cells.Kind.TheVariants.{Name, Officer}
-use Rattle.kcr_validity.specs.declared.cells.Kind.TheVariants.{Place, Remark, Role, Safe, Seat, Seats, Serial, Spot}
-use Rattle.kcr_validity.specs.declared.cells.Kind.TheVariants.{Step, StepOrNull, StepState, Text, Truth, Way, Within}
+use Rattle.kcr_rows.specs.declared.kinds.Kind.{Kind}
+use Rattle.kcr_rows.specs.declared.kinds.Kind.TheVariants.{Activity, Box, Ceremony, CeremonyState, Command, Day}
+use Rattle.kcr_rows.specs.declared.kinds.Kind.TheVariants.{DayOrNull, Exception, Facility, Initials, Key, Loose, Moment}
+use Rattle.kcr_rows.specs.declared.kinds.Kind.TheVariants.{MomentOrNull, Name, Officer, Place, Remark, Role, Safe, Seat}
+use Rattle.kcr_rows.specs.declared.kinds.Kind.TheVariants.{Seats, Serial, Spot, Step, StepOrNull, StepState, Text}
+use Rattle.kcr_rows.specs.declared.kinds.Kind.TheVariants.{Truth, Version, Way, Within}
 
 abbrev pub person_kinds : List Kind
 person_kinds = Initials ∷ Name ∷ []
 
 abbrev pub training_kinds : List Kind
 training_kinds = Initials ∷ Role ∷ Day ∷ Day ∷ []
-
-abbrev pub withdrawal_kinds : List Kind
-withdrawal_kinds = Initials ∷ Role ∷ Day ∷ Day ∷ Day ∷ []
 
 abbrev pub appointment_kinds : List Kind
 appointment_kinds = Place ∷ Day ∷ Initials ∷ DayOrNull ∷ []
@@ -48,11 +44,17 @@ seating_kinds = Ceremony ∷ Step ∷ Seat ∷ Initials ∷ []
 abbrev pub sheet_kinds : List Kind
 sheet_kinds = Initials ∷ Moment ∷ Ceremony ∷ Way ∷ []
 
-abbrev pub stay_kinds : List Kind
-stay_kinds = Initials ∷ Moment ∷ Ceremony ∷ MomentOrNull ∷ []
-
 abbrev pub exception_kinds : List Kind
 exception_kinds = Ceremony ∷ Exception ∷ Remark ∷ Moment ∷ StepOrNull ∷ []
 
+abbrev pub version_kinds : List Kind
+version_kinds = Version ∷ []
+
 abbrev pub key_kinds : List Kind
 key_kinds = Key ∷ Command ∷ Text ∷ Text ∷ []
+
+abbrev pub stay_kinds : List Kind
+stay_kinds = Initials ∷ Moment ∷ Ceremony ∷ MomentOrNull ∷ []
+
+abbrev pub withdrawal_kinds : List Kind
+withdrawal_kinds = Initials ∷ Role ∷ Day ∷ Day ∷ Day ∷ []
