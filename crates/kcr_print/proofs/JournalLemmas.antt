@@ -22,8 +22,7 @@ use Rattle.kcr_store.specs.Register.{RegisterState}
 use Rattle.kcr_print.specs.Journal.{PrintsJournal, row_journal}
 use Rattle.kcr_print.specs.Reports.{IsPrinted, Prints, PrintsRows}
 use Rattle.kcr_print.specs.declared.fault.PrintFault.{PrintFault}
-use Rattle.kcr_print.proofs.RequestLemmas.{past_is, held_by}
-use Rattle.kcr_reading.proofs.FirstLemmas.{all_take}
+use Rattle.kcr_print.proofs.RequestLemmas.{past_is, held_by, all_take}
 
 none : KeyRow
 none = record { key = []; accepted = 0; command = []; reply = [] }

@@ -22,15 +22,13 @@ use Rattle.kcr_tables.specs.Refusals.{IsFault}
 use Rattle.kcr_store.specs.Register.{RegisterState, IsConsistent}
 use Rattle.kcr_history.specs.declared.row_types.CeremonyRow.{CeremonyRow}
 use Rattle.kcr_store.proofs.PlannedLemmas.{planned_row}
-use Rattle.kcr_store.proofs.WholeLemmas.{commits_nothing, commits_still_nothing, rows_over, stands_rows}
-use Rattle.kcr_store.specs.Calls.{KeepsStand, OfHistory, OfRows, ReadsWithoutBreaking}
-use Rattle.kcr_store.specs.Frame.{OfRowsOver}
-use Rattle.kcr_store.specs.Rows.{Begins, MayHaveNoRow, IsNotPlanned, NamesCeremony}
+use Rattle.kcr_store.proofs.WholeLemmas.{conn_after, left_by, reads_nothing, reads_then, rows_shown, stands_rows}
+use Rattle.kcr_store.specs.Calls.{BreaksIf, OfHistory, OfRows}
+use Rattle.kcr_store.specs.Frame.{OfRowsOver, OfRowsShown, OnlyReads}
+use Rattle.kcr_store.specs.Rows.{MayHaveNoRow, IsNotPlanned, NamesCeremony}
 use Rattle.kcr_store.specs.ShownBy.{HasNoRowBy, IsNotPlannedBy, IsRowBy}
-use Rattle.kcr_store.specs.declared.rows.Rows.{Rows}
 use Rattle.kcr_print.specs.ByRows.{row_of_ceremony}
-use Rattle.kcr_print.specs.Reports.{Stops, IsPrinted, IsOfPlanned, KeepsRegister, Prints, PrintsPart, PrintsCeremonyPart, PrintsPlanned, PrintsRows}
-use Rattle.kcr_print.specs.Reports.{CountsWriteFaults, RefusesBetweenRows}
+use Rattle.kcr_print.specs.Reports.{Stops, IsPrinted, IsOfPlanned, Prints, PrintsPart, PrintsCeremonyPart, PrintsPlanned, CountsWriteFaults}
 use Rattle.kcr_print.specs.Written.{Writes}
 use Rattle.kcr_print.specs.declared.fault.PrintFault.{PrintFault}
 use Rattle.kcr_print.specs.declared.fault.PrintFault.TheVariants.{Refused, Write}
@@ -59,7 +57,7 @@ not_named ceremony (Refused other) refusal (inl fault) names is = by fault (let 
 not_named ceremony (Refused other) refusal (inr none) names is = none
 not_named ceremony Write refusal h names is = let e : Write ≡ Refused refusal = is in cc
 
-err_is : (r : Result ⊤ PrintFault) (e f : PrintFault) → IsErrAnd r (λ fault. fault ≡ e) → r ≡ Err f → e ≡ f
+pub err_is : (r : Result ⊤ PrintFault) (e f : PrintFault) → IsErrAnd r (λ fault. fault ≡ e) → r ≡ Err f → e ≡ f
 err_is (Ok v) e f is eq = absurd is
 err_is (Err g) e f is eq = let same : g ≡ f = cc in sym is ∙ same
 
@@ -129,7 +127,7 @@ printed_of : (D : Refusal → Type 0) (r : Result ⊤ PrintFault) (a b : Option 
 printed_of D (Ok v) a b x p q = p
 printed_of D (Err e) a b x p q = (p, stops_weaker D e q)
 
-told_then : {W : Type 0} (x y z : Counted W) (r : Result ⊤ PrintFault) → CountsWriteFaults x y (Ok tt) → CountsWriteFaults y z r → CountsWriteFaults x z r
+pub told_then : {W : Type 0} (x y z : Counted W) (r : Result ⊤ PrintFault) → CountsWriteFaults x y (Ok tt) → CountsWriteFaults y z r → CountsWriteFaults x z r
 told_then x y z r p q =
     let still : failures_of y ≡ failures_of x = p.calm (λ e. cc e) in
     record {
@@ -139,168 +137,99 @@ told_then x y z r p q =
 
 -- PARTS
 
--- a register stands where it stands
-pub keeps_refl : {S : Type 0} {g : Ghosts S} (a : RegisterState S) → KeepsStand g a a
-keeps_refl {g = g} a = record { unbroken = refl; nothing = commits_nothing g a; stands = λ s at. at }
-
--- two calls of which each keeps where a register stands keep it one after the other
-pub keeps_both : {S : Type 0} {g : Ghosts S} (a b c : RegisterState S) → KeepsStand g a b → KeepsStand g b c → KeepsStand g a c
-keeps_both {g = g} a b c p q = record {
-  unbroken = q.unbroken ∙ p.unbroken;
-  nothing = commits_still_nothing g a b c p.nothing q.nothing;
-  stands = λ s at. q.stands s (p.stands s at);
-}
-
-module _ {S : Type 0} (g : Ghosts S) where
-  -- what a later call says of the rows holds of them before
-  pub of_kept : (a b c : RegisterState S) (Says : machine.Tables → Type 0) → KeepsStand g a b → OfRows g b c Says → OfRows g a c Says
-  of_kept a b c Says keeps says clean intact m has = says clean (keeps.unbroken ∙ intact) m (keeps.nothing.rows m has)
-
-  -- what the row of a ceremony was by whatever rows there were
-  pub row_read : {a b : RegisterState S} {ceremony : ℕ} {row : CeremonyRow} → ReadsWithoutBreaking g (MayHaveNoRow ceremony) a b (Ok row)
-      → (a.is_broken ≡ false → OfRowsOver g a.conn b.conn (λ m. IsRowBy m ceremony row)) → OfRows g a b (λ m. row_of_ceremony ceremony m ≡ Some row)
-  row_read {a} {b} {ceremony} {row} peeks is = rows_over g a b (λ m. IsRowBy m ceremony row) peeks.clean is
+-- what the row of a ceremony was by whatever rows there were
+pub row_read : {S : Type 0} (g : Ghosts S) {a b : Held S} {ceremony : ℕ} {row : CeremonyRow} → OnlyReads g (MayHaveNoRow ceremony) a b (Ok row)
+    → OfRowsOver g a b (λ m. IsRowBy m ceremony row) → OfRowsShown g a b (λ m. row_of_ceremony ceremony m ≡ Some row)
+row_read g {a} {b} {ceremony} {row} peeks is = rows_shown g a b (λ m. IsRowBy m ceremony row) peeks.clean is
 
 module _ {S W : Type 0} {g : Ghosts S} {contents : W → Option (List ℕ)} {D : machine.Tables → Refusal → Type 0} {M : Refusal → Type 0} where
   -- one part, and then another
-  pub puts_then : {a b c : RegisterState S} {x y z : Counted W} {r : Result ⊤ PrintFault} {t u : machine.Tables → List ℕ}
+  pub puts_then : {a b c : Held S} {x y z : Counted W} {r : Result ⊤ PrintFault} {t u : machine.Tables → List ℕ}
       → PrintsPart g contents a b x y (Ok tt) D M t → PrintsPart g contents b c y z r D M u → PrintsPart g contents a c x z r D M (λ m. t m ++ u m)
-  puts_then {a} {b} {c} {x} {y} {z} {r} {t} {u} p q = record {
-    printed = λ clean intact m has.
-        printed_then (D m) r _ _ _ (t m) (u m) (p.printed (q.clean clean) intact m has)
-        (q.printed clean (p.keeps.unbroken ∙ intact) m (p.keeps.nothing.rows m has));
-    cause = q.cause;
-    keeps = keeps_both a b c p.keeps q.keeps;
-    clean = λ h. p.clean (q.clean h);
-    kept = q.kept;
+  puts_then {x = x} {y} {z} {r} {t} {u} p q = record {
+    printed = λ clean m has.
+        printed_then (D m) r _ _ _ (t m) (u m) (p.printed (q.reads.clean clean) m has) (q.printed clean m (p.reads.rows m has));
+    reads = reads_then p.reads q.reads;
     told = told_then x y z r p.told q.told;
   }
 
   -- the same call, of which other things are printed and denied
-  puts_as : {a b : RegisterState S} {x y : Counted W} {r : Result ⊤ PrintFault} {E : machine.Tables → Refusal → Type 0} {N : Refusal → Type 0}
-      {t u : machine.Tables → List ℕ} → PrintsRows g contents a b x y r D u → IfErr r (Stops M) → PrintsPart g contents a b x y r E N t → PrintsPart g contents a b x y r D M u
-  puts_as printed cause p = record { printed = printed; cause = cause; keeps = p.keeps; clean = p.clean; kept = p.kept; told = p.told }
+  puts_as : {a b : Held S} {x y : Counted W} {r : Result ⊤ PrintFault} {E : machine.Tables → Refusal → Type 0} {N : Refusal → Type 0}
+      {t u : machine.Tables → List ℕ} → OfRowsShown g a b (λ m. IsPrinted (D m) (u m) r (contents (inner_of x)) (contents (inner_of y)))
+      → IfErr r (Stops M) → PrintsPart g contents a b x y r E N t → PrintsPart g contents a b x y r D M u
+  puts_as {b = b} printed cause p = record { printed = printed; reads = reads_then p.reads (reads_nothing b cause); told = p.told }
 
   -- a part that stops, and what would have followed
-  pub puts_more : {a b : RegisterState S} {x y : Counted W} {e : PrintFault} {t : machine.Tables → List ℕ} (u : machine.Tables → List ℕ)
+  pub puts_more : {a b : Held S} {x y : Counted W} {e : PrintFault} {t : machine.Tables → List ℕ} (u : machine.Tables → List ℕ)
       → PrintsPart g contents a b x y (Err e) D M t → PrintsPart g contents a b x y (Err e) D M (λ m. t m ++ u m)
-  puts_more {a} {x = x} {y} {t = t} u p =
+  puts_more {x = x} {y} {t = t} u p =
       puts_as
-      (λ clean intact m has.
-      let front = p.printed clean intact m has in
-      (front_longer (contents (inner_of x)) (contents (inner_of y)) (t m) (u m) front.0, front.1)) p.cause p
+      (λ clean m has.
+      let front = p.printed clean m has in
+      (front_longer (contents (inner_of x)) (contents (inner_of y)) (t m) (u m) front.0, front.1)) p.reads.cause p
+
+  -- a part that left the connection so
+  pub puts_at : {a b c : Held S} {x y : Counted W} {r : Result ⊤ PrintFault} {t : machine.Tables → List ℕ} → c ≡ b
+      → PrintsPart g contents a b x y r D M t → PrintsPart g contents a c x y r D M t
+  puts_at {a} {x = x} {y} {r} {t} same = subst (λ (h : Held S). PrintsPart g contents a h x y r D M t) (sym same)
 
   -- the error that is handed on
-  pub puts_err : {a b : RegisterState S} {x y : Counted W} {t : machine.Tables → List ℕ} (r : Result ⊤ PrintFault) (e : PrintFault) → IsErrAnd r (λ fault. fault ≡ e)
+  pub puts_err : {a b : Held S} {x y : Counted W} {t : machine.Tables → List ℕ} (r : Result ⊤ PrintFault) (e : PrintFault) → IsErrAnd r (λ fault. fault ≡ e)
       → PrintsPart g contents a b x y (Err e) D M t → PrintsPart g contents a b x y r D M t
   puts_err (Ok v) e is p = absurd is
   puts_err {a} {b} {x} {y} {t} (Err f) e is p = subst (λ (o : PrintFault). PrintsPart g contents a b x y (Err o) D M t) (sym is) p
 
   -- a part that nothing denies
-  pub puts_weaker : {a b : RegisterState S} {x y : Counted W} {r : Result ⊤ PrintFault} {t : machine.Tables → List ℕ}
+  pub puts_weaker : {a b : Held S} {x y : Counted W} {r : Result ⊤ PrintFault} {t : machine.Tables → List ℕ}
       → PrintsPart g contents a b x y r (λ _ _. ⊥) (λ _. ⊥) t → PrintsPart g contents a b x y r D M t
-  puts_weaker {a} {r = r} {t} p =
-      puts_as (λ clean intact m has. printed_weaker (D m) r _ _ (t m) (p.printed clean intact m has)) (cause_weaker M r p.cause) p
+  puts_weaker {r = r} {t} p =
+      puts_as (λ clean m has. printed_weaker (D m) r _ _ (t m) (p.printed clean m has)) (cause_weaker M r p.reads.cause) p
 
   -- the same part, its text told otherwise
-  pub puts_text : {a b : RegisterState S} {x y : Counted W} {r : Result ⊤ PrintFault} {t : machine.Tables → List ℕ} (u : machine.Tables → List ℕ)
-      → PrintsPart g contents a b x y r D M t → OfRows g a b (λ m. t m ≡ u m) → PrintsPart g contents a b x y r D M u
-  puts_text {a} {x = x} {y} {r} u p same =
-      puts_as (λ clean intact m has. subst (λ (text : List ℕ). IsPrinted (D m) text r (contents (inner_of x)) (contents (inner_of y)))
-      (same clean intact m has) (p.printed clean intact m has)) p.cause p
-
--- rows that were written began with the register, and a refusal left whole ones written
-pub whole_rows : {S R Row : Type 0} (g : Ghosts S) {reading : R} {rows : Rows S R Row} {old last : RegisterState S} {r : Result ⊤ PrintFault}
-    (a b : Option (List ℕ)) (to_come : R → machine.Tables → List Row) (lines : Row → List ℕ) (ended : RegisterState S)
-    → Begins old reading (Ok rows) → last ≡ ended
-    → OfRows g rows.register.now ended (λ m. RefusesBetweenRows lines (to_come rows.reading m) r a b)
-    → OfRows g old last (λ m. RefusesBetweenRows lines (to_come reading m) r a b)
-whole_rows {S = S} {R = R} g {reading = reading} {rows = rows} {old = old} {r = r} a b to_come lines ended begins ends left =
-    let began = rows.register.now in
-    let Says : machine.Tables → Type 0 = λ m. RefusesBetweenRows lines (to_come reading m) r a b in
-    let done : OfRows g began ended Says = λ now intact m has.
-    subst (λ (at : R). RefusesBetweenRows lines (to_come at m) r a b) begins.reading (left now intact m has) in
-    let from = subst (λ (s : RegisterState S). OfRows g s ended Says) begins.same done in
-    subst (λ (s : RegisterState S). OfRows g old s Says) (sym ends) from
+  pub puts_text : {a b : Held S} {x y : Counted W} {r : Result ⊤ PrintFault} {t : machine.Tables → List ℕ} (u : machine.Tables → List ℕ)
+      → PrintsPart g contents a b x y r D M t → OfRowsShown g a b (λ m. t m ≡ u m) → PrintsPart g contents a b x y r D M u
+  puts_text {x = x} {y} {r} u p same =
+      puts_as (λ clean m has. subst (λ (text : List ℕ). IsPrinted (D m) text r (contents (inner_of x)) (contents (inner_of y)))
+      (same clean m has) (p.printed clean m has)) p.reads.cause p
 
 module _ {S W : Type 0} {g : Ghosts S} {contents : W → Option (List ℕ)} where
   -- a call on the register, and then a text that is written
-  puts_line : {D : machine.Tables → Refusal → Type 0} {M : Refusal → Type 0} {a b : RegisterState S} {x y : Counted W} {r : Result ⊤ PrintFault}
-      (line : List ℕ) → KeepsStand g a b → (HasCleanDisk (state g b.conn) → HasCleanDisk (state g a.conn)) → IsConsistent g b
+  puts_line : {D : machine.Tables → Refusal → Type 0} {M : Refusal → Type 0} {A E : Type 0} {N : E → Type 0} {q : Result A E} {a b : Held S} {x y : Counted W}
+      {r : Result ⊤ PrintFault} (line : List ℕ) → OnlyReads g N a b q
       → Writes r (contents (inner_of x)) (contents (inner_of y)) line → IfErr r (Stops (λ _. ⊥)) → CountsWriteFaults x y r
       → PrintsPart g contents a b x y r D M (λ _. line)
-  puts_line {D} {M} {a} {b} {x} {y} {r} line keeps clean kept written cause told = record {
-    printed = λ now intact m has. printed_of (D m) r _ _ line written cause;
-    cause = cause_weaker M r cause;
-    keeps = keeps;
-    clean = clean;
-    kept = kept;
+  puts_line {D} {M} {b = b} {r = r} line peeks written cause told = record {
+    printed = λ now m has. printed_of (D m) r _ _ line written cause;
+    reads = reads_then peeks (reads_nothing b (cause_weaker M r cause));
     told = told;
   }
 
   -- a part, and then a text that is written
-  pub puts_last : {D : machine.Tables → Refusal → Type 0} {M : Refusal → Type 0} {a b : RegisterState S} {x y z : Counted W} {r : Result ⊤ PrintFault}
+  pub puts_last : {D : machine.Tables → Refusal → Type 0} {M : Refusal → Type 0} {a b : Held S} {x y z : Counted W} {r : Result ⊤ PrintFault}
       {t : machine.Tables → List ℕ} (line : List ℕ) → PrintsPart g contents a b x y (Ok tt) D M t
       → Writes r (contents (inner_of y)) (contents (inner_of z)) line → IfErr r (Stops (λ _. ⊥)) → CountsWriteFaults y z r
       → PrintsPart g contents a b x z r D M (λ m. t m ++ line)
-  puts_last {D} {M} {x = x} {y} {z} {r} {t} line p written cause told = record {
-    printed = λ clean intact m has.
-        printed_then (D m) r _ _ _ (t m) line (p.printed clean intact m has) (printed_of (D m) r _ _ line written cause);
-    cause = cause_weaker M r cause;
-    keeps = p.keeps;
-    clean = p.clean;
-    kept = p.kept;
-    told = told_then x y z r p.told told;
-  }
+  puts_last {b = b} line p written cause told = puts_then p (puts_line line (reads_nothing {A = ⊤} {M = Stops (λ _. ⊥)} {r = Ok tt} b tt) written cause told)
 
   -- a call on the register that was refused before anything was written
-  puts_nothing : {D : machine.Tables → Refusal → Type 0} {M : Refusal → Type 0} {a b : RegisterState S} {x : Counted W} {refusal : Refusal}
-      {t : machine.Tables → List ℕ} → OfRows g a b (λ m. IsFault refusal ⊎ D m refusal) → (IsFault refusal ⊎ M refusal) → KeepsStand g a b
-      → (HasCleanDisk (state g b.conn) → HasCleanDisk (state g a.conn)) → IsConsistent g b
+  puts_nothing : {D : machine.Tables → Refusal → Type 0} {M : Refusal → Type 0} {A E : Type 0} {N : E → Type 0} {q : Result A E} {a b : Held S} {x : Counted W}
+      {refusal : Refusal} {t : machine.Tables → List ℕ} → OfRowsShown g a b (λ m. IsFault refusal ⊎ D m refusal) → (IsFault refusal ⊎ M refusal) → OnlyReads g N a b q
       → PrintsPart g contents a b x x (Err (Refused refusal)) D M t
-  puts_nothing {x = x} why cause keeps clean kept = record {
-    printed = λ now intact m has. ((0, appends_nothing (contents (inner_of x))), why now intact m has);
-    cause = cause;
-    keeps = keeps;
-    clean = clean;
-    kept = kept;
+  puts_nothing {b = b} {x} why cause peeks = record {
+    printed = λ now m has. ((0, appends_nothing (contents (inner_of x))), why now m has);
+    reads = reads_then peeks (reads_nothing b cause);
     told = record { calm = λ _. refl; fault = λ e. cc e };
   }
 
-  -- rows that were written: they began with the register, and left it behind
-  pub puts_rows : {R Row : Type 0} {reading : R} {rows : Rows S R Row} {old last : RegisterState S} {x y : Counted W} {r : Result ⊤ PrintFault}
-      (to_come : R → machine.Tables → List Row) (lines : Row → List ℕ) (ended : RegisterState S) → Begins old reading (Ok rows) → last ≡ ended → old.is_broken ≡ false
-      → OfRows g rows.register.now ended (λ m. Writes r (contents (inner_of x)) (contents (inner_of y)) (flat_map lines (to_come rows.reading m)))
-      → (rows.register.now.is_broken ≡ false → IfErr r (Stops (λ _. ⊥))) → KeepsStand g rows.register.now ended
-      → (HasCleanDisk (state g ended.conn) → HasCleanDisk (state g rows.register.now.conn)) → IsConsistent g ended → CountsWriteFaults x y r
-      → PrintsPart g contents old last x y r (λ _ _. ⊥) (λ _. ⊥) (λ m. flat_map lines (to_come reading m))
-  puts_rows {reading = reading} {rows} {old} {x = x} {y} {r} to_come lines ended begins ends intact written cause keeps clean kept told =
-      let began = rows.register.now in
-      let why = cause (ap (λ s. s.is_broken) begins.same ∙ intact) in
-      let text : machine.Tables → List ℕ = λ m. flat_map lines (to_come reading m) in
-      let P : List ℕ → Type 0 = λ text. IsPrinted (λ _. ⊥) text r (contents (inner_of x)) (contents (inner_of y)) in
-      let done : PrintsPart g contents began ended x y r (λ _ _. ⊥) (λ _. ⊥) text = record {
-        printed = λ now intact m has.
-            subst P (ap (λ at. flat_map lines (to_come at m)) begins.reading)
-            (printed_of (λ _. ⊥) r _ _ _ (written now intact m has) why);
-        cause = why;
-        keeps = keeps;
-        clean = clean;
-        kept = kept;
-        told = told;
-      } in
-      let from = subst (λ (s : RegisterState S). PrintsPart g contents s ended x y r (λ _ _. ⊥) (λ _. ⊥) text) begins.same done in
-      subst (λ (s : RegisterState S). PrintsPart g contents old s x y r (λ _ _. ⊥) (λ _. ⊥) text) (sym ends) from
-
   -- rows that a reading gives from its start
-  pub puts_all : {a b : RegisterState S} {x y : Counted W} {r : Result ⊤ PrintFault} {Row : Type 0} {to_come : machine.Tables → List Row}
+  pub puts_all : {a b : Held S} {x y : Counted W} {r : Result ⊤ PrintFault} {Row : Type 0} {to_come : machine.Tables → List Row}
       (lines : Row → List ℕ) (all : machine.Tables → List Row) → ((m : machine.Tables) → to_come m ≡ all m)
       → PrintsPart g contents a b x y r (λ _ _. ⊥) (λ _. ⊥) (λ m. flat_map lines (to_come m))
       → PrintsPart g contents a b x y r (λ _ _. ⊥) (λ _. ⊥) (λ m. flat_map lines (all m))
-  puts_all lines all starts p = puts_text (λ m. flat_map lines (all m)) p (λ _ _ m _. ap (flat_map lines) (starts m))
+  puts_all lines all starts p = puts_text (λ m. flat_map lines (all m)) p (λ _ m _. ap (flat_map lines) (starts m))
 
   -- and from its start at a ceremony
-  pub puts_reading : {D : machine.Tables → Refusal → Type 0} {M : Refusal → Type 0} {a b : RegisterState S} {x y : Counted W} {r : Result ⊤ PrintFault}
+  pub puts_reading : {D : machine.Tables → Refusal → Type 0} {M : Refusal → Type 0} {a b : Held S} {x y : Counted W} {r : Result ⊤ PrintFault}
       {Row : Type 0} {to_come : machine.Tables → List Row} {number ceremony : ℕ} (lines : Row → List ℕ) (first : ℕ → machine.Tables → List Row)
       → ((m : machine.Tables) → to_come m ≡ first number m) → number ≡ ceremony
       → PrintsPart g contents a b x y r (λ _ _. ⊥) (λ _. ⊥) (λ m. flat_map lines (to_come m))
@@ -310,106 +239,111 @@ module _ {S W : Type 0} {g : Ghosts S} {contents : W → Option (List ℕ)} wher
   -- THE REPORT OF A CEREMONY
 
   -- one that stops is not whole, so nothing is said of its ceremony
-  pub stops_planned : {a b : RegisterState S} {x y : Counted W} {report_by : machine.Tables → ℕ → List ℕ} {ceremony : ℕ} (r : Result ⊤ PrintFault) {e : PrintFault}
+  pub stops_planned : {a b : Held S} {x y : Counted W} {report_by : machine.Tables → ℕ → List ℕ} {ceremony : ℕ} (r : Result ⊤ PrintFault) {e : PrintFault}
       → IsErr r → IsErrAnd r (λ fault. fault ≡ e) → Stops (λ _. ⊥) e
       → PrintsPart g contents a b x y (Err e) (λ m. IsNotPlannedBy m ceremony) (NamesCeremony ceremony) (λ m. report_by m ceremony)
       → PrintsCeremonyPart report_by ceremony g contents a b x y r
   stops_planned {ceremony = ceremony} r {e} err is cause p = record {
     puts = puts_err r e is p;
-    row = λ clean intact m has. not_ok r _ err;
+    row = λ clean m has. not_ok r _ err;
     unwritten = λ refusal names eq. absurd (not_named ceremony e refusal cause names (err_is r e (Refused refusal) is eq));
   }
 
   -- likewise one that stops before anything is written
-  pub denied_planned : {a b : RegisterState S} {x : Counted W} {report_by : machine.Tables → ℕ → List ℕ} {ceremony : ℕ} (r : Result ⊤ PrintFault) {e : PrintFault}
+  pub denied_planned : {a b : Held S} {x : Counted W} {report_by : machine.Tables → ℕ → List ℕ} {ceremony : ℕ} (r : Result ⊤ PrintFault) {e : PrintFault}
       → IsErr r → IsErrAnd r (λ fault. fault ≡ e)
       → PrintsPart g contents a b x x (Err e) (λ m. IsNotPlannedBy m ceremony) (NamesCeremony ceremony) (λ m. report_by m ceremony)
       → PrintsCeremonyPart report_by ceremony g contents a b x x r
   denied_planned r {e} err is p =
-      record { puts = puts_err r e is p; row = λ clean intact m has. not_ok r _ err; unwritten = λ refusal names eq. refl }
+      record { puts = puts_err r e is p; row = λ clean m has. not_ok r _ err; unwritten = λ refusal names eq. refl }
 
   -- one that is whole is of a ceremony whose row was read
-  pub ends_planned : {a c : RegisterState S} {x y : Counted W} {report_by : machine.Tables → ℕ → List ℕ} {ceremony : ℕ} {r : Result ⊤ PrintFault} {row : CeremonyRow}
-      (b : RegisterState S) → OfRows g a b (λ m. row_of_ceremony ceremony m ≡ Some row) → (HasCleanDisk (state g c.conn) → HasCleanDisk (state g b.conn))
+  pub ends_planned : {a c : Held S} {x y : Counted W} {report_by : machine.Tables → ℕ → List ℕ} {ceremony : ℕ} {r : Result ⊤ PrintFault} {row : CeremonyRow}
+      (b : Held S) → OfRowsShown g a b (λ m. row_of_ceremony ceremony m ≡ Some row) → (HasCleanDisk (state g c) → HasCleanDisk (state g b))
       → IfErr r (Stops (λ _. ⊥))
       → PrintsPart g contents a c x y r (λ m. IsNotPlannedBy m ceremony) (NamesCeremony ceremony) (λ m. report_by m ceremony)
       → PrintsCeremonyPart report_by ceremony g contents a c x y r
   ends_planned {ceremony = ceremony} {r = r} b row clean cause p = record {
     puts = p;
-    row = λ now intact m has. on_ok r _ (ap is_some (row (clean now) intact m has));
+    row = λ now m has. on_ok r _ (ap is_some (row (clean now) m has));
     unwritten = λ refusal names eq. absurd (not_named ceremony (Refused refusal) refusal (rw eq at cause) names refl);
   }
 
   -- the row of the ceremony was refused, and nothing was written
-  pub no_planned : {a b : RegisterState S} {x : Counted W} {ceremony : ℕ} {refusal : Refusal} {t : machine.Tables → List ℕ}
-      → ReadsWithoutBreaking {A = CeremonyRow} g (MayHaveNoRow ceremony) a b (Err refusal)
-      → (a.is_broken ≡ false → OfRowsOver g a.conn b.conn (λ m. HasNoRowBy m ceremony refusal)) → a.is_broken ≡ false
+  pub no_planned : {a b : Held S} {x : Counted W} {ceremony : ℕ} {refusal : Refusal} {t : machine.Tables → List ℕ}
+      → OnlyReads {A = CeremonyRow} g (MayHaveNoRow ceremony) a b (Err refusal) → OfRowsOver g a b (λ m. HasNoRowBy m ceremony refusal)
       → PrintsPart g contents a b x x (Err (Refused refusal)) (λ m. IsNotPlannedBy m ceremony) (NamesCeremony ceremony) t
-  no_planned {a} {b} {ceremony = ceremony} {refusal} peeks why intact =
-      puts_nothing (rows_over g a b (λ m. HasNoRowBy m ceremony refusal) peeks.clean why) (peeks.cause intact) peeks.same peeks.clean peeks.kept
+  no_planned {a} {b} {ceremony = ceremony} {refusal} peeks why =
+      puts_nothing (rows_shown g a b (λ m. HasNoRowBy m ceremony refusal) peeks.clean why) peeks.cause peeks
 
   -- the row of the ceremony was read, and these lines are written
-  pub row_line : {a b : RegisterState S} {x y : Counted W} {r : Result ⊤ PrintFault} {ceremony : ℕ} {row : CeremonyRow} (line : List ℕ)
-      → ReadsWithoutBreaking g (MayHaveNoRow ceremony) a b (Ok row)
+  pub row_line : {a b : Held S} {x y : Counted W} {r : Result ⊤ PrintFault} {ceremony : ℕ} {row : CeremonyRow} (line : List ℕ)
+      → OnlyReads g (MayHaveNoRow ceremony) a b (Ok row)
       → Writes r (contents (inner_of x)) (contents (inner_of y)) line → IfErr r (Stops (λ _. ⊥)) → CountsWriteFaults x y r
       → PrintsPart g contents a b x y r (λ m. IsNotPlannedBy m ceremony) (NamesCeremony ceremony) (λ _. line)
-  row_line line peeks = puts_line line peeks.same peeks.clean peeks.kept
+  row_line line peeks = puts_line line peeks
 
 -- OVER ANY REGISTER
 
--- what a register is that a fault may have broken since
-pub clean_then : {S : Type 0} (g : Ghosts S) {mid after : Held S} → after ≡ mid → HasCleanDisk (state g after) → HasCleanDisk (state g mid)
-clean_then {S = S} g same = subst (λ (conn : Held S). HasCleanDisk (state g conn)) same
+-- what a register is that an I/O error may have broken since
+clean_then : {S : Type 0} (g : Ghosts S) {Came : Type 0} {mid after : RegisterState S} → BreaksIf Came mid after
+    → HasCleanDisk (state g after.conn) → HasCleanDisk (state g mid.conn)
+clean_then {S} g settled = subst (λ (conn : Held S). HasCleanDisk (state g conn)) (conn_after settled)
 
-module _ {S W : Type 0} (g : Ghosts S) {contents : W → Option (List ℕ)} {before mid after : RegisterState S} (same : after.conn ≡ mid.conn) where
+-- what is said of its rows over its connection
+pub rows_told : {S : Type 0} (g : Ghosts S) (before : RegisterState S) {after : RegisterState S} {conn : Held S} {Came : Type 0} (Says : machine.Tables → Type 0)
+    → BreaksIf Came (record before { conn = conn }) after → OfRowsShown g before.conn conn Says → OfRows g before after Says
+rows_told g before Says settled says clean _ = says (clean_then g settled clean)
+
+module _ {S W : Type 0} (g : Ghosts S) {contents : W → Option (List ℕ)} {before after : RegisterState S} {conn : Held S} {x y : Counted W} {r : Result ⊤ PrintFault}
+    (intact : before.is_broken ≡ false) (kept : IsConsistent g before) (settled : BreaksIf (r ≡ Err (Refused Refusals.Disk)) (record before { conn = conn }) after) where
   -- a part that is the whole report, its text told of the history
-  report_told : {x y : Counted W} {r : Result ⊤ PrintFault} {D : machine.Tables → Refusal → Type 0} {M : Refusal → Type 0} {t : machine.Tables → List ℕ}
-      {Denies : History → Refusal → Type 0} (text : History → List ℕ) → PrintsPart g contents before mid x y r D M t
-      → OfHistory g before mid (λ A. IsPrinted (Denies A) (text A) r (contents (inner_of x)) (contents (inner_of y)))
-      → KeepsRegister g mid after r → IsConsistent g after → before.is_broken ≡ false → Prints g contents before after x y r Denies M text
-  report_told text p printed leaves kept intact = record {
-    broken = λ yes. absurd (true≢false (sym yes ∙ intact));
-    printed = λ clean. printed (clean_then g same clean);
-    cause = λ _. p.cause;
-    leaves = record {
-      nothing = commits_still_nothing g before mid after p.keeps.nothing leaves.nothing;
-      breaks = λ _. leaves.breaks (p.keeps.unbroken ∙ intact);
-      stands = λ s at. leaves.stands s (p.keeps.stands s at);
-    };
-    clean = λ clean. p.clean (clean_then g same clean);
-    kept = kept;
-    told = p.told;
-  }
+  report_told : {D : machine.Tables → Refusal → Type 0} {M : Refusal → Type 0} {t : machine.Tables → List ℕ} {Denies : History → Refusal → Type 0}
+      (text : History → List ℕ) → PrintsPart g contents before.conn conn x y r D M t
+      → OfHistory g before (record before { conn = conn }) (λ A. IsPrinted (Denies A) (text A) r (contents (inner_of x)) (contents (inner_of y)))
+      → Prints g contents before after x y r Denies M text
+  report_told text p printed =
+      let left = left_by intact kept p.reads settled in
+      record {
+        broken = λ yes. absurd (true≢false (sym yes ∙ intact));
+        printed = λ clean. printed (clean_then g settled clean);
+        cause = λ _. p.reads.cause;
+        leaves = record { nothing = left.nothing; breaks = λ _. left.breaks; stands = left.stands };
+        clean = left.clean;
+        kept = left.kept;
+        told = p.told;
+      }
 
   -- a report that nothing denies
-  pub text_told : {x y : Counted W} {r : Result ⊤ PrintFault} {M : Refusal → Type 0} {t : machine.Tables → List ℕ} (text : History → List ℕ)
-      → PrintsPart g contents before mid x y r (λ _ _. ⊥) M t → OfHistory g before mid (λ A. t (tables A) ≡ text A)
-      → KeepsRegister g mid after r → IsConsistent g after → before.is_broken ≡ false → Prints g contents before after x y r (λ _ _. ⊥) M text
-  text_told {x} {y} {r} text p is =
+  pub text_told : {M : Refusal → Type 0} {t : machine.Tables → List ℕ} (text : History → List ℕ)
+      → PrintsPart g contents before.conn conn x y r (λ _ _. ⊥) M t → OfHistory g before (record before { conn = conn }) (λ A. t (tables A) ≡ text A)
+      → Prints g contents before after x y r (λ _ _. ⊥) M text
+  text_told text p is =
       report_told text p
       (λ clean A at. subst (λ (text : List ℕ). IsPrinted (λ _. ⊥) text r (contents (inner_of x)) (contents (inner_of y)))
-      (is clean A at) (p.printed clean at.broken (tables A) (stands_rows at)))
+      (is clean A at) (p.printed clean (tables A) (stands_rows at)))
 
   -- the report of a ceremony
-  pub planned_told : {x y : Counted W} {r : Result ⊤ PrintFault} {report_by : machine.Tables → ℕ → List ℕ} {ceremony : ℕ} (report : History → ℕ → List ℕ)
-      → PrintsCeremonyPart report_by ceremony g contents before mid x y r
-      → OfHistory g before mid (λ A. ((is_ceremony A ceremony ≡ false) × (report_by (tables A) ceremony ≡ [])) ⊎ (report_by (tables A) ceremony ≡ report A ceremony))
-      → KeepsRegister g mid after r → IsConsistent g after → before.is_broken ≡ false
+  pub planned_told : {report_by : machine.Tables → ℕ → List ℕ} {ceremony : ℕ} (report : History → ℕ → List ℕ)
+      → PrintsCeremonyPart report_by ceremony g contents before.conn conn x y r
+      → OfHistory g before (record before { conn = conn })
+      (λ A. ((is_ceremony A ceremony ≡ false) × (report_by (tables A) ceremony ≡ [])) ⊎ (report_by (tables A) ceremony ≡ report A ceremony))
       → PrintsPlanned report report_by ceremony g contents before after x y r
-  planned_told {x} {y} {r} {report_by} {ceremony} report part texts leaves kept intact = record {
-    prints = report_told (λ A. report A ceremony) part.puts printed leaves kept intact;
-    planned = λ clean. planned (clean_then g same clean);
-    by_rows = λ clean. part.puts.printed (clean_then g same clean);
-    row = λ clean. part.row (clean_then g same clean);
+  planned_told {report_by} {ceremony} report part texts = record {
+    prints = report_told (λ A. report A ceremony) part.puts printed;
+    planned = λ clean. planned (clean_then g settled clean);
+    by_rows = rows_told g before _ settled part.puts.printed;
+    row = rows_told g before _ settled part.row;
     unwritten = part.unwritten;
   }
     where
-      planned : IsOfPlanned g before mid r ceremony
-      planned clean A at = on_weaker r (was_planned A ceremony) (part.row clean at.broken (tables A) (stands_rows at))
+      planned : IsOfPlanned g before (record before { conn = conn }) r ceremony
+      planned clean A at = on_weaker r (was_planned A ceremony) (part.row clean (tables A) (stands_rows at))
 
-      printed : OfHistory g before mid (λ A. IsPrinted (IsNotPlanned A ceremony) (report A ceremony) r (contents (inner_of x)) (contents (inner_of y)))
+      printed : OfHistory g before (record before { conn = conn })
+          (λ A. IsPrinted (IsNotPlanned A ceremony) (report A ceremony) r (contents (inner_of x)) (contents (inner_of y)))
       printed clean A at =
-          by (texts clean A at) (printed_denied (not_planned A ceremony) r _ _ (report_by (tables A) ceremony) (part.puts.printed clean at.broken (tables A) (stands_rows at)))
+          by (texts clean A at) (printed_denied (not_planned A ceremony) r _ _ (report_by (tables A) ceremony) (part.puts.printed clean (tables A) (stands_rows at)))
         where
           by : ((is_ceremony A ceremony ≡ false) × (report_by (tables A) ceremony ≡ [])) ⊎ (report_by (tables A) ceremony ≡ report A ceremony)
               → IsPrinted (IsNotPlanned A ceremony) (report_by (tables A) ceremony) r (contents (inner_of x)) (contents (inner_of y))

@@ -33,7 +33,6 @@ use Rattle.kcr_history.specs.declared.commands.Command.{Command}
 use Rattle.kcr_history.specs.declared.commands.Entry.{Entry}
 use Rattle.kcr_history.specs.declared.row_types.KeyRow.{KeyRow}
 use Rattle.kcr_history.proofs.Steps.{numbers}
-use Rattle.kcr_reading.proofs.FirstLemmas.{all_take}
 use Rattle.kcr_reading.specs.Commands.{only, numbered, commands_past, commands_within}
 use Rattle.kcr_store.specs.Calls.{OfRows}
 use Rattle.kcr_store.proofs.WholeLemmas.{stands_rows}
@@ -139,6 +138,12 @@ all_drop : {X : Type 0} (P : X → Type 0) (count : ℕ) (xs : List X) → AllBy
 all_drop P zero xs all = all
 all_drop P (suc count) [] all = tt
 all_drop P (suc count) (x ∷ xs) all = all_drop P count xs all.1
+
+-- what holds of all elements holds of the first ones
+pub all_take : {X : Type 0} (P : X → Type 0) (count : ℕ) (xs : List X) → AllByRecursion P xs → AllByRecursion P (take count xs)
+all_take P zero xs all = tt
+all_take P (suc count) [] all = tt
+all_take P (suc count) (x ∷ xs) all = (all.0, all_take P count xs all.1)
 
 entries_tell : (entries : History) → AllByRecursion (λ entry. IsAct entry.command.act) entries
     → flat_map row_request (map key_row entries) ≡ flat_map request_text (map (λ entry. entry.command) entries)

@@ -1,113 +1,142 @@
 -- Rows that are written one after the other.
-use Rattle.std.proofs.Common.{◌≡◌, ℕ, zero, suc, List, [], ◌∷◌, ◌++◌, take, drop, refl, sym, ap, ◌∙◌, subst, append_assoc, append-nil}
-use Rattle.std.specs.Prelude.{false, Option, Some, None, Result, Ok, Err, IsErr}
+use Rattle.std.proofs.Common.{◌≡◌, ℕ, List, [], ◌∷◌, ◌++◌, length, take, inl, refl, sym, ap, ◌∙◌, subst, append_assoc, append-nil}
+use Rattle.std.specs.Prelude.{⊤, Option, Some, None, Result, Ok, Err, IsErrAnd}
 use Rattle.std.specs.Io.KnownBytes.{Appends}
 use Rattle.std.specs.List.{flat_map}
-use Rattle.std.proofs.lemmas.Bool.{false≢true}
+use Rattle.std.proofs.Math.Seq.{take-append_seam}
 use Rattle.std.proofs.lemmas.Grind.{flat_map-append}
-use Rattle.sqlite.specs.Held.{state}
-use Rattle.sqlite.specs.State.{HasCleanDisk}
+use Rattle.sqlite.specs.Held.{Held}
 use Rattle.sqlite.specs.Store.{Ghosts}
+use Rattle.kcr_base.specs.Counted.{inner_of, failures_of}
+use Rattle.kcr_base.specs.declared.counted.Counted.{Counted}
+use Rattle.kcr_base.specs.declared.refusal.Refusal.{Refusal}
 use Rattle.kcr_history.specs.Tables as machine
 use Rattle.kcr_reading.specs.Remaining.{IsNextOf}
-use Rattle.kcr_store.specs.Register.{RegisterState}
-use Rattle.kcr_store.specs.Calls.{KeepsStand, OfRows}
-use Rattle.kcr_store.specs.Frame.{OfRowsOver}
-use Rattle.kcr_store.proofs.WholeLemmas.{rows_over}
-use Rattle.kcr_print.specs.Written.{Writes, WritesPrefix}
-use Rattle.kcr_print.proofs.PartLemmas.{of_kept}
+use Rattle.kcr_tables.specs.Refusals.{IsFault}
+use Rattle.kcr_store.specs.Frame.{OfRowsOver, OfRowsShown, OnlyReads}
+use Rattle.kcr_store.proofs.WholeLemmas.{reads_nothing, reads_then}
+use Rattle.kcr_print.specs.Reports.{CountsWriteFaults, PrintsPart, RefusesBetweenRows, RefusesUnwritten, Stops}
+use Rattle.kcr_print.specs.Written.{WritesPrefix}
+use Rattle.kcr_print.specs.declared.fault.PrintFault.{PrintFault}
+use Rattle.kcr_print.specs.declared.fault.PrintFault.TheVariants.{Refused}
+use Rattle.kcr_print.proofs.PartLemmas.{err_is, told_then}
 use Rattle.kcr_print.proofs.WrittenLemmas.{appends_both, appends_nothing, front_both, front_longer}
 
--- some bytes were written of the whole, and these are left of it
-pub record Goes (old new : Option (List ℕ)) (whole rest : List ℕ) : Type 0 where
-  pub text : List ℕ
-  pub written : Appends old new text
-  pub is : whole ≡ text ++ rest
-
--- at first nothing is written, and the whole is left
-pub goes_start : (a : Option (List ℕ)) (whole : List ℕ) → Goes a a whole whole
-goes_start a whole = record { text = []; written = appends_nothing a; is = refl }
-
--- a row was written
-pub goes_more : {X : Type 0} (f : X → List ℕ) (a b c : Option (List ℕ)) (whole : List ℕ) (before after : List X) (row : X)
-    → Goes a b whole (flat_map f before) → before ≡ row ∷ after → Appends b c (f row) → Goes a c whole (flat_map f after)
-goes_more f a b c whole before after row g e p = record {
-  text = g.text ++ f row;
-  written = appends_both a b c g.text (f row) g.written p;
-  is = g.is ∙ ap (λ rows. g.text ++ flat_map f rows) e ∙ sym (append_assoc g.text (f row) (flat_map f after));
-}
-
--- a row was begun
-pub goes_front : {X : Type 0} (f : X → List ℕ) (a b c : Option (List ℕ)) (whole : List ℕ) (before after : List X) (row : X)
-    → Goes a b whole (flat_map f before) → before ≡ row ∷ after → WritesPrefix b c (f row) → WritesPrefix a c whole
-goes_front f a b c whole before after row g e p =
-    subst (WritesPrefix a c) (sym (g.is ∙ ap (λ rows. g.text ++ flat_map f rows) e))
-    (front_both a b c g.text (f row ++ flat_map f after) g.written (front_longer b c (f row) (flat_map f after) p))
-
--- no more is written
-pub goes_stop : (a b : Option (List ℕ)) (whole rest : List ℕ) → Goes a b whole rest → WritesPrefix a b whole
-goes_stop a b whole rest g =
-    subst (WritesPrefix a b) (sym g.is) (front_both a b b g.text rest g.written (0, appends_nothing b))
-
--- whole rows were written of those that were to come, and these are left
+-- these rows were written whole of those that were to come, and those are left
 pub record Gone {X : Type 0} (f : X → List ℕ) (old new : Option (List ℕ)) (whole rest : List X) : Type 0 where
-  pub count : ℕ
-  pub written : Appends old new (flat_map f (take count whole))
-  pub is : drop count whole ≡ rest
+  pub front : List X
+  pub written : Appends old new (flat_map f front)
+  pub is : whole ≡ front ++ rest
 
--- at first no row is written, and all are left
-pub gone_start : {X : Type 0} (f : X → List ℕ) (a : Option (List ℕ)) (whole : List X) → Gone f a a whole whole
-gone_start f a whole = record { count = zero; written = appends_nothing a; is = refl }
+module _ {X : Type 0} (f : X → List ℕ) (a b : Option (List ℕ)) (whole rest : List X) (g : Gone f a b whole rest) where
+  text_is : flat_map f whole ≡ flat_map f g.front ++ flat_map f rest
+  text_is = ap (flat_map f) g.is ∙ flat_map-append f g.front rest
 
--- one row more
-take_next : {X : Type 0} (n : ℕ) (xs : List X) (x : X) (rest : List X) → drop n xs ≡ x ∷ rest
-    → (take (suc n) xs ≡ take n xs ++ x ∷ []) × (drop (suc n) xs ≡ rest)
-take_next zero xs x rest e = (ap (take 1) e, ap (drop 1) e)
-take_next (suc n) [] x rest e = absurd (cc e)
-take_next (suc n) (y ∷ ys) x rest e = let next = take_next n ys x rest e in (ap (λ l. y ∷ l) next.0, next.1)
+  -- no more is written
+  gone_stop : WritesPrefix a b (flat_map f whole)
+  gone_stop = subst (WritesPrefix a b) (sym text_is) (front_both a b b (flat_map f g.front) (flat_map f rest) g.written (0, appends_nothing b))
 
--- one row more is written, and those behind it are left
-pub gone_more : {X : Type 0} (f : X → List ℕ) (a b c : Option (List ℕ)) (whole before after : List X) (row : X)
-    → Gone f a b whole before → before ≡ row ∷ after → Appends b c (f row) → Gone f a c whole after
-gone_more f a b c whole before after row g e p =
-    let next = take_next g.count whole row after (g.is ∙ e) in
-    let text = flat_map f (take g.count whole) in
-    let more : flat_map f (take (suc g.count) whole) ≡ text ++ f row =
-    ap (flat_map f) next.0 ∙ flat_map-append f (take g.count whole) (row ∷ []) ∙ ap (λ t. text ++ t) (append-nil (f row)) in
-    record {
-      count = suc g.count;
-      written = subst (Appends a c) (sym more) (appends_both a b c text (f row) g.written p);
-      is = next.1;
+  -- no row is left
+  gone_end : rest ≡ [] → Appends a b (flat_map f whole)
+  gone_end none = subst (Appends a b) (sym (ap (flat_map f) (g.is ∙ ap (λ rows. g.front ++ rows) none ∙ append-nil g.front))) g.written
+
+  gone_rows : (n : ℕ) × Appends a b (flat_map f (take n whole))
+  gone_rows =
+      let all : take (length g.front) whole ≡ g.front = ap (take (length g.front)) g.is ∙ take-append_seam g.front rest in
+      (length g.front, subst (λ rows. Appends a b (flat_map f rows)) (sym all) g.written)
+
+  module _ (c : Option (List ℕ)) (row : X) (after : List X) (next : rest ≡ row ∷ after) where
+    -- one row more is written
+    gone_more : Appends b c (f row) → Gone f a c whole after
+    gone_more p =
+        let more : flat_map f (g.front ++ row ∷ []) ≡ flat_map f g.front ++ f row =
+        flat_map-append f g.front (row ∷ []) ∙ ap (λ t. flat_map f g.front ++ t) (append-nil (f row)) in
+        record {
+          front = g.front ++ row ∷ [];
+          written = subst (Appends a c) (sym more) (appends_both a b c (flat_map f g.front) (f row) g.written p);
+          is = g.is ∙ ap (λ rows. g.front ++ rows) next ∙ sym (append_assoc g.front (row ∷ []) after);
+        }
+
+    -- a row is begun
+    gone_front : WritesPrefix b c (f row) → WritesPrefix a c (flat_map f whole)
+    gone_front p =
+        subst (WritesPrefix a c) (sym (text_is ∙ ap (λ rows. flat_map f g.front ++ flat_map f rows) next))
+        (front_both a b c (flat_map f g.front) (f row ++ flat_map f after) g.written (front_longer b c (f row) (flat_map f after) p))
+
+-- so it is by whatever rows there are, and what was read was only read
+pub record Goes {S W R Row : Type 0} (g : Ghosts S) (contents : W → Option (List ℕ)) (to_come : R → machine.Tables → List Row) (lines : Row → List ℕ)
+    (a b : Held S) (x y : Counted W) (first next : R) : Type 0 where
+  pub gone : OfRowsShown g a b (λ m. Gone lines (contents (inner_of x)) (contents (inner_of y)) (to_come first m) (to_come next m))
+  pub reads : OnlyReads {A = ⊤} g (Stops (λ _. ⊥)) a b (Ok tt)
+  pub calm : failures_of y ≡ failures_of x
+
+module _ {S W R Row : Type 0} (g : Ghosts S) (contents : W → Option (List ℕ)) (to_come : R → machine.Tables → List Row) (lines : Row → List ℕ) where
+  -- at first no row is written, and all are left
+  pub goes_start : {a b : Held S} (x : Counted W) {first next : R} → b ≡ a → next ≡ first → Goes g contents to_come lines a b x x first next
+  goes_start {a} {b} x {first} {next} same is =
+      let P : Held S → Type 0 = λ h. Goes g contents to_come lines a h x x first next in
+      subst P (sym same) (record {
+        gone = λ clean m has. record { front = []; written = appends_nothing (contents (inner_of x)); is = ap (λ at. to_come at m) (sym is) };
+        reads = reads_nothing a tt;
+        calm = refl;
+      })
+
+  abbrev Part : Held S → Held S → Counted W → Counted W → Result ⊤ PrintFault → R → Type 0
+  Part a b x y r first = PrintsPart g contents a b x y r (λ _ _. ⊥) (λ _. ⊥) (λ m. flat_map lines (to_come first m))
+
+  abbrev Whole : Held S → Held S → Counted W → Counted W → Result ⊤ PrintFault → R → Type 0
+  Whole a b x y r first = OfRowsShown g a b (λ m. RefusesBetweenRows lines (to_come first m) r (contents (inner_of x)) (contents (inner_of y)))
+
+  module _ {a b : Held S} {x y : Counted W} {first next : R} (s : Goes g contents to_come lines a b x y first next) where
+    -- it stops at a refusal, between two rows
+    pub goes_refused : {A : Type 0} {q : Result A Refusal} {c : Held S} (refusal : Refusal) → OnlyReads g IsFault b c q → IsFault refusal
+        → Part a c x y (Err (Refused refusal)) first
+    goes_refused {c = c} refusal peeks fault = record {
+      printed = λ clean m has. (gone_stop lines _ _ _ _ (s.gone (peeks.clean clean) m has), inl fault);
+      reads = reads_then s.reads (reads_then peeks (reads_nothing c (inl fault)));
+      told = record { calm = λ _. s.calm; fault = λ e. cc e };
     }
 
--- what was written before an error is a beginning
-pub writes_err : {T E : Type 0} (r : Result T E) (a b : Option (List ℕ)) (whole : List ℕ) → IsErr r → WritesPrefix a b whole → Writes r a b whole
-writes_err (Ok v) a b whole h p = absurd (false≢true h)
-writes_err (Err e) a b whole h p = p
+    -- so whole rows were written
+    pub whole_rows : {A : Type 0} {q : Result A Refusal} {c : Held S} (r : Result ⊤ PrintFault) → OnlyReads g IsFault b c q → Whole a c x y r first
+    whole_rows r peeks clean m has refusal is = gone_rows lines _ _ _ _ (s.gone (peeks.clean clean) m has)
 
--- the row that a call gave was the first of those to come, by the rows that the calls before it kept
-pub row_given : {S R Row : Type 0} (g : Ghosts S) (to_come : R → machine.Tables → List Row) (a b c : RegisterState S)
-    {before after : R} {given : Option Row} {row : Row} → KeepsStand g a b
-    → (HasCleanDisk (state g c.conn) → HasCleanDisk (state g b.conn))
-    → (b.is_broken ≡ false → OfRowsOver g b.conn c.conn (λ m. IsNextOf (to_come before m) given (to_come after m))) → given ≡ Some row
-    → OfRows g a c (λ m. to_come before m ≡ row ∷ to_come after m)
-row_given {Row = Row} g to_come a b c {before} {after} {given} keeps was gives is clean intact m has =
-    let Says : machine.Tables → Type 0 = λ m. IsNextOf (to_come before m) given (to_come after m) in
-    subst (λ (o : Option Row). IsNextOf (to_come before m) o (to_come after m)) is
-    (of_kept g a b c Says keeps (rows_over g b c Says was gives) clean intact m has)
+    module _ {A : Type 0} {q : Result A Refusal} {c : Held S} (later : R) {given : Option Row} (peeks : OnlyReads g IsFault b c q)
+        (gives : OfRowsOver g b c (λ m. IsNextOf (to_come next m) given (to_come later m))) where
+      -- what a call gave is the next of the rows that are left
+      next_is : (o : Option Row) → given ≡ o → OfRowsShown g a c (λ m. IsNextOf (to_come next m) o (to_come later m))
+      next_is o is clean m has =
+          subst (λ (o : Option Row). IsNextOf (to_come next m) o (to_come later m)) is (gives clean m (λ live. (s.reads.rows m has (peeks.clean clean) live).now))
 
--- that a call gave none says that none was to come
-pub none_given : {S R Row : Type 0} (g : Ghosts S) (to_come : R → machine.Tables → List Row) (a b c : RegisterState S)
-    {before : R} (after : R) {given : Option Row} → KeepsStand g a b
-    → (HasCleanDisk (state g c.conn) → HasCleanDisk (state g b.conn))
-    → (b.is_broken ≡ false → OfRowsOver g b.conn c.conn (λ m. IsNextOf (to_come before m) given (to_come after m))) → given ≡ None
-    → OfRows g a c (λ m. to_come before m ≡ [])
-none_given {Row = Row} g to_come a b c {before} after {given} keeps was gives is clean intact m has =
-    let Says : machine.Tables → Type 0 = λ m. IsNextOf (to_come before m) given (to_come after m) in
-    (subst (λ (o : Option Row). IsNextOf (to_come before m) o (to_come after m)) is (of_kept g a b c Says keeps (rows_over g b c Says was gives) clean intact m has)).0
+      -- none is left
+      pub goes_end : given ≡ None → Part a c x y (Ok tt) first
+      goes_end is = record {
+        printed = λ clean m has. gone_end lines _ _ _ _ (s.gone (peeks.clean clean) m has) (next_is None is clean m has).0;
+        reads = reads_then s.reads (reads_then peeks (reads_nothing c tt));
+        told = record { calm = λ _. s.calm; fault = λ e. cc e };
+      }
 
--- no row is left
-pub goes_end : {X : Type 0} (f : X → List ℕ) (a b : Option (List ℕ)) (whole : List ℕ) (before : List X) → Goes a b whole (flat_map f before) → before ≡ []
-    → Appends a b whole
-goes_end f a b whole before g e =
-    subst (Appends a b) (sym (g.is ∙ ap (λ rows. g.text ++ flat_map f rows) e ∙ append-nil g.text)) g.written
+      module _ (row : Row) (is : given ≡ Some row) {z : Counted W} where
+        -- one row more is written
+        pub goes_more : Appends (contents (inner_of y)) (contents (inner_of z)) (lines row) → CountsWriteFaults y z (Ok tt) → Goes g contents to_come lines a c x z first later
+        goes_more written told = record {
+          gone = λ clean m has. gone_more lines _ _ _ _ (s.gone (peeks.clean clean) m has) _ row _ (next_is (Some row) is clean m has) written;
+          reads = reads_then s.reads (reads_then peeks (reads_nothing c tt));
+          calm = told.calm (λ e. cc e) ∙ s.calm;
+        }
+
+        -- a row is begun
+        pub goes_front : {e : PrintFault} → WritesPrefix (contents (inner_of y)) (contents (inner_of z)) (lines row) → Stops (λ _. ⊥) e
+            → CountsWriteFaults y z (Err e) → Part a c x z (Err e) first
+        goes_front {e} written stops told = record {
+          printed = λ clean m has. (gone_front lines _ _ _ _ (s.gone (peeks.clean clean) m has) _ row _ (next_is (Some row) is clean m has) written, stops);
+          reads = reads_then s.reads (reads_then peeks (reads_nothing c stops));
+          told = told_then x y z (Err e) (record { calm = λ _. s.calm; fault = λ e. cc e }) told;
+        }
+
+        -- one that is refused leaves the rows before it
+        pub whole_before : (r : Result ⊤ PrintFault) {e : PrintFault} → IsErrAnd r (λ fault. fault ≡ e) → RefusesUnwritten y z (Err e) → Whole a c x z r first
+        whole_before r {e} err unwritten clean m has refusal same =
+            let still : z ≡ y = unwritten refusal (ap (λ (fault : PrintFault). Err fault) (err_is r e (Refused refusal) err same)) in
+            subst (λ (w : Counted W). (n : ℕ) × Appends (contents (inner_of x)) (contents (inner_of w)) (flat_map lines (take n (to_come first m)))) (sym still)
+            (gone_rows lines _ _ _ _ (s.gone (peeks.clean clean) m has))

@@ -1,10 +1,10 @@
 -- Texts that are written one after the other.
 use Rattle.std.proofs.Common.{◌≡◌, ℕ, ◌+◌, List, [], ◌++◌, length, take, min, sym, ap, ◌∙◌, subst, arith, append_assoc}
-use Rattle.std.specs.Prelude.{Option, Some, None}
+use Rattle.std.specs.Prelude.{Option, Some, None, Result, Ok, Err}
 use Rattle.std.specs.Io.KnownBytes.{Appends}
 use Rattle.std.proofs.lemmas.List.{append-nil, take-append-le, take_min}
 use Rattle.std.proofs.Math.Seq.{take-append-add}
-use Rattle.kcr_print.specs.Written.{WritesPrefix}
+use Rattle.kcr_print.specs.Written.{WritesPrefix, Writes}
 
 -- two texts that are written one after the other are written together
 pub appends_both : (a b c : Option (List ℕ)) (x y : List ℕ) → Appends a b x → Appends b c y → Appends a c (x ++ y)
@@ -30,6 +30,12 @@ front_after a b c x y rest p q =
 -- x, and then a beginning of y
 pub front_both : (a b c : Option (List ℕ)) (x y : List ℕ) → Appends a b x → WritesPrefix b c y → WritesPrefix a c (x ++ y)
 front_both a b c x y p q = subst (λ t. WritesPrefix a c (x ++ t)) (append-nil y) (front_after a b c x y [] p q)
+
+-- a call that writes a text behind one that was written writes both, or after a fault a prefix of both
+pub writes_then : {T E : Type 0} (r : Result T E) (a b c : Option (List ℕ)) (x y : List ℕ)
+    → Appends a b x → Writes r b c y → Writes r a c (x ++ y)
+writes_then (Ok v) a b c x y p q = appends_both a b c x y p q
+writes_then (Err e) a b c x y p q = front_both a b c x y p q
 
 -- a beginning of x is one of x and more
 pub front_longer : (a b : Option (List ℕ)) (x y : List ℕ) → WritesPrefix a b x → WritesPrefix a b (x ++ y)

@@ -4,7 +4,7 @@ use Rattle.std.specs.Prelude.{IsSome, IsTrue, OnOk, take}
 use Rattle.std.specs.List.{flat_map}
 use Rattle.std.specs.Io.KnownBytes.{Appends}
 use Rattle.sqlite.specs.Store.{Ghosts}
-use Rattle.sqlite.specs.Held.{state}
+use Rattle.sqlite.specs.Held.{Held, state}
 use Rattle.sqlite.specs.State.{HasCleanDisk}
 use Rattle.kcr_base.specs.Counted.{inner_of, failures_of}
 use Rattle.kcr_base.specs.declared.counted.Counted.{Counted}
@@ -15,7 +15,8 @@ use Rattle.kcr_history.specs.History.{History}
 use Rattle.kcr_history.specs.Tables.{Tables}
 use Rattle.kcr_tables.specs.Refusals.{IsFault}
 use Rattle.kcr_store.specs.Register.{RegisterState, RegisterHistory, IsConsistent, StandsAt}
-use Rattle.kcr_store.specs.Calls.{CommitsNothing, KeepsStand, OfHistory, OfRows, left_at}
+use Rattle.kcr_store.specs.Calls.{CommitsNothing, OfHistory, OfRows, left_at}
+use Rattle.kcr_store.specs.Frame.{OfRowsShown, OnlyReads}
 use Rattle.kcr_store.specs.Rows.{IsNotPlanned, NamesCeremony}
 use Rattle.kcr_store.specs.ShownBy.{IsNotPlannedBy}
 use Rattle.kcr_print.specs.ByRows.{row_of_ceremony}
@@ -62,16 +63,14 @@ PrintsRows g contents before after old new result Denies text =
     OfRows g before after
     (λ m. IsPrinted (Denies m) (text m) result (contents (inner_of old)) (contents (inner_of new)))
 
--- a part of a report over a register that is not broken: this text of its rows is printed, the rows stay, and a fault of
--- the device has not broken the register yet; the part is denied only for what it is asked for
+-- a part of a report over the connection of a register that is not broken: this text of its rows is printed, and they are
+-- only read; the part is denied only for what it is asked for
 pub record PrintsPart {S W : Type 0} (g : Ghosts S) (contents : W → Option (List ℕ))
-    (before after : RegisterState S) (old new : Counted W) (result : Result ⊤ PrintFault)
+    (before after : Held S) (old new : Counted W) (result : Result ⊤ PrintFault)
     (Denies : Tables → Refusal → Type 0) (MayDeny : Refusal → Type 0) (text : Tables → List ℕ) : Type 0 where
-  pub printed : PrintsRows g contents before after old new result Denies text
-  pub cause : IfErr result (Stops MayDeny)
-  pub keeps : KeepsStand g before after
-  pub clean : HasCleanDisk (state g after.conn) → HasCleanDisk (state g before.conn)
-  pub kept : IsConsistent g after
+  pub printed : OfRowsShown g before after
+      (λ m. IsPrinted (Denies m) (text m) result (contents (inner_of old)) (contents (inner_of new)))
+  pub reads : OnlyReads g (Stops MayDeny) before after result
   pub told : CountsWriteFaults old new result
 
 -- a report over any register: of one that is not broken this text of its history is printed, and an I/O error breaks
@@ -105,11 +104,11 @@ DeniesUnwritten ceremony old new result =
 
 -- a part of the report of a ceremony: it is denied only if the ceremony has no row, and before it is begun
 pub record PrintsCeremonyPart {S W : Type 0} (report_by : Tables → ℕ → List ℕ) (ceremony : ℕ) (g : Ghosts S)
-    (contents : W → Option (List ℕ)) (before after : RegisterState S) (old new : Counted W)
+    (contents : W → Option (List ℕ)) (before after : Held S) (old new : Counted W)
     (result : Result ⊤ PrintFault) : Type 0 where
   pub puts : PrintsPart g contents before after old new result
       (λ m. IsNotPlannedBy m ceremony) (NamesCeremony ceremony) (λ m. report_by m ceremony)
-  pub row : IsOfRow g before after result ceremony
+  pub row : OfRowsShown g before after (λ m. OnOk result (IsSome (row_of_ceremony ceremony m)))
   pub unwritten : DeniesUnwritten ceremony old new result
 
 -- the report of a ceremony: it is denied only if the ceremony was never planned, and before it is begun

@@ -1,16 +1,12 @@
-//! The three reports, and the export.
+//! The three reports, the export and the journal.
 
 ghost use Rattle.std.specs.Prelude.{◌≡◌};
 ghost use Rattle.kcr_history.specs.Prints as prints;
-ghost use Rattle.kcr_store.specs.Register.{IsConsistent};
-ghost use Rattle.kcr_base.specs.Counted.{inner_of};
-ghost use Rattle.kcr_history.specs.Tables.{tables};
-ghost use Rattle.kcr_reading.specs.Commands.{commands_within};
-ghost use Rattle.kcr_store.specs.Calls.{OfRows};
+ghost use Rattle.kcr_store.specs.Calls.{BreaksIf};
 ghost use Rattle.kcr_print.specs.ByRows.{annotated_by, attendance_by, custody_by};
-ghost use Rattle.kcr_print.specs.Reports.{KeepsRegister, Prints, PrintsPlanned, PrintsRows, RefusesBetweenRows};
-ghost use Rattle.kcr_print.specs.Journal.{PrintsJournal, row_journal};
-ghost use Rattle.kcr_print.specs.Requests.{Exports, row_request, row_requests};
+ghost use Rattle.kcr_print.specs.Reports.{Prints, PrintsPlanned, PrintsRows};
+ghost use Rattle.kcr_print.specs.Journal.{PrintsJournal};
+ghost use Rattle.kcr_print.specs.Requests.{Exports};
 
 use crate::fault::PrintFault;
 use crate::parts::{print_attendance, print_custody, print_journal, print_requests, print_script};
@@ -25,11 +21,8 @@ fn note_disk_fault<S: Alter>(
     register: &mut Register<S>,
     outcome: Result<(), PrintFault>,
 ) -> Result<(), PrintFault>
-    requires { IsConsistent S.Store register.old }
     ensures same { result ≡ outcome }
-    ensures leaves { KeepsRegister S.Store register.old register.new outcome }
-    ensures connection { register.new.conn ≡ register.old.conn }
-    ensures kept { IsConsistent S.Store register.new }
+    ensures settled { BreaksIf (outcome ≡ Err (PrintFault.Refused Refusal.Disk)) register.old register.new }
 {
     match outcome {
         Ok(()) => Ok(()),
@@ -54,10 +47,7 @@ pub fn annotated<S: Alter, W: Write>(
     ensures { PrintsPlanned prints.annotated annotated_by ceremony S.Store W.contents register.old register.new
         writer.old writer.new result }
 {
-    if register.is_broken() {
-        return Err(PrintFault::Refused(Refusal::Broken));
-    }
-    let outcome = print_script(alloc, register, ceremony, writer);
+    let outcome = print_script(alloc, register.unbroken()?, ceremony, writer);
     note_disk_fault(register, outcome)
 }
 
@@ -73,10 +63,7 @@ pub fn attendance_csv<S: Alter, W: Write>(
     ensures { PrintsPlanned prints.attendance attendance_by ceremony S.Store W.contents register.old register.new
         writer.old writer.new result }
 {
-    if register.is_broken() {
-        return Err(PrintFault::Refused(Refusal::Broken));
-    }
-    let outcome = print_attendance(alloc, register, ceremony, writer);
+    let outcome = print_attendance(alloc, register.unbroken()?, ceremony, writer);
     note_disk_fault(register, outcome)
 }
 
@@ -94,33 +81,7 @@ pub fn custody<S: Alter, W: Write>(
     ensures by_rows { PrintsRows S.Store W.contents register.old register.new writer.old writer.new result
         (λ _ _. ⊥) custody_by }
 {
-    if register.is_broken() {
-        return Err(PrintFault::Refused(Refusal::Broken));
-    }
-    let outcome = print_custody(alloc, register, writer);
-    note_disk_fault(register, outcome)
-}
-
-/// Writes what the rows of accepted commands keep, as requests.
-fn export_rows<S: Alter, W: Write>(
-    alloc: Global,
-    register: &mut Register<S>,
-    after: u32,
-    until: u32,
-    writer: &mut Counted<W>,
-) -> Result<(), PrintFault>
-    ensures prints { Prints S.Store W.contents register.old register.new writer.old writer.new result
-        (λ _ _. ⊥) (λ _. ⊥) (λ A. row_requests after until (tables A)) }
-    ensures by_rows { PrintsRows S.Store W.contents register.old register.new writer.old writer.new result
-        (λ _ _. ⊥) (row_requests after until) }
-    ensures whole { OfRows S.Store register.old register.new (λ m. RefusesBetweenRows row_request
-        (commands_within after until m) result
-        (W.contents (inner_of writer.old)) (W.contents (inner_of writer.new))) }
-{
-    if register.is_broken() {
-        return Err(PrintFault::Refused(Refusal::Broken));
-    }
-    let outcome = print_requests(alloc, register, after, until, writer);
+    let outcome = print_custody(alloc, register.unbroken()?, writer);
     note_disk_fault(register, outcome)
 }
 
@@ -136,25 +97,7 @@ pub fn export<S: Alter, W: Write>(
 ) -> Result<(), PrintFault>
     ensures { Exports S.Store W.contents register.old register.new writer.old writer.new result after until }
 {
-    export_rows(alloc, register, after, until, writer)
-}
-
-/// Writes the lines of the journal, by the rows of accepted commands.
-fn journal_rows<S: Alter, W: Write>(
-    alloc: Global,
-    register: &mut Register<S>,
-    asked: Option<CeremonyNumber>,
-    writer: &mut Counted<W>,
-) -> Result<(), PrintFault>
-    ensures prints { Prints S.Store W.contents register.old register.new writer.old writer.new result
-        (λ _ _. ⊥) (λ _. ⊥) (λ A. row_journal asked (tables A)) }
-    ensures by_rows { PrintsRows S.Store W.contents register.old register.new writer.old writer.new result
-        (λ _ _. ⊥) (row_journal asked) }
-{
-    if register.is_broken() {
-        return Err(PrintFault::Refused(Refusal::Broken));
-    }
-    let outcome = print_journal(alloc, register, asked, writer);
+    let outcome = print_requests(alloc, register.unbroken()?, after, until, writer);
     note_disk_fault(register, outcome)
 }
 
@@ -169,5 +112,6 @@ pub fn journal<S: Alter, W: Write>(
 ) -> Result<(), PrintFault>
     ensures { PrintsJournal S.Store W.contents register.old register.new writer.old writer.new result asked }
 {
-    journal_rows(alloc, register, asked, writer)
+    let outcome = print_journal(alloc, register.unbroken()?, asked, writer);
+    note_disk_fault(register, outcome)
 }

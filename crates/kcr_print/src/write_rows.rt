@@ -1,13 +1,10 @@
 //! Rows of a register, written one at a time.
 
-ghost use Rattle.std.specs.Prelude.{◌≡◌, IfErr, false};
+ghost use Rattle.std.specs.Prelude.{IfErr};
 ghost use Rattle.std.specs.List.{flat_map};
-ghost use Rattle.sqlite.specs.Held.{state};
-ghost use Rattle.sqlite.specs.State.{HasCleanDisk};
 ghost use Rattle.kcr_base.specs.Counted.{inner_of};
-ghost use Rattle.kcr_store.specs.Register.{IsConsistent};
-ghost use Rattle.kcr_store.specs.Calls.{KeepsStand, OfRows};
-ghost use Rattle.kcr_print.specs.Reports.{Stops, CountsWriteFaults, RefusesUnwritten, RefusesBetweenRows};
+ghost use Rattle.kcr_store.specs.Frame.{OfRowsShown};
+ghost use Rattle.kcr_print.specs.Reports.{Stops, CountsWriteFaults, PrintsPart, RefusesUnwritten, RefusesBetweenRows};
 ghost use Rattle.kcr_print.specs.Written.{Writes};
 
 use crate::fault::PrintFault;
@@ -15,7 +12,7 @@ use crate::print_lines::PrintLines;
 use crate::writing::write_whole;
 use kcr_base::{Counted, Refusal};
 use kcr_reading::Cursor;
-use kcr_store::Rows;
+use kcr_store::Unbroken;
 use sqlite::Alter;
 use std::alloc::Global;
 use std::io::Write;
@@ -38,28 +35,20 @@ pub(crate) fn write_row<P: PrintLines, W: Write>(
     Ok(())
 }
 
-/// Writes the lines of all rows that are still to come, one row after the other. After a fault a prefix of them
-/// was written; after a refusal, whole rows. An I/O error does not break the register: the caller drops the rows and marks it.
+/// Writes the lines of the rows that a reading gives, one row after the other. After a fault a prefix of them was
+/// written; after a refusal, whole rows. An I/O error does not break the register.
 pub(crate) fn write_rows<S: Alter, P: PrintLines, R: Cursor<Row = P>, W: Write>(
     alloc: Global,
-    rows: &mut Rows<'_, S, R>,
+    register: &mut Unbroken<S>,
+    reading: R,
     writer: &mut Counted<W>,
 ) -> Result<(), PrintFault>
-    requires { IsConsistent S.Store rows.old.register.now }
-    ensures same_reference { rows.new.register.ghost_name ≡ rows.old.register.ghost_name }
-    ensures written { OfRows S.Store rows.old.register.now rows.new.register.now (λ m. Writes result
-        (W.contents (inner_of writer.old)) (W.contents (inner_of writer.new))
-        (flat_map P.lines (R.to_come rows.old.reading m))) }
-    ensures whole { OfRows S.Store rows.old.register.now rows.new.register.now (λ m. RefusesBetweenRows P.lines
-        (R.to_come rows.old.reading m) result
-        (W.contents (inner_of writer.old)) (W.contents (inner_of writer.new))) }
-    ensures cause { rows.old.register.now.is_broken ≡ false → IfErr result (Stops (λ _. ⊥)) }
-    ensures same { KeepsStand S.Store rows.old.register.now rows.new.register.now }
-    ensures clean { HasCleanDisk (state S.Store rows.new.register.now.conn)
-        → HasCleanDisk (state S.Store rows.old.register.now.conn) }
-    ensures kept { IsConsistent S.Store rows.new.register.now }
-    ensures told { CountsWriteFaults writer.old writer.new result }
+    ensures prints { PrintsPart S.Store W.contents register.old register.new writer.old writer.new result (λ _ _. ⊥)
+        (λ _. ⊥) (λ m. flat_map P.lines (R.to_come reading m)) }
+    ensures whole { OfRowsShown S.Store register.old register.new (λ m. RefusesBetweenRows P.lines
+        (R.to_come reading m) result (W.contents (inner_of writer.old)) (W.contents (inner_of writer.new))) }
 {
+    let mut rows = register.rows(reading);
     for _ in 0..u64::MAX {
         let Some(row) = rows.next()? else {
             return Ok(());

@@ -1,5 +1,5 @@
 -- What one transaction leaves of a register.
-use Rattle.std.proofs.Common.{◌≡◌, Bool, ℕ, length, inl, inr, Option, Some, None, true, false, Result, Ok, Err, IfOk, OnOk, IsTrue, refl, sym, ap, subst, ◌∙◌, arith}
+use Rattle.std.proofs.Common.{◌≡◌, Bool, ℕ, length, inl, inr, Option, Some, None, true, false, Result, Ok, Err, IfErr, IfOk, OnOk, IsTrue, refl, sym, ap, subst, ◌∙◌, arith}
 use Rattle.sqlite.specs.declared.error.ErrorCode.TheVariants.{OutOfMemory}
 use Rattle.sqlite.specs.declared.error.Error.{Error}
 use Rattle.sqlite.specs.declared.error.Error.TheVariants.{SqliteFailure}
@@ -24,7 +24,7 @@ use Rattle.kcr_store.proofs.StoreLemmas.{counts_after, held_in}
 use Rattle.kcr_store.specs.Stored.{IsTables, Stores}
 use Rattle.kcr_history.specs.History.{History}
 use Rattle.kcr_history.specs.Tables.{Tables, tables}
-use Rattle.kcr_store.specs.Register.{HasRows, IsDurableWith, IsDurable, CrashKeeps, AfterCrash, RegisterState, RegisterHistory, StandsAt}
+use Rattle.kcr_store.specs.Register.{HasRows, IsConsistent, IsDurableWith, IsDurable, CrashKeeps, AfterCrash, RegisterState, RegisterHistory, StandsAt}
 use Rattle.kcr_store.specs.Register as register
 use Rattle.kcr_store.specs.Register.{whole}
 use Rattle.std.proofs.lemmas.Bool.{true≢false}
@@ -33,8 +33,8 @@ use Rattle.std.specs.Prelude.{◌↔◌, ◌≢◌, IsSome, is_some, unwrap_or}
 use Rattle.kcr_base.specs.declared.refusal.Refusal.{Refusal}
 use Rattle.kcr_base.specs.declared.refusal.Refusal.TheVariants.{Disk}
 use Rattle.kcr_history.specs.declared.commands.Reply.{Reply}
-use Rattle.kcr_store.specs.Calls.{CommitsNothing, Leads, OfRows, ReadsHistory, ReadsWithoutBreaking, BreaksOnFault, after_fault, left_at}
-use Rattle.kcr_store.specs.Frame.{OfRowsOver, OnlyReads, StaysOutside}
+use Rattle.kcr_store.specs.Calls.{BreaksIf, BreaksOnFault, CommitsNothing, Leads, ReadsHistory, after_fault, left_at}
+use Rattle.kcr_store.specs.Frame.{OfRowsOver, OfRowsShown, OnlyReads, StaysOutside}
 
 -- within the transaction
 pub record Began (accepted : History) (s : State) : Type 0 where
@@ -211,7 +211,7 @@ pub read_back : {S A E : Type 0} (g : Ghosts S) (old end : Held S) {MayFail : E 
     → StaysInTransaction g MayFail begun mid r → begun.conn.now ≡ record old { in_transaction = true } → Survives (state_in g mid) (state g end) (λ _. ⊥)
     → (HasCleanDisk (state g end) → IsRolledBack (state_in g mid) (state g end)) → end.in_transaction ≡ false → OnlyReads g MayFail old end r
 read_back g old end {begun = begun} {mid = mid} left is then back out = record {
-  autocommit = out;
+  autocommit = λ _. out;
   survives = (undone_outside g old begun.conn.now is (state_in g mid) left.survives end then out).survives;
   clean = λ clean. begun_clean g old begun.conn.now is (clean_before left (was_clean (state_in g mid) (state g end) _ then clean));
   whole = λ A was. whole_undone A (state_in g begun) (state_in g mid) (begins g A old begun.conn.now is was) left.survives left.kept (state g end) then back;
@@ -280,10 +280,10 @@ stands_rows {A = A} at honest live =
     let s = (at.shows refl).whole.shows honest live in
     record { now = held_in A _ s.now; committed = held_in A _ s.committed }
 
--- what one call says of whatever rows its database held is so of the rows that it had
-pub rows_over : {S : Type 0} (g : Ghosts S) (old new : RegisterState S) (Says : Tables → Type 0)
-    → (HasCleanDisk (state g new.conn) → HasCleanDisk (state g old.conn)) → (old.is_broken ≡ false → OfRowsOver g old.conn new.conn Says) → OfRows g old new Says
-rows_over g old new Says clean says now intact m has = says intact now m (λ live. (has (clean now) live).now)
+-- what one call says of whatever rows its database held is so of the rows that it showed
+pub rows_shown : {S : Type 0} (g : Ghosts S) (old new : Held S) (Says : Tables → Type 0)
+    → (HasCleanDisk (state g new) → HasCleanDisk (state g old)) → OfRowsOver g old new Says → OfRowsShown g old new Says
+rows_shown g old new Says clean says now m has = says now m (λ live. (has (clean now) live).now)
 
 -- one that says that nothing has broken it
 pub seen_unbroken : {S : Type 0} {inside seen : RegisterState S} {told : Bool} → inside ≡ seen → told ≡ seen.is_broken → told ≡ false
@@ -368,98 +368,102 @@ module _ {S : Type 0} (g : Ghosts S) (old new : RegisterState S) (x : Command) (
 
 -- ---- a call that only reads
 
-module _ {S A E : Type 0} {g : Ghosts S} {MayFail : E → Type 0} {r : Result A E} {old new : RegisterState S} where
+survives_still : (s : State) → Survives s s (λ _. ⊥)
+survives_still s = record {
+  clean = omega arith;
+  shield = λ shielded. shielded;
+  counts = omega arith;
+  limit = refl;
+  closes = λ clean live. inl live;
+  crash = λ clean db may. inl may;
+}
+
+module _ {S A E : Type 0} {g : Ghosts S} {M : E → Type 0} {r : Result A E} where
+  -- what is not touched is only read
+  pub reads_nothing : (a : Held S) → IfErr r M → OnlyReads g M a a r
+  reads_nothing a cause = record {
+    autocommit = λ out. out;
+    survives = survives_still (state g a);
+    clean = λ clean. clean;
+    whole = λ A was. was;
+    rows = λ m had. had;
+    cause = cause;
+  }
+
+  -- calls of which each only reads only read one after the other
+  pub reads_then : {B F : Type 0} {N : F → Type 0} {q : Result B F} {a b c : Held S} → OnlyReads g M a b r → OnlyReads g N b c q → OnlyReads g N a c q
+  reads_then {a = a} {b} {c} one two = record {
+    autocommit = λ out. two.autocommit (one.autocommit out);
+    survives = survives_on (state g a) (state g b) (state g c) one.survives two.survives;
+    clean = λ clean. one.clean (two.clean clean);
+    whole = λ A was. two.whole A (one.whole A was);
+    rows = λ m had. two.rows m (one.rows m had);
+    cause = two.cause;
+  }
+
   -- it leaves the register where it stood
-  pub still_stands : old.is_broken ≡ false → new.is_broken ≡ false → new.last_number ≡ old.last_number → OnlyReads g MayFail old.conn new.conn r
-      → (s : RegisterHistory) → StandsAt g s old → StandsAt g s new
-  still_stands is still number left s at =
+  still_stands : (old : RegisterState S) {conn : Held S} → old.is_broken ≡ false → OnlyReads g M old.conn conn r
+      → (s : RegisterHistory) → StandsAt g s old → StandsAt g s (record old { conn = conn })
+  still_stands old is left s at =
       let was = still_counted left (counted_at is at) in
-      record {
-        broken = still ∙ sym is ∙ at.broken;
-        shows = λ _. subst (λ n. IsDurableWith n s.accepted (state g new.conn)) (sym number) was;
-        crash = λ clean db may. inl (was.whole.crash clean db may);
-      }
+      record { broken = at.broken; shows = λ _. was; crash = λ clean db may. inl (was.whole.crash clean db may) }
 
--- what is not touched commits nothing, and neither do two calls that do not
+  -- and commits nothing
+  only_commits_nothing : (old new : RegisterState S) → new.last_number ≡ old.last_number → OnlyReads g M old.conn new.conn r → CommitsNothing g old new
+  only_commits_nothing old new number left = record { survives = left.survives; number = number; rows = left.rows }
+
+-- what is not touched commits nothing
 pub commits_nothing : {S : Type 0} (g : Ghosts S) (a : RegisterState S) → CommitsNothing g a a
-commits_nothing g a = record {
-  survives = record {
-    clean = omega arith;
-    shield = λ shielded. shielded;
-    counts = omega arith;
-    limit = refl;
-    closes = λ clean live. inl live;
-    crash = λ clean db may. inl may;
-  };
-  number = refl;
-  rows = λ m had. had;
-}
+commits_nothing g a = record { survives = survives_still (state g a.conn); number = refl; rows = λ m had. had }
 
--- two calls of which each commits nothing commit nothing one after the other
-pub commits_still_nothing : {S : Type 0} (g : Ghosts S) (a b c : RegisterState S) → CommitsNothing g a b → CommitsNothing g b c
-    → CommitsNothing g a c
-commits_still_nothing g a b c one two = record {
-  survives = survives_then (state g a.conn) (state g b.conn) (state g c.conn) (λ _. ⊥) (λ _. ⊥) (λ _. ⊥) (λ _ db none. none) (λ _ db none. none)
-      one.survives two.survives;
-  number = two.number ∙ one.number;
-  rows = λ m had. two.rows m (one.rows m had);
-}
+-- what is left of a register by a call that only read over its connection, if what came then has broken it
+pub record LeftBy {S : Type 0} (g : Ghosts S) (Came : Type 0) (old new : RegisterState S) : Type 0 where
+  pub breaks : IsTrue new.is_broken ↔ Came
+  pub nothing : CommitsNothing g old new
+  pub stands : (s : RegisterHistory) → StandsAt g s old → StandsAt g (left_at new.is_broken s) new
+  pub clean : HasCleanDisk (state g new.conn) → HasCleanDisk (state g old.conn)
+  pub kept : IsConsistent g new
 
--- a call that only reads commits nothing
-only_commits_nothing : {S A E : Type 0} {g : Ghosts S} {MayFail : E → Type 0} {r : Result A E} (old new : RegisterState S)
-    → new.last_number ≡ old.last_number → OnlyReads g MayFail old.conn new.conn r → CommitsNothing g old new
-only_commits_nothing old new number left = record { survives = left.survives; number = number; rows = left.rows }
+pub left_by : {S A E : Type 0} {g : Ghosts S} {M : E → Type 0} {r : Result A E} {old new : RegisterState S} {conn : Held S} {Came : Type 0}
+    → old.is_broken ≡ false → IsConsistent g old → OnlyReads g M old.conn conn r → BreaksIf Came (record old { conn = conn }) new → LeftBy g Came old new
+left_by {g = g} {old = old} {conn = conn} {Came} unbroken kept left settled =
+    let mid = record old { conn = conn } in
+    elim settled [
+      | inl fault ↦ subst (λ (n : RegisterState _). LeftBy g Came old n) (sym fault.1) (record {
+        breaks = (λ _. fault.0, λ _. refl);
+        nothing = only_commits_nothing old (after_fault mid) refl left;
+        stands = λ s at. stands_broken refl (still_stands old unbroken left s at).crash;
+        clean = left.clean;
+        kept = record { autocommit = left.autocommit kept.autocommit };
+      })
+      | inr other ↦ subst (λ (n : RegisterState _). LeftBy g Came old n) (sym other.1) (record {
+        breaks = (λ yes. absurd (true≢false (sym yes ∙ unbroken)), λ came. absurd (other.0 came));
+        nothing = only_commits_nothing old mid refl left;
+        stands = λ s at. subst (λ b. StandsAt g (left_at b s) mid) (sym unbroken) (still_stands old unbroken left s at);
+        clean = left.clean;
+        kept = record { autocommit = left.autocommit kept.autocommit };
+      })
+    ]
 
--- over the connection of a register that is not broken
-pub peeked : {S A : Type 0} {g : Ghosts S} {MayFail : Refusal → Type 0} {r : Result A Refusal} {old new : RegisterState S} → old.is_broken ≡ false
-    → new ≡ record old { conn = new.conn } → OnlyReads g MayFail old.conn new.conn r → ReadsWithoutBreaking g MayFail old new r
-peeked {old = old} unbroken is left =
-    let same = ap (λ s. s.is_broken) is in
+-- whether it came or not, the connection is the same
+pub conn_after : {S : Type 0} {Came : Type 0} {mid new : RegisterState S} → BreaksIf Came mid new → new.conn ≡ mid.conn
+conn_after settled = elim settled [ inl fault ↦ ap (λ s. s.conn) fault.1 | inr other ↦ ap (λ s. s.conn) other.1 ]
+
+-- a call that an I/O error breaks the register after
+pub looked : {S A : Type 0} {g : Ghosts S} {MayFail : Refusal → Type 0} {r : Result A Refusal} {old new : RegisterState S} {conn : Held S}
+    → old.is_broken ≡ false → IsConsistent g old → OnlyReads g MayFail old.conn conn r → BreaksOnFault (record old { conn = conn }) new r
+    → ReadsHistory g MayFail old new r
+looked unbroken kept left settled =
+    let now = left_by unbroken kept left settled in
     record {
       broken = λ yes. absurd (true≢false (sym yes ∙ unbroken));
       cause = λ _. left.cause;
-      same = record { unbroken = same; nothing = only_commits_nothing old _ (ap (λ s. s.last_number) is) left; stands = still_stands unbroken (same ∙ unbroken) (ap (λ s. s.last_number) is) left };
-      clean = left.clean;
-      kept = record { autocommit = left.autocommit };
+      breaks = λ _. now.breaks;
+      nothing = now.nothing;
+      stands = now.stands;
+      clean = now.clean;
+      kept = now.kept;
     }
-
--- the same if an I/O error then breaks the register
-module _ {S A : Type 0} {r : Result A Refusal} {g : Ghosts S} {MayFail : Refusal → Type 0} (old mid new : RegisterState S) (unbroken : old.is_broken ≡ false)
-    (is : mid ≡ record old { conn = mid.conn }) (left : OnlyReads g MayFail old.conn mid.conn r) where
-  mid_unbroken : mid.is_broken ≡ false
-  mid_unbroken = ap (λ s. s.is_broken) is ∙ unbroken
-
-  mid_stands : (s : RegisterHistory) → StandsAt g s old → StandsAt g s mid
-  mid_stands = still_stands unbroken mid_unbroken (ap (λ s. s.last_number) is) left
-
-  reads_broken : r ≡ Err Disk → ReadsHistory g MayFail old (after_fault mid) r
-  reads_broken disk = record {
-    broken = λ yes. absurd (true≢false (sym yes ∙ unbroken));
-    cause = λ _. left.cause;
-    breaks = λ _. (λ _. disk, λ _. refl);
-    nothing = only_commits_nothing old (after_fault mid) (ap (λ s. s.last_number) is) left;
-    stands = λ s at. stands_broken refl (mid_stands s at).crash;
-    clean = left.clean;
-    kept = record { autocommit = left.autocommit };
-  }
-
-  reads_whole : r ≢ Err Disk → ReadsHistory g MayFail old mid r
-  reads_whole other = record {
-    broken = λ yes. absurd (true≢false (sym yes ∙ unbroken));
-    cause = λ _. left.cause;
-    breaks = λ _. (λ yes. absurd (true≢false (sym yes ∙ mid_unbroken)), λ disk. absurd (other disk));
-    nothing = only_commits_nothing old mid (ap (λ s. s.last_number) is) left;
-    stands = λ s at. subst (λ b. StandsAt g (left_at b s) mid) (sym mid_unbroken) (mid_stands s at);
-    clean = left.clean;
-    kept = record { autocommit = left.autocommit };
-  }
-
-  -- a call that reads keeps the register's history, and only an I/O error breaks it
-  pub looked : BreaksOnFault mid new r → ReadsHistory g MayFail old new r
-  looked settled = elim settled [
-    | inl fault ↦ subst (λ (n : RegisterState S). ReadsHistory g MayFail old n r) (sym fault.1) (reads_broken fault.0)
-    | inr other ↦ subst (λ (n : RegisterState S). ReadsHistory g MayFail old n r) (sym other.1) (reads_whole other.0)
-  ]
 
 -- what is said of a value under a premise that the call's success gives
 pub if_ok : {T E : Type 0} (P : Type 0) (Q : T → Type 0) (r : Result T E) → OnOk r P → (P → IfOk r Q) → IfOk r Q

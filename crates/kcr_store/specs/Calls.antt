@@ -1,6 +1,6 @@
 -- What a call of a register says of its history, and what it leaves.
 use Rattle.std.specs.Prelude.{◌≡◌, ◌↔◌, Bool, true, false, if◌then◌else◌, Some, IsTrue, Result, Err, IfErr, unwrap_or}
-use Rattle.std.specs.Prelude.{◌⊎◌, ◌≢◌}
+use Rattle.std.specs.Prelude.{◌⊎◌}
 use Rattle.sqlite.specs.Store.{Ghosts}
 use Rattle.sqlite.specs.State.{HasCleanDisk, Survives}
 use Rattle.sqlite.specs.Held.{state}
@@ -16,12 +16,6 @@ pub record CommitsNothing {S : Type 0} (g : Ghosts S) (old new : RegisterState S
   pub survives : Survives (state g old.conn) (state g new.conn) (λ _. ⊥)
   pub number : new.last_number ≡ old.last_number
   pub rows : (m : Tables) → HasRows m (state g old.conn) → HasRows m (state g new.conn)
-
--- the register stands where it stood, broken or not as it was
-pub record KeepsStand {S : Type 0} (g : Ghosts S) (old new : RegisterState S) : Type 0 where
-  pub unbroken : new.is_broken ≡ old.is_broken
-  pub nothing : CommitsNothing g old new
-  pub stands : (s : RegisterHistory) → StandsAt g s old → StandsAt g s new
 
 -- said of each history at which the register stood, by a call that leaves the disk clean: it stands at another, and
 -- this is said of the two
@@ -55,10 +49,13 @@ left_at is_broken s = if is_broken then record s { in_doubt = Some (unwrap_or s.
 abbrev pub after_fault : {S : Type 0} → RegisterState S → RegisterState S
 after_fault seen = record seen { is_broken = true }
 
+-- if this came it has broken the register, and else that is as it was
+abbrev pub BreaksIf : {S : Type 0} → Type 0 → RegisterState S → RegisterState S → Type 0
+BreaksIf Came old new = (Came × (new ≡ after_fault old)) ⊎ (¬ Came × (new ≡ old))
+
 -- an I/O error has broken it, and after anything else it is as it was
 abbrev pub BreaksOnFault : {A S : Type 0} → RegisterState S → RegisterState S → Result A Refusal → Type 0
-BreaksOnFault old new result =
-    ((result ≡ Err Disk) × (new ≡ after_fault old)) ⊎ ((result ≢ Err Disk) × (new ≡ old))
+BreaksOnFault old new result = BreaksIf (result ≡ Err Disk) old new
 
 -- a call that reads: it stands where it did, and an I/O error alone breaks it. A broken one says so and stays as it
 -- was, and a refusal of another is one of those that it may give
@@ -70,14 +67,5 @@ pub record ReadsHistory {A S : Type 0} (g : Ghosts S) (MayFail : Refusal → Typ
   pub nothing : CommitsNothing g old new
   pub stands : (s : RegisterHistory) → StandsAt g s old → StandsAt g (left_at new.is_broken s) new
   -- a disk that is honest at the end was so at the beginning
-  pub clean : HasCleanDisk (state g new.conn) → HasCleanDisk (state g old.conn)
-  pub kept : IsConsistent g new
-
--- the same for a call after which not even an I/O error breaks the register
-pub record ReadsWithoutBreaking {A S : Type 0} (g : Ghosts S) (MayFail : Refusal → Type 0) (old new : RegisterState S)
-    (result : Result A Refusal) : Type 0 where
-  pub broken : IsTrue old.is_broken → (result ≡ Err Broken) × (new ≡ old)
-  pub cause : old.is_broken ≡ false → IfErr result MayFail
-  pub same : KeepsStand g old new
   pub clean : HasCleanDisk (state g new.conn) → HasCleanDisk (state g old.conn)
   pub kept : IsConsistent g new

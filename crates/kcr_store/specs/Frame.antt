@@ -29,11 +29,15 @@ pub record StaysOutside {S : Type 0} (g : Ghosts S) (MayLeave : Trees → Type 0
   pub autocommit : new.in_transaction ≡ false
   pub survives : Survives (state g old) (state g new) MayLeave
 
--- it ends outside of a transaction, having committed nothing, and leaves a register that was whole so, and whatever rows
--- it had, on a disk that was clean where it is; an error is one of those that it may give
+-- said of whatever rows its database showed, by such a call
+abbrev pub OfRowsShown : {S : Type 0} → Ghosts S → Held S → Held S → (Tables → Type 0) → Type 0
+OfRowsShown g old new Says = HasCleanDisk (state g new) → (m : Tables) → HasRows m (state g old) → Says m
+
+-- it ends outside of a transaction if it began so, having committed nothing, and leaves a register that was whole so, and
+-- whatever rows it had, on a disk that was clean where it is; an error is one of those that it may give
 pub record OnlyReads {A E : Type 0} {S : Type 0} (g : Ghosts S) (MayFail : E → Type 0) (old new : Held S)
     (result : Result A E) : Type 0 where
-  pub autocommit : new.in_transaction ≡ false
+  pub autocommit : old.in_transaction ≡ false → new.in_transaction ≡ false
   pub survives : Survives (state g old) (state g new) (λ _. ⊥)
   pub clean : HasCleanDisk (state g new) → HasCleanDisk (state g old)
   pub whole : (A : History) → IsDurable A (state g old) → IsDurable A (state g new)

@@ -10,5 +10,4 @@ pub mod Opening
 pub mod Rows
 pub mod FullView
 pub mod DatabaseRows
-pub mod NamedRows
 pub mod ByRows

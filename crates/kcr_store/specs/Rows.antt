@@ -1,7 +1,8 @@
 -- What a register gives one row at a time, and the row of one ceremony.
-use Rattle.std.specs.Prelude.{◌≡◌, ◌⊎◌, ℕ, false, IsTrue, List, Option, Result, Err, IfOk, OnErr}
-use Rattle.std.specs.Borrow.{Fml, RattleType, MutBor, RestsIfErr}
+use Rattle.std.specs.Prelude.{◌≡◌, ◌⊎◌, ℕ, false, IsTrue, List, Option, Result, IfOk}
+use Rattle.std.specs.Borrow.{Fml, RattleType, MutBor, LendsIfOk}
 use Rattle.sqlite.specs.Store.{Ghosts}
+use Rattle.sqlite.specs.Held.{Held}
 use Rattle.kcr_base.specs.declared.refusal.Refusal.{Refusal}
 use Rattle.kcr_base.specs.declared.refusal.Refusal.TheVariants as Refusals
 use Rattle.kcr_base.specs.declared.refusal.Thing.TheVariants as Things
@@ -12,25 +13,24 @@ use Rattle.kcr_history.specs.Tables.{ceremony_row}
 use Rattle.kcr_history.specs.declared.row_types.CeremonyRow.{CeremonyRow}
 use Rattle.kcr_reading.specs.Remaining.{IsNextOf}
 use Rattle.kcr_tables.specs.Refusals.{IsFault}
-use Rattle.kcr_store.specs.Register.{RegisterState, IsConsistent}
+use Rattle.kcr_store.specs.Register.{RegisterState}
 use Rattle.kcr_store.specs.contracts.register.Register as register
+use Rattle.kcr_store.specs.contracts.unbroken.Unbroken as unbroken
 use Rattle.kcr_store.specs.declared.rows.Rows.{Rows}
 
 -- ROWS
 
--- rows that stand where the reading does: the register is whole and as it was; there are no rows of a broken one
-pub record Begins {S R Row : Type 0} (old : RegisterState S) (given : R) (result : Result (Rows S R Row) Refusal) : Type 0 where
-  pub same : IfOk result (λ rows. rows.register.now ≡ old)
-  pub whole : IfOk result (λ _. old.is_broken ≡ false)
-  pub reading : IfOk result (λ rows. rows.reading ≡ given)
-  pub broken : OnErr result ((result ≡ Err Refusals.Broken) × IsTrue old.is_broken)
+-- a register that nothing has broken lends its connection, and has it as it was left; a broken one is as it was
+abbrev pub LendsConnection : (S : RattleType) (g : Ghosts S.Denot)
+    → MutBor (RegisterState S.Denot) → Result (MutBor (Held S.Denot)) Refusal → Fml
+LendsConnection S g lender result =
+    LendsIfOk (register.the_row S g) (unbroken.the_row S g) lender result (λ conn. record lender.now { conn = conn }) lender.now
 
--- the rows hold the register until they are gone; if there are none it is as it was
-abbrev pub Lent : (S : RattleType) (g : Ghosts S.Denot) {R Row : Type 0}
-    → MutBor (RegisterState S.Denot) → Result (Rows S.Denot R Row) Refusal → Fml
-Lent S g lender result =
-    RestsIfErr (register.the_row S g) lender (λ rows. rows.register.ghost_name) result
-    (λ last. (last ≡ lender.now) × IsConsistent g last)
+-- rows over this connection as it was, of which all these are to come, by whatever tables
+pub record BeginsAll {S R Row : Type 0} (old : Held S) (rows : Rows S R Row) (to_come : R → machine.Tables → List Row)
+    (all : machine.Tables → List Row) : Type 0 where
+  pub same : rows.unbroken.now ≡ old
+  pub all_come : (m : machine.Tables) → to_come rows.reading m ≡ all m
 
 -- the next of the rows that are to come by these tables, or none past the last
 abbrev pub GivesNext : {R Row : Type 0}

@@ -13,15 +13,16 @@ mod breakage;
 mod database_rows;
 mod full_view;
 mod lists;
-mod named_rows;
 mod open;
 mod register;
 mod rows;
 mod shown;
 mod transaction;
+mod unbroken;
 
 pub use breakage::Breakage;
 pub use database_rows::read_tables;
 pub use open::{OpenFault, connect};
 pub use register::{FileRegister, Register};
 pub use rows::Rows;
+pub use unbroken::Unbroken;

@@ -10,6 +10,7 @@ use crate::breakage::{Breakage, breakage_of};
 use crate::full_view::{audit_database, full_view, read_table};
 use crate::open::{OpenFault, connect, open_or_migrate};
 use crate::transaction::{TransactionResult, number_after, run_command, run_query};
+use crate::unbroken::Unbroken;
 use kcr_base::Refusal;
 use kcr_history::{Command, Finding, FullView, Question, Reply, Shown};
 use kcr_tables::TableRow;
@@ -21,12 +22,12 @@ use std::marker::Model;
 /// The commands that were accepted, kept in a database. Clauses see its connection, whether it is broken, and the
 /// number of its last command; of what it accepted they speak by what the database holds (`StandsAt`).
 pub struct Register<S: Alter> {
-    pub(crate) conn: Connection<S>,
+    /// What is read of it, which is lent as long as nothing has broken it.
+    unbroken: Unbroken<S>,
     /// What broke it, if anything did.
     breakage: Option<Breakage>,
     /// The number of its last command.
     last_number: u32,
-    pub(crate) alloc: Global,
 }
 
 /// A register in a file of which this stands for what it held.
@@ -40,16 +41,13 @@ impl<S: Alter + Drop> Drop for Register<S> {
 
 impl<S: Alter> Model for Register<S> {
     ghost use Rattle.std.specs.Prelude.{is_some};
-    ghost use Rattle.kcr_store.specs.Register.{RegisterState, register_state_code, IsConsistent};
+    ghost use Rattle.kcr_store.specs.Register.{RegisterState, register_state_code};
 
     ghost Value = { RegisterState S };
 
     ghost coded = { register_state_code S.code };
 
-    ghost view = { λ r. record { conn = r.conn; is_broken = is_some r.breakage; last_number = r.last_number } };
-
-    ghost invariant = { λ r. IsConsistent S.Store
-        (record { conn = r.conn; is_broken = is_some r.breakage; last_number = r.last_number }) };
+    ghost view = { λ r. record { conn = r.unbroken; is_broken = is_some r.breakage; last_number = r.last_number } };
 }
 
 impl<S: Alter + Drop> Register<S> {
@@ -109,10 +107,9 @@ impl<S: Alter + Drop> Register<S> {
         let mut conn = connection;
         match open_or_migrate(alloc, &mut conn) {
             Ok(count) => Ok(Register {
-                conn,
+                unbroken: Unbroken { conn, alloc },
                 breakage: None,
                 last_number: count,
-                alloc,
             }),
             Err(fault) => Err((fault, conn)),
         }
@@ -211,8 +208,11 @@ impl<D: Disk + Drop> Register<FileStore<D>> {
 }
 
 impl<S: Alter> Register<S> {
+    ghost use Rattle.std.specs.Borrow.{sem};
+    ghost use Rattle.std.specs.Prelude.{MatchResult};
     ghost use Rattle.kcr_history.specs.Machine.{IsRegister};
     ghost use Rattle.kcr_history.specs.Tables.{Tables, tables};
+    ghost use Rattle.kcr_store.specs.Rows.{LendsConnection};
     ghost use Rattle.kcr_store.specs.FullView.{FindsIn, AreRows, IsListed};
     ghost use Rattle.kcr_tables.specs.MachineTables.{HoldsTables};
     ghost use Rattle.kcr_tables.specs.Refusals.{IsFault};
@@ -259,7 +259,8 @@ impl<S: Alter> Register<S> {
         if self.is_broken() {
             return Err(Refusal::Broken);
         }
-        match run_command(self.alloc, &mut self.conn, self.last_number, command) {
+        let lent = &mut self.unbroken;
+        match run_command(lent.alloc, &mut lent.conn, self.last_number, command) {
             TransactionResult::Accepted(verdict) => {
                 self.last_number = number_after(self.last_number, verdict.new_reply);
                 Ok(verdict.reply)
@@ -291,10 +292,8 @@ impl<S: Alter> Register<S> {
         ensures by_rows { IfOk result (IsShownByRows question.now) }
         ensures looks { ReadsHistory S.Store (MayRefuseQuestion question.now) self.old self.new result }
     {
-        if self.is_broken() {
-            return Err(Refusal::Broken);
-        }
-        let shown = run_query(self.alloc, &mut self.conn, question);
+        let lent = self.unbroken()?;
+        let shown = run_query(lent.alloc, &mut lent.conn, question);
         self.note_disk_fault(shown)
     }
 
@@ -310,10 +309,8 @@ impl<S: Alter> Register<S> {
             (λ A. IfOk result (λ rows. IsRegister A × AreRows R.table.rows_in (tables A) rows.items)) }
         ensures looks { ReadsHistory S.Store IsFault self.old self.new result }
     {
-        if self.is_broken() {
-            return Err(Refusal::Broken);
-        }
-        let rows = read_table(self.alloc, &mut self.conn);
+        let lent = self.unbroken()?;
+        let rows = read_table(lent.alloc, &mut lent.conn);
         self.note_disk_fault(rows)
     }
 
@@ -327,10 +324,8 @@ impl<S: Alter> Register<S> {
             (λ A. IfOk result (λ all. IsRegister A × IsListed (tables A) all)) }
         ensures looks { ReadsHistory S.Store IsFault self.old self.new result }
     {
-        if self.is_broken() {
-            return Err(Refusal::Broken);
-        }
-        let all = full_view(self.alloc, &mut self.conn);
+        let lent = self.unbroken()?;
+        let all = full_view(lent.alloc, &mut lent.conn);
         self.note_disk_fault(all)
     }
 
@@ -345,10 +340,8 @@ impl<S: Alter> Register<S> {
         ensures nothing { OfHistory S.Store self.old self.new (λ _. IfOk result (λ found. found ≡ None)) }
         ensures looks { ReadsHistory S.Store IsFault self.old self.new result }
     {
-        if self.is_broken() {
-            return Err(Refusal::Broken);
-        }
-        let found = audit_database(self.alloc, &mut self.conn);
+        let lent = self.unbroken()?;
+        let found = audit_database(lent.alloc, &mut lent.conn);
         self.note_disk_fault(found)
     }
 
@@ -367,11 +360,26 @@ impl<S: Alter> Register<S> {
         }
     }
 
+    /// What is read of it row by row. A broken register answers 35.
+    pub fn unbroken(&mut self) -> Result<&mut Unbroken<S>, Refusal>
+        ensures* lent { sem 𝓛 (LendsConnection S.row S.Store self.entry result) }
+        ensures begun { IfOk result (λ unbroken. unbroken.now ≡ self.old.conn) }
+        ensures broken { MatchResult result (λ _. self.old.is_broken ≡ false)
+            (λ refusal. (refusal ≡ Refusal.Broken) × IsTrue self.old.is_broken) }
+        ensures kept { IsConsistent S.Store self.old }
+    {
+        if self.is_broken() {
+            return Err(Refusal::Broken);
+        }
+        Ok(&mut self.unbroken)
+    }
+
     /// Whether an I/O error has broken it.
     pub fn is_broken(&self) -> bool
         ensures value { result ≡ self.now.is_broken }
         ensures kept { IsConsistent S.Store self.now }
     {
+        let _conn = &self.unbroken.conn;
         self.breakage.is_some()
     }
 
@@ -394,6 +402,7 @@ impl<S: Alter> Register<S> {
         ensures same { self.new ≡ after_fault self.old }
         ensures kept { IsConsistent S.Store self.new }
     {
+        let _conn = &self.unbroken.conn;
         self.breakage = Some(Breakage::Reading);
     }
 
@@ -402,11 +411,11 @@ impl<S: Alter> Register<S> {
         ensures { result ≡ self.conn }
     {
         let Register {
-            conn,
+            unbroken,
             breakage: _,
             last_number: _,
-            alloc: _,
         } = self;
+        let Unbroken { conn, alloc: _ } = unbroken;
         conn
     }
 }

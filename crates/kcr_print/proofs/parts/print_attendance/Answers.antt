@@ -10,7 +10,7 @@ pub returns-in_err-ceremony_row : goal.returns-in_err-ceremony_row
 returns-in_err-ceremony_row g c =
     let fault = c.from_residual.ensures in
     let said = c.in_err-ceremony_row.ensures in
-    denied_planned _ fault.0 fault.1 (no_planned said.peeks said.rows c.requires.whole)
+    denied_planned _ fault.0 fault.1 (no_planned said.peeks said.rows)
 
 abbrev stays : ℕ → Tables → List ℕ
 stays ceremony m = flat_map named_line (named_stays ceremony m)
@@ -26,7 +26,7 @@ pub returns : goal.returns
 returns g c =
     let row = c.in_ok-ceremony_row.ensures in
     let head = c.in_ok-write_row.ensures in
-    let rest = c.write_all_rows.ensures.prints in
-    ends_planned c.ceremony_row.new.self (row_read g.S.Store row.peeks row.rows) rest.clean rest.cause
+    let rest = c.write_rows.ensures.prints in
+    ends_planned c.ceremony_row.new.self (row_read g.S.Store row.peeks row.rows) rest.reads.clean rest.reads.cause
     (puts_then (row_line header_line row.peeks head.written head.cause head.told)
     (puts_reading named_line named_stays c.new.ensures c.get.ensures.value rest))

@@ -16,7 +16,7 @@ pub returns-in_err-row : goal.returns-in_err-row
 returns-in_err-row g c =
     let fault = c.from_residual.ensures in
     let said = c.in_err-row.ensures in
-    denied_planned _ fault.0 fault.1 (no_planned said.peeks said.rows c.requires.whole)
+    denied_planned _ fault.0 fault.1 (no_planned said.peeks said.rows)
 
 abbrev steps : ℕ → Tables → List ℕ
 steps ceremony m = flat_map seated_lines (seated_steps ceremony m)
@@ -38,39 +38,39 @@ returns-in_err-write_row g c =
     let head = row_line (head_lines row) read.peeks said.written said.cause said.told in
     stops_planned _ fault.0 fault.1 said.cause
     (puts_text (λ m. annotated_by m n) (puts_more (λ _. foot_lines row) (puts_more (exceptions n) (puts_more (steps n) head)))
-    (λ clean intact m has. script_of n m row (row_read g.S.Store read.peeks read.rows clean intact m has)))
+    (λ clean m has. script_of n m row (row_read g.S.Store read.peeks read.rows clean m has)))
 
-pub returns-in_err-write_all_rows : goal.returns-in_err-write_all_rows
-returns-in_err-write_all_rows g c =
+pub returns-in_err-write_rows : goal.returns-in_err-write_rows
+returns-in_err-write_rows g c =
     let n = c.args.ceremony in
     let row = c.in_ok-row.row in
-    let fault = c.from_residual-in_err-write_all_rows.ensures in
+    let fault = c.from_residual-in_err-write_rows.ensures in
     let read = c.in_ok-row.ensures in
     let said = c.in_ok-write_row.ensures in
     let head = row_line (head_lines row) read.peeks said.written said.cause said.told in
-    let done = c.in_err-write_all_rows.ensures.prints in
-    stops_planned _ fault.0 fault.1 done.cause
+    let done = c.in_err-write_rows.ensures.prints in
+    stops_planned _ fault.0 fault.1 done.reads.cause
     (puts_text (λ m. annotated_by m n)
     (puts_more (λ _. foot_lines row) (puts_more (exceptions n)
     (puts_then head (puts_reading seated_lines seated_steps c.new.ensures c.get-number.ensures.value done))))
-    (λ clean intact m has. script_of n m row (row_read g.S.Store read.peeks read.rows (done.clean clean) intact m has)))
+    (λ clean m has. script_of n m row (row_read g.S.Store read.peeks read.rows (done.reads.clean clean) m has)))
 
-pub returns-in_err-write_all_rows-2 : goal.returns-in_err-write_all_rows-2
-returns-in_err-write_all_rows-2 g c =
+pub returns-in_err-write_rows-2 : goal.returns-in_err-write_rows-2
+returns-in_err-write_rows-2 g c =
     let n = c.args.ceremony in
     let row = c.in_ok-row.row in
     let number = c.get-number.ensures.value in
-    let fault = c.from_residual-in_err-write_all_rows-2.ensures in
+    let fault = c.from_residual-in_err-write_rows-2.ensures in
     let read = c.in_ok-row.ensures in
     let said = c.in_ok-write_row.ensures in
     let head = row_line (head_lines row) read.peeks said.written said.cause said.told in
-    let done = c.in_ok-write_all_rows.ensures.prints in
-    let more = c.in_err-write_all_rows-2.ensures.prints in
-    stops_planned _ fault.0 fault.1 more.cause
+    let done = c.in_ok-write_rows.ensures.prints in
+    let more = c.in_err-write_rows-2.ensures.prints in
+    stops_planned _ fault.0 fault.1 more.reads.cause
     (puts_text (λ m. annotated_by m n)
     (puts_more (λ _. foot_lines row) (puts_then (puts_then head (puts_reading seated_lines seated_steps c.new.ensures number done))
     (puts_reading exception_line exceptions_of c.new-2.ensures number more)))
-    (λ clean intact m has. script_of n m row (row_read g.S.Store read.peeks read.rows (done.clean (more.clean clean)) intact m has)))
+    (λ clean m has. script_of n m row (row_read g.S.Store read.peeks read.rows (done.reads.clean (more.reads.clean clean)) m has)))
 
 pub returns : goal.returns
 returns g c =
@@ -80,12 +80,12 @@ returns g c =
     let read = c.in_ok-row.ensures in
     let said = c.in_ok-write_row.ensures in
     let head = row_line (head_lines row) read.peeks said.written said.cause said.told in
-    let done = c.in_ok-write_all_rows.ensures.prints in
-    let more = c.in_ok-write_all_rows-2.ensures.prints in
+    let done = c.in_ok-write_rows.ensures.prints in
+    let more = c.in_ok-write_rows-2.ensures.prints in
     let end = c.write_row-2.ensures in
     let most = puts_then (puts_then head (puts_reading seated_lines seated_steps c.new.ensures number done))
     (puts_reading exception_line exceptions_of c.new-2.ensures number more) in
-    let clean = λ (h : HasCleanDisk (state g.S.Store c.write_all_rows-2.new.register.conn)). done.clean (more.clean h) in
+    let clean = λ (h : HasCleanDisk (state g.S.Store c.write_rows-2.new.register)). done.reads.clean (more.reads.clean h) in
     ends_planned c.ceremony_row.new.self (row_read g.S.Store read.peeks read.rows) clean end.cause
     (puts_text (λ m. annotated_by m n) (puts_last (foot_lines row) most end.written end.cause end.told)
-    (λ honest intact m has. script_of n m row (row_read g.S.Store read.peeks read.rows (clean honest) intact m has)))
+    (λ honest m has. script_of n m row (row_read g.S.Store read.peeks read.rows (clean honest) m has)))

@@ -1,4 +1,4 @@
-use Rattle.std.proofs.Common.{inr, sym, ◌∙◌}
+use Rattle.std.proofs.Common.{inr}
 use Rattle.kcr_history.specs.Prints.{attendance}
 use Rattle.kcr_print.proofs.PartLemmas.{planned_told}
 use Rattle.kcr_print.proofs.ReportLemmas.{register_attendance}
@@ -7,10 +7,10 @@ use Rattle.kcr_print.proofs.reports.attendance_csv.Goals as goal
 pub returns : goal.returns
 returns g c =
     let note = c.note_disk_fault.ensures in
-    let part = c.print_attendance-outcome.ensures in
+    let lent = c.in_ok-unbroken.ensures in
+    let part = rw lent.begun at c.print_attendance-outcome.ensures in
     let before = c.args.register.now in
     let left = g.met.S.Store.survives before.conn.store in
     rw note.same
-    (planned_told g.S.Store note.connection attendance part
-    (λ clean A at. inr (register_attendance g.S.Store before left (part.puts.clean clean) A at c.args.ceremony))
-    note.leaves note.kept (sym c.is_broken.ensures.value ∙ c.if-is_broken.false))
+    (planned_told g.S.Store lent.broken lent.kept note.settled attendance part
+    (λ clean A at. inr (register_attendance g.S.Store before left (part.puts.reads.clean clean) A at c.args.ceremony)))
