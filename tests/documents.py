@@ -635,16 +635,12 @@ def crates():
 
 def things():
     """Each count of a page: the page, the words around it, and the numbers that are right."""
-    lines = numbers_in("docs/GATE.md", r"\| together \| [\d,]+ \| ([\d,]+) \| ([\d,]+) \| ([\d,]+) \|")
     reads = [schema_in(operation["responses"]["200"]) is not None for _, method, operation in operations()
              if method == "GET"]
     commands = sum(method == "POST" for _, method, _ in operations())
     requests = len(kcr.messages((ROOT / "examples/ceremony.http").read_bytes()))
     audits = re.search(r"\((\d+), \1\), \(len\(TAMPERINGS\)", text_of("tests/audit.py"))
-    yield ("README.md", r"code has ([\d,]+) lines, the definitions ([\d,]+), the proofs ([\d,]+)",
-           [round(count, -2) for count in lines])
     yield "README.md", r"the (\d+) refusals in", [len(refusals())]
-    yield "README.md", r"its (\d+) crates", [len(crates())]
     yield ("CHANGELOG.md", r"(\w+) commands, (\w+) questions, (\w+) reports, and the accepted commands",
            [commands, sum(reads), len(reads) - sum(reads) - 1])
     of_history = len(kcr.TABLES) - 1  # all but `versions`
@@ -670,8 +666,9 @@ def counted(_):
 
 def complete(_):
     """The lists of crates have those of crates.txt, and docs/TESTS.md has each script that `tests/all` runs."""
-    found = re.findall(r"`(kcr_\w+)`", re.search(r"(?s)\n## Crates\n.*?\n\nIn each crate", text_of("docs/MAP.md"))[0])
-    expect("the crates of docs/MAP.md", crates(), sorted(set(found)))
+    for page, form in (("README.md", "Its crates .*"), ("docs/MAP.md", r"(?s)\n## Crates\n.*?\n\nIn each crate")):
+        found = re.findall(r"`(kcr_\w+)`", re.search(form, text_of(page))[0])
+        expect(f"the crates of {page}", crates(), sorted(set(found)))
     for part in text_of("docs/GATE.md").split("\n## Functions"):
         expect("the crates of a table of docs/GATE.md", crates(), sorted(re.findall(r"(?m)^\| (kcr_\w+) ", part)))
     page = text_of("docs/TESTS.md")

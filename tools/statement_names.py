@@ -40,7 +40,7 @@ class Library:
         return self.sources.get(path)
 
     def lacks(self, module, name):
-        """Whether a module of which nothing was passed over has no such name, and hands none on from proofs."""
+        """Whether a module certainly lacks a name: all of it was read, and it hands no such name on from proofs."""
         source = self.file_of(module) if ".declared." not in module else None
         return source is None or source.is_whole and all(other != name for other, _, _ in source.exports)
 

@@ -31,7 +31,7 @@ use Rattle.kcr_reading.proofs.OrderLemmas.{later, moved, moved_on, gives_first, 
 
 -- ---- texts
 
--- the first of the rows that pass these tests, in the order of so many keys
+-- the first of the rows that pass these tests, in the order of N keys
 abbrev pub by_test : ℕ → List Term → Row → Choice
 by_test keys test params = record {
   passes = λ row. list_all (holds (params ∷ (Null ∷ row) ∷ [])) test;

@@ -1,5 +1,6 @@
--- A law: rows of which no two of one person share a moment, as those made in turn (`sheet-shares`), may come in any order. Their stays are the same up to
--- their order (`stays-order`), and the same people are in a room (`rows-present`).
+-- A law: rows may come in any order if each person has at most one at a moment, as rows made in turn have
+-- (`sheet-shares`). Their stays are the same up to their order (`stays-order`), and the same people are in a room
+-- (`rows-present`).
 use Rattle.std.proofs.Common.{◌≡◌, ℕ, Bool, true, false, cond, not, ◌||◌, ◌&&◌, ◌==◌, nat_le, nat_lt, List, [], ◌∷◌, ◌++◌, map, Option}
 use Rattle.std.proofs.Common.{Some, None, refl, sym, ap, ◌∙◌, subst, arith, append_assoc}
 use Rattle.std.specs.List.{list_any, filter, count_by, AllByRecursion}

@@ -9,7 +9,7 @@ pub use Rattle.kcr_room.proofs.Refusals.{same_stays, same_refusal}
 pub use Rattle.kcr_room.proofs.Keeping.{turns_keep, present_are_in}
 -- those present are listed in byte order, each once
 pub use Rattle.kcr_room.proofs.Rising.{present_are_rising}
--- rows of which no two of one person share a moment, as those made in turn, may come in any order
+-- rows may come in any order if each person has at most one at a moment, as rows made in turn have
 pub use Rattle.kcr_room.proofs.AnyOrder.{sheet-shares, stays-order, rows-present}
 -- an attendance has each stay of the ceremony once and no other, by beginning, then initials
 pub use Rattle.kcr_room.proofs.Listed.{attendance-moves, attendance-listed}

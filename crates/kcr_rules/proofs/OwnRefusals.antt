@@ -12,9 +12,9 @@ use Rattle.kcr_room.specs.declared.Way.{Way}
 use Rattle.kcr_room.specs.Requests.{stays_from_moment, turn_refusal, is_out_of_turn_in, occupancy_refusal, is_overfull}
 use Rattle.kcr_history.specs.declared.commands.Act.{Act}
 use Rattle.kcr_history.specs.declared.commands.Deed.{Deed}
-use Rattle.kcr_history.specs.declared.commands.Act.TheVariants.{Enter, Train, Withdraw, Appoint, Replace, Release, AddBox, Plan, Ceremony}
-use Rattle.kcr_history.specs.declared.commands.Deed.TheVariants.{AddItem, Open, Close, RecordSheet, SetSafe, Sign, RecordException, Seal}
-use Rattle.kcr_history.specs.declared.commands.Deed.TheVariants.{Take, Put, Cut}
+use Rattle.kcr_history.specs.declared.commands.Act.TheVariants.{AddBox, Ceremony}
+use Rattle.kcr_history.specs.declared.commands.Deed.TheVariants.{Open, RecordSheet, Sign, RecordException}
+use Rattle.kcr_history.specs.declared.commands.Deed.TheVariants.{Put}
 use Rattle.kcr_history.specs.declared.views.View.{View}
 use Rattle.kcr_history.specs.Conditions.{Facts, early_of_deed, late_conditions}
 use Rattle.kcr_rules.specs.declared.effects.Effect.{Effect}
@@ -46,28 +46,15 @@ alone (Some s) r h = h
 
 own-early : (facts : Facts) (c at : ℕ) (deed : Deed) (r : Refusal) → first_of (early_of_deed facts c at deed) ≡ Some r → may_refuse (Ceremony c at deed) r ≡ true
 own-early facts c at Open r h = absurd (none-some r h)
-own-early facts c at Close r h = in_two_parts (may_refuse (Ceremony c at Close)) 2 (early_of_deed facts c at Close) (λ r h. grind (arith, h)) (λ r h. grind (arith, h)) r h
-own-early facts c at (AddItem item) r h =
-    in_two_parts (may_refuse (Ceremony c at (AddItem item))) 2 (early_of_deed facts c at (AddItem item)) (λ r h. grind (arith, h)) (λ r h. grind (arith, h)) r h
-own-early facts c at (RecordSheet way people) r h =
-    in_two_parts (may_refuse (Ceremony c at (RecordSheet way people))) 3 (early_of_deed facts c at (RecordSheet way people)) (λ r h. grind (arith, h)) (λ r h. grind (arith, h)) r h
-own-early facts c at (SetSafe safe state by) r h =
-    in_two_parts (may_refuse (Ceremony c at (SetSafe safe state by))) 3 (early_of_deed facts c at (SetSafe safe state by)) (λ r h. grind (arith, h)) (λ r h. grind (arith, h)) r h
-own-early facts c at (Sign step) r h =
-    in_two_parts (may_refuse (Ceremony c at (Sign step))) 3 (early_of_deed facts c at (Sign step)) (λ r h. grind (arith, h)) (λ r h. grind (arith, h)) r h
 own-early facts c at (RecordException text true) r h =
     in_two_parts (may_refuse (Ceremony c at (RecordException text true))) 3 (early_of_deed facts c at (RecordException text true)) (λ r h. grind (arith, h)) (λ r h. grind (arith, h)) r h
 own-early facts c at (RecordException text false) r h =
     in_two_parts (may_refuse (Ceremony c at (RecordException text false))) 3 (early_of_deed facts c at (RecordException text false)) (λ r h. grind (arith, h)) (λ r h. grind (arith, h)) r h
-own-early facts c at (Seal serial items) r h =
-    in_two_parts (may_refuse (Ceremony c at (Seal serial items))) 3 (early_of_deed facts c at (Seal serial items)) (λ r h. grind (arith, h)) (λ r h. grind (arith, h)) r h
-own-early facts c at (Take serial) r h =
-    in_two_parts (may_refuse (Ceremony c at (Take serial))) 3 (early_of_deed facts c at (Take serial)) (λ r h. grind (arith, h)) (λ r h. grind (arith, h)) r h
 own-early facts c at (Put serial to) r h =
     in_three_parts (may_refuse (Ceremony c at (Put serial to))) 3 1 (early_of_deed facts c at (Put serial to)) (λ r h. grind (arith, h)) (λ r h. grind (arith, h))
     (λ r h. grind (arith, h)) r h
-own-early facts c at (Cut serial) r h =
-    in_two_parts (may_refuse (Ceremony c at (Cut serial))) 3 (early_of_deed facts c at (Cut serial)) (λ r h. grind (arith, h)) (λ r h. grind (arith, h)) r h
+own-early facts c at deed r h =
+    in_two_parts (may_refuse (Ceremony c at deed)) 3 (early_of_deed facts c at deed) (λ r h. grind (arith, h)) (λ r h. grind (arith, h)) r h
 
 own-room : (stays : List Stay) (entered : ℕ) (full : Bool) (mark : Option ℕ) (c : ℕ) (way : Way) (people : List (List ℕ)) (at : ℕ) (r : Refusal)
     → room_refusal stays entered full mark c way people at ≡ Some r → may_refuse (Ceremony c at (RecordSheet way people)) r ≡ true
@@ -80,36 +67,16 @@ own-room stays entered full (Some m) c way people at r h =
     (λ r h. grind (arith, h)) (λ r h. grind (arith, h)) (λ r h. grind (arith, h)) r h
 
 own-late : (view : View) (full : Bool) (act : Act) (r : Refusal) → late_refusal_by view full act ≡ Some r → may_refuse act r ≡ true
-own-late view full (Enter who name) r h = grind (arith, h)
-own-late view full (Train who role since until) r h =
-    in_two_parts (may_refuse (Train who role since until)) 3 (late_conditions (by_rows view full) (Train who role since until)) (λ r h. grind (arith, h)) (λ r h. grind (arith, h)) r h
-own-late view full (Withdraw who role day) r h =
-    in_two_parts (may_refuse (Withdraw who role day)) 2 (late_conditions (by_rows view full) (Withdraw who role day)) (λ r h. grind (arith, h)) (λ r h. grind (arith, h)) r h
-own-late view full (Appoint place who day) r h =
-    in_two_parts (may_refuse (Appoint place who day)) 3 (late_conditions (by_rows view full) (Appoint place who day)) (λ r h. grind (arith, h)) (λ r h. grind (arith, h)) r h
-own-late view full (Replace place who day) r h =
-    in_two_parts (may_refuse (Replace place who day)) 3 (late_conditions (by_rows view full) (Replace place who day)) (λ r h. grind (arith, h)) (λ r h. grind (arith, h)) r h
-own-late view full (Release place day) r h =
-    in_two_parts (may_refuse (Release place day)) 2 (late_conditions (by_rows view full) (Release place day)) (λ r h. grind (arith, h)) (λ r h. grind (arith, h)) r h
 own-late view full (AddBox facility number place) r h =
     in_three_parts (may_refuse (AddBox facility number place)) 1 1 (late_conditions (by_rows view full) (AddBox facility number place)) (λ r h. grind (arith, h))
     (λ r h. grind (arith, h)) (λ r h. grind (arith, h)) r h
-own-late view full (Plan number facility day script) r h =
-    in_two_parts (may_refuse (Plan number facility day script)) 1 (late_conditions (by_rows view full) (Plan number facility day script)) (λ r h. grind (arith, h)) (λ r h. grind (arith, h)) r h
 own-late view full (Ceremony ceremony at Open) r h =
     in_two_parts (may_refuse (Ceremony ceremony at Open)) 3 (late_conditions (by_rows view full) (Ceremony ceremony at Open)) (λ r h. grind (arith, h)) (λ r h. grind (arith, h)) r h
-own-late view full (Ceremony ceremony at Close) r h =
-    in_two_parts (may_refuse (Ceremony ceremony at Close)) 2 (late_conditions (by_rows view full) (Ceremony ceremony at Close)) (λ r h. grind (arith, h)) (λ r h. grind (arith, h)) r h
-own-late view full (Ceremony ceremony at (AddItem item)) r h = grind (arith, h)
 own-late view full (Ceremony ceremony at (RecordSheet way people)) r h =
     in_two_parts (may_refuse (Ceremony ceremony at (RecordSheet way people))) 1 (late_conditions (by_rows view full) (Ceremony ceremony at (RecordSheet way people))) (λ r h. grind (arith, h))
     (λ r h. own-room view.stays.items view.stay_count full (mark_by view.marks.items ceremony) ceremony way people at r (alone _ r h)) r h
-own-late view full (Ceremony ceremony at (SetSafe safe state by)) r h = grind (arith, h)
-own-late view full (Ceremony ceremony at (Seal serial items)) r h = grind (arith, h)
-own-late view full (Ceremony ceremony at (Take serial)) r h = grind (arith, h)
-own-late view full (Ceremony ceremony at (Put serial to)) r h = grind (arith, h)
-own-late view full (Ceremony ceremony at (Cut serial)) r h = grind (arith, h)
-own-late view full act r h = absurd (none-some r h)
+own-late view full act r h =
+    in_two_parts (may_refuse act) 3 (late_conditions (by_rows view full) act) (λ r h. grind (arith, h)) (λ r h. grind (arith, h)) r h
 
 -- RESULTS
 
