@@ -1,82 +1,111 @@
 -- The first refusal of an act is one that its kind may get.
-use Rattle.std.proofs.Common.{◌≡◌, ◌≢◌, inl, inr, ℕ, zero, suc, Bool, true, false, List, [], ◌∷◌, take, drop, Option, Some, None, Result, Ok, Err, refl, sym, subst, ap, ◌∙◌, arith}
+use Rattle.std.proofs.Common.{◌≡◌, ◌≢◌, inl, inr, ℕ, Bool, true, false, List, ◌∷◌, option_map, Option, Some, None, Result, Ok, Err, refl, sym, subst, ap, ◌∙◌}
 use Rattle.std.specs.Prelude.{IfErr, MatchOption}
-use Rattle.std.proofs.lemmas.Option.{none-some}
-use Rattle.std.specs.Prelude.{find, ◌||◌}
-use Rattle.kcr_base.specs.Refuse.{first_of, not_after_mark_refusal}
+use Rattle.kcr_base.specs.Refuse.{first_of, when, before_mark_refusal, not_after_mark_refusal}
+use Rattle.kcr_base.specs.declared.place.Place.{Place}
+use Rattle.kcr_base.specs.declared.refusal.Absentee.TheVariants as Absentees
+use Rattle.kcr_base.specs.declared.refusal.Thing.TheVariants as Things
+use Rattle.kcr_base.specs.declared.refusal.Refusal.TheVariants as Refusals
 use Rattle.kcr_base.specs.declared.refusal.Refusal.{Refusal}
-use Rattle.kcr_base.specs.declared.refusal.Refusal.TheVariants.{Memory}
+use Rattle.kcr_base.specs.declared.refusal.Refusal.TheVariants.{Absent, Late, Memory, Script, Settled, Unknown}
 use Rattle.kcr_base.proofs.RefuseLemmas.{is_memory}
+use Rattle.kcr_custody.specs.Custody.{no_holder_refusal, shut_refusal, unknown_box_refusal}
+use Rattle.kcr_custody.specs.declared.SafeNumber.{SafeNumber}
+use Rattle.kcr_people.specs.People.{settled_refusal}
+use Rattle.kcr_script.specs.declared.script.Step.{Step}
 use Rattle.kcr_room.specs.declared.Stay.{Stay}
 use Rattle.kcr_room.specs.declared.Way.{Way}
-use Rattle.kcr_room.specs.Requests.{stays_from_moment, turn_refusal, is_out_of_turn_in, occupancy_refusal, is_overfull}
 use Rattle.kcr_history.specs.declared.commands.Act.{Act}
 use Rattle.kcr_history.specs.declared.commands.Deed.{Deed}
-use Rattle.kcr_history.specs.declared.commands.Act.TheVariants.{AddBox, Ceremony}
-use Rattle.kcr_history.specs.declared.commands.Deed.TheVariants.{Open, RecordSheet, Sign, RecordException}
-use Rattle.kcr_history.specs.declared.commands.Deed.TheVariants.{Put}
+use Rattle.kcr_history.specs.declared.commands.Act.TheVariants.{Ceremony}
+use Rattle.kcr_history.specs.declared.commands.Deed.TheVariants.{RecordSheet, Sign, RecordException}
 use Rattle.kcr_history.specs.declared.views.View.{View}
-use Rattle.kcr_history.specs.Conditions.{Facts, early_of_deed, late_conditions}
+use Rattle.kcr_history.specs.Conditions.{Facts, early_of_deed, script_refusal}
 use Rattle.kcr_rules.specs.declared.effects.Effect.{Effect}
 use Rattle.kcr_rules.specs.ByRows.{late_refusal_by, by_rows, has_too_many_steps, seat_request_by}
 use Rattle.kcr_rules.specs.ByRows.{IsCheckResult, IsEffectResult, IsRefusalOf, IsUnseatedFor}
-use Rattle.kcr_rules.specs.CeremonyStatus.{mark_by}
 use Rattle.kcr_rules.specs.Refusals.{may_refuse}
 use Rattle.kcr_rules.specs.SheetRows.{room_refusal}
 
--- if the first refusal of each of two parts of a list of conditions passes a test, so does that of the list
-in_two_parts : (P : Refusal → Bool) (n : ℕ) (os : List (Option Refusal)) → ((r : Refusal) → first_of (take n os) ≡ Some r → P r ≡ true)
-    → ((r : Refusal) → first_of (drop n os) ≡ Some r → P r ≡ true) → (r : Refusal) → first_of os ≡ Some r → P r ≡ true
-in_two_parts P zero os a b r h = b r h
-in_two_parts P (suc n) [] a b r h = absurd (none-some r h)
-in_two_parts P (suc n) (None ∷ os) a b r h = in_two_parts P n os a b r h
-in_two_parts P (suc n) (Some s ∷ os) a b r h = a r h
+-- a refusal, if one is told, is one that the act may get
+Own : Act → Option Refusal → Type 0
+Own act None = Unit {0}
+Own act (Some refusal) = may_refuse act refusal ≡ true
 
--- the same of three parts
-in_three_parts : (P : Refusal → Bool) (n m : ℕ) (os : List (Option Refusal)) → ((r : Refusal) → first_of (take n os) ≡ Some r → P r ≡ true)
-    → ((r : Refusal) → first_of (take m (drop n os)) ≡ Some r → P r ≡ true) → ((r : Refusal) → first_of (drop m (drop n os)) ≡ Some r → P r ≡ true)
-    → (r : Refusal) → first_of os ≡ Some r → P r ≡ true
-in_three_parts P n m os a b c r h = in_two_parts P n os a (in_two_parts P m (drop n os) b c) r h
+told-own : (act : Act) (o : Option Refusal) (refusal : Refusal) → Own act o → o ≡ Some refusal → may_refuse act refusal ≡ true
+unfolding Own
+told-own act o refusal own is = subst (Own act) is own
 
-alone : (o : Option Refusal) (r : Refusal) → first_of (o ∷ []) ≡ Some r → o ≡ Some r
-alone None r h = h
-alone (Some s) r h = h
+absent-own : (act : Act) → Own act None
+unfolding Own
+absent-own act = tt
+
+-- of conditions in order the first that holds tells
+next-own : (act : Act) (o : Option Refusal) (os : List (Option Refusal)) → Own act o → Own act (first_of os) → Own act (first_of (o ∷ os))
+unfolding Own
+next-own act None os own others = others
+next-own act (Some refusal) os own others = own
+
+when-own : (act : Act) (b : Bool) (refusal : Refusal) → may_refuse act refusal ≡ true → Own act (when b refusal)
+unfolding Own
+when-own act true refusal own = own
+when-own act false refusal own = tt
+
+map-own : {X : Type 0} (act : Act) (tell : X → Refusal) (o : Option X) → ((x : X) → may_refuse act (tell x) ≡ true) → Own act (option_map tell o)
+unfolding Own
+map-own act tell None own = tt
+map-own act tell (Some x) own = own x
+
+before-own : (act : Act) (at : ℕ) (o : Option ℕ) → ((mark : ℕ) → may_refuse act (Late mark) ≡ true) → Own act (before_mark_refusal at o)
+before-own act at None own = absent-own act
+before-own act at (Some mark) own = when-own act _ _ (own mark)
+
+after-own : (act : Act) (at : ℕ) (o : Option ℕ) → ((mark : ℕ) → may_refuse act (Late mark) ≡ true) → Own act (not_after_mark_refusal at o)
+after-own act at None own = absent-own act
+after-own act at (Some mark) own = when-own act _ _ (own mark)
+
+settled-own : (act : Act) (o : Option ℕ) (day : ℕ) → ((last : ℕ) → may_refuse act (Settled last) ≡ true) → Own act (settled_refusal o day)
+settled-own act None day own = absent-own act
+settled-own act (Some last) day own = when-own act _ _ (own last)
+
+box-own : (act : Act) (place : ℕ → Option Place) (o : Option ℕ) → ((n : ℕ) → may_refuse act (Unknown (Things.Box n)) ≡ true) → Own act (unknown_box_refusal place o)
+box-own act place None own = absent-own act
+box-own act place (Some number) own = when-own act _ _ (own number)
+
+shut-own : (act : Act) (is_open : SafeNumber → Bool) (o : Option SafeNumber) → may_refuse act Refusals.Safe ≡ true → Own act (shut_refusal is_open o)
+shut-own act is_open None own = absent-own act
+shut-own act is_open (Some safe) own = when-own act _ _ own
+
+holder-own : (act : Act) (has : Place → Bool) (o : Option Place) → ((place : Place) → may_refuse act (Absent (Absentees.Place place)) ≡ true)
+    → Own act (no_holder_refusal has o)
+holder-own act has None own = absent-own act
+holder-own act has (Some place) own = when-own act _ _ (own place)
+
+script-own : (act : Act) (script : Result (List Step) ℕ) → ((row : ℕ) → may_refuse act (Script row) ≡ true) → Own act (script_refusal script)
+unfolding Own
+script-own act (Ok steps) own = tt
+script-own act (Err row) own = own row
+
+ruleset own_rules =
+    (absent-own, next-own, when-own, map-own, before-own, after-own, settled-own, box-own, shut-own, holder-own, script-own, refl)
 
 -- THE TWO STAGES
 
-own-early : (facts : Facts) (c at : ℕ) (deed : Deed) (r : Refusal) → first_of (early_of_deed facts c at deed) ≡ Some r → may_refuse (Ceremony c at deed) r ≡ true
-own-early facts c at Open r h = absurd (none-some r h)
-own-early facts c at (RecordException text true) r h =
-    in_two_parts (may_refuse (Ceremony c at (RecordException text true))) 3 (early_of_deed facts c at (RecordException text true)) (λ r h. grind (arith, h)) (λ r h. grind (arith, h)) r h
-own-early facts c at (RecordException text false) r h =
-    in_two_parts (may_refuse (Ceremony c at (RecordException text false))) 3 (early_of_deed facts c at (RecordException text false)) (λ r h. grind (arith, h)) (λ r h. grind (arith, h)) r h
-own-early facts c at (Put serial to) r h =
-    in_three_parts (may_refuse (Ceremony c at (Put serial to))) 3 1 (early_of_deed facts c at (Put serial to)) (λ r h. grind (arith, h)) (λ r h. grind (arith, h))
-    (λ r h. grind (arith, h)) r h
-own-early facts c at deed r h =
-    in_two_parts (may_refuse (Ceremony c at deed)) 3 (early_of_deed facts c at deed) (λ r h. grind (arith, h)) (λ r h. grind (arith, h)) r h
+own-early : (facts : Facts) (c at : ℕ) (deed : Deed) → Own (Ceremony c at deed) (first_of (early_of_deed facts c at deed))
+own-early facts c at (RecordException text true) = search own_rules depth 20
+own-early facts c at (RecordException text false) = search own_rules depth 20
+own-early facts c at deed = search own_rules depth 20
 
-own-room : (stays : List Stay) (entered : ℕ) (full : Bool) (mark : Option ℕ) (c : ℕ) (way : Way) (people : List (List ℕ)) (at : ℕ) (r : Refusal)
-    → room_refusal stays entered full mark c way people at ≡ Some r → may_refuse (Ceremony c at (RecordSheet way people)) r ≡ true
-own-room stays entered full None c way people at r h = grind (arith, h)
-own-room stays entered full (Some m) c way people at r h =
-    let after = stays_from_moment stays c way people at in
-    in_three_parts (may_refuse (Ceremony c at (RecordSheet way people))) 1 1
-    (not_after_mark_refusal at (Some m) ∷ turn_refusal (find (is_out_of_turn_in stays c way at) people)
-    ∷ occupancy_refusal after c (full || is_overfull entered way people) ∷ [])
-    (λ r h. grind (arith, h)) (λ r h. grind (arith, h)) (λ r h. grind (arith, h)) r h
+own-room : (stays : List Stay) (entered : ℕ) (full : Bool) (mark : Option ℕ) (c : ℕ) (way : Way) (people : List (List ℕ)) (at : ℕ)
+    → Own (Ceremony c at (RecordSheet way people)) (room_refusal stays entered full mark c way people at)
+unfolding Own
+own-room stays entered full None c way people at = refl
+own-room stays entered full (Some m) c way people at = search own_rules depth 20
 
-own-late : (view : View) (full : Bool) (act : Act) (r : Refusal) → late_refusal_by view full act ≡ Some r → may_refuse act r ≡ true
-own-late view full (AddBox facility number place) r h =
-    in_three_parts (may_refuse (AddBox facility number place)) 1 1 (late_conditions (by_rows view full) (AddBox facility number place)) (λ r h. grind (arith, h))
-    (λ r h. grind (arith, h)) (λ r h. grind (arith, h)) r h
-own-late view full (Ceremony ceremony at Open) r h =
-    in_two_parts (may_refuse (Ceremony ceremony at Open)) 3 (late_conditions (by_rows view full) (Ceremony ceremony at Open)) (λ r h. grind (arith, h)) (λ r h. grind (arith, h)) r h
-own-late view full (Ceremony ceremony at (RecordSheet way people)) r h =
-    in_two_parts (may_refuse (Ceremony ceremony at (RecordSheet way people))) 1 (late_conditions (by_rows view full) (Ceremony ceremony at (RecordSheet way people))) (λ r h. grind (arith, h))
-    (λ r h. own-room view.stays.items view.stay_count full (mark_by view.marks.items ceremony) ceremony way people at r (alone _ r h)) r h
-own-late view full act r h =
-    in_two_parts (may_refuse act) 3 (late_conditions (by_rows view full) act) (λ r h. grind (arith, h)) (λ r h. grind (arith, h)) r h
+own-late : (view : View) (full : Bool) (act : Act) → Own act (late_refusal_by view full act)
+own-late view full (Ceremony c at (RecordSheet way people)) = search (own_rules, own-room) depth 20
+own-late view full (Ceremony c at deed) = search own_rules depth 20
+own-late view full act = search own_rules depth 20
 
 -- RESULTS
 
@@ -103,7 +132,7 @@ own view full act r is = by_late (late_refusal_by view full act) refl is
     by_late : (o : Option Refusal) → late_refusal_by view full act ≡ o → MatchOption o (IsUnseatedFor view (seat_request_by view act) r) (λ told. r ≡ told)
         → may_refuse act r ≡ true
     by_late None e u = own-unseated view act r u
-    by_late (Some told) e same = own-late view full act r (e ∙ ap Some (sym same))
+    by_late (Some told) e same = told-own act _ r (own-late view full act) (e ∙ ap Some (sym same))
 
 -- an act is refused only for what acts of its kind may be refused for
 pub effect-kind : (view : View) (full : Bool) (act : Act) (result : Result Effect Refusal) → IsEffectResult view full act result
@@ -116,4 +145,4 @@ pub check_kind : {X : Type 0} (view : View) (full : Bool) (c at : ℕ) (deed : D
     → has_too_many_steps view (Ceremony c at deed) ≡ false → IsCheckResult view full (Ceremony c at deed) result
     → IfErr result (λ r. may_refuse (Ceremony c at deed) r ≡ true)
 check_kind view full c at deed (Ok x) few is = tt
-check_kind view full c at deed (Err r) few is = own-early (by_rows view full) c at deed r (is few)
+check_kind view full c at deed (Err r) few is = told-own (Ceremony c at deed) _ r (own-early (by_rows view full) c at deed) (is few)
