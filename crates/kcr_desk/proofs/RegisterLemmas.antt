@@ -90,10 +90,7 @@ module _ (P : History → Type 0) (grown : (A : History) (x : Command) (answer :
 
     inquiry_keeps : (inquiry : Inquiry) → TakesInquiry before told after inquiry → HoldsOf after
     inquiry_keeps (inquiry.Question question) h = reading_keeps _ _ h
-    inquiry_keeps (inquiry.Script ceremony) h = reading_keeps _ _ h
-    inquiry_keeps (inquiry.Attendance ceremony) h = reading_keeps _ _ h
-    inquiry_keeps inquiry.Custody h = reading_keeps _ _ h
-    inquiry_keeps (inquiry.Commands after) h = reading_keeps _ _ h
+    inquiry_keeps inquiry h = reading_keeps _ _ h
 
     read_keeps : {Request : Type 0} (Takes : Request → Type 0) → ((request : Request) → Takes request → HoldsOf after)
         → (expected : Result Request Refusal) → MatchResult expected Takes (RespondsUnread before asked.target told after) → HoldsOf after

@@ -12,67 +12,10 @@ use Rattle.kcr_history.specs.Refusals.{carries, refused_with, refusal_text}
 -- the word of a refusal has at most ten bytes
 pub word_short : (r : Refusal) → length (word_of r) ≤ 10
 word_short refusal.Head = omega arith
-word_short refusal.Host = omega arith
-word_short refusal.Length = omega arith
-word_short refusal.Coding = omega arith
-word_short refusal.Large = omega arith
-word_short refusal.Cut = omega arith
-word_short refusal.Path = omega arith
-word_short refusal.Method = omega arith
-word_short refusal.Json = omega arith
-word_short refusal.Key = omega arith
-word_short refusal.Taken = omega arith
-word_short refusal.Range = omega arith
-word_short refusal.Apart = omega arith
-word_short refusal.Held = omega arith
-word_short refusal.Vacant = omega arith
-word_short refusal.State = omega arith
-word_short refusal.Busy = omega arith
-word_short refusal.Crowd = omega arith
-word_short refusal.Full = omega arith
-word_short refusal.Safe = omega arith
-word_short refusal.Elsewhere = omega arith
-word_short refusal.Memory = omega arith
-word_short refusal.Disk = omega arith
-word_short refusal.Broken = omega arith
-word_short (refusal.Form x) = omega arith
-word_short (refusal.Unknown x) = omega arith
-word_short (refusal.Settled x) = omega arith
-word_short (refusal.Script x) = omega arith
-word_short (refusal.Late x) = omega arith
-word_short (refusal.Order x) = omega arith
-word_short (refusal.Turn x) = omega arith
-word_short (refusal.Lone x) = omega arith
-word_short (refusal.Absent x) = omega arith
-word_short (refusal.Unfinished x) = omega arith
-word_short (refusal.Short x) = omega arith
+word_short r = omega arith
 
 -- the text of a refusal that carries nothing has its number and its word
 bare : (r : Refusal) → carries r ≡ false → refusal_text r ≡ refused_with [] r [] []
-bare refusal.Head h = refl
-bare refusal.Host h = refl
-bare refusal.Length h = refl
-bare refusal.Coding h = refl
-bare refusal.Large h = refl
-bare refusal.Cut h = refl
-bare refusal.Path h = refl
-bare refusal.Method h = refl
-bare refusal.Json h = refl
-bare refusal.Key h = refl
-bare refusal.Taken h = refl
-bare refusal.Range h = refl
-bare refusal.Apart h = refl
-bare refusal.Held h = refl
-bare refusal.Vacant h = refl
-bare refusal.State h = refl
-bare refusal.Busy h = refl
-bare refusal.Crowd h = refl
-bare refusal.Full h = refl
-bare refusal.Safe h = refl
-bare refusal.Elsewhere h = refl
-bare refusal.Memory h = refl
-bare refusal.Disk h = refl
-bare refusal.Broken h = refl
 bare (refusal.Form x) h = absurd (true≢false h)
 bare (refusal.Unknown x) h = absurd (true≢false h)
 bare (refusal.Settled x) h = absurd (true≢false h)
@@ -84,6 +27,7 @@ bare (refusal.Lone x) h = absurd (true≢false h)
 bare (refusal.Absent x) h = absurd (true≢false h)
 bare (refusal.Unfinished x) h = absurd (true≢false h)
 bare (refusal.Short x) h = absurd (true≢false h)
+bare r h = refl
 
 joined : (n w : List ℕ)
     → (((([] ++ codes "{\"number\":") ++ n) ++ codes ",\"refusal\":\"") ++ w) ++ codes "\"}"

@@ -138,10 +138,8 @@ in_place = each_register (λ A. were_in_place A ≡ true) refl (λ A key act ans
 
 box_still : (A : History) (entry : Entry) (o : Option Spot) → has_its_box A o ≡ true → has_its_box (entry ∷ A) o ≡ true
 box_still A entry None h = refl
-box_still A entry (Some Spent) h = refl
-box_still A entry (Some (Table facility)) h = refl
-box_still A entry (Some (Equipment facility)) h = refl
 box_still A entry (Some (InBox facility number)) h = still (added_box_place facility number entry.command.act) (place_of_box A facility number) h
+box_still A entry (Some place) h = refl
 
 box_moved : (A : History) (act : Act) (serial : List ℕ) → fault A act ≡ None → has_its_box A (spot_after (facility_of A) serial act) ≡ true
 box_moved A (Ceremony c at (Seal s items)) serial f = grind arith

@@ -140,10 +140,7 @@ pub compared_is : (op : CompareOp) (v : Value) (n : ℕ)
     → is_true (binary (Compare op Binary) v (Int (pos n))) ≡ (not (is_null v) && compared.test op (value_cmp v (Int (pos n))))
 unfolding binary
 compared_is op Null n = refl
-compared_is op (Int m) n = truth_is _
-compared_is op (Real x) n = truth_is _
-compared_is op (Text t) n = truth_is _
-compared_is op (Blob b) n = truth_is _
+compared_is op v n = truth_is _
 
 -- whether there is nothing, or a number that the comparison passes
 abbrev ends : CompareOp → Value → ℕ → Bool
@@ -160,10 +157,7 @@ either_is false = refl
 nothing_is : (v : Value) → is_eq (value_cmp v Null) ≡ is_null v
 unfolding value_cmp
 nothing_is Null = ap is_eq (tied_itself value_cmp_total Null)
-nothing_is (Int m) = refl
-nothing_is (Real x) = refl
-nothing_is (Text t) = refl
-nothing_is (Blob b) = refl
+nothing_is v = refl
 
 -- an end passes a comparison with a number if and only if it is NULL, or there and compares so
 pub ends_is : (op : CompareOp) (v : Value) (n : ℕ) → ends op v n ≡ (is_null v || (not (is_null v) && compared.test op (value_cmp v (Int (pos n)))))

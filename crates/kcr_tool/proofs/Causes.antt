@@ -40,17 +40,7 @@ pub stops_weaker : {W : Type 0} (May Other : Refusal → Type 0) (w : Writing W)
 stops_weaker May Other w (Refused met) weaker stops = weaker met stops
 stops_weaker May Other w (Invalid row) weaker stops = weaker Disk stops
 stops_weaker May Other w Unwritten weaker stops = stops
-stops_weaker May Other w (Open fault) weaker stops = absurd stops
-stops_weaker May Other w (Log log) weaker stops = absurd stops
-stops_weaker May Other w (Into fault) weaker stops = absurd stops
-stops_weaker May Other w (Stream fault) weaker stops = absurd stops
-stops_weaker May Other w (File step) weaker stops = absurd stops
-stops_weaker May Other w (Nothing missing) weaker stops = absurd stops
-stops_weaker May Other w (IntoFile step) weaker stops = absurd stops
-stops_weaker May Other w (Net call) weaker stops = absurd stops
-stops_weaker May Other w Lost weaker stops = absurd stops
-stops_weaker May Other w Words weaker stops = absurd stops
-stops_weaker May Other w (Broken why) weaker stops = absurd stops
+stops_weaker May Other w why weaker stops = absurd stops
 
 -- CAUSES
 
@@ -59,17 +49,7 @@ pub met_cause : {R W : Type 0} (task : Task) (why : Fault) (s : Streams R W) →
 met_cause task (Refused met) s stops = stops
 met_cause task (Invalid row) s stops = stops
 met_cause task Unwritten s stops = stops
-met_cause task (Open fault) s stops = absurd stops
-met_cause task (Log log) s stops = absurd stops
-met_cause task (Into fault) s stops = absurd stops
-met_cause task (Stream fault) s stops = absurd stops
-met_cause task (File step) s stops = absurd stops
-met_cause task (Nothing missing) s stops = absurd stops
-met_cause task (IntoFile step) s stops = absurd stops
-met_cause task (Net call) s stops = absurd stops
-met_cause task Lost s stops = absurd stops
-met_cause task Words s stops = absurd stops
-met_cause task (Broken why) s stops = absurd stops
+met_cause task why s stops = absurd stops
 
 -- what stopped a report over a register that nothing broke before
 pub report_stops : {S W : Type 0} (register : RegisterState S) (report : Report) (why : Fault) (w : Writing W) → register.is_broken ≡ false
@@ -95,12 +75,6 @@ serving_cause {S} {R} {W} register serving why s (inr (inr stops)) =
 -- a fault of a task over an open register, whichever file that came from
 pub task_cause : {R W : Type 0} (task : Task) (why : Fault) (file : Option (List ℕ)) (s : Streams R W) → StopsTask task s why
     → HasCause (Some task) file s why
-task_cause task (Stream fault) file s stops = (task, refl, stops)
-task_cause task (Refused met) file s stops = (task, refl, stops)
-task_cause task (Invalid row) file s stops = (task, refl, stops)
-task_cause task Unwritten file s stops = (task, refl, stops)
-task_cause task (Net call) file s stops = (task, refl, stops)
-task_cause task Lost file s stops = (task, refl, stops)
 task_cause task (File step) file s stops = absurd stops
 task_cause task (Nothing missing) file s stops = absurd stops
 task_cause task (IntoFile step) file s stops = absurd stops
@@ -108,7 +82,7 @@ task_cause task (Open fault) file s stops = absurd stops
 task_cause task (Log log) file s stops = absurd stops
 task_cause task (Into fault) file s stops = absurd stops
 task_cause task Words file s stops = absurd stops
-task_cause task (Broken why) file s stops = (task, refl, stops)
+task_cause task why file s stops = (task, refl, stops)
 
 -- what stops a report is a cause of its fault, whichever file it is of
 pub report_cause : {R W : Type 0} (report : Report) (why : Fault) (file : Option (List ℕ)) (s : Streams R W)
@@ -132,17 +106,7 @@ pub opening_cause : {R W : Type 0} (task : Option Task) (why : Fault) (path : Li
 opening_cause task (Open fault) path s still stops = ((λ none. cc), still)
 opening_cause task (File step) path s still stops = (refl, still)
 opening_cause task (Log log) path s still stops = (stops, refl, still)
-opening_cause task (Nothing missing) path s still stops = absurd stops
-opening_cause task (Refused met) path s still stops = absurd stops
-opening_cause task (Invalid row) path s still stops = absurd stops
-opening_cause task Unwritten path s still stops = absurd stops
-opening_cause task (Into fault) path s still stops = absurd stops
-opening_cause task (IntoFile step) path s still stops = absurd stops
-opening_cause task (Stream fault) path s still stops = absurd stops
-opening_cause task (Net call) path s still stops = absurd stops
-opening_cause task Lost path s still stops = absurd stops
-opening_cause task Words path s still stops = absurd stops
-opening_cause task (Broken why) path s still stops = absurd stops
+opening_cause task why path s still stops = absurd stops
 
 -- why a report of a copy was not written whole
 pub copied_cause : {R W : Type 0} (report : Report) (why : Fault) (path : List ℕ) (s : Streams R W) → s.after ≡ s.before
@@ -159,14 +123,7 @@ reading_cause (Invalid row) path s still stops = (Verify, refl, inr refl)
 reading_cause (Open fault) path s still stops = ((λ none. cc), still)
 reading_cause (File step) path s still stops = (refl, still)
 reading_cause (Log log) path s still stops = (stops, refl, still)
-reading_cause Unwritten path s still stops = absurd stops
-reading_cause (Into fault) path s still stops = absurd stops
-reading_cause (IntoFile step) path s still stops = absurd stops
-reading_cause (Stream fault) path s still stops = absurd stops
-reading_cause (Net call) path s still stops = absurd stops
-reading_cause Lost path s still stops = absurd stops
-reading_cause Words path s still stops = absurd stops
-reading_cause (Broken why) path s still stops = absurd stops
+reading_cause why path s still stops = absurd stops
 
 -- why a verification stopped
 pub replay_cause : {R W : Type 0} (why : Fault) (path : List ℕ) (s : Streams R W) → s.after ≡ s.before → StopsReplay s.output why
@@ -175,16 +132,7 @@ replay_cause (Nothing missing) path s still stops = (inl refl, unfilled path mis
 replay_cause (Refused met) path s still stops = (Verify, refl, stops)
 replay_cause (Invalid row) path s still stops = (Verify, refl, stops)
 replay_cause Unwritten path s still stops = (Verify, refl, stops)
-replay_cause (Open fault) path s still stops = absurd stops
-replay_cause (File step) path s still stops = absurd stops
-replay_cause (Log log) path s still stops = absurd stops
-replay_cause (Into fault) path s still stops = absurd stops
-replay_cause (IntoFile step) path s still stops = absurd stops
-replay_cause (Stream fault) path s still stops = absurd stops
-replay_cause (Net call) path s still stops = absurd stops
-replay_cause Lost path s still stops = absurd stops
-replay_cause Words path s still stops = absurd stops
-replay_cause (Broken why) path s still stops = absurd stops
+replay_cause why path s still stops = absurd stops
 
 -- why a verification of a copy was not told whole
 pub verification_cause : {R W : Type 0} (why : Fault) (path : List ℕ) (s : Streams R W) → s.after ≡ s.before
@@ -197,34 +145,13 @@ pub opening_reads : (why : Fault) → StopsOpening why → StopsReading why
 opening_reads (Open fault) stops = stops
 opening_reads (File step) stops = stops
 opening_reads (Log log) stops = stops
-opening_reads (Nothing missing) stops = absurd stops
-opening_reads (Refused met) stops = absurd stops
-opening_reads (Invalid row) stops = absurd stops
-opening_reads Unwritten stops = absurd stops
-opening_reads (Into fault) stops = absurd stops
-opening_reads (IntoFile step) stops = absurd stops
-opening_reads (Stream fault) stops = absurd stops
-opening_reads (Net call) stops = absurd stops
-opening_reads Lost stops = absurd stops
-opening_reads Words stops = absurd stops
-opening_reads (Broken why) stops = absurd stops
+opening_reads why stops = absurd stops
 
 -- why no new register was made, before anything was written
 pub making_stops : {W : Type 0} (why : Fault) (w : Writing W) → WritesNothing w → StopsMaking why → StopsRebuild w why
 making_stops (Into fault) w none stops = none
 making_stops (IntoFile step) w none stops = none
-making_stops (Nothing missing) w none stops = absurd stops
-making_stops (Refused met) w none stops = absurd stops
-making_stops (Invalid row) w none stops = absurd stops
-making_stops Unwritten w none stops = absurd stops
-making_stops (Open fault) w none stops = absurd stops
-making_stops (File step) w none stops = absurd stops
-making_stops (Log log) w none stops = absurd stops
-making_stops (Stream fault) w none stops = absurd stops
-making_stops (Net call) w none stops = absurd stops
-making_stops Lost w none stops = absurd stops
-making_stops Words w none stops = absurd stops
-making_stops (Broken why) w none stops = absurd stops
+making_stops why w none stops = absurd stops
 
 -- what stops a replay stops a rebuild
 pub replay_stops : {W : Type 0} (why : Fault) (w : Writing W) → StopsReplay w why → StopsRebuild w why
@@ -232,16 +159,7 @@ replay_stops (Nothing missing) w stops = stops
 replay_stops (Refused met) w stops = stops
 replay_stops (Invalid row) w stops = stops
 replay_stops Unwritten w stops = stops
-replay_stops (Into fault) w stops = absurd stops
-replay_stops (IntoFile step) w stops = absurd stops
-replay_stops (Open fault) w stops = absurd stops
-replay_stops (File step) w stops = absurd stops
-replay_stops (Log log) w stops = absurd stops
-replay_stops (Stream fault) w stops = absurd stops
-replay_stops (Net call) w stops = absurd stops
-replay_stops Lost w stops = absurd stops
-replay_stops Words w stops = absurd stops
-replay_stops (Broken why) w stops = absurd stops
+replay_stops why w stops = absurd stops
 
 -- no file is named
 pub none_mapped : {X Y : Type 0} (f : X → Y) (o : Option X) → option_map f o ≡ None → o ≡ None

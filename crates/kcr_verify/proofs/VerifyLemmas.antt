@@ -56,25 +56,11 @@ pub same_rows : (m : Tables) (view rows : FullView) → IsInOrder view rows → 
 same_rows m view rows o table = subst (λ v. (HasRows table m v → HasRows table m view) × (HasRows table m view → HasRows table m v)) (sym o.others) (by table)
   where
     by : (table : TableName) → (HasRows table m (record view { keys = rows.keys }) → HasRows table m view) × (HasRows table m view → HasRows table m (record view { keys = rows.keys }))
-    by People = (λ h. h, λ h. h)
-    by Trainings = (λ h. h, λ h. h)
-    by Withdrawals = (λ h. h, λ h. h)
-    by Appointments = (λ h. h, λ h. h)
-    by Boxes = (λ h. h, λ h. h)
-    by Safes = (λ h. h, λ h. h)
-    by Bags = (λ h. h, λ h. h)
-    by Items = (λ h. h, λ h. h)
-    by Ceremonies = (λ h. h, λ h. h)
-    by Marks = (λ h. h, λ h. h)
-    by Steps = (λ h. h, λ h. h)
-    by Seatings = (λ h. h, λ h. h)
-    by Sheet = (λ h. h, λ h. h)
-    by Stays = (λ h. h, λ h. h)
-    by Exceptions = (λ h. h, λ h. h)
     by Keys = (
       λ h. through m.keys view.keys.items rows.keys.items h o.keys,
       λ h. IsPermutation-trans m.keys view.keys.items rows.keys.items h o.keys,
     )
+    by other = (λ h. h, λ h. h)
 
 -- and so is the first table that differs
 pub first_in_view : (tables_in : List TableName) (A : History) (view rows : FullView) → IsInOrder view rows → (table : TableName)
@@ -93,21 +79,6 @@ differs_in_view : (m : Tables) (view rows : FullView) → IsInOrder view rows �
 differs_in_view m view rows o table row d = by table (subst (λ (w : FullView). DiffersIn table m w row) o.others d)
   where
     by : (table : TableName) → DiffersIn table m (record view { keys = rows.keys }) row → DiffersIn table m view row
-    by People d = d
-    by Trainings d = d
-    by Withdrawals d = d
-    by Appointments d = d
-    by Boxes d = d
-    by Safes d = d
-    by Bags d = d
-    by Items d = d
-    by Ceremonies d = d
-    by Marks d = d
-    by Steps d = d
-    by Seatings d = d
-    by Sheet d = d
-    by Stays d = d
-    by Exceptions d = d
     by Keys d = record {
       own_sorted = d.own_sorted;
       sorted = d.sorted;
@@ -115,6 +86,7 @@ differs_in_view m view rows o table row d = by table (subst (λ (w : FullView). 
       order = record { same = IsPermutation-trans view.keys.items rows.keys.items d.sorted o.keys d.order.same; order = d.order.order };
       differs = d.differs;
     }
+    by other d = d
 
 -- if the rows are those of a history that was made again, they are the tables of that history
 pub whole_of : (A : History) (view rows : FullView) → IsInOrder view rows → ((table : TableName) → HasRows table (tables A) rows)
