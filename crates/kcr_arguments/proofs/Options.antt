@@ -5,7 +5,8 @@ use Rattle.std.specs.Prelude.{is_some, fold, find, MatchOption, option_and_then,
 use Rattle.std.specs.List.{AllByRecursion, list_any}
 use Rattle.std.specs.Option.{option_map_or}
 use Rattle.std.specs.Str.{bytes_eq, chars}
-use Rattle.std.proofs.lemmas.Bool.{both_ways, cases_Bool, ne_eqb}
+use Rattle.kcr_base.proofs.ListLemmas.{each-weaker, first-is}
+use Rattle.std.proofs.lemmas.Bool.{and_parts, both_ways, ne_eqb, not-true}
 use Rattle.std.proofs.lemmas.Slice.Eq.{bytes_eq-Decides}
 use Rattle.clap.specs.Lexer.{long_of}
 use Rattle.clap.specs.Kinds.{Kinds, check_kinds, or_else, range_kinds}
@@ -13,10 +14,10 @@ use Rattle.clap.specs.Facts.{explicit_source}
 use Rattle.clap.specs.Takes.{is_given}
 use Rattle.clap.specs.Faults.{bundle_step_fault, check_fault, defaults_fault, flags_fault, flag_word_fault, level_fault, repeat_fault, values_fault, long_fault}
 use Rattle.clap.specs.Faults.{option_fault, react_fault, settle_fault, short_fault, step_fault, turn_fault, use_fault, walk_fault, word_fault}
-use Rattle.clap.specs.Simple.{Shape, filled, new_rule}
+use Rattle.clap.specs.Simple.{Shape, filled}
 use Rattle.clap.specs.Walk.{Held, Names, Outcome, Row, Rule, Step, Text, Waiting, Walk, action_of, after_flag, after_step, arg_by_id, arg_by_long, arg_by_short}
 use Rattle.clap.specs.Walk.{attached_value, first_of, bundle, bundle_met, bundle_step, done, plain, finished, has_row, long_met, long_or_other, nothing_held}
-use Rattle.clap.specs.Walk.{option, option_met, reacted, row_text, rows_after, settled, settled_rows, short_met, used, walk, walk_from, walked, with_default}
+use Rattle.clap.specs.Walk.{option_met, reacted, row_text, rows_after, settled, settled_rows, short_met, used, walk, walk_from, walked, with_default}
 use Rattle.clap.specs.Walk.{reading_by, used_as, values_or_missing, with_values, without, word_met}
 use Rattle.clap.specs.declared.error.kind.ErrorKind.TheVariants as kind
 use Rattle.clap.specs.declared.builder.action.ArgAction.{ArgAction}
@@ -24,10 +25,10 @@ use Rattle.clap.specs.declared.builder.action.ArgAction.TheVariants.{Set, SetTru
 use Rattle.clap.specs.declared.parser.matches.ValueSource.TheVariants.{CommandLine, DefaultValue}
 use Rattle.clap.specs.declared.builder.value_parser.Reading.TheVariants.{AsWritten}
 use Rattle.clap.specs.declared.builder.value_parser.ValueParser.{ValueParser}
-use Rattle.clap.specs.declared.builder.value_parser.ValueParser.TheVariants.{Unsigned}
+use Rattle.clap.specs.declared.builder.value_parser.ValueParser.TheVariants.{String, Unsigned}
 use Rattle.clap.specs.declared.parser.matches.ValueSource.{ValueSource}
 use Rattle.clap.specs.declared.builder.value_parser.Reading.{Reading}
-use Rattle.kcr_arguments.specs.Commands.{number_rule, text_rule}
+use Rattle.kcr_arguments.specs.Commands.{value_rule}
 use Rattle.kcr_arguments.specs.Tasks.{number_between, number_at}
 
 -- a list, and the one that is taken when it is empty, are both empty if nothing is taken
@@ -39,15 +40,8 @@ both_empty (k ∷ ks) b e = cc
 
 module _ (s : Shape) (P : List Row → Type 0) where
   -- a use of the option that does not fail keeps it
-  abbrev pub Keeps : Rule → Type 0
+  abbrev Keeps : Rule → Type 0
   Keeps a = (values : List Text) (rows : List Row) → use_fault s.args_override_self a values rows ≡ [] → P rows → P (used a values rows)
-
-  found_keeps : (f : Rule → Bool) (c : List Rule) → AllByRecursion Keeps c → (a : Rule) → find f c ≡ Some a → Keeps a
-  found_keeps f [] all a e = cc
-  found_keeps f (x ∷ xs) all a e = elim (cases_Bool (f x)) [
-    | inl t ↦ (let is : Some x ≡ Some a = rw t at e in let same : x ≡ a = cc in subst Keeps same all.0)
-    | inr t ↦ found_keeps f xs all.1 a (rw t at e)
-  ]
 
   module _ (keeps : AllByRecursion Keeps s.rules) where
     -- a found option is one of the rules
@@ -59,7 +53,7 @@ module _ (s : Shape) (P : List Row → Type 0) where
         → P rows → P (settled_rows s.rules pending rows)
     settles_at None rows none p = p
     settles_at (Some q) rows none p =
-        let found = λ (a : Rule) (e : arg_by_id s.rules q.0 ≡ Some a). found_keeps (λ x. bytes_eq x.id q.0) s.rules keeps a e q.1 rows in
+        let found = λ (a : Rule) (e : arg_by_id s.rules q.0 ≡ Some a). (first-is (λ x. bytes_eq x.id q.0) Keeps a s.rules keeps e).1 q.1 rows in
         grind (arith, found, p)
 
     settles : (h : Held) → settle_fault s.rules s.args_override_self h ≡ [] → P h.rows → P (settled s.rules h).rows
@@ -109,7 +103,7 @@ module _ (s : Shape) (P : List Row → Type 0) where
         by_flag later None skip free = p
         by_flag later (Some x) zero free =
             let rest = drop (length (encode_utf8 x)) flags in
-            short_keeps (arg_by_short s.rules x) (λ a e. found_keeps _ s.rules keeps a e) rest h (bundle_met s.rules k rest 0 done)
+            short_keeps (arg_by_short s.rules x) (λ a e. (first-is _ Keeps a s.rules keeps e).1) rest h (bundle_met s.rules k rest 0 done)
             (flags_fault s.rules s.args_override_self k rest 0)
             (later rest 0 done) free p
         by_flag later (Some x) (suc less) free = later (drop (length (encode_utf8 x)) flags) less so_far h free p
@@ -125,7 +119,7 @@ module _ (s : Shape) (P : List Row → Type 0) where
         grind (arith, bundled, after, none, p)
     flag_keeps waiting word (Some q) h none p =
         let met = long_met s.rules (arg_by_long s.rules q.0) q.1 h in
-        after_keeps waiting word met.0 met.1 (long_keeps (arg_by_long s.rules q.0) (λ a e. found_keeps _ s.rules keeps a e) q.1 h none p)
+        after_keeps waiting word met.0 met.1 (long_keeps (arg_by_long s.rules q.0) (λ a e. (first-is _ Keeps a s.rules keeps e).1) q.1 h none p)
 
     word_keeps : (names : Names) (is_trailing : Bool) (waiting : Waiting) (position : ℕ) (word : Text) (h : Held)
         → word_fault s names is_trailing waiting word h ≡ [] → P h.rows → P (word_met s.rules names is_trailing waiting position word h).0.rows
@@ -160,11 +154,11 @@ abbrev HasRow : (Row → Bool) → Text → List Row → Type 0
 HasRow holds name rows = MatchOption (find (λ r. bytes_eq r.id name) rows) (Unit {0}) (λ r. holds r ≡ true)
 
 -- its text is a number from 1 to the most
-abbrev pub is_number : ℕ → Row → Bool
+abbrev is_number : ℕ → Row → Bool
 is_number most r = is_some (option_and_then (number_between 1 most) (row_text r))
 
 -- it has a text
-abbrev pub is_text : Row → Bool
+abbrev is_text : Row → Bool
 is_text r = is_some (slice_get r.values 0)
 
 same_bytes : (t : Text) → bytes_eq t t ≡ true
@@ -206,48 +200,56 @@ first_row name how source values (r ∷ rs) none =
 only_one : (empty one : Bool) → cond empty (kind.InvalidValue ∷ []) (cond one [] (kind.WrongNumberOfValues ∷ [])) ≡ [] → one ≡ true
 only_one empty one e = grind arith
 
--- the option has one value, or is a flag
-abbrev pub SetsOne : Rule → Type 0
-SetsOne a = (action_of a ≡ Set) ⊎ (action_of a ≡ SetTrue)
+-- an action that leaves the rows of other options
+abbrev leaves_rows : ArgAction → Bool
+leaves_rows Set = true
+leaves_rows SetTrue = true
+leaves_rows Help = true
+leaves_rows _ = false
 
--- an option that sets another value keeps it, and so does a flag
-pub other_keeps : (s : Shape) (holds : Row → Bool) (name : Text) (a : Rule) → SetsOne a → bytes_eq a.id name ≡ false → Keeps s (HasRow holds name) a
-other_keeps s holds name a sets differ values rows none p = by_action sets
+-- another option, with such an action
+abbrev is_other : Text → Rule → Bool
+is_other name a = leaves_rows (action_of a) && not (bytes_eq a.id name)
+
+is_apart : (name : Text) (a : Rule) → is_other name a ≡ true → bytes_eq a.id name ≡ false
+is_apart name a other = not-true _ (and_parts (leaves_rows (action_of a)) _ other).1
+
+-- another option keeps it
+other_keeps : (s : Shape) (holds : Row → Bool) (name : Text) (a : Rule) → is_other name a ≡ true → Keeps s (HasRow holds name) a
+other_keeps s holds name a other values rows none p = by_action (action_of a) (and_parts (leaves_rows (action_of a)) _ other).0
   where
     given : List Text
     given = values_or_missing a values
 
     kept : HasRow holds name (with_values a.id (reading_by a) CommandLine given (without a.id rows))
     kept =
+        let differ = is_apart name a other in
         let same = with_other a.id name (reading_by a) CommandLine given differ (without a.id rows) ∙ without_other a.id name differ rows in
         subst (λ (o : Option Row). MatchOption o (Unit {0}) (λ r. holds r ≡ true)) (sym same) p
 
-    by_action : SetsOne a → HasRow holds name (used a values rows)
-    by_action (inl set) = subst (λ (x : ArgAction). HasRow holds name (used_as x a.id (reading_by a) given rows)) (sym set) kept
-    by_action (inr set) = subst (λ (x : ArgAction). HasRow holds name (used_as x a.id (reading_by a) given rows)) (sym set) kept
+    by_action : (x : ArgAction) → leaves_rows x ≡ true → HasRow holds name (used_as x a.id (reading_by a) given rows)
+    by_action Set leaves = kept
+    by_action SetTrue leaves = kept
+    by_action Help leaves = p
+    by_action _ never = cc
 
--- and so does the one that asks for help
-pub help_keeps : (s : Shape) (P : List Row → Type 0) (a : Rule) → action_of a ≡ Help → Keeps s P a
-help_keeps s P a asks values rows none p =
-    subst (λ (x : ArgAction). P (used_as x a.id (reading_by a) (values_or_missing a values) rows)) (sym asks) p
-
--- a required option whose values this parser reads
-abbrev required_rule : Text → Option ValueParser → Rule
-required_rule name parser = record (new_rule name) { long = Some name; value_names = 1; parser = parser; required = true }
+-- a required option whose values this parser reads, with what it left out
+abbrev required_rule : Text → ValueParser → Rule
+required_rule name parser = filled (value_rule name parser true)
 
 -- the row of its one value
 abbrev given_row : Text → Text → Row
 given_row name v = record { id = name; values = v ∷ []; count = None; source = Some CommandLine; reading = AsWritten }
 
 -- the option itself gives it
-given_keeps : (s : Shape) (holds : Row → Bool) (name : Text) (parser : Option ValueParser) → s.args_override_self ≡ false
-    → reading_by (filled (required_rule name parser)) ≡ AsWritten
-    → ((v : Text) → values_fault (filled (required_rule name parser)) (v ∷ []) ≡ [] → holds (given_row name v) ≡ true)
-    → Keeps s (HasRow holds name) (filled (required_rule name parser))
+given_keeps : (s : Shape) (holds : Row → Bool) (name : Text) (parser : ValueParser) → s.args_override_self ≡ false
+    → reading_by (required_rule name parser) ≡ AsWritten
+    → ((v : Text) → values_fault (required_rule name parser) (v ∷ []) ≡ [] → holds (given_row name v) ≡ true)
+    → Keeps s (HasRow holds name) (required_rule name parser)
 given_keeps s holds name parser once plainly passes values rows none p = by_values values none
   where
     rule : Rule
-    rule = filled (required_rule name parser)
+    rule = required_rule name parser
 
     by_values : (values : List Text) → use_fault s.args_override_self rule values rows ≡ [] → HasRow holds name (used rule values rows)
     by_values [] free = cc
@@ -264,50 +266,40 @@ given_keeps s holds name parser once plainly passes values rows none p = by_valu
         subst (λ (o : Option Row). MatchOption o (Unit {0}) (λ r. holds r ≡ true)) (sym row) (passes v each.1) in
         subst (λ (how : Reading). HasRow holds name (used_as Set name how (v ∷ []) rows)) (sym plainly) has
 
--- an option with a number keeps that its row, if there is one, has a number from 1 to the most
-pub number_keeps : (s : Shape) (name : Text) (most : ℕ) → s.args_override_self ≡ false → Keeps s (HasRow (is_number most) name) (filled (number_rule name most))
-number_keeps s name most once = given_keeps s (is_number most) name (Some (Unsigned 1 most)) once refl (λ v free. grind (arith, free))
-
--- an option with a text keeps that its row, if there is one, has a text
-pub text_keeps : (s : Shape) (name : Text) → s.args_override_self ≡ false → Keeps s (HasRow is_text name) (filled (text_rule name))
-text_keeps s name once = given_keeps s is_text name None once refl (λ v free. refl)
-
 -- ---- so a subcommand that is taken has it
 
--- the option has no default, or is another one
-abbrev pub IsLeft : Text → Rule → Type 0
-IsLeft name a = (a.defaults ≡ []) ⊎ (bytes_eq a.id name ≡ false)
+-- it is this option, or another one
+abbrev IsOption : Text → Rule → Rule → Type 0
+IsOption name a x = (x ≡ a) ⊎ (is_other name x ≡ true)
 
--- a default of another option leaves the row of this one
-default_left : (name : Text) (a : Rule) (rows : List Row) → IsLeft name a
-    → find (λ r. bytes_eq r.id name) (with_default rows a) ≡ find (λ r. bytes_eq r.id name) rows
-default_left name a rows (inl none) = let same : with_default rows a ≡ rows = grind (arith, none) in ap (find (λ r. bytes_eq r.id name)) same
-default_left name a rows (inr differ) = by_row (has_row a.id rows) a.defaults refl refl
-  where
-    by_row : (has : Bool) (ds : List Text) → has_row a.id rows ≡ has → a.defaults ≡ ds
-        → find (λ r. bytes_eq r.id name) (with_default rows a) ≡ find (λ r. bytes_eq r.id name) rows
-    by_row true ds has is = let same : with_default rows a ≡ rows = grind (arith, has) in ap (find (λ r. bytes_eq r.id name)) same
-    by_row false [] has is = let same : with_default rows a ≡ rows = grind (arith, has, is) in ap (find (λ r. bytes_eq r.id name)) same
-    by_row false (d ∷ ds) has is =
-        let same : with_default rows a ≡ with_values a.id (reading_by a) DefaultValue (d ∷ ds) rows = grind (arith, has, is) in
-        ap (find (λ r. bytes_eq r.id name)) same ∙ with_other a.id name (reading_by a) DefaultValue (d ∷ ds) differ rows
+-- its default leaves the row of this one, which has none
+default_left : (name : Text) (a x : Rule) (rows : List Row) → a.defaults ≡ [] → IsOption name a x
+    → find (λ r. bytes_eq r.id name) (with_default rows x) ≡ find (λ r. bytes_eq r.id name) rows
+default_left name a x rows none (inl is) =
+    let same : with_default rows x ≡ rows = (let free : x.defaults ≡ [] = ap (λ (a : Rule). a.defaults) is ∙ none in grind (arith, free)) in
+    ap (find (λ r. bytes_eq r.id name)) same
+default_left name a x rows none (inr other) =
+    let left = λ (ds : List Text). with_other x.id name (reading_by x) DefaultValue ds (is_apart name x other) rows in
+    grind (arith, left)
 
-defaults_left : (name : Text) (c : List Rule) (rows : List Row) → AllByRecursion (IsLeft name) c
+defaults_left : (name : Text) (a : Rule) (c : List Rule) (rows : List Row) → a.defaults ≡ [] → AllByRecursion (IsOption name a) c
     → find (λ r. bytes_eq r.id name) (fold with_default rows c) ≡ find (λ r. bytes_eq r.id name) rows
-defaults_left name [] rows left = refl
-defaults_left name (a ∷ c) rows left = defaults_left name c (with_default rows a) left.1 ∙ default_left name a rows left.0
+defaults_left name a [] rows none all = refl
+defaults_left name a (x ∷ c) rows none all = defaults_left name a c (with_default rows x) none all.1 ∙ default_left name a x rows none all.0
 
 -- nothing that is required is missing
 none_missing : (help sub missing : Bool) → check_kinds help sub missing ≡ [] → missing ≡ false
 none_missing help sub missing e = grind arith
 
-required_row : (s : Shape) (holds : Row → Bool) (name : Text) → AllByRecursion (Keeps s (HasRow holds name)) s.rules
-    → AllByRecursion (IsLeft name) s.rules
+required_row : (s : Shape) (holds : Row → Bool) (name : Text) (a : Rule) → Keeps s (HasRow holds name) a → a.defaults ≡ []
+    → AllByRecursion (IsOption name a) s.rules
     → s.subcommand_negates_reqs ≡ false
     → ((rows : List Row) → list_any (λ a. a.required && not (is_given a.id rows)) s.rules ≡ false → is_given name rows ≡ true)
     → (words : List Text) → level_fault s [] nothing_held words false [] ≡ []
     → (r : Row) × (find (λ r. bytes_eq r.id name) (rows_after s.rules [] words) ≡ Some r) × (holds r ≡ true)
-required_row s holds name keeps left negates required words none =
+required_row s holds name a keeps bare all negates required words none =
+    let each-keeps = each-weaker (IsOption name a) (Keeps s (HasRow holds name))
+    (λ x is. elim is [ inl e ↦ subst (Keeps s (HasRow holds name)) (sym e) keeps | inr other ↦ other_keeps s holds name x other ]) s.rules all in
     let end = (walk s.rules [] nothing_held words).held in
     let rows = finished s.rules end in
     let check = check_fault s rows false in
@@ -315,11 +307,11 @@ required_row s holds name keeps left negates required words none =
     let each = both_empty (walk_fault s [] (walk_from nothing_held) words) (or_else (settle_fault s.rules s.args_override_self end) defaults) none in
     let settling = both_empty (settle_fault s.rules s.args_override_self end) defaults each.1 in
     let last = both_empty (defaults_fault (settled s.rules end).rows s.rules) check settling.1 in
-    let walked-over : HasRow holds name end.rows = walk_keeps s (HasRow holds name) keeps [] (walk_from nothing_held) words each.0 tt in
-    let at-end : HasRow holds name (settled s.rules end).rows = settles s (HasRow holds name) keeps end settling.0 walked-over in
+    let walked-over : HasRow holds name end.rows = walk_keeps s (HasRow holds name) each-keeps [] (walk_from nothing_held) words each.0 tt in
+    let at-end : HasRow holds name (settled s.rules end).rows = settles s (HasRow holds name) each-keeps end settling.0 walked-over in
     let has : HasRow holds name rows =
     subst (λ (o : Option Row). MatchOption o (Unit {0}) (λ r. holds r ≡ true))
-    (sym (defaults_left name s.rules (settled s.rules end).rows left)) at-end in
+    (sym (defaults_left name a s.rules (settled s.rules end).rows bare all)) at-end in
     let missing = list_any (λ a. a.required && not (is_given a.id rows)) s.rules in
     let all-there : (not (s.subcommand_negates_reqs && false) && missing) ≡ false = none_missing _ _ _ last.1 in
     let off : (not (s.subcommand_negates_reqs && false) && missing) ≡ missing = ap (λ (b : Bool). not (b && false) && missing) negates in
@@ -332,20 +324,23 @@ required_row s holds name keeps left negates required words none =
     by_row (Some r) has given = (r, refl, has)
 
 -- a subcommand that is taken has the number of a required option
-pub required_number : (s : Shape) (name : Text) (most : ℕ) → AllByRecursion (Keeps s (HasRow (is_number most) name)) s.rules
-    → AllByRecursion (IsLeft name) s.rules
+pub required_number : (s : Shape) (name : Text) (most : ℕ) → s.args_override_self ≡ false
+    → AllByRecursion (IsOption name (required_rule name (Unsigned 1 most))) s.rules
     → s.subcommand_negates_reqs ≡ false
     → ((rows : List Row) → list_any (λ a. a.required && not (is_given a.id rows)) s.rules ≡ false → is_given name rows ≡ true)
     → (words : List Text) → level_fault s [] nothing_held words false [] ≡ [] → is_some (number_at 1 most name (rows_after s.rules [] words)) ≡ true
-required_number s name most keeps left negates required words none =
-    let row = required_row s (is_number most) name keeps left negates required words none in
+required_number s name most once all negates required words none =
+    let keeps = given_keeps s (is_number most) name (Unsigned 1 most) once refl (λ v free. grind (arith, free)) in
+    let row = required_row s (is_number most) name (required_rule name (Unsigned 1 most)) keeps refl all negates required words none in
     ap (λ (o : Option Row). is_some (option_and_then (number_between 1 most) (option_and_then row_text o))) row.1 ∙ row.2
 
 -- a subcommand that is taken has the text of a required option
-pub required_text : (s : Shape) (name : Text) → AllByRecursion (Keeps s (HasRow is_text name)) s.rules → AllByRecursion (IsLeft name) s.rules
+pub required_text : (s : Shape) (name : Text) → s.args_override_self ≡ false
+    → AllByRecursion (IsOption name (required_rule name String)) s.rules
     → s.subcommand_negates_reqs ≡ false
     → ((rows : List Row) → list_any (λ a. a.required && not (is_given a.id rows)) s.rules ≡ false → is_given name rows ≡ true)
     → (words : List Text) → level_fault s [] nothing_held words false [] ≡ [] → is_some (first_of name (rows_after s.rules [] words)) ≡ true
-required_text s name keeps left negates required words none =
-    let row = required_row s is_text name keeps left negates required words none in
+required_text s name once all negates required words none =
+    let keeps = given_keeps s is_text name String once refl (λ v free. refl) in
+    let row = required_row s is_text name (required_rule name String) keeps refl all negates required words none in
     ap (λ (o : Option Row). is_some (option_and_then (λ r. slice_get r.values 0) o)) row.1 ∙ row.2

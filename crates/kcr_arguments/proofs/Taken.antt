@@ -1,5 +1,5 @@
 -- Words that are taken hold a task.
-use Rattle.std.proofs.Common.{◌≡◌, ◌&&◌, ℕ, zero, suc, Bool, true, false, not, codes, List, [], ◌∷◌, Option, Some, None, refl, sym, ap, ◌∙◌, subst, option_map}
+use Rattle.std.proofs.Common.{◌≡◌, ◌&&◌, ◌++◌, ℕ, Bool, true, false, not, codes, List, [], ◌∷◌, Option, Some, None, refl, sym, ap, ◌∙◌, subst, option_map, map}
 use Rattle.std.proofs.Common.{arith, inl, inr}
 use Rattle.std.specs.Prelude.{is_some, fold, find, MatchOption, option_and_then}
 use Rattle.std.specs.List.{AllByRecursion}
@@ -18,14 +18,14 @@ use Rattle.std.specs.List.{list_any}
 use Rattle.std.specs.Option.{option_map_or}
 use Rattle.clap.specs.Faults.{check_fault, defaults_fault, settle_fault, entered_fault, built_fault, level_fault, walk_fault, turn_fault, word_fault}
 use Rattle.clap.specs.Faults.{step_fault}
-use Rattle.clap.specs.Simple.{App, built, built_leaf, names_of, label_of, entered, rows_at, argument_words, new_shape, filled, help_rule}
-use Rattle.kcr_arguments.specs.Commands.{tool_app, file_rule, flag_rule, choice_rule, number_rule, of_ceremony, into_file, explained}
-use Rattle.kcr_arguments.specs.Tasks.{task_at, met_in, faults_of, number_at, ceremony_at, into_at}
+use Rattle.clap.specs.Simple.{App, built, built_leaf, names_of, label_of, entered, rows_at, argument_words, help_shape}
+use Rattle.kcr_arguments.specs.Commands.{ceremony_rule, into_rule, serve_rules, sub, tool_app, tool_subs}
+use Rattle.kcr_arguments.specs.Tasks.{task_at, met_in, faults_of, ceremony_at, into_at}
 use Rattle.kcr_arguments.specs.declared.words.Serving.{Serving}
 use Rattle.kcr_arguments.specs.declared.words.Task.{Task}
 use Rattle.kcr_arguments.specs.declared.words.Report.TheVariants.{Print, Attendance}
 use Rattle.kcr_arguments.specs.declared.words.Task.TheVariants.{Serve, Write, Rebuild, Pack}
-use Rattle.kcr_arguments.proofs.Options.{both_empty, is_number, is_text, required_number, required_text, number_keeps, text_keeps, other_keeps, help_keeps}
+use Rattle.kcr_arguments.proofs.Options.{both_empty, required_number, required_text}
 
 -- if a walk has stopped, it is not at `help`
 abbrev PastHelp : Option (Text × List Text) → Type 0
@@ -132,41 +132,13 @@ entered_task a (Some p) past is calm each =
 
 -- ---- the program's subcommands
 
-abbrev shape_at : ℕ → List Shape → Shape
-shape_at n [] = new_shape []
-shape_at zero (s ∷ ss) = s
-shape_at (suc n) (s ∷ ss) = shape_at n ss
+-- a subcommand with these options of its own, once it is built
+abbrev leaf : Text → List Rule → Shape
+leaf name rules = built_leaf (sub name rules)
 
-abbrev sub : ℕ → Shape
-sub n = shape_at n (built tool_app).subs
-
-all_subs : (built tool_app).subs ≡ sub 0 ∷ sub 1 ∷ sub 2 ∷ sub 3 ∷ sub 4 ∷ sub 5 ∷ sub 6 ∷ sub 7 ∷ sub 8 ∷ sub 9 ∷ sub 10 ∷ sub 11 ∷ []
+all_subs : (built tool_app).subs ≡ map built_leaf tool_subs ++ built_leaf help_shape ∷ []
 unfolding tool_app
 all_subs = refl
-
-run_holds : HoldsTask (sub 0)
-unfolding tool_app
-run_holds words none = refl
-
-custody_holds : HoldsTask (sub 4)
-unfolding tool_app
-custody_holds words none = refl
-
-export_holds : HoldsTask (sub 5)
-unfolding tool_app
-export_holds words none = refl
-
-journal_holds : HoldsTask (sub 6)
-unfolding tool_app
-journal_holds words none = refl
-
-audit_holds : HoldsTask (sub 7)
-unfolding tool_app
-audit_holds words none = refl
-
-verify_holds : HoldsTask (sub 8)
-unfolding tool_app
-verify_holds words none = refl
 
 some_made : {X Y : Type 0} (f : X → Y) (o : Option X) → is_some o ≡ true → is_some (option_map f o) ≡ true
 some_made f o is = grind arith
@@ -175,134 +147,68 @@ both_there : (serving : ℕ → ℕ → Serving) (a b : Option ℕ) → is_some 
     → is_some (option_and_then (λ port. option_map (λ connections. Serve (serving port connections)) b) a) ≡ true
 both_there serving a b one two = grind arith
 
--- a subcommand about a ceremony, whose rules are the file, the ceremony, the flag of all, help
-abbrev about : Text → Shape
-about name = built_leaf (explained (of_ceremony name)).top
-
-ceremony_there : (name : Text) (words : List Text) → level_fault (about name) [] nothing_held words false [] ≡ []
-    → is_some (ceremony_at (rows_after (about name).rules [] words)) ≡ true
+-- the options that a subcommand requires, among its others, and the help
+ceremony_there : (name : Text) (words : List Text) → level_fault (leaf name (ceremony_rule ∷ [])) [] nothing_held words false [] ≡ []
+    → is_some (ceremony_at (rows_after (leaf name (ceremony_rule ∷ [])).rules [] words)) ≡ true
 ceremony_there name words none =
-    required_number (about name) (codes "ceremony") 9999 (
-      other_keeps (about name) (is_number 9999) (codes "ceremony") (filled file_rule) (inl refl) refl,
-      (
-        number_keeps (about name) (codes "ceremony") 9999 refl,
-        (
-          other_keeps (about name) (is_number 9999) (codes "ceremony") (filled (flag_rule (codes "explain"))) (inr refl) refl,
-          (help_keeps (about name) _ (filled help_rule) refl, tt),
-        ),
-      ),
-    )
-    (inl refl, (inl refl, (inr refl, (inl refl, tt)))) refl (λ rows free. grind arith) words none
-
-serve_port : (words : List Text) → level_fault (sub 1) [] nothing_held words false [] ≡ []
-    → is_some (number_at 1 65535 (codes "port") (rows_after (sub 1).rules [] words)) ≡ true
-unfolding tool_app
-serve_port words none =
-    required_number (sub 1) (codes "port") 65535 (
-      other_keeps (sub 1) (is_number 65535) (codes "port") (filled file_rule) (inl refl) refl,
-      (
-        other_keeps (sub 1) (is_number 65535) (codes "port") (filled (flag_rule (codes "existing"))) (inr refl) refl,
-        (
-          number_keeps (sub 1) (codes "port") 65535 refl,
-          (
-            other_keeps (sub 1) (is_number 65535) (codes "port") (filled (number_rule (codes "connections") 1000000)) (inl refl) refl,
-            (
-              other_keeps (sub 1) (is_number 65535) (codes "port") (filled (choice_rule (codes "idle") 1 300)) (inl refl) refl,
-              (
-                other_keeps (sub 1) (is_number 65535) (codes "port") (filled (choice_rule (codes "longest") 1 86400)) (inl refl) refl,
-                (
-                  other_keeps (sub 1) (is_number 65535) (codes "port") (filled (flag_rule (codes "explain"))) (inr refl) refl,
-                  (help_keeps (sub 1) _ (filled help_rule) refl, tt),
-                ),
-              ),
-            ),
-          ),
-        ),
-      ),
-    )
-    (inl refl, (inr refl, (inl refl, (inl refl, (inl refl, (inl refl, (inr refl, (inl refl, tt)))))))) refl
+    required_number (leaf name (ceremony_rule ∷ [])) (codes "ceremony") 9999 refl (inr refl, (inl refl, (inr refl, (inr refl, tt)))) refl
     (λ rows free. grind arith) words none
 
-serve_connections : (words : List Text) → level_fault (sub 1) [] nothing_held words false [] ≡ []
-    → is_some (number_at 1 1000000 (codes "connections") (rows_after (sub 1).rules [] words)) ≡ true
-unfolding tool_app
-serve_connections words none =
-    required_number (sub 1) (codes "connections") 1000000 (
-      other_keeps (sub 1) (is_number 1000000) (codes "connections") (filled file_rule) (inl refl) refl,
-      (
-        other_keeps (sub 1) (is_number 1000000) (codes "connections") (filled (flag_rule (codes "existing"))) (inr refl) refl,
-        (
-          other_keeps (sub 1) (is_number 1000000) (codes "connections") (filled (number_rule (codes "port") 65535)) (inl refl) refl,
-          (
-            number_keeps (sub 1) (codes "connections") 1000000 refl,
-            (
-              other_keeps (sub 1) (is_number 1000000) (codes "connections") (filled (choice_rule (codes "idle") 1 300)) (inl refl) refl,
-              (
-                other_keeps (sub 1) (is_number 1000000) (codes "connections") (filled (choice_rule (codes "longest") 1 86400)) (inl refl) refl,
-                (
-                  other_keeps (sub 1) (is_number 1000000) (codes "connections") (filled (flag_rule (codes "explain"))) (inr refl) refl,
-                  (help_keeps (sub 1) _ (filled help_rule) refl, tt),
-                ),
-              ),
-            ),
-          ),
-        ),
-      ),
-    )
-    (inl refl, (inr refl, (inl refl, (inl refl, (inl refl, (inl refl, (inr refl, (inl refl, tt)))))))) refl
-    (λ rows free. grind arith) words none
-
-serve_holds : HoldsTask (sub 1)
-unfolding tool_app
-serve_holds words none = both_there _ _ _ (serve_port words none) (serve_connections words none)
-
-print_holds : HoldsTask (sub 2)
-unfolding tool_app
-print_holds words none = some_made Write _ (some_made Print _ (ceremony_there (codes "print") words none))
-
-attendance_holds : HoldsTask (sub 3)
-unfolding tool_app
-attendance_holds words none = some_made Write _ (some_made Attendance _ (ceremony_there (codes "attendance") words none))
-
--- a subcommand that makes a new file, whose rules are the file, the new file, the flag of all, help
-abbrev making : Text → Shape
-making name = built_leaf (explained (into_file name)).top
-
-into_there : (name : Text) (words : List Text) → level_fault (making name) [] nothing_held words false [] ≡ []
-    → is_some (into_at (rows_after (making name).rules [] words)) ≡ true
+into_there : (name : Text) (words : List Text) → level_fault (leaf name (into_rule ∷ [])) [] nothing_held words false [] ≡ []
+    → is_some (into_at (rows_after (leaf name (into_rule ∷ [])).rules [] words)) ≡ true
 into_there name words none =
-    required_text (making name) (codes "into") (
-      other_keeps (making name) is_text (codes "into") (filled file_rule) (inl refl) refl,
-      (
-        text_keeps (making name) (codes "into") refl,
-        (
-          other_keeps (making name) is_text (codes "into") (filled (flag_rule (codes "explain"))) (inr refl) refl,
-          (help_keeps (making name) _ (filled help_rule) refl, tt),
-        ),
-      ),
-    )
-    (inl refl, (inl refl, (inr refl, (inl refl, tt)))) refl
+    required_text (leaf name (into_rule ∷ [])) (codes "into") refl (inr refl, (inl refl, (inr refl, (inr refl, tt)))) refl
     (λ rows free. grind arith) words none
 
-rebuild_holds : HoldsTask (sub 9)
-unfolding tool_app
-rebuild_holds words none = some_made (λ into. Rebuild) _ (into_there (codes "rebuild") words none)
+abbrev serve : Shape
+serve = leaf (codes "serve") serve_rules
 
-pack_holds : HoldsTask (sub 10)
-unfolding tool_app
-pack_holds words none = some_made (λ into. Pack) _ (into_there (codes "pack") words none)
+serve_holds : HoldsTask serve
+serve_holds words none =
+    let port = required_number serve (codes "port") 65535 refl
+    (inr refl, (inr refl, (inl refl, (inr refl, (inr refl, (inr refl, (inr refl, (inr refl, tt)))))))) refl (λ rows free. grind arith) words none in
+    let connections = required_number serve (codes "connections") 1000000 refl
+    (inr refl, (inr refl, (inr refl, (inl refl, (inr refl, (inr refl, (inr refl, (inr refl, tt)))))))) refl (λ rows free. grind arith) words none in
+    both_there _ _ _ port connections
 
-help_label : label_of (sub 11) ≡ (codes "help", [])
-unfolding tool_app
-help_label = refl
-
-help_holds : (name : Text) → bytes_eq name (codes "help") ≡ false → answers_to name (label_of (sub 11)) ≡ true → HoldsTask (sub 11)
-help_holds name past is = absurd (not_help name (sym (or-false (bytes_eq (codes "help") name)) ∙ sym (ap (answers_to name) help_label) ∙ is) past)
+help_holds : (name : Text) → bytes_eq name (codes "help") ≡ false → answers_to name (label_of help_shape) ≡ true → ⊥
+help_holds name past is = not_help name (sym (or-false (bytes_eq (codes "help") name)) ∙ is) past
 
 subs_hold : (name : Text) → bytes_eq name (codes "help") ≡ false → AllByRecursion (λ s. answers_to name (label_of s) ≡ true → HoldsTask s) (built tool_app).subs
-subs_hold name past =
-    let help = help_holds name past in
-    rw all_subs (search (run_holds, serve_holds, print_holds, attendance_holds, custody_holds, export_holds, journal_holds, audit_holds, verify_holds, rebuild_holds, pack_holds, help) depth 30)
+subs_hold name past = rw all_subs (
+  (λ is words none. refl),
+  (
+    (λ is. serve_holds),
+    (
+      (λ is words none. some_made Write _ (some_made Print _ (ceremony_there (codes "print") words none))),
+      (
+        (λ is words none. some_made Write _ (some_made Attendance _ (ceremony_there (codes "attendance") words none))),
+        (
+          (λ is words none. refl),
+          (
+            (λ is words none. refl),
+            (
+              (λ is words none. refl),
+              (
+                (λ is words none. refl),
+                (
+                  (λ is words none. refl),
+                  (
+                    (λ is words none. some_made (λ into. Rebuild) _ (into_there (codes "rebuild") words none)),
+                    (
+                      (λ is words none. some_made (λ into. Pack) _ (into_there (codes "pack") words none)),
+                      ((λ is. absurd (help_holds name past is)), tt),
+                    ),
+                  ),
+                ),
+              ),
+            ),
+          ),
+        ),
+      ),
+    ),
+  ),
+)
 
 top_is : let top = (built tool_app).top in (top.subcommand_required ≡ true) × (top.arg_required_else_help ≡ false) × (top.disable_help_subcommand ≡ false)
 unfolding tool_app
