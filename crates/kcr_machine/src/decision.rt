@@ -1,5 +1,5 @@
 //! How a command is decided: one whose key has a row, and one whose key is new.
-ghost use Rattle.std.specs.Prelude.{◌≡◌, Some, None, Err, IfErr};
+ghost use Rattle.std.specs.Prelude.{◌≡◌, Some, None, Err, IfErr, IfOk};
 ghost use Rattle.kcr_history.specs.History.{History};
 ghost use Rattle.kcr_history.specs.AsksByKind.{asks_of};
 ghost use Rattle.kcr_history.specs.Early.{early_asks};
@@ -9,6 +9,7 @@ ghost use Rattle.kcr_history.specs.Machine.{IsRegister, IsDecision};
 ghost use Rattle.kcr_rules.specs.ByRows.{IsCheckResult, IsCleared};
 ghost use Rattle.kcr_machine.specs.RowDecision.{IsRowRepeat, is_full_by};
 ghost use Rattle.kcr_machine.specs.RowDecision.{IsOfKind, IsOwnRefusal};
+ghost use Rattle.kcr_machine.specs.NewDecision;
 ghost use Rattle.kcr_machine.specs.NewDecision.{IsRowDecision};
 
 use kcr_base::{MAX_COMMANDS, Refusal};
@@ -16,7 +17,7 @@ use kcr_history::{
     Change, Command, KeyRow, Reply, ReplyData, Verdict, View, command_text, reply_text,
 };
 use kcr_rules::{Effect, check, evaluate};
-use std::alloc::Global;
+use std::alloc::{AllocError, Global};
 
 /// Decides a command whose key has this row, as it has if a command was accepted under it.
 ///
@@ -69,6 +70,19 @@ pub fn check_early(
     check(alloc, view, full, &command.act)
 }
 
+/// The row of a command that is accepted now.
+fn new_key_row(alloc: Global, command: &Command, reply: &ReplyData) -> Result<KeyRow, AllocError>
+    ensures { IfOk result (λ row. row ≡ NewDecision.new_key_row command.now reply.now) }
+{
+    let text = command_text(alloc, &command.act)?;
+    Ok(KeyRow {
+        key: command.key,
+        accepted: reply.accepted,
+        command: text,
+        reply: reply_text(alloc, reply)?,
+    })
+}
+
 /// Decides a command that is cleared (`check_early`) and whose key is new, over the rows that it asks for and `accepted`,
 /// the number of the last command. What clears it is not tested again.
 ///
@@ -111,13 +125,9 @@ pub fn decide_new(
         seating,
         step,
     };
-    let reply = reply_text(alloc, &new_reply)?;
-    changes.push(Change::PutKey(KeyRow {
-        key: command.key,
-        accepted: new_reply.accepted,
-        command: command_text(alloc, &command.act)?,
-        reply: reply.clone()?,
-    }))?;
+    let row = new_key_row(alloc, command, &new_reply)?;
+    let reply = row.reply.clone()?;
+    changes.push(Change::PutKey(row))?;
     Ok(Verdict {
         changes,
         reply: Reply { text: reply },

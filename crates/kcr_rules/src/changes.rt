@@ -19,8 +19,7 @@ pub fn only(alloc: Global, change: Change) -> Result<Vec<Change>, AllocError>
 pub fn both(alloc: Global, first: Change, second: Change) -> Result<Vec<Change>, AllocError>
     ensures { IfOk result (λ changes. changes.items ≡ first ∷ second ∷ []) }
 {
-    let mut changes = Vec::new(alloc);
-    changes.push(first)?;
+    let mut changes = only(alloc, first)?;
     changes.push(second)?;
     Ok(changes)
 }

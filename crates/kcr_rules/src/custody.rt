@@ -15,9 +15,17 @@ use crate::changes::with_mark;
 use crate::context::DecisionContext;
 use kcr_base::{Items, Moment, Place, Refusal, Role, Serial};
 use kcr_custody::queries::spot_of_destination;
-use kcr_custody::{Bag, BagChange, Destination, Spot};
+use kcr_custody::{Bag, BagChange, Destination, Item, Spot};
 use kcr_history::Change;
 use std::alloc::{AllocError, Global};
+
+/// Items as changes.
+fn item_changes(alloc: Global, items: &[Item]) -> Result<Vec<Change>, AllocError>
+    ensures { IfOk result (λ changes. changes.items ≡ map PutItem items.now) }
+{
+    let items = items.iter();
+    items.map(|item| Change::PutItem(*item)).collect(alloc)
+}
 
 /// The rows of a bag, of its ceremony's mark and of the items that are moved with it, as changes.
 fn moved_changes(
@@ -30,9 +38,7 @@ fn moved_changes(
         ∷ PutMark (record { ceremony = ceremony; at = at }) ∷ map PutItem moved.now.items) }
 {
     let mut changes = with_mark(alloc, Change::PutBag(moved.bag), ceremony, at)?;
-    for row in moved.items.as_slice() {
-        changes.push(Change::PutItem(*row))?;
-    }
+    changes.append(&mut item_changes(alloc, moved.items.as_slice())?)?;
     Ok(changes)
 }
 

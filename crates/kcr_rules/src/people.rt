@@ -40,11 +40,9 @@ fn greatest_mark(marks: &[MarkRow]) -> Option<Moment>
 fn withdrawal_changes(alloc: Global, rows: &[Withdrawal]) -> Result<Vec<Change>, AllocError>
     ensures { IfOk result (λ changes. changes.items ≡ map PutWithdrawal rows.now) }
 {
-    let mut changes = Vec::new(alloc);
-    for row in rows {
-        changes.push(Change::PutWithdrawal(*row))?;
-    }
-    Ok(changes)
+    rows.iter()
+        .map(|row| Change::PutWithdrawal(*row))
+        .collect(alloc)
 }
 
 impl DecisionContext<'_> {

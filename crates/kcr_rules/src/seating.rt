@@ -1,7 +1,9 @@
 //! Who is seated: the people in the room, the seats that each of them fits, and the search over both.
 ghost use Rattle.std.specs.Prelude.{◌≡◌, ◌≢◌, [], ◌<◌, ◌≤◌, MatchResult, IfOk, EachIndex, slice_index};
 ghost use Rattle.std.specs.Prelude.{get_or, length, map, filter};
+ghost use Rattle.kcr_base.specs.declared.limits.TheConstants.{MAX_PRESENT};
 ghost use Rattle.kcr_base.specs.declared.refusal.Refusal.TheVariants.{Memory};
+ghost use Rattle.kcr_room.specs.Stays.{present_in_by};
 ghost use Rattle.kcr_history.specs.Fitting.{fits_by};
 ghost use Rattle.kcr_history.specs.Machine.{SeatRequest};
 ghost use Rattle.kcr_history.specs.Views.{is_training_of};
@@ -69,13 +71,11 @@ fn trainings_of(
 ) -> Result<Vec<Training>, AllocError>
     ensures { IfOk result (λ own. own.items ≡ filter (is_training_of who) trainings.now) }
 {
-    let mut own = Vec::new(alloc);
-    for row in trainings {
-        if row.who == who {
-            own.push(*row)?;
-        }
-    }
-    Ok(own)
+    trainings
+        .iter()
+        .filter(|row| row.who == who)
+        .copied()
+        .collect(alloc)
 }
 
 /// The trainings of each of the people.
@@ -118,10 +118,28 @@ impl DecisionContext<'_> {
         if people.len() > MAX_PRESENT {
             return Err(Refusal::Disk);
         }
-        let own = trainings_of_each(self.alloc, &self.view.trainings, &people)?;
+        self.seat_people(ceremony, at, seats, &people)
+    }
+
+    /// Fills the seats with these people, who are in the room.
+    fn seat_people(
+        &self,
+        ceremony: u32,
+        at: Moment,
+        seats: &[Seat],
+        people: &[Initials],
+    ) -> Result<InitialsList, Refusal>
+        requires few { length seats.now ≤ 16 }
+        requires fit { length people.now ≤ MAX_PRESENT }
+        requires present { people.now ≡ present_in_by self.now.view.now.stays.items ceremony at }
+        ensures { let s : SeatRequest = record { ceremony = ceremony; at = at; seats = seats.now } in MatchResult result
+            (λ people. Signing.IsSeatedBy self.now.view.now s people × (length people ≤ 16))
+            (λ refusal. refusal ≢ Memory → Signing.IsUnseatedBy self.now.view.now s refusal) }
+    {
+        let own = trainings_of_each(self.alloc, &self.view.trainings, people)?;
         let room = SeatingProblem {
             seats,
-            people: &people,
+            people,
             trainings: &self.view.trainings,
             own: &own,
             withdrawals: &self.view.withdrawals,
@@ -130,7 +148,7 @@ impl DecisionContext<'_> {
             day: at.day(),
         };
         match kcr_seats::seat_uncounted(self.alloc, &room)? {
-            Answer::Seated(numbers) => Ok(named(self.alloc, &people, &numbers)?),
+            Answer::Seated(numbers) => Ok(named(self.alloc, people, &numbers)?),
             Answer::Short(numbers) => Err(Refusal::Short {
                 seats: Positions::from_indices(&numbers),
             }),

@@ -1,5 +1,5 @@
 //! Requests of the sheet, over the rows of a view: people come into a room or go out of it.
-ghost use Rattle.std.specs.Prelude.{◌≡◌, ◌≢◌, ◌++◌, IfOk, MatchResult, Option, Some, None, map};
+ghost use Rattle.std.specs.Prelude.{◌≡◌, ◌≢◌, IfOk, MatchResult, Option, Some, None, map};
 ghost use Rattle.kcr_base.specs.declared.refusal.Refusal.{Refusal};
 ghost use Rattle.kcr_base.specs.declared.refusal.Refusal.TheVariants.{Memory};
 ghost use Rattle.kcr_room.specs.Requests;
@@ -49,28 +49,26 @@ fn row_changes(alloc: Global, request: &SheetRequest<'_>) -> Result<Vec<Change>,
     ensures { let asked : SheetRequest = request.now in IfOk result (λ changes.
         changes.items ≡ map PutSheet (map (Requests.new_row asked.ceremony asked.way asked.at) asked.people.now)) }
 {
-    let mut changes = Vec::new(alloc);
-    for who in request.people {
-        let row = SheetRow {
-            ceremony: request.ceremony,
-            who: *who,
-            way: request.way,
-            at: request.at,
-        };
-        changes.push(Change::PutSheet(row))?;
-    }
-    Ok(changes)
+    request
+        .people
+        .iter()
+        .map(|who| {
+            Change::PutSheet(SheetRow {
+                ceremony: request.ceremony,
+                who: *who,
+                way: request.way,
+                at: request.at,
+            })
+        })
+        .collect(alloc)
 }
 
-/// Further stays as changes, behind others.
-fn with_stays(changes: Vec<Change>, stays: &[Stay]) -> Result<Vec<Change>, AllocError>
-    ensures { IfOk result (λ all. all.items ≡ changes.items ++ map PutStay stays.now) }
+/// Stays as changes.
+fn stay_changes(alloc: Global, stays: &[Stay]) -> Result<Vec<Change>, AllocError>
+    ensures { IfOk result (λ changes. changes.items ≡ map PutStay stays.now) }
 {
-    let mut all = changes;
-    for stay in stays {
-        all.push(Change::PutStay(*stay))?;
-    }
-    Ok(all)
+    let stays = stays.iter();
+    stays.map(|stay| Change::PutStay(*stay)).collect(alloc)
 }
 
 impl DecisionContext<'_> {
@@ -129,7 +127,8 @@ impl DecisionContext<'_> {
             return Err(Refusal::Turn { who });
         }
         let changed = self.changed_stays(request)?;
-        let rows = row_changes(self.alloc, request)?;
-        Ok(with_stays(rows, &changed)?)
+        let mut changes = row_changes(self.alloc, request)?;
+        changes.append(&mut stay_changes(self.alloc, &changed)?)?;
+        Ok(changes)
     }
 }

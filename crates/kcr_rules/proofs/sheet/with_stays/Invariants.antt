@@ -1,7 +1,0 @@
-use Rattle.std.proofs.Common.{◌≡◌, ◌++◌, map, drop}
-use Rattle.kcr_history.specs.declared.views.Change.TheVariants.{PutStay}
-use Rattle.kcr_rules.proofs.sheet.with_stays.Given as goal
-
--- what is there and the stays left are all
-abbrev pub invariant-loop-stay : goal.invariant-loop-stay
-invariant-loop-stay l = l.all.items ++ map PutStay (drop l.stay-index l.stays) ≡ l.fn.changes.items ++ map PutStay l.stays
