@@ -97,6 +97,22 @@ fn line_with(
     Ok(JournalLine { bytes })
 }
 
+/// The line of a row whose act this is.
+fn act_line<S: Alter>(
+    alloc: Global,
+    tx: &mut Transaction<'_, S>,
+    row: &KeyRow,
+    act: &Act,
+) -> Result<JournalLine, Refusal>
+    ensures line { OfMachineTables S.Store tx.old tx.new result
+        (λ m made. made ≡ said.act_line m.people row.now act.now) }
+    ensures frame { Reads S.Store tx.old tx.new result }
+{
+    let named = named_people(alloc, act, row.reply.as_bytes())?;
+    let people = with_names(alloc, tx, named.as_slice())?;
+    line_with(alloc, row, act, people.as_slice())
+}
+
 /// The line of a row.
 fn line_of_row<S: Alter>(
     alloc: Global,
@@ -110,14 +126,13 @@ fn line_of_row<S: Alter>(
     ensures frame { Reads S.Store tx.old tx.new result }
 {
     let act = kept_act(alloc, paths, row)?;
-    if !is_of_ceremony(asked, &act) {
-        return Ok(JournalLine {
+    if is_of_ceremony(asked, &act) {
+        act_line(alloc, tx, row, &act)
+    } else {
+        Ok(JournalLine {
             bytes: Vec::new(alloc),
-        });
+        })
     }
-    let named = named_people(alloc, &act, row.reply.as_bytes())?;
-    let people = with_names(alloc, tx, named.as_slice())?;
-    line_with(alloc, row, &act, people.as_slice())
 }
 
 /// The lines of the accepted commands behind one, up to another, of all or of those that name a ceremony.
