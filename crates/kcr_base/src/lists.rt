@@ -10,7 +10,6 @@ ghost use Rattle.kcr_base.specs.Same.{same_text};
 use crate::initials::Initials;
 use crate::serial::ItemCode;
 use crate::written::Written;
-use std::alloc::AllocError;
 use std::marker::Model;
 
 /// People in an order: 1 to 32, none of them twice.
@@ -39,9 +38,6 @@ pub trait ListElement: Written + Copy + PartialEq {
 
     // They are equal if their texts are.
     ghost same: { (one other : Self) → Self.PartialEq.eq one other ≡ same_text (Self.Written.text one) (Self.Written.text other) };
-
-    // A clone is what it is a clone of.
-    ghost exact: { (one other : Self) → Self.Clone.is_clone one other → other ≡ one };
 }
 
 impl ListElement for Initials {
@@ -58,8 +54,6 @@ impl ListElement for Initials {
     ghost each = { λ people. sym (map-id people) };
 
     ghost same = { Prim.search rules };
-
-    ghost exact = { Prim.search rules };
 }
 
 impl ListElement for ItemCode {
@@ -76,8 +70,6 @@ impl ListElement for ItemCode {
     ghost each = { λ items. sym (map-id items) };
 
     ghost same = { Prim.search rules };
-
-    ghost exact = { Prim.search rules };
 }
 
 /// What a command names, in an order: at least one, at most as many as may be in a list, none of them twice.
@@ -114,16 +106,6 @@ impl<T: ListElement> DistinctList<T> {
         ensures form { IsListed T.MAX_LEN (T.texts self.now) }
     {
         self.list.as_slice()
-    }
-}
-
-impl<T: ListElement> Clone for DistinctList<T> {
-    ghost is_clone = { λ a b. b ≡ a };
-
-    fn clone(&self) -> Result<Self, AllocError> {
-        Ok(DistinctList {
-            list: self.list.clone()?,
-        })
     }
 }
 

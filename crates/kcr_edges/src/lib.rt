@@ -18,7 +18,7 @@ mod socket;
 mod watch;
 mod watched;
 
-pub use memory::{CopyConnection, CopyFile, connect, has_run_out};
+pub use memory::{CopyConnection, CopyFile, connect, have_failed};
 pub use noted::Noted;
 pub use packing::{Unmade, fill, play_in};
 pub use patience::{Patience, TimedReader, TimedWriter};

@@ -59,14 +59,8 @@ pub(crate) fn unread(error: Error, files: &Files<CopyFile>) -> Unread
 }
 
 /// Whether a write to one of the two has failed.
-fn have_failed(files: &Files<CopyFile>) -> bool {
+pub fn have_failed(files: &Files<CopyFile>) -> bool {
     files.log.has_failed() || files.db.has_failed()
-}
-
-/// Whether memory ran out for the files of a copy, of which the engine tells a fault of the disk. The connection is of
-/// no use any more.
-pub fn has_run_out(connection: CopyConnection) -> bool {
-    have_failed(&connection.into_store().close())
 }
 
 /// Connects to the database that these bytes are, in memory: whatever is done to it, no file changes. Bytes of nothing

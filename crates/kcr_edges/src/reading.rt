@@ -129,7 +129,7 @@ pub fn copy_of(rt: &HostRuntime, path: &str) -> Result<Copied, Unread>
     let mut last = Log::Sound;
     for _ in 0..TIMES {
         let (copy, log) = judged(rt, path)?;
-        if log == Log::Sound {
+        if let Log::Sound = log {
             return Ok(copy);
         }
         if is_same(last, log) {

@@ -9,21 +9,14 @@ use std::io::{self, ErrorKind};
 use std::os::unix::fs::{FileExt, MetadataExt};
 
 /// Which file it is: the numbers of its device and of its inode (`st_dev` and `st_ino` of POSIX).
-#[derive(Clone, Copy, PartialEq, Eq, Drop)]
-struct Identity {
-    device: u64,
-    inode: u64,
-}
+type Identity = (u64, u64);
 
 fn identity_of(found: &Metadata) -> Identity {
-    Identity {
-        device: found.dev(),
-        inode: found.ino(),
-    }
+    (found.dev(), found.ino())
 }
 
 /// What was seen of a log: its head, and its last frame before the end of the last transaction.
-#[derive(Clone, Copy, Drop)]
+#[derive(Clone, Copy)]
 struct Seen {
     head: [u8; HEAD_SIZE],
     /// Where the frame begins, 0 if there is none.
@@ -66,11 +59,8 @@ fn look_on(log: &File, seen: Seen) -> io::Result<Seen> {
         let place = last.next_place();
         match bytes_at::<FRAME_HEAD_SIZE>(log, place)? {
             Some(frame) if last.has_salts(&frame) => {
-                last = Seen {
-                    head: last.head,
-                    place,
-                    frame,
-                }
+                last.place = place;
+                last.frame = frame;
             }
             _ => break,
         }
@@ -182,11 +172,6 @@ impl<'a> Watch<'a> {
         }
     }
 
-    /// Whether both files are there as the register left them.
-    fn is_there(&self) -> io::Result<bool> {
-        Ok(self.has_files()? && self.has_log()?)
-    }
-
     /// Whether a file was missing, shorter or another one when an answer was to be written.
     pub fn is_lost(&self) -> bool {
         self.is_lost.get()
@@ -195,7 +180,7 @@ impl<'a> Watch<'a> {
 
 impl Files for &Watch<'_> {
     fn are_there(&mut self) -> bool {
-        let is_there = self.is_there().unwrap_or(false);
+        let is_there = self.has_files().unwrap_or(false) && self.has_log().unwrap_or(false);
         if !is_there {
             self.is_lost.set(true);
         }

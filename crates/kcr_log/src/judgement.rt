@@ -10,7 +10,7 @@ use crate::later::was_safe;
 use crate::pages::{lost_ends, page_size, told_header};
 
 /// What a log is.
-#[derive(Clone, Copy, PartialEq, Eq)]
+#[derive(Clone, Copy)]
 pub enum Log {
     /// It is sound so far as it is read.
     Sound,

@@ -2,11 +2,11 @@
 use kcr_base::Refusal;
 
 /// A write failed, or took no byte.
-#[derive(Clone, Copy, PartialEq, Eq)]
+#[derive(Clone, Copy)]
 pub struct WriteFailed;
 
 /// Why a report was not written whole. What was written is a prefix of it.
-#[derive(Clone, Copy, PartialEq, Eq)]
+#[derive(Clone, Copy)]
 pub enum PrintFault {
     /// The register refused: the ceremony is unknown (12), memory runs out (33), the device failed (34), or the
     /// register is broken (35).

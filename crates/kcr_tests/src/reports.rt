@@ -46,7 +46,7 @@ fn the_third_line_fails(rt: HostRuntime) -> Result<(), Fail> {
     let cut = printed(rt.alloc(), &mut register, 2);
     holds(
         &rt,
-        cut.fault == Some(PrintFault::Write),
+        matches!(cut.fault, Some(PrintFault::Write)),
         "a fault of the writer",
     );
     same(&rt, &cut.bytes, &SHUT[..2 * LINE]);
@@ -64,7 +64,7 @@ fn a_report_of_a_broken_register(rt: HostRuntime) -> Result<(), Fail> {
     let none = printed(rt.alloc(), &mut register, 4);
     holds(
         &rt,
-        none.fault == Some(PrintFault::Refused(Refusal::Broken)),
+        matches!(none.fault, Some(PrintFault::Refused(Refusal::Broken))),
         "a broken register",
     );
     same(&rt, &none.bytes, b"");

@@ -4,9 +4,9 @@ ghost use Rattle.kcr_fault.specs.Faults.{StopsReading};
 ghost use Rattle.kcr_tool.specs.Runs.{MayNameRow};
 ghost use Rattle.kcr_verify.specs.declared.invalid.InvalidRow.{InvalidRow};
 
-use crate::opening::CopyRegister;
+use crate::opening::{CopyRegister, has_run_out};
 use kcr_base::Refusal;
-use kcr_edges::{CopyConnection, has_run_out};
+use kcr_edges::CopyConnection;
 use kcr_fault::Fault;
 use kcr_store::OpenFault;
 use kcr_verify::first_invalid_row;

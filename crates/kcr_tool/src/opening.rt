@@ -14,7 +14,7 @@ ghost use Rattle.kcr_history.specs.History.{History};
 ghost use Rattle.kcr_store.specs.Opening.{FilesHoldHistory, IsGenuine};
 ghost use Rattle.kcr_store.specs.Register.{StandsAt, whole};
 
-use kcr_edges::{Copied, CopyConnection, CopyFile, Unread, Watch, connect, copy_of, has_run_out};
+use kcr_edges::{Copied, CopyConnection, CopyFile, Unread, Watch, connect, copy_of, have_failed};
 use kcr_fault::{Fault, Missing, Step};
 use kcr_store::{FileRegister, OpenFault, Register};
 use sqlite::{Alter, Connection, Error, ErrorCode, FileFrom, FileStore, Files, Start};
@@ -120,6 +120,12 @@ pub fn take<S: Alter + Drop>(alloc: Global, connection: Connection<S>) -> Result
         Ok(register) => Ok(register),
         Err((fault, _)) => Err(fault_of_taking(fault)),
     }
+}
+
+/// Whether memory ran out for the files of a copy, of which the engine tells a fault of the disk. The connection is of
+/// no use any more.
+pub fn has_run_out(connection: CopyConnection) -> bool {
+    have_failed(&connection.into_store().close())
 }
 
 /// Why the database in a copy of files was not taken, as the fault of a task. The engine tells memory that ran out for

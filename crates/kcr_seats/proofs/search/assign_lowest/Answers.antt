@@ -42,3 +42,13 @@ returns-then-branch-clause-cost g c =
 pub returns-clause-cost : goal.returns-clause-cost
 returns-clause-cost g c =
     omega (arith, in_lower c.requires.seating c.requires.seat c.loop-person.person c.index-person-end.ensures (omega arith))
+
+pub returns-then-branch-clause-lowered : goal.returns-then-branch-clause-lowered
+returns-then-branch-clause-lowered g c =
+    let tried = rw c.if-branch.true at c.in_ok-try_person.ensures.tried in
+    let before = c.loop-person.invariant.same in
+    record {
+      seating = tried.seating;
+      same = λ k below. tried.same k below ∙ ap (λ x. get_or x k 0) before;
+      lowest = λ v s same. rw tried.here (c.loop-person.invariant.reached v s same);
+    }
