@@ -10,7 +10,7 @@ use Rattle.kcr_base.specs.Facility.{facility_text}
 use Rattle.kcr_base.specs.Moment.{moment_text}
 use Rattle.kcr_base.specs.Place.{place_text}
 use Rattle.kcr_base.specs.Role.{role_text}
-use Rattle.kcr_base.specs.declared.limits.TheConstants.{MAX_BOX, MAX_CEREMONY, MAX_REMARK, MAX_STEPS}
+use Rattle.kcr_base.specs.declared.limits.TheConstants.{MAX_BOX, MAX_CEREMONY, MAX_STEPS}
 use Rattle.kcr_base.specs.declared.place.Facility.{Facility}
 use Rattle.kcr_base.specs.declared.place.Facility.TheVariants.{East, West}
 use Rattle.kcr_base.specs.declared.place.Place.{Place}
@@ -68,25 +68,13 @@ initials_of text = if_form (is_initials text) text
 unfoldable pub key_of : List ℕ → Option (List ℕ)
 key_of text = if_form (is_key text) text
 
--- the serial of a bag that a text is
+-- the serial of a bag, or the code of an item, that a text is
 unfoldable pub serial_of : List ℕ → Option (List ℕ)
 serial_of text = if_form (is_serial text) text
 
--- the code of an item that a text is
-abbrev pub item_of : List ℕ → Option (List ℕ)
-item_of text = serial_of text
-
--- the line that a text is
+-- the line that a text is, as a name of at most 120 bytes or a remark
 unfoldable pub line_of : ℕ → List ℕ → Option (List ℕ)
 line_of limit text = if_form (is_line limit text) text
-
--- the name that a text is
-abbrev pub name_of : List ℕ → Option (List ℕ)
-name_of text = line_of 120 text
-
--- the remark that a text is
-abbrev pub remark_of : List ℕ → Option (List ℕ)
-remark_of text = line_of MAX_REMARK text
 
 -- a script's text, if it is UTF-8
 unfoldable pub script_of : List ℕ → Option (List ℕ)

@@ -4,7 +4,6 @@ use Rattle.std.specs.Prelude.{SomeIff}
 use Rattle.std.proofs.lemmas.Bool.{and_parts, false_from_ne_true}
 use Rattle.kcr_base.specs.Lists.{IsListed, are_apart}
 use Rattle.kcr_base.specs.Number.{IsNumber}
-use Rattle.kcr_base.specs.Forms.{item_of, serial_of, name_of, remark_of, line_of}
 use Rattle.kcr_base.proofs.FormLemmas.{if_form-is, within-from, within-to}
 use Rattle.kcr_forms.specs.Forms.{is_between, number_to, listed_of}
 
@@ -31,17 +30,3 @@ listed_new limit texts list r h =
     let long = within-from 1 limit (length (texts list)) parts.0 in
     record { at_least_one = long.0; at_most = long.1; apart = parts.1 })
     (λ i. rw (within-to 1 limit (length (texts list)) (i.at_least_one, i.at_most), i.apart) refl)
-
--- ---- readers by another name
-
--- an item's code is read as a serial
-pub item_form : item_of ≡ serial_of
-item_form = refl
-
--- a name is read as a line of 120 bytes
-pub name_form : name_of ≡ line_of 120
-name_form = refl
-
--- a remark is read as a line of the greatest length
-pub remark_form : remark_of ≡ line_of 1000
-remark_form = refl

@@ -37,7 +37,7 @@ use Rattle.kcr_room.specs.declared.Way.{Way}
 use Rattle.kcr_room.specs.declared.Way.TheVariants.{Enter, Leave}
 use Rattle.kcr_room.specs.Room.{way_text}
 use Rattle.kcr_history.specs.Texts.{safe_text, truth_text, listed}
-use Rattle.kcr_base.specs.Forms.{by_text, number_by_text, initials_of, serial_of, line_of, name_of, remark_of, day_of}
+use Rattle.kcr_base.specs.Forms.{by_text, number_by_text, initials_of, serial_of, line_of, day_of}
 use Rattle.kcr_base.specs.Forms.{is_initials, is_serial, is_line}
 use Rattle.kcr_base.specs.Forms.{moment_of, ceremony_of, box_of, step_of, role_of, facility_of, places, place_of, script_of}
 use Rattle.kcr_base.proofs.DayLemmas.{day_ascii, moment_ascii}
@@ -189,12 +189,7 @@ steps = decimals 400 (omega arith)
 role-again : (v : Role) → role_of (role_text v) ≡ Some v
 unfolding role_of
 role-again Ca = refl
-role-again Iw = refl
-role-again Sa = refl
-role-again Ssc1 = refl
-role-again Ssc2 = refl
-role-again Rkos = refl
-role-again Sw = refl
+role-again v = refl
 
 -- the reader of roles
 pub roles : Value (λ _. ⊤) role_text role_of
@@ -281,11 +276,11 @@ lines-read limit = record {
 }
 
 -- the reader of names
-pub names : Value (IsLine 120) (λ text. text) name_of
+pub names : Value (IsLine 120) (λ text. text) (line_of 120)
 names = lines-read 120
 
 -- the reader of remarks
-pub remarks : Value (IsLine 1000) (λ text. text) remark_of
+pub remarks : Value (IsLine 1000) (λ text. text) (line_of 1000)
 remarks = lines-read 1000
 
 -- a script is read again from its text

@@ -1,7 +1,7 @@
 -- The forms of texts, numbers and lists, as the value that each of them tells.
 use Rattle.std.specs.Prelude.{ℕ, ◌&&◌, List, [], ◌∷◌, length, Bool, true, false, Option, Some, None, if◌then◌else◌}
 use Rattle.kcr_base.specs.Lists.{are_apart}
-pub use Rattle.kcr_base.specs.Forms.{is_between, is_key_byte, by_text, item_of, name_of, remark_of}
+pub use Rattle.kcr_base.specs.Forms.{is_between, is_key_byte, by_text}
 unfoldable pub use Rattle.kcr_base.specs.Forms.{initials_of, key_of, serial_of, script_of, number_by_text, day_of, moment_of}
 unfoldable pub use Rattle.kcr_base.specs.Forms.{ceremony_of, box_of, step_of, number_of, role_of, facility_of, place_of}
 unfoldable pub use Rattle.kcr_room.specs.Forms.{way_of}

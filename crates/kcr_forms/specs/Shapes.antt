@@ -2,10 +2,11 @@
 use Rattle.std.specs.Prelude.{ℕ, List, [], ◌∷◌, Bool, Option}
 use Rattle.kcr_base.specs.Day.{day_text}
 use Rattle.kcr_base.specs.Facility.{facility_text}
-use Rattle.kcr_base.specs.Forms.{item_of, name_of, remark_of}
+use Rattle.kcr_base.specs.Forms.{serial_of, line_of}
 use Rattle.kcr_base.specs.Moment.{moment_text}
 use Rattle.kcr_base.specs.Place.{place_text}
 use Rattle.kcr_base.specs.Role.{role_text}
+use Rattle.kcr_base.specs.declared.limits.TheConstants.{MAX_REMARK}
 use Rattle.kcr_base.specs.declared.refusal.Member.{Member}
 use Rattle.kcr_base.specs.declared.refusal.Member.TheVariants as member
 use Rattle.kcr_custody.specs.Destinations.{destination_text}
@@ -65,10 +66,10 @@ done ceremony does moment = act.Ceremony ceremony moment does
 
 -- the command that is posted to each path
 abbrev pub shape : Post → Shape
-shape (post.Collection People) = row ((member.Who, code initials_of) ∷ (member.Name, code name_of) ∷ []) act.Enter
+shape (post.Collection People) = row ((member.Who, code initials_of) ∷ (member.Name, code (line_of 120)) ∷ []) act.Enter
 shape (post.Collection Custodians) = row ((member.Place, Text place_text place_of) ∷ (member.Who, code initials_of) ∷ (member.Day, day) ∷ []) act.Appoint
 shape (post.Collection Boxes) = row ((member.Facility, Text facility_text facility_of) ∷ (member.Box, Number) ∷ (member.Place, Text place_text place_of) ∷ []) act.AddBox
-shape (post.Collection Items) = row ((member.Ceremony, Number) ∷ (member.Item, code item_of) ∷ at ∷ []) (λ ceremony item. done ceremony (deed.AddItem item))
+shape (post.Collection Items) = row ((member.Ceremony, Number) ∷ (member.Item, code serial_of) ∷ at ∷ []) (λ ceremony item. done ceremony (deed.AddItem item))
 shape (post.Collection Ceremonies) = row ((member.Number, Number) ∷ (member.Facility, Text facility_text facility_of) ∷ (member.Day, day) ∷ (member.Script, code script_of) ∷ []) act.Plan
 shape (post.Person who Roles) = row ((member.Role, Text role_text role_of) ∷ (member.From, day) ∷ (member.Until, day) ∷ []) (act.Train who)
 shape (post.Person who Withdrawals) = row ((member.Role, Text role_text role_of) ∷ (member.Day, day) ∷ []) (act.Withdraw who)
@@ -77,10 +78,10 @@ shape (post.Place place Release) = row ((member.Day, day) ∷ []) (act.Release p
 shape (post.Ceremony ceremony Opening) = row (at ∷ []) (done ceremony deed.Open)
 shape (post.Ceremony ceremony Closing) = row (at ∷ []) (done ceremony deed.Close)
 shape (post.Ceremony ceremony Sheet) = row ((member.Way, Text way_text way_of) ∷ (member.Who, Codes 32 initials_of) ∷ at ∷ []) (λ way who. done ceremony (deed.RecordSheet way who))
-shape (post.Ceremony ceremony Exceptions) = row ((member.Text, code remark_of) ∷ (member.Pass, Truth) ∷ at ∷ []) (λ text pass. done ceremony (deed.RecordException text pass))
+shape (post.Ceremony ceremony Exceptions) = row ((member.Text, code (line_of MAX_REMARK)) ∷ (member.Pass, Truth) ∷ at ∷ []) (λ text pass. done ceremony (deed.RecordException text pass))
 shape (post.Signature ceremony step) = row (at ∷ []) (done ceremony (deed.Sign step))
 shape (post.Safe ceremony safe) = row ((member.Open, Truth) ∷ (member.By, code initials_of) ∷ at ∷ []) (λ is_open by. done ceremony (deed.SetSafe safe is_open by))
-shape (post.Bag ceremony serial Seal) = row ((member.Items, Codes 64 item_of) ∷ at ∷ []) (λ items. done ceremony (deed.Seal serial items))
+shape (post.Bag ceremony serial Seal) = row ((member.Items, Codes 64 serial_of) ∷ at ∷ []) (λ items. done ceremony (deed.Seal serial items))
 shape (post.Bag ceremony serial Take) = row (at ∷ []) (done ceremony (deed.Take serial))
 shape (post.Bag ceremony serial Put) = row ((member.To, Text destination_text destination_of) ∷ at ∷ []) (λ to. done ceremony (deed.Put serial to))
 shape (post.Bag ceremony serial Cut) = row (at ∷ []) (done ceremony (deed.Cut serial))

@@ -1,8 +1,9 @@
 //! The act that a path and its members are.
-#![tactic(auto, using(crate::proofs::FormLemmas::item_form, crate::proofs::FormLemmas::name_form, crate::proofs::FormLemmas::remark_form))]
-
+ghost use Rattle.std.specs.Prelude.{◌∷◌, []};
 ghost use Rattle.kcr_forms.specs.OrMemory.{OrMemory};
-ghost use Rattle.kcr_forms.specs.Posts.{posted_act};
+ghost use Rattle.kcr_forms.specs.Posts.{posted_act, act_by};
+ghost use Rattle.kcr_forms.specs.Shapes.{at, done};
+ghost use Rattle.kcr_forms.specs.declared.post.CollectionPath.TheVariants.{Custodians, Boxes, Ceremonies};
 ghost use Rattle.kcr_forms.specs.declared.post.Post.TheVariants as Posts;
 
 use crate::members::Members;
@@ -11,6 +12,53 @@ use kcr_base::{CeremonyNumber, Initials, Member, Place, Refusal, Serial};
 use kcr_custody::SafeNumber;
 use kcr_history::{Act, Deed};
 use std::alloc::Global;
+
+/// What is done in a ceremony, at the moment that is the last member.
+fn act_of_deed<M: Members>(
+    alloc: Global,
+    ceremony: CeremonyNumber,
+    deed: Deed,
+    given: &mut M,
+) -> Result<Act, Refusal>
+    ensures { OrMemory result (act_by M.reading (at ∷ []) (done ceremony deed) (M.given given.old)) }
+{
+    Ok(Act::Ceremony {
+        ceremony,
+        deed,
+        at: given.last(alloc, Member::At)?,
+    })
+}
+
+fn appointment<M: Members>(alloc: Global, given: &mut M) -> Result<Act, Refusal>
+    ensures { OrMemory result (posted_act M.reading (Posts.Collection Custodians) (M.given given.old)) }
+{
+    Ok(Act::Appoint {
+        place: given.word(alloc, Member::Place)?,
+        who: given.word(alloc, Member::Who)?,
+        day: given.last(alloc, Member::Day)?,
+    })
+}
+
+fn new_box<M: Members>(alloc: Global, given: &mut M) -> Result<Act, Refusal>
+    ensures { OrMemory result (posted_act M.reading (Posts.Collection Boxes) (M.given given.old)) }
+{
+    Ok(Act::AddBox {
+        facility: given.word(alloc, Member::Facility)?,
+        number: given.number(Member::Box)?,
+        place: given.last(alloc, Member::Place)?,
+    })
+}
+
+fn plan<M: Members>(alloc: Global, given: &mut M) -> Result<Act, Refusal>
+    ensures { OrMemory result (posted_act M.reading (Posts.Collection Ceremonies) (M.given given.old)) }
+{
+    Ok(Act::Plan {
+        number: given.number(Member::Number)?,
+        facility: given.word(alloc, Member::Facility)?,
+        day: given.word(alloc, Member::Day)?,
+        script: given.last(alloc, Member::Script)?,
+    })
+}
 
 fn act_of_collection<M: Members>(
     alloc: Global,
@@ -24,29 +72,14 @@ fn act_of_collection<M: Members>(
             who: given.word(alloc, Member::Who)?,
             name: given.last(alloc, Member::Name)?,
         }),
-        CollectionPath::Custodians => Ok(Act::Appoint {
-            place: given.word(alloc, Member::Place)?,
-            who: given.word(alloc, Member::Who)?,
-            day: given.last(alloc, Member::Day)?,
-        }),
-        CollectionPath::Boxes => Ok(Act::AddBox {
-            facility: given.word(alloc, Member::Facility)?,
-            number: given.number(Member::Box)?,
-            place: given.last(alloc, Member::Place)?,
-        }),
-        CollectionPath::Items => Ok(Act::Ceremony {
-            ceremony: given.number(Member::Ceremony)?,
-            deed: Deed::AddItem {
-                item: given.word(alloc, Member::Item)?,
-            },
-            at: given.last(alloc, Member::At)?,
-        }),
-        CollectionPath::Ceremonies => Ok(Act::Plan {
-            number: given.number(Member::Number)?,
-            facility: given.word(alloc, Member::Facility)?,
-            day: given.word(alloc, Member::Day)?,
-            script: given.last(alloc, Member::Script)?,
-        }),
+        CollectionPath::Custodians => appointment(alloc, given),
+        CollectionPath::Boxes => new_box(alloc, given),
+        CollectionPath::Items => {
+            let ceremony = given.number(Member::Ceremony)?;
+            let item = given.word(alloc, Member::Item)?;
+            act_of_deed(alloc, ceremony, Deed::AddItem { item }, given)
+        }
+        CollectionPath::Ceremonies => plan(alloc, given),
     }
 }
 
@@ -102,34 +135,19 @@ fn act_of_ceremony<M: Members>(
 ) -> Result<Act, Refusal>
     ensures { OrMemory result (posted_act M.reading (Posts.Ceremony ceremony path) (M.given given.old)) }
 {
-    match path {
-        CeremonyPath::Opening => Ok(Act::Ceremony {
-            ceremony,
-            deed: Deed::Open,
-            at: given.last(alloc, Member::At)?,
-        }),
-        CeremonyPath::Closing => Ok(Act::Ceremony {
-            ceremony,
-            deed: Deed::Close,
-            at: given.last(alloc, Member::At)?,
-        }),
-        CeremonyPath::Sheet => Ok(Act::Ceremony {
-            ceremony,
-            deed: Deed::RecordSheet {
-                way: given.word(alloc, Member::Way)?,
-                who: given.list(alloc, Member::Who)?,
-            },
-            at: given.last(alloc, Member::At)?,
-        }),
-        CeremonyPath::Exceptions => Ok(Act::Ceremony {
-            ceremony,
-            deed: Deed::RecordException {
-                text: given.word(alloc, Member::Text)?,
-                pass: given.truth(Member::Pass)?,
-            },
-            at: given.last(alloc, Member::At)?,
-        }),
-    }
+    let deed = match path {
+        CeremonyPath::Opening => Deed::Open,
+        CeremonyPath::Closing => Deed::Close,
+        CeremonyPath::Sheet => Deed::RecordSheet {
+            way: given.word(alloc, Member::Way)?,
+            who: given.list(alloc, Member::Who)?,
+        },
+        CeremonyPath::Exceptions => Deed::RecordException {
+            text: given.word(alloc, Member::Text)?,
+            pass: given.truth(Member::Pass)?,
+        },
+    };
+    act_of_deed(alloc, ceremony, deed, given)
 }
 
 fn act_of_safe<M: Members>(
@@ -140,15 +158,12 @@ fn act_of_safe<M: Members>(
 ) -> Result<Act, Refusal>
     ensures { OrMemory result (posted_act M.reading (Posts.Safe ceremony safe) (M.given given.old)) }
 {
-    Ok(Act::Ceremony {
-        ceremony,
-        deed: Deed::SetSafe {
-            safe,
-            is_open: given.truth(Member::Open)?,
-            by: given.word(alloc, Member::By)?,
-        },
-        at: given.last(alloc, Member::At)?,
-    })
+    let deed = Deed::SetSafe {
+        safe,
+        is_open: given.truth(Member::Open)?,
+        by: given.word(alloc, Member::By)?,
+    };
+    act_of_deed(alloc, ceremony, deed, given)
 }
 
 fn act_of_bag<M: Members>(
@@ -160,34 +175,19 @@ fn act_of_bag<M: Members>(
 ) -> Result<Act, Refusal>
     ensures { OrMemory result (posted_act M.reading (Posts.Bag ceremony serial path) (M.given given.old)) }
 {
-    match path {
-        BagPath::Seal => Ok(Act::Ceremony {
-            ceremony,
-            deed: Deed::Seal {
-                serial,
-                items: given.list(alloc, Member::Items)?,
-            },
-            at: given.last(alloc, Member::At)?,
-        }),
-        BagPath::Take => Ok(Act::Ceremony {
-            ceremony,
-            deed: Deed::Take { serial },
-            at: given.last(alloc, Member::At)?,
-        }),
-        BagPath::Put => Ok(Act::Ceremony {
-            ceremony,
-            deed: Deed::Put {
-                serial,
-                to: given.word(alloc, Member::To)?,
-            },
-            at: given.last(alloc, Member::At)?,
-        }),
-        BagPath::Cut => Ok(Act::Ceremony {
-            ceremony,
-            deed: Deed::Cut { serial },
-            at: given.last(alloc, Member::At)?,
-        }),
-    }
+    let deed = match path {
+        BagPath::Seal => Deed::Seal {
+            serial,
+            items: given.list(alloc, Member::Items)?,
+        },
+        BagPath::Take => Deed::Take { serial },
+        BagPath::Put => Deed::Put {
+            serial,
+            to: given.word(alloc, Member::To)?,
+        },
+        BagPath::Cut => Deed::Cut { serial },
+    };
+    act_of_deed(alloc, ceremony, deed, given)
 }
 
 /// The act that is posted to a path with these members, or the refusal of the first member that is missing or not of its
@@ -200,11 +200,7 @@ pub fn act_at<M: Members>(alloc: Global, post: Post, given: &mut M) -> Result<Ac
         Post::Person(who, path) => act_of_person(alloc, who, path, given),
         Post::Place(place, path) => act_of_place(alloc, place, path, given),
         Post::Ceremony(ceremony, path) => act_of_ceremony(alloc, ceremony, path, given),
-        Post::Signature(ceremony, step) => Ok(Act::Ceremony {
-            ceremony,
-            deed: Deed::Sign { step },
-            at: given.last(alloc, Member::At)?,
-        }),
+        Post::Signature(ceremony, step) => act_of_deed(alloc, ceremony, Deed::Sign { step }, given),
         Post::Safe(ceremony, safe) => act_of_safe(alloc, ceremony, safe, given),
         Post::Bag(ceremony, serial, path) => act_of_bag(alloc, ceremony, serial, path, given),
     }

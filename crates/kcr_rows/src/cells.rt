@@ -35,10 +35,7 @@ pub fn text_at<T: Written + Drop>(alloc: Global, row: &Row, at: usize) -> Result
     ensures cause { IfErr result IsFault }
 {
     match row.get_ref(at) {
-        Ok(ValueRef::Text(text)) => match T::from_text(alloc, text)? {
-            Some(found) => Ok(found),
-            None => Err(Refusal::Disk),
-        },
+        Ok(ValueRef::Text(text)) => T::from_text(alloc, text)?.ok_or(Refusal::Disk),
         _ => Err(Refusal::Disk),
     }
 }
@@ -50,10 +47,7 @@ pub fn number_at<T: AsNumber>(row: &Row, at: usize) -> Result<T, Refusal>
     ensures cause { IfErr result IsFault }
 {
     match row.get_ref(at) {
-        Ok(ValueRef::Int(number)) => match T::from_number(number) {
-            Some(found) => Ok(found),
-            None => Err(Refusal::Disk),
-        },
+        Ok(ValueRef::Int(number)) => T::from_number(number).ok_or(Refusal::Disk),
         _ => Err(Refusal::Disk),
     }
 }
@@ -83,10 +77,7 @@ pub fn counted_or_null_at<K: Numbered>(row: &Row, at: usize) -> Result<Option<u3
     if is_null(row, at) {
         return Ok(None);
     }
-    match counted_at::<K>(row, at) {
-        Ok(found) => Ok(Some(found)),
-        Err(refusal) => Err(refusal),
-    }
+    Ok(Some(counted_at::<K>(row, at)?))
 }
 
 /// The place in a column, a Crypto Officer's of this facility.
@@ -133,10 +124,7 @@ pub fn number_or_null_at<T: AsNumber>(row: &Row, at: usize) -> Result<Option<T>,
     if is_null(row, at) {
         return Ok(None);
     }
-    match number_at(row, at) {
-        Ok(found) => Ok(Some(found)),
-        Err(refusal) => Err(refusal),
-    }
+    Ok(Some(number_at(row, at)?))
 }
 
 /// The spot of a bag in a column, whose boxes are numbered from 1 to `MAX_BOX`.
@@ -146,10 +134,7 @@ pub fn spot_at(row: &Row, at: usize) -> Result<Spot, Refusal>
     ensures cause { IfErr result IsFault }
 {
     match row.get_ref(at) {
-        Ok(ValueRef::Text(text)) => match Spot::read(text) {
-            Some(found) => Ok(found),
-            None => Err(Refusal::Disk),
-        },
+        Ok(ValueRef::Text(text)) => Spot::read(text).ok_or(Refusal::Disk),
         _ => Err(Refusal::Disk),
     }
 }

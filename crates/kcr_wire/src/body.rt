@@ -36,30 +36,21 @@ pub(crate) fn read_body(alloc: Global, body: &[u8]) -> Result<Value, Refusal>
 fn text_of<'v>(body: &'v Value, name: Member) -> Option<&'v str>
     ensures { option_map (λ s. s.now) result ≡ text_at name (view body.now) }
 {
-    match body.get(name.text()) {
-        Some(value) => value.as_str(),
-        None => None,
-    }
+    body.get(name.text())?.as_str()
 }
 
 // The whole number of a member, without sign, fraction or exponent.
 fn whole_of(body: &Value, name: Member) -> Option<u64>
     ensures { result ≡ whole_at name (view body.now) }
 {
-    match body.get(name.text()) {
-        Some(value) => value.as_u64(),
-        None => None,
-    }
+    body.get(name.text())?.as_u64()
 }
 
 // The truth value of a member.
 fn truth_of(body: &Value, name: Member) -> Option<bool>
     ensures { result ≡ truth_at name (view body.now) }
 {
-    match body.get(name.text()) {
-        Some(value) => value.as_bool(),
-        None => None,
-    }
+    body.get(name.text())?.as_bool()
 }
 
 // The value that a member gives by its text, or the refusal that names the member.

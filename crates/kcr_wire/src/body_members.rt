@@ -38,7 +38,7 @@ impl BodyText {
 }
 
 /// A text, as JSON.
-fn text_value(alloc: Global, text: &str) -> Result<Value, AllocError>
+pub(crate) fn text_value(alloc: Global, text: &str) -> Result<Value, AllocError>
     ensures { IfOk result (λ v. view v ≡ string text.now) }
 {
     json!(in alloc; text)

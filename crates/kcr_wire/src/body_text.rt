@@ -4,9 +4,8 @@ ghost use Rattle.serde_json.specs.Data.{string};
 ghost use Rattle.serde_json.specs.Written.{compact_text};
 ghost use Rattle.kcr_wire.specs.Bodies.{body_text};
 
-use crate::body_members::BodyText;
+use crate::body_members::{BodyText, text_value};
 use kcr_history::{Command, tell};
-use serde_json::json;
 use std::alloc::{AllocError, Global};
 
 /// The front of a body: an object's bracket, and the key.
@@ -14,7 +13,7 @@ fn with_key(alloc: Global, key: &str) -> Result<String, AllocError>
     ensures { IfOk result (λ text.
         string_bytes text ≡ codes "{\"key\":" ++ compact_text (string key.now)) }
 {
-    let key = json!(in alloc; key)?.to_string(alloc)?;
+    let key = text_value(alloc, key)?.to_string(alloc)?;
     let mut text = String::from_str(alloc, "{\"key\":")?;
     text.push_str(key.as_str())?;
     Ok(text)

@@ -1,29 +1,37 @@
 //! Commands, read off the target and the body of a POST.
 ghost use Rattle.std.specs.Prelude.{◌≡◌, IfErr, IfOk};
+ghost use Rattle.serde_json.specs.View.{view};
 ghost use Rattle.kcr_forms.specs.Acts.{IsAct};
 ghost use Rattle.kcr_forms.specs.OrMemory.{OrMemory};
-ghost use Rattle.kcr_wire.specs.Commands.{command_of, posted};
+ghost use Rattle.kcr_wire.specs.Commands.{command_of, posted, posted_command};
 ghost use Rattle.kcr_wire.specs.Endpoints.{allow_of, if_method, refusal_alone};
 
 use crate::body::{Body, read_body, text_member};
 use crate::endpoint::{Endpoint, RouteTable};
 use crate::unread::Unread;
 use kcr_base::{Member, Refusal};
-use kcr_forms::act_at;
+use kcr_forms::{Post, act_at};
 use kcr_history::Command;
+use serde_json::Value;
 use std::alloc::Global;
 
-// The command of a body that is posted to a path: its key, and then its act. A path that takes no POST is refused.
+// The command of a path: its key, which is read before all other members, and its act.
+fn posted_command(alloc: Global, post: Post, body: &Value) -> Result<Command, Refusal>
+    ensures { OrMemory result (posted_command post (view body.now)) }
+{
+    let key = text_member(alloc, body, Member::Key)?;
+    let act = act_at(alloc, post, &mut Body { value: body })?;
+    Ok(Command { key, act })
+}
+
+// The command of a body that is posted to a path. A path that takes no POST is refused.
 fn posted(alloc: Global, endpoint: Endpoint, body: &[u8]) -> Result<Command, Refusal>
     ensures { OrMemory result (posted endpoint body.now) }
 {
     let Endpoint::Post(post) = endpoint else {
         return Err(Refusal::Method);
     };
-    let value = read_body(alloc, body)?;
-    let key = text_member(alloc, &value, Member::Key)?;
-    let act = act_at(alloc, post, &mut Body { value: &value })?;
-    Ok(Command { key, act })
+    posted_command(alloc, post, &read_body(alloc, body)?)
 }
 
 impl RouteTable {

@@ -60,10 +60,7 @@ fn part<'p>(parts: &Params<'_, 'p>, name: &str) -> Option<&'p [u8]>
     requires { AllText (parts_of parts.now) }
     ensures { option_map (λ part. part.now) result ≡ named name.now (parts_of parts.now) }
 {
-    match parts.get(name) {
-        Some(part) => Some(part.as_bytes()),
-        None => None,
-    }
+    Some(parts.get(name)?.as_bytes())
 }
 
 fn initials_in(parts: &Params<'_, '_>) -> Option<Initials>
