@@ -1,5 +1,5 @@
 -- Rows that were taken one after the other, and those that are left.
-use Rattle.std.proofs.Common.{◌≡◌, List, [], ◌∷◌, ◌++◌, Option, Some, sym, ap, subst, ◌∙◌, append_assoc}
+use Rattle.std.proofs.Common.{◌≡◌, List, [], ◌∷◌, ◌++◌, Option, Some, None, sym, ap, subst, ◌∙◌, append_assoc, append-nil}
 use Rattle.kcr_reading.specs.Remaining.{IsNextOf}
 
 -- one more row was taken
@@ -8,3 +8,8 @@ pub one_taken : {X : Type 0} (rows more left rest all : List X) (row : X) (given
 one_taken rows more left rest all row given had is next pushed =
     let first : left ≡ row ∷ rest = subst (λ o. IsNextOf left o rest) is next in
     ap (λ l. l ++ rest) pushed ∙ append_assoc rows (row ∷ []) rest ∙ ap (λ l. rows ++ l) (sym first) ∙ had
+
+-- if none is left to be given, what was given is all
+pub none_left : {X : Type 0} (rows left rest all : List X) (given : Option X) → rows ++ left ≡ all → given ≡ None → IsNextOf left given rest → rows ≡ all
+none_left rows left rest all given had is next =
+    let none = subst (λ o. IsNextOf left o rest) is next in sym (append-nil rows) ∙ ap (λ l. rows ++ l) (sym none.0) ∙ had
