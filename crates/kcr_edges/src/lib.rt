@@ -18,8 +18,8 @@ mod socket;
 mod watch;
 mod watched;
 
-pub use memory::{CopyConnection, CopyFile, connect, have_failed};
-pub use noted::Noted;
+pub use memory::{CopyConnection, connect, have_failed};
+pub use noted::CopyFile;
 pub use packing::{Unmade, fill, play_in};
 pub use patience::{Patience, TimedReader, TimedWriter};
 pub use reading::{Copied, Unread, copy_of};

@@ -8,7 +8,7 @@ ghost use Rattle.kcr_edges.specs.Image.{image};
 ghost use Rattle.kcr_edges.specs.Noted.{file_of};
 ghost use Rattle.kcr_edges.specs.Unread.{IsCause};
 
-use crate::{Copied, Noted, Unread};
+use crate::{Copied, CopyFile, Unread};
 use sqlite::{Connection, Error, ErrorCode, FileStore, Files, Options};
 use sqlite_disk::{Disk, Memory};
 use std::alloc::Global;
@@ -16,9 +16,6 @@ use std::io;
 
 /// What the salts are made from that a log in memory gets.
 const SEED: u64 = 7;
-
-/// A file of a copy, in memory.
-pub type CopyFile = Noted<Memory>;
 
 /// A connection to a copy of files.
 pub type CopyConnection = Connection<FileStore<CopyFile>>;
@@ -30,7 +27,7 @@ fn in_memory(alloc: Global, bytes: &[u8]) -> io::Result<CopyFile>
 {
     let mut memory = Memory::new(alloc);
     memory.write_at(0, bytes)?;
-    Ok(Noted::new(memory))
+    Ok(CopyFile::new(memory))
 }
 
 /// Both files in memory. The bytes that were read are given up meanwhile.

@@ -1,8 +1,8 @@
-use Rattle.kcr_edges.proofs.noted.NotedDisk.write_at.Goals as goal
+use Rattle.kcr_edges.proofs.noted.CopyFileDisk.set_len.Goals as goal
 
 pub returns-clause-frozen : goal.returns-clause-frozen
-returns-clause-frozen g c frozen =
-    let stays = c.write_at-outcome.ensures.frozen frozen in (
+returns-clause-frozen c frozen =
+    let stays = c.set_len-outcome.ensures.frozen frozen in (
       stays.0,
       record {
         frozen = stays.1.frozen;
