@@ -8,17 +8,17 @@ use crate::opening::{CopyRegister, has_run_out};
 use kcr_base::Refusal;
 use kcr_edges::CopyConnection;
 use kcr_fault::Fault;
-use kcr_store::OpenFault;
+use kcr_store::{OpenFault, Register};
 use kcr_verify::first_invalid_row;
+use sqlite::{Alter, Connection};
 use std::alloc::Global;
 
 /// Why a reading was refused as an I/O error is (34): a row is invalid, if one is found.
-fn fault_of_refusal(alloc: Global, connection: CopyConnection) -> Fault
-    requires autocommit { connection.in_transaction ≡ false }
+fn fault_of_refusal<S: Alter>(alloc: Global, connection: &mut Connection<S>) -> Fault
+    requires autocommit { connection.old.in_transaction ≡ false }
     ensures { (result ≡ Fault.Refused Refusal.Disk) ⊎ ((row : InvalidRow) × (result ≡ Fault.Invalid row)) }
 {
-    let mut connection = connection;
-    match first_invalid_row(alloc, &mut connection) {
+    match first_invalid_row(alloc, connection) {
         Some(row) => Fault::Invalid(row),
         None => Fault::Refused(Refusal::Disk),
     }
@@ -31,6 +31,15 @@ fn is_disk(ended: &Result<u8, Fault>) -> bool
     matches!(ended, Err(Fault::Refused(Refusal::Disk)))
 }
 
+/// The connection of a register, outside a transaction.
+fn connection_of<S: Alter>(register: Register<S>) -> Connection<S>
+    ensures autocommit { result.in_transaction ≡ false }
+{
+    // A call that reads the register lets the prover see that it is outside a transaction.
+    let _ = register.is_broken();
+    register.close()
+}
+
 /// How a report of a register ended, which it may have broken. If it was refused as for an I/O error (34), and a row is
 /// invalid, the fault has that row.
 pub fn with_row(
@@ -40,12 +49,10 @@ pub fn with_row(
 ) -> Result<u8, Fault>
     ensures { MayNameRow ended result }
 {
-    // A call that reads the register lets the prover see that it is outside a transaction.
-    let _ = register.is_broken();
-    let connection = register.close();
+    let mut connection = connection_of(register);
     if is_disk(&ended) {
         drop(ended);
-        Err(fault_of_refusal(alloc, connection))
+        Err(fault_of_refusal(alloc, &mut connection))
     } else {
         drop(connection);
         ended
@@ -59,12 +66,10 @@ pub fn fault_of_disk(alloc: Global, connection: CopyConnection) -> Fault
     ensures { StopsReading result }
 {
     let mut connection = connection;
-    if let Some(row) = first_invalid_row(alloc, &mut connection) {
-        return Fault::Invalid(row);
-    }
-    if has_run_out(connection) {
-        Fault::Open(OpenFault::Memory)
-    } else {
-        Fault::Refused(Refusal::Disk)
+    let fault = fault_of_refusal(alloc, &mut connection);
+    let has_run_out = has_run_out(connection);
+    match fault {
+        Fault::Refused(_) if has_run_out => Fault::Open(OpenFault::Memory),
+        other => other,
     }
 }

@@ -23,7 +23,8 @@ use kcr_fault::{Call, Fault, around};
 use kcr_print::write_whole;
 use kcr_store::{FileRegister, Register};
 use sqlite::{Alter, Start};
-use std::io::Write;
+use std::alloc::Global;
+use std::io::{Read, Write};
 use std::net::{Ipv4Addr, TcpListener, TcpStream};
 use std::os::fd::AsRawFd;
 
@@ -35,7 +36,19 @@ fn is_lost(watch: Option<&Watch<'_>>) -> bool {
     }
 }
 
-/// Serves a connection that was accepted, by `one`. Once the register's file is gone no answer is written. Without a
+/// Serves a connection by `one`, of whose bytes nothing is known.
+fn serve_one<R: Read, W: Write, S: Alter>(
+    alloc: Global,
+    input: &mut Counted<R>,
+    output: &mut Counted<W>,
+    register: &mut Register<S>,
+)
+    ensures connects { Connects S.Store register.old register.new 1 }
+{
+    one(alloc, input, output, register);
+}
+
+/// Serves a connection that was accepted. Once the register's file is gone no answer is written. Without a
 /// clock no connection is served.
 fn serve_stream<S: Alter>(
     rt: &HostRuntime,
@@ -55,7 +68,7 @@ fn serve_stream<S: Alter>(
     let mut input = Counted::new(TimedReader::new(socket, &patience));
     let writer = TimedWriter::new(socket, &patience);
     let mut output = Counted::new(Watched::new(writer, watch));
-    one(rt.alloc(), &mut input, &mut output, register);
+    serve_one(rt.alloc(), &mut input, &mut output, register);
     if is_lost(watch) {
         return Err(Fault::Lost);
     }

@@ -346,18 +346,19 @@ fn fresh_in<B: Start>(rt: &HostRuntime, path: &str, start: B) -> Result<FileRegi
 }
 
 /// Makes a new register in the file at the path, and gives it the commands among these rows of a register. What is told
-/// and the errors are those of `rebuild`.
+/// and the errors are those of `rebuild`. `start` stands for what the file and its log held.
 #[tactic(auto, using(crate::proofs::Causes::making_stops, crate::proofs::Causes::replay_stops))]
-fn rebuild_into<W: Write>(
+fn rebuild_into<B: Start, W: Write>(
     rt: &HostRuntime,
     rows: FullView,
     path: &str,
+    start: B,
     output: &mut Counted<W>,
 ) -> Result<u8, Fault>
     ensures ends { EndsVerification rebuilt_head (λ _. Unit {0}) (writing W.contents output.old output.new) result }
     ensures cause { IfErr result (StopsRebuild (writing W.contents output.old output.new)) }
 {
-    let mut fresh = fresh_in(rt, path, Unknown)?;
+    let mut fresh = fresh_in(rt, path, start)?;
     rebuild_in(rt.alloc(), rows, &mut fresh, output)
 }
 
@@ -382,7 +383,7 @@ pub fn rebuild<W: Write>(
         return Err(Fault::Nothing(Missing::Empty));
     }
     let before = place_at(rt, path);
-    let ended = rebuild_into(rt, rows, path, output);
+    let ended = rebuild_into(rt, rows, path, Unknown, output);
     take_back(rt, path, before, &ended);
     ended
 }
