@@ -4,7 +4,7 @@ ghost use Rattle.kcr_fault.specs.Faults.{StopsReading};
 ghost use Rattle.kcr_tool.specs.Runs.{MayNameRow};
 ghost use Rattle.kcr_verify.specs.declared.invalid.InvalidRow.{InvalidRow};
 
-use crate::opening::{CopyRegister, has_run_out};
+use crate::opening::has_run_out;
 use kcr_base::Refusal;
 use kcr_edges::CopyConnection;
 use kcr_fault::Fault;
@@ -42,9 +42,9 @@ fn connection_of<S: Alter>(register: Register<S>) -> Connection<S>
 
 /// How a report of a register ended, which it may have broken. If it was refused as for an I/O error (34), and a row is
 /// invalid, the fault has that row.
-pub fn with_row(
+pub fn with_row<S: Alter + Drop>(
     alloc: Global,
-    register: CopyRegister,
+    register: Register<S>,
     ended: Result<u8, Fault>,
 ) -> Result<u8, Fault>
     ensures { MayNameRow ended result }

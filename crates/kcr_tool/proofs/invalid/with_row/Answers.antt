@@ -3,7 +3,7 @@ use Rattle.kcr_tool.proofs.invalid.with_row.Goals as goal
 
 -- the fault stays, or has the row that was found
 pub returns-then-is_disk : goal.returns-then-is_disk
-returns-then-is_disk c =
+returns-then-is_disk g c =
     let was = c.is_disk.ensures c.if-is_disk.true in
     elim c.fault_of_refusal.ensures [
       | inl same ↦ inl (ap Err same ∙ sym was)
