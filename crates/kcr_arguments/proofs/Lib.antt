@@ -3,3 +3,4 @@ pub mod Numbers
 pub mod Options
 pub mod Taken
 mod Examples
+pub mod Folds

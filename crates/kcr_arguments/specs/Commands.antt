@@ -5,8 +5,8 @@ use Rattle.clap.specs.Words.{App, Rule, Shape, Text, new_app, new_rule, with_rul
 use Rattle.clap.specs.declared.builder.action.ArgAction.TheVariants.{Set, SetTrue}
 use Rattle.clap.specs.declared.builder.value_parser.ValueParser.{ValueParser}
 use Rattle.clap.specs.declared.builder.value_parser.ValueParser.TheVariants.{Unsigned}
-use Rattle.kcr_arguments.specs.declared.commands.Choice.{Choice}
-use Rattle.kcr_arguments.specs.declared.commands.Line.{Line}
+use Rattle.kcr_arguments.specs.declared.commands.CommandOption.{CommandOption}
+use Rattle.kcr_arguments.specs.declared.commands.Subcommand.{Subcommand}
 use Rattle.kcr_base.specs.declared.limits.TheConstants.{MAX_CEREMONY, MAX_COMMANDS}
 
 -- the program is nothing without a subcommand, and tells its version
@@ -26,8 +26,8 @@ value_rule name parser is_required = record (new_rule name) {
 }
 
 -- an option whose value is a number from the least to the most, and a required one, from 1
-abbrev pub choice_rule : Text → ℕ → ℕ → Rule
-choice_rule name least most = value_rule name (Unsigned least most) false
+abbrev pub optional_rule : Text → ℕ → ℕ → Rule
+optional_rule name least most = value_rule name (Unsigned least most) false
 
 abbrev pub number_rule : Text → ℕ → Rule
 number_rule name most = value_rule name (Unsigned 1 most) true
@@ -44,22 +44,28 @@ existing_rule = flag_rule (codes "existing")
 abbrev pub ceremony_rule : Rule
 ceremony_rule = number_rule (codes "ceremony") MAX_CEREMONY
 
+-- `--file FILE`, before the other options of a subcommand
+abbrev pub file_rule : Rule
+file_rule = value_rule (codes "file") (parser_for Set) false
+
+-- `--explain`, behind them
+abbrev pub explain_rule : Rule
+explain_rule = flag_rule (codes "explain")
+
 -- `--into FILE`, of a subcommand that makes a new file of a register
 abbrev pub into_rule : Rule
 into_rule = value_rule (codes "into") (parser_for Set) true
 
--- a subcommand over a register, with `--file FILE` before its own options, and behind them the flag that all have
+-- a subcommand over a register, with its own options between the two that all have
 abbrev pub sub : Text → List Rule → Shape
-sub name rules =
-    let s = (new_app name).top in
-    record s { rules = value_rule (codes "file") (parser_for Set) false ∷ (rules ++ flag_rule (codes "explain") ∷ []) }
+sub name rules = record ((new_app name).top) { rules = file_rule ∷ (rules ++ explain_rule ∷ []) }
 
 abbrev pub serve_rules : List Rule
 serve_rules = existing_rule
     ∷ number_rule (codes "port") 65535
     ∷ number_rule (codes "connections") 1000000
-    ∷ choice_rule (codes "idle") 1 300
-    ∷ choice_rule (codes "longest") 1 86400
+    ∷ optional_rule (codes "idle") 1 300
+    ∷ optional_rule (codes "longest") 1 86400
     ∷ []
 
 -- the subcommands
@@ -69,8 +75,8 @@ tool_subs = sub (codes "run") (existing_rule ∷ [])
     ∷ sub (codes "print") (ceremony_rule ∷ [])
     ∷ sub (codes "attendance") (ceremony_rule ∷ [])
     ∷ sub (codes "custody") []
-    ∷ sub (codes "export") (choice_rule (codes "after") 0 MAX_COMMANDS ∷ choice_rule (codes "until") 0 MAX_COMMANDS ∷ [])
-    ∷ sub (codes "journal") (choice_rule (codes "ceremony") 1 MAX_CEREMONY ∷ [])
+    ∷ sub (codes "export") (optional_rule (codes "after") 0 MAX_COMMANDS ∷ optional_rule (codes "until") 0 MAX_COMMANDS ∷ [])
+    ∷ sub (codes "journal") (optional_rule (codes "ceremony") 1 MAX_CEREMONY ∷ [])
     ∷ sub (codes "audit") []
     ∷ sub (codes "verify") []
     ∷ sub (codes "rebuild") (into_rule ∷ [])
@@ -84,23 +90,23 @@ tool_app = fold with_subcommand root_app tool_subs
 -- ---- what the code makes of its table
 
 -- an option
-abbrev pub rule_in : Choice → Rule
-rule_in choice = record (new_rule choice.name.now) {
-  long = Some choice.name.now;
-  value_names = length choice.values.now;
-  action = Some choice.action;
-  parser = Some choice.parser;
-  required = choice.is_required;
+abbrev pub rule_in : CommandOption → Rule
+rule_in option = record (new_rule option.name.now) {
+  long = Some option.name.now;
+  value_names = length option.values.now;
+  action = Some option.action;
+  parser = Some option.parser;
+  required = option.is_required;
 }
 
 -- an app with one more option
-abbrev pub with_choice : App → Choice → App
-with_choice a choice = with_rule a (rule_in choice)
+unfoldable pub with_option : App → CommandOption → App
+with_option a option = with_rule a (rule_in option)
 
 -- a subcommand
-abbrev pub app_in : Line → App
-app_in line = fold with_choice (new_app line.name.now) line.choices.now
+abbrev pub app_in : Subcommand → App
+app_in subcommand = with_rule (fold with_option (with_rule (new_app subcommand.name.now) file_rule) subcommand.options.now) explain_rule
 
 -- an app with one more subcommand
-abbrev pub with_line : App → Line → App
-with_line a line = with_subcommand a (app_in line).top
+unfoldable pub with_sub : App → Subcommand → App
+with_sub a subcommand = with_subcommand a (app_in subcommand).top

@@ -1,8 +1,8 @@
 //! The command line of the program, as `clap` takes it, with what its help says.
 ghost use Rattle.std.specs.Prelude.{◌≡◌, false, fold, IfOk};
-ghost use Rattle.clap.specs.Words.{app_of, rule_of};
+ghost use Rattle.clap.specs.Words.{app_of};
 ghost use Rattle.clap.specs.declared.builder.command.Command.TheViews.{out-Command};
-ghost use Rattle.kcr_arguments.specs.Commands.{app_in, root_app, rule_in, tool_app, with_line};
+ghost use Rattle.kcr_arguments.specs.Commands.{app_in, root_app, tool_app, with_option, with_sub};
 
 use clap::builder::ValueParser;
 use clap::{Arg, ArgAction, Command};
@@ -14,7 +14,7 @@ const VERSION: &str = "1.0.0 (rattle logic dac8208d650f15bf)";
 
 /// An option of a subcommand.
 #[derive(Clone, Copy)]
-struct Choice {
+struct CommandOption {
     name: &'static str,
     /// What the help calls its value; a flag has none.
     values: &'static [&'static str],
@@ -24,17 +24,18 @@ struct Choice {
     help: &'static str,
 }
 
-/// A subcommand with its options, and what its help says.
+/// A subcommand over a register, and what its help says.
 #[derive(Clone, Copy)]
-struct Line {
+struct Subcommand {
     name: &'static str,
     about: &'static str,
     example: &'static str,
-    choices: &'static [Choice],
+    /// Its own options, which stand between `--file` and `--explain`.
+    options: &'static [CommandOption],
 }
 
 /// What the flags have in common.
-const FLAG: Choice = Choice {
+const FLAG: CommandOption = CommandOption {
     name: "",
     values: &[],
     action: ArgAction::SetTrue,
@@ -44,13 +45,13 @@ const FLAG: Choice = Choice {
 };
 
 /// What the options with a number have in common.
-const NUMBER: Choice = Choice {
+const NUMBER: CommandOption = CommandOption {
     values: &["N"],
     action: ArgAction::Set,
     ..FLAG
 };
 
-const FILE: Choice = Choice {
+static FILE: CommandOption = CommandOption {
     name: "file",
     values: &["FILE"],
     action: ArgAction::Set,
@@ -59,26 +60,28 @@ const FILE: Choice = Choice {
     help: "Names the register's file; without it the register is in memory, and empty at first",
 };
 
-const INTO: Choice = Choice {
+const INTO: CommandOption = CommandOption {
     name: "into",
+    values: &["FILE"],
+    action: ArgAction::Set,
+    parser: ValueParser::String,
     is_required: true,
     help: "Names the file of the new register, which must be missing or empty",
-    ..FILE
 };
 
-const EXISTING: Choice = Choice {
+const EXISTING: CommandOption = CommandOption {
     name: "existing",
     help: "Opens the file only if it exists, and creates none",
     ..FLAG
 };
 
-const EXPLAIN: Choice = Choice {
+static EXPLAIN: CommandOption = CommandOption {
     name: "explain",
     help: "Writes a second line that names what failed, and notes before a refusal",
     ..FLAG
 };
 
-const PORT: Choice = Choice {
+const PORT: CommandOption = CommandOption {
     name: "port",
     parser: ValueParser::Unsigned(1, 65_535),
     is_required: true,
@@ -86,7 +89,7 @@ const PORT: Choice = Choice {
     ..NUMBER
 };
 
-const CONNECTIONS: Choice = Choice {
+const CONNECTIONS: CommandOption = CommandOption {
     name: "connections",
     parser: ValueParser::Unsigned(1, 1_000_000),
     is_required: true,
@@ -94,7 +97,7 @@ const CONNECTIONS: Choice = Choice {
     ..NUMBER
 };
 
-const IDLE: Choice = Choice {
+const IDLE: CommandOption = CommandOption {
     name: "idle",
     values: &["SECONDS"],
     parser: ValueParser::Unsigned(1, 300),
@@ -102,7 +105,7 @@ const IDLE: Choice = Choice {
     ..NUMBER
 };
 
-const LONGEST: Choice = Choice {
+const LONGEST: CommandOption = CommandOption {
     name: "longest",
     values: &["SECONDS"],
     parser: ValueParser::Unsigned(1, 86_400),
@@ -111,7 +114,7 @@ const LONGEST: Choice = Choice {
 };
 
 /// The ceremony that a report is about.
-const CEREMONY: Choice = Choice {
+const CEREMONY: CommandOption = CommandOption {
     name: "ceremony",
     parser: ValueParser::Unsigned(1, MAX_CEREMONY as u64),
     is_required: true,
@@ -120,133 +123,160 @@ const CEREMONY: Choice = Choice {
 };
 
 /// The ceremony to which a report may be confined.
-const ONLY_CEREMONY: Choice = Choice {
+const ONLY_CEREMONY: CommandOption = CommandOption {
     is_required: false,
     help: "Prints only the commands that name this ceremony, 1 to 9999; without it all",
     ..CEREMONY
 };
 
-const AFTER: Choice = Choice {
+const AFTER: CommandOption = CommandOption {
     name: "after",
     parser: ValueParser::Unsigned(0, MAX_COMMANDS as u64),
     help: "Leaves out the first N commands, 0 to 4000000000; without it none",
     ..NUMBER
 };
 
-const UNTIL: Choice = Choice {
+const UNTIL: CommandOption = CommandOption {
     name: "until",
     help: "Stops after command N, 0 to 4000000000; without it after the last",
     ..AFTER
 };
 
-static LINES: [Line; 11] = [
-    Line {
+static SUBCOMMANDS: [Subcommand; 11] = [
+    Subcommand {
         name: "run",
         about: "Answers the HTTP requests on standard input on standard output",
         example: "Example: kcr run --file register.db < requests.http",
-        choices: &[FILE, EXISTING, EXPLAIN],
+        options: &[EXISTING],
     },
-    Line {
+    Subcommand {
         name: "serve",
         about: "Answers HTTP requests on a port of 127.0.0.1, one connection after the other",
         example: "Example: kcr serve --file register.db --port 8053 --connections 100",
-        choices: &[FILE, EXISTING, PORT, CONNECTIONS, IDLE, LONGEST, EXPLAIN],
+        options: &[EXISTING, PORT, CONNECTIONS, IDLE, LONGEST],
     },
-    Line {
+    Subcommand {
         name: "print",
         about: "Prints the annotated script of a ceremony",
         example: "Example: kcr print --file register.db --ceremony 61",
-        choices: &[FILE, CEREMONY, EXPLAIN],
+        options: &[CEREMONY],
     },
-    Line {
+    Subcommand {
         name: "attendance",
         about: "Prints the attendance of a ceremony as comma separated values",
         example: "Example: kcr attendance --file register.db --ceremony 61",
-        choices: &[FILE, CEREMONY, EXPLAIN],
+        options: &[CEREMONY],
     },
-    Line {
+    Subcommand {
         name: "custody",
         about: "Prints the safes, the bags with their items, and the loose items",
         example: "Example: kcr custody --file register.db",
-        choices: &[FILE, EXPLAIN],
+        options: &[],
     },
-    Line {
+    Subcommand {
         name: "export",
         about: "Prints the accepted commands as a stream of requests, which makes the register again",
         example: "Example: kcr export --file register.db > register.http",
-        choices: &[FILE, AFTER, UNTIL, EXPLAIN],
+        options: &[AFTER, UNTIL],
     },
-    Line {
+    Subcommand {
         name: "journal",
         about: "Prints a line for each accepted command: its number, its moment or day, and what happened",
         example: "Example: kcr journal --file register.db --ceremony 61",
-        choices: &[FILE, ONLY_CEREMONY, EXPLAIN],
+        options: &[ONLY_CEREMONY],
     },
-    Line {
+    Subcommand {
         name: "audit",
         about: "Checks all rows against six rules",
         example: "Example: kcr audit --file register.db",
-        choices: &[FILE, EXPLAIN],
+        options: &[],
     },
-    Line {
+    Subcommand {
         name: "verify",
         about: "Replays the accepted commands and compares every reply and row",
         example: "Example: kcr verify --file register.db",
-        choices: &[FILE, EXPLAIN],
+        options: &[],
     },
-    Line {
+    Subcommand {
         name: "rebuild",
         about: "Replays the accepted commands into a new file, and compares every row",
         example: "Example: kcr rebuild --file register.db --into new.db",
-        choices: &[FILE, INTO, EXPLAIN],
+        options: &[INTO],
     },
-    Line {
+    Subcommand {
         name: "pack",
         about: "Packs the register's file and its log into one file, even while the register serves",
         example: "Example: kcr pack --file register.db --into packed.db",
-        choices: &[FILE, INTO, EXPLAIN],
+        options: &[INTO],
     },
 ];
 
-/// An option, as `clap` takes it.
-fn option<'a>(alloc: Global, choice: &Choice) -> Arg<'a>
-    ensures rule { rule_of result ≡ rule_in choice.now }
-    ensures local { result.global ≡ false }
+/// The command with one more option.
+#[tactic(auto, unfolding(crate::specs::Commands::with_option))]
+fn with_option<'a>(
+    alloc: Global,
+    command: Command<'a>,
+    option: &CommandOption,
+) -> Result<Command<'a>, AllocError>
+    ensures app { IfOk result (λ c. app_of c ≡ with_option (app_of command.entry) option.now) }
+    ensures local { (out-Command command.entry).has_globals ≡ false
+        → IfOk result (λ c. (out-Command c).has_globals ≡ false) }
 {
-    Arg::new(alloc, choice.name)
-        .long(choice.name)
-        .value_names(choice.values)
-        .action(choice.action)
-        .value_parser(choice.parser)
-        .required(choice.is_required)
-        .help(choice.help)
+    let arg = Arg::new(alloc, option.name)
+        .long(option.name)
+        .value_names(option.values)
+        .action(option.action)
+        .value_parser(option.parser)
+        .required(option.is_required)
+        .help(option.help);
+    command.arg(arg)
 }
 
 /// A subcommand with its options.
-fn subcommand<'a>(alloc: Global, line: &Line) -> Result<Command<'a>, AllocError>
-    ensures app { IfOk result (λ c. app_of c ≡ app_in line.now) }
+fn command_of<'a>(alloc: Global, subcommand: &Subcommand) -> Result<Command<'a>, AllocError>
+    ensures app { IfOk result (λ c. app_of c ≡ app_in subcommand.now) }
     ensures local { IfOk result (λ c. (out-Command c).has_globals ≡ false) }
 {
-    let mut command = Command::new(alloc, line.name)
-        .about(line.about)
-        .after_help(line.example);
-    for choice in line.choices {
-        command = command.arg(option(alloc, choice))?;
+    let command = Command::new(alloc, subcommand.name)
+        .about(subcommand.about)
+        .after_help(subcommand.example);
+    let mut command = with_option(alloc, command, &FILE)?;
+    for option in subcommand.options {
+        command = with_option(alloc, command, option)?;
     }
-    Ok(command)
+    with_option(alloc, command, &EXPLAIN)
 }
 
-/// The program with these subcommands.
-fn program<'a>(alloc: Global, lines: &[Line]) -> Result<Command<'a>, AllocError>
-    ensures { IfOk result (λ c. app_of c ≡ fold with_line root_app lines.now) }
+/// The program without its subcommands.
+fn root<'a>(alloc: Global) -> Command<'a>
+    ensures { app_of result ≡ root_app }
 {
-    let mut command = Command::new(alloc, "kcr")
+    Command::new(alloc, "kcr")
         .version(VERSION)
         .about("The register of the DNSSEC root zone key ceremonies")
         .after_help("Example: kcr serve --file register.db --port 8053 --connections 100")
-        .subcommand_required(true);
-    for line in lines {
-        command = command.subcommand(subcommand(alloc, line)?)?;
+        .subcommand_required(true)
+}
+
+/// The program with one more subcommand.
+#[tactic(auto, unfolding(crate::specs::Commands::with_sub))]
+fn with_subcommand<'a>(
+    alloc: Global,
+    command: Command<'a>,
+    subcommand: &Subcommand,
+) -> Result<Command<'a>, AllocError>
+    ensures { IfOk result (λ c. app_of c ≡ with_sub (app_of command.entry) subcommand.now) }
+{
+    command.subcommand(command_of(alloc, subcommand)?)
+}
+
+/// The program with these subcommands.
+fn program<'a>(alloc: Global, subcommands: &[Subcommand]) -> Result<Command<'a>, AllocError>
+    ensures { IfOk result (λ c. app_of c ≡ fold with_sub root_app subcommands.now) }
+{
+    let mut command = root(alloc);
+    for subcommand in subcommands {
+        command = with_subcommand(alloc, command, subcommand)?;
     }
     Ok(command)
 }
@@ -255,5 +285,5 @@ fn program<'a>(alloc: Global, lines: &[Line]) -> Result<Command<'a>, AllocError>
 pub fn tool<'a>(alloc: Global) -> Result<Command<'a>, AllocError>
     ensures { IfOk result (λ c. app_of c ≡ tool_app) }
 {
-    program(alloc, &LINES)
+    program(alloc, &SUBCOMMANDS)
 }

@@ -20,7 +20,7 @@ const IDLE: u32 = 5;
 const LONGEST: u32 = 300;
 
 /// What is told of a register, which it leaves as it is.
-#[derive(Clone, Copy, PartialEq, Eq)]
+#[derive(Clone, Copy)]
 pub enum Report {
     /// The annotated script of the ceremony.
     Print(CeremonyNumber),
@@ -37,7 +37,7 @@ pub enum Report {
 }
 
 /// What a server serves.
-#[derive(Clone, Copy, PartialEq, Eq)]
+#[derive(Clone, Copy)]
 pub struct Serving {
     /// The port of 127.0.0.1, 1 to 65,535.
     pub port: u16,
@@ -50,7 +50,7 @@ pub struct Serving {
 }
 
 /// What the program is to do.
-#[derive(Clone, Copy, PartialEq, Eq)]
+#[derive(Clone, Copy)]
 pub enum Task {
     /// Answers the stream of requests on standard input on standard output.
     Run,

@@ -78,6 +78,14 @@ fn look_anew(log: &File, head: [u8; HEAD_SIZE]) -> io::Result<Seen> {
     look_on(log, first)
 }
 
+/// What is seen of a log that is there for the first time. One without a head is `UnexpectedEof`.
+fn first_seen(log: &File) -> io::Result<Seen> {
+    match bytes_at::<HEAD_SIZE>(log, 0)? {
+        Some(head) => look_anew(log, head),
+        None => Err(ErrorKind::UnexpectedEof.into()),
+    }
+}
+
 /// What is seen of a log now, or `None` if it is not the one that was seen: the head has changed as no checkpoint of
 /// the register changes it, or the last frame that was seen is another one.
 fn look_again(log: &File, seen: &Seen) -> io::Result<Option<Seen>> {
@@ -96,22 +104,46 @@ fn look_again(log: &File, seen: &Seen) -> io::Result<Option<Seen>> {
     Ok(Some(look_on(log, *seen)?))
 }
 
+/// A file by its path, as it was when it was last looked at.
+#[derive(Drop)]
+struct Sight {
+    path: String,
+    identity: Identity,
+    /// Its length in bytes. An open register never makes it shorter.
+    size: Cell<u64>,
+}
+
+impl Sight {
+    /// The file of this path, of which the system tells this.
+    fn new(path: String, found: &Metadata) -> Sight
+        ensures { result.path ≡ path }
+    {
+        Sight {
+            path,
+            identity: identity_of(found),
+            size: Cell::new(found.len()),
+        }
+    }
+
+    /// Whether the path still leads to the same file, and it is no shorter.
+    fn is_there(&self, rt: &HostRuntime) -> io::Result<bool> {
+        let found = fs::metadata(rt, self.path.as_str())?;
+        let is_whole = found.len() >= self.size.get();
+        self.size.set(found.len());
+        Ok(is_whole && identity_of(&found) == self.identity)
+    }
+}
+
 /// The file of an open register and the log beside it.
 #[derive(Drop)]
 pub struct Watch<'a> {
     rt: &'a HostRuntime,
-    /// The path of the file, as it was named.
-    file: String,
-    /// The path of the log. It is beside the file to which links lead.
-    log: String,
-    file_identity: Identity,
-    log_identity: Identity,
+    /// The file by its path as it was named.
+    file: Sight,
+    /// The log. It is beside the file to which links lead.
+    log: Sight,
     /// The log itself.
     opened: File,
-    /// The length of the file in bytes when it was last looked at. An open register never makes it shorter.
-    file_size: Cell<u64>,
-    /// The length of the log in bytes when it was last looked at. An open register never makes it shorter.
-    log_size: Cell<u64>,
     /// What was seen of the log when it was last looked at.
     seen: Cell<Seen>,
     is_lost: Cell<bool>,
@@ -121,27 +153,20 @@ impl<'a> Watch<'a> {
     /// Watches the files of the register that was just opened at this path. Errors: those of the system, and out of
     /// memory.
     pub fn over(rt: &'a HostRuntime, path: &str) -> io::Result<Watch<'a>>
-        ensures { IfOk result (λ watch. string_bytes watch.file ≡ path.now) }
+        ensures { IfOk result (λ watch. string_bytes watch.file.path ≡ path.now) }
     {
         let file = String::from_str(rt.alloc(), path)?;
         let mut log = fs::canonicalize(rt, path)?.into_string();
         log.push_str("-wal")?;
-        let found = fs::metadata(rt, path)?;
+        let file = Sight::new(file, &fs::metadata(rt, path)?);
         let opened = File::open(rt, log.as_str())?;
-        let beside = opened.metadata()?;
-        let Some(head) = bytes_at::<HEAD_SIZE>(&opened, 0)? else {
-            return Err(ErrorKind::UnexpectedEof.into());
-        };
-        let seen = look_anew(&opened, head)?;
+        let log = Sight::new(log, &opened.metadata()?);
+        let seen = first_seen(&opened)?;
         Ok(Watch {
             rt,
             file,
             log,
-            file_identity: identity_of(&found),
-            log_identity: identity_of(&beside),
             opened,
-            file_size: Cell::new(found.len()),
-            log_size: Cell::new(beside.len()),
             seen: Cell::new(seen),
             is_lost: Cell::new(false),
         })
@@ -149,16 +174,7 @@ impl<'a> Watch<'a> {
 
     /// Whether both paths still lead to the files that were opened, and neither is shorter.
     fn has_files(&self) -> io::Result<bool> {
-        let file = fs::metadata(self.rt, self.file.as_str())?;
-        let log = fs::metadata(self.rt, self.log.as_str())?;
-        let is_whole = file.len() >= self.file_size.get() && log.len() >= self.log_size.get();
-        self.file_size.set(file.len());
-        self.log_size.set(log.len());
-        Ok(
-            is_whole
-                && identity_of(&file) == self.file_identity
-                && identity_of(&log) == self.log_identity,
-        )
+        Ok(self.file.is_there(self.rt)? && self.log.is_there(self.rt)?)
     }
 
     /// Whether the log has all transactions that it had, or was begun anew by the register since.

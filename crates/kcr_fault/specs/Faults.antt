@@ -1,7 +1,7 @@
 -- Why a task was not done to its end, and what is told of it.
 use Rattle.std.specs.Fmt.{decimal}
 use Rattle.std.specs.Prelude.{◌≡◌, ◌≢◌, ◌⊎◌, ℕ, Bool, List, [], ◌++◌, codes, Option, Some, None, IsSome, IsTrue}
-use Rattle.std.specs.Prelude.{if◌then◌else◌}
+use Rattle.std.specs.Prelude.{if◌then◌else◌, unwrap_or}
 use Rattle.kcr_base.specs.declared.counted.Counted.{Counted}
 use Rattle.kcr_base.specs.Refusal.{number_of, word_of, thing_text}
 use Rattle.kcr_base.specs.declared.refusal.Refusal.{Refusal}
@@ -17,8 +17,7 @@ use Rattle.kcr_store.specs.declared.«open».OpenFault.TheVariants as opening
 use Rattle.kcr_log.specs.declared.judgement.Log.TheVariants as logs
 use Rattle.kcr_tables.specs.Refusals.{IsFault}
 use Rattle.kcr_verify.specs.declared.new_register.CreateFault.TheVariants as fresh
-use Rattle.kcr_fault.specs.Lines.{broken_line, call_head, found_line, invalid_line, log_line, missing_line, name_of}
-use Rattle.kcr_fault.specs.Lines.{numbered, step_head}
+use Rattle.kcr_fault.specs.Lines.{broken_line, call_head, found_line, invalid_line, log_line, missing_line, numbered, step_head}
 use Rattle.kcr_fault.specs.Notes.{IsMissing, IsNoted, IsUnfilled, WritesLines}
 use Rattle.kcr_fault.specs.declared.fault.Fault.{Fault}
 use Rattle.kcr_fault.specs.declared.fault.Fault.TheVariants.{Open, File, Log, Nothing, Into, IntoFile, Stream, Refused}
@@ -38,8 +37,7 @@ named other = codes "\n"
 abbrev pub refusal_line : Refusal → List ℕ
 refusal_line r = codes "refused: " ++ (numbered (number_of r) (word_of r) ++ named r)
 
--- the line of a fault for which no memory is needed: of a refusal, and of a register with no command, it says that there
--- was none
+-- the line of a fault for which no memory is needed: of a refusal, or where no commands are, it says that there was none
 abbrev pub reason_of : Fault → List ℕ
 reason_of (Open opening.Memory) = codes "open: memory\n"
 reason_of (Open opening.Disk) = codes "open: disk\n"
@@ -65,20 +63,18 @@ abbrev pub port_of : Option Task → ℕ
 port_of (Some (Serve serving)) = serving.port
 port_of other = 0
 
--- what failed, with what the words name: the task, the file of the register and that of a new one. Of some faults there
--- is no more to tell
+-- what failed, with what the words name: a task, the register's file and that of a new one; of some faults nothing
 abbrev pub second_line : Option Task → Option (List ℕ) → Option (List ℕ) → Fault → List ℕ
 second_line task file into (Log log) = log_line log
-second_line task file into (File step) = found_line (step_head step) (name_of file)
-second_line task file into (IntoFile step) = found_line (step_head step) (name_of into)
+second_line task file into (File step) = found_line (step_head step) (unwrap_or file [])
+second_line task file into (IntoFile step) = found_line (step_head step) (unwrap_or into [])
 second_line task file into (Net call) = found_line (call_head call) (decimal (port_of task))
-second_line task file into Lost = found_line (codes "lost: ") (name_of file)
+second_line task file into Lost = found_line (codes "lost: ") (unwrap_or file [])
 second_line task file into (Broken why) = broken_line why
 second_line task file into (Invalid row) = invalid_line row
 second_line task file into other = []
 
--- the line that tells a fault, and a second one if it is explained; of a refusal, and of a register without commands, the
--- line says all
+-- the line of a fault, and a second one if it is explained; of a refusal, or where no commands are, the line says all
 abbrev pub lines_of : Bool → Option Task → Option (List ℕ) → Option (List ℕ) → Fault → List ℕ
 lines_of is_explained task file into (Refused r) = refusal_line r
 lines_of is_explained task file into (Nothing missing) = missing_line file missing
@@ -103,8 +99,8 @@ abbrev pub fault_of_print : PrintFault → Fault
 fault_of_print (print.Refused r) = Refused r
 fault_of_print print.Write = Unwritten
 
--- the refusals of a task, if nothing broke the register before: out of memory and an I/O error; of a report of
--- a ceremony, that this ceremony is unknown; of a port, out of memory alone. A stream has its refusals as answers
+-- the refusals of a task over a register that is not broken: out of memory and an I/O error; of a report of a ceremony
+-- that this is unknown; of a port only out of memory. A stream has its refusals as answers
 abbrev pub MayMeet : Task → Refusal → Type 0
 MayMeet Run met = ⊥
 MayMeet (Serve serving) met = met ≡ refusal.Memory
@@ -121,8 +117,7 @@ abbrev pub IsServe : Task → Type 0
 IsServe task = (serving : Serving) × (task ≡ Serve serving)
 
 -- what caused the fault of a task over a register that was opened: each fault comes only from a task that can have it.
--- That memory ran out, that the device failed, that the port is taken and that the file is gone has no further cause
--- here
+-- No further cause is told here of memory that ran out, of the device, of a port that is taken and of a file that is gone
 abbrev pub StopsTask : {R W : Type 0} → Task → Streams R W → Fault → Type 0
 StopsTask task s (Stream fault) = (task ≡ Run) × BreaksStream s fault
 StopsTask task s (Refused met) = MayMeet task met
@@ -133,17 +128,9 @@ StopsTask task s (Broken why) = IsServe task
 StopsTask task s (Invalid row) = MayMeet task refusal.Disk
 StopsTask task s other = ⊥
 
--- the task is known, and its fault has this cause
-abbrev pub StopsKnown : {R W : Type 0} → Option Task → Streams R W → Fault → Type 0
-StopsKnown task s why = (known : Task) × (task ≡ Some known) × StopsTask known s why
-
 -- the task makes a new file of a register
 abbrev pub IsMaking : Option Task → Type 0
 IsMaking task = (task ≡ Some Rebuild) ⊎ (task ≡ Some Pack)
-
--- the task wants a register with commands
-abbrev pub WantsCommands : Option Task → Type 0
-WantsCommands task = (task ≡ Some Verify) ⊎ IsMaking task
 
 -- what caused the fault of a task over the file, if one is named. A register that is not opened, a damaged log, one
 -- without commands where some are wanted, a new register that cannot be made, and words for which there is no memory:
@@ -152,14 +139,13 @@ abbrev pub HasCause : {R W : Type 0} → Option Task → Option (List ℕ) → S
 HasCause task file s (Open fault) = (file ≡ None → fault ≡ opening.Memory) × IsUntouched s
 HasCause task file s (File step) = IsSome file × IsUntouched s
 HasCause task file s (Log log) = (log ≢ logs.Sound) × IsSome file × IsUntouched s
-HasCause task file s (Nothing missing) = WantsCommands task × IsMissing file missing × IsUntouched s
+HasCause task file s (Nothing missing) = ((task ≡ Some Verify) ⊎ IsMaking task) × IsMissing file missing × IsUntouched s
 HasCause task file s (Into fault) = IsMaking task × IsUntouched s
 HasCause task file s (IntoFile step) = IsMaking task × IsUntouched s
 HasCause task file s Words = IsUntouched s
-HasCause task file s other = StopsKnown task s other
+HasCause task file s other = (known : Task) × (task ≡ Some known) × StopsTask known s other
 
--- why a report, an audit or a line was not written whole: a refusal that may be met, or a failed write, which the
--- writer's count tells
+-- why a report, an audit or a line was not written whole: a refusal that may be met, or a failed write, which is counted
 abbrev pub StopsReport : {W : Type 0} → (Refusal → Type 0) → Writing W → Fault → Type 0
 StopsReport May w (Refused met) = May met
 StopsReport May w (Invalid row) = May refusal.Disk
@@ -180,8 +166,7 @@ StopsReading (Refused met) = IsFault met
 StopsReading (Invalid row) = Unit {0}
 StopsReading other = StopsOpening other
 
--- why a replay stopped: as a report does, or there was nothing to replay or no new register could be made, and then
--- nothing was written
+-- why a replay stopped: as a report does, or there was nothing to replay, and then nothing was written
 abbrev pub StopsReplay : {W : Type 0} → Writing W → Fault → Type 0
 StopsReplay w (Nothing missing) = IsUnfilled missing × WritesNothing w
 StopsReplay w other = StopsReport IsFault w other
@@ -198,8 +183,7 @@ StopsRebuild w (Into fault) = WritesNothing w
 StopsRebuild w (IntoFile step) = WritesNothing w
 StopsRebuild w other = StopsReplay w other
 
--- why a port is left before all connections were served: none could be accepted, the file is gone, or the register is
--- broken now
+-- why a port is left too early: no connection could be accepted, the file is gone, or the register is broken now
 abbrev pub StopsListening : {S : Type 0} → RegisterState S → Fault → Type 0
 StopsListening register fault =
     (fault ≡ Net call.Accepting)

@@ -5,7 +5,7 @@ use Rattle.std.specs.Fmt.{decimal}
 use Rattle.kcr_base.specs.Moment.{moment_text}
 use Rattle.kcr_history.specs.Refusals.{refusal_text}
 use Rattle.kcr_history.specs.declared.views.Finding.{Finding}
-use Rattle.kcr_history.specs.declared.views.Finding.TheVariants as Findings
+use Rattle.kcr_history.specs.declared.views.Finding.TheVariants.{Seating, Custody, Bag, Key, Lone, Crowd}
 use Rattle.kcr_log.specs.declared.judgement.Log.{Log}
 use Rattle.kcr_log.specs.declared.judgement.Log.TheVariants as Logs
 use Rattle.kcr_store.specs.declared.breakage.Breakage.{Breakage}
@@ -14,7 +14,7 @@ use Rattle.kcr_verify.specs.Quoted.{row_line}
 use Rattle.kcr_verify.specs.Verification.{name_of as table_name}
 use Rattle.kcr_verify.specs.declared.invalid.InvalidRow.{InvalidRow}
 use Rattle.kcr_verify.specs.declared.verification.Difference.{Difference}
-use Rattle.kcr_verify.specs.declared.verification.Difference.TheVariants as Differences
+use Rattle.kcr_verify.specs.declared.verification.Difference.TheVariants.{Number, Command, Refused, Reply, Rows}
 use Rattle.kcr_fault.specs.declared.fault.Call.{Call}
 use Rattle.kcr_fault.specs.declared.fault.Call.TheVariants.{Binding, Accepting}
 use Rattle.kcr_fault.specs.declared.fault.Missing.{Missing}
@@ -40,25 +40,20 @@ found_line kind subject = kind ++ (subject ++ codes "\n")
 
 -- what an audit found
 abbrev pub finding_line : Finding → List ℕ
-finding_line (Findings.Seating ceremony step) =
-    found_line (codes "finding: seating ") (numbered ceremony (decimal step))
-finding_line (Findings.Custody item) = found_line (codes "finding: custody ") item
-finding_line (Findings.Bag serial) = found_line (codes "finding: bag ") serial
-finding_line (Findings.Key key) = found_line (codes "finding: key ") key
-finding_line (Findings.Lone ceremony moment) =
-    found_line (codes "finding: lone ") (numbered ceremony (moment_text moment))
-finding_line (Findings.Crowd ceremony moment) =
-    found_line (codes "finding: crowd ") (numbered ceremony (moment_text moment))
+finding_line (Seating ceremony step) = found_line (codes "finding: seating ") (numbered ceremony (decimal step))
+finding_line (Custody item) = found_line (codes "finding: custody ") item
+finding_line (Bag serial) = found_line (codes "finding: bag ") serial
+finding_line (Key key) = found_line (codes "finding: key ") key
+finding_line (Lone ceremony moment) = found_line (codes "finding: lone ") (numbered ceremony (moment_text moment))
+finding_line (Crowd ceremony moment) = found_line (codes "finding: crowd ") (numbered ceremony (moment_text moment))
 
--- how the line of a register begins that was verified
+-- how the line of a register begins that was verified, rebuilt or packed
 abbrev pub verified_head : List ℕ
 verified_head = codes "verified: "
 
--- the same for a register that was rebuilt
 abbrev pub rebuilt_head : List ℕ
 rebuilt_head = codes "rebuilt: "
 
--- the same for one that was packed
 abbrev pub packed_head : List ℕ
 packed_head = codes "packed: "
 
@@ -75,30 +70,27 @@ abbrev pub judged_line : List ℕ → List ℕ → List ℕ → List ℕ → Lis
 judged_line head expected found word =
     head ++ (expected ++ (codes "; found " ++ (in_a_line found ++ (word ++ codes "\n"))))
 
-abbrev pub expected_line : List ℕ → List ℕ → List ℕ → List ℕ
-expected_line head expected found = judged_line head expected found []
-
 -- whether the people of a stored reply fill the seats; nothing if nothing is told of them
 abbrev pub seating_word : Option Bool → List ℕ
 seating_word None = []
 seating_word (Some true) = codes "; a seating"
 seating_word (Some false) = codes "; no seating"
 
+-- the first line on a number of what differs, and the second with what was expected and found, and a word on it
+abbrev pub differing_lines : List ℕ → ℕ → List ℕ → List ℕ → List ℕ → List ℕ → List ℕ
+differing_lines kind number head expected found word = found_line kind (decimal number) ++ judged_line head expected found word
+
 -- what differs, as a verification found it: what the rules give and what is stored; of a table its first row that differs
 abbrev pub difference_line : Difference → List ℕ
-difference_line (Differences.Number place found) =
-    found_line (codes "finding: number ") (decimal place)
-    ++ expected_line (codes "number: expected ") (decimal place) (decimal found)
-difference_line (Differences.Command number found) =
-    found_line (codes "finding: command ") (decimal number)
-    ++ expected_line (codes "command: expected ") (codes "a command") found
-difference_line (Differences.Refused number refusal found) =
-    found_line (codes "finding: refused ") (decimal number)
-    ++ expected_line (codes "refused: expected ") (refusal_text refusal) found
-difference_line (Differences.Reply number expected found is_seating) =
-    found_line (codes "finding: reply ") (decimal number)
-    ++ judged_line (codes "reply: expected ") expected found (seating_word is_seating)
-difference_line (Differences.Rows table row) = found_line (codes "finding: table ") (table_name table) ++ row_line row
+difference_line (Number place found) =
+    differing_lines (codes "finding: number ") place (codes "number: expected ") (decimal place) (decimal found) []
+difference_line (Command number found) =
+    differing_lines (codes "finding: command ") number (codes "command: expected ") (codes "a command") found []
+difference_line (Refused number refusal found) =
+    differing_lines (codes "finding: refused ") number (codes "refused: expected ") (refusal_text refusal) found []
+difference_line (Reply number expected found is_seating) =
+    differing_lines (codes "finding: reply ") number (codes "reply: expected ") expected found (seating_word is_seating)
+difference_line (Rows table row) = found_line (codes "finding: table ") (table_name table) ++ row_line row
 
 -- what is wrong with a log, and how many transactions end in the damage or behind it
 abbrev pub log_line : Log → List ℕ
@@ -108,15 +100,11 @@ log_line (Logs.WrongFrame first count) =
     found_line (codes "log: wrong from frame " ++ (decimal first ++ codes ", commits ")) (decimal count)
 log_line (Logs.NoFile count) = found_line (codes "log: no file, commits ") (decimal count)
 
--- the name of a file, or nothing if none is named
-abbrev pub name_of : Option (List ℕ) → List ℕ
-name_of name = unwrap_or name []
-
 -- there is no register with commands
 abbrev pub missing_line : Option (List ℕ) → Missing → List ℕ
 missing_line file Unnamed = codes "note: no file is named\n"
-missing_line file Absent = codes "note: " ++ (name_of file ++ codes " is not there\n")
-missing_line file Empty = codes "note: " ++ (name_of file ++ codes " has no command\n")
+missing_line file Absent = codes "note: " ++ (unwrap_or file [] ++ codes " is not there\n")
+missing_line file Empty = codes "note: " ++ (unwrap_or file [] ++ codes " has no command\n")
 
 -- at what a file failed; its name follows
 abbrev pub step_head : Step → List ℕ

@@ -1,10 +1,10 @@
 //! Why a task was not done to its end, and the line that tells it.
-ghost use Rattle.std.specs.Prelude.{◌≡◌, ℕ, List, Some, IfOk, option_map, string_bytes};
+ghost use Rattle.std.specs.Prelude.{◌≡◌, ℕ, List, [], Some, IfOk, option_map, string_bytes, unwrap_or};
 ghost use Rattle.kcr_desk.specs.Streams.{writing};
 ghost use Rattle.kcr_fault.specs.Faults.{AreLinesOf, refusal_line, reason_of, second_line, lines_of, port_of};
 ghost use Rattle.kcr_fault.specs.Notes.{IsTold, WritesLines};
 ghost use Rattle.kcr_arguments.specs.Tasks.{file_in, into_in};
-ghost use Rattle.kcr_fault.specs.Lines.{broken_line, call_head, invalid_line, log_line, name_of, missing_line, step_head};
+ghost use Rattle.kcr_fault.specs.Lines.{broken_line, call_head, invalid_line, log_line, missing_line, step_head};
 
 use crate::lines::{around, in_a_line, numbered};
 use itoa::Buffer;
@@ -19,7 +19,7 @@ use std::alloc::{AllocError, Global};
 use std::io::Write;
 
 /// At what a file failed.
-#[derive(Clone, Copy, PartialEq, Eq)]
+#[derive(Clone, Copy)]
 pub enum Step {
     /// It is not there, and is not made.
     Missing,
@@ -32,7 +32,7 @@ pub enum Step {
 }
 
 /// At what a port failed.
-#[derive(Clone, Copy, PartialEq, Eq)]
+#[derive(Clone, Copy)]
 pub enum Call {
     /// It is taken, or may not be taken.
     Binding,
@@ -41,7 +41,7 @@ pub enum Call {
 }
 
 /// What is there in place of a register with commands.
-#[derive(Clone, Copy, PartialEq, Eq)]
+#[derive(Clone, Copy)]
 pub enum Missing {
     /// The words name no file.
     Unnamed,
@@ -181,7 +181,7 @@ fn wrong(alloc: Global, log: &Log) -> Result<String, AllocError>
 
 /// A name that was given, or nothing.
 pub fn name_of(name: Option<&str>) -> &str
-    ensures { result.now ≡ name_of (option_map (λ n. n.now) name.entry) }
+    ensures { result.now ≡ unwrap_or (option_map (λ n. n.now) name.entry) [] }
 {
     match name {
         Some(name) => name,

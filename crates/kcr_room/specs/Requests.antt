@@ -81,6 +81,11 @@ lone_refusal moment = option_map Lone moment
 abbrev pub clipped_to_moment : ℕ → Stay → Stay
 clipped_to_moment at stay = record stay { since = if nat_lt stay.since at then at else stay.since }
 
+-- a stay of the ceremony with the rows of the request, from its moment on
+abbrev pub later_stay : Way → List (List ℕ) → ℕ → Stay → Stay
+later_stay Enter people at stay = clipped_to_moment at stay
+later_stay Leave people at stay = clipped_to_moment at (with_end people at stay)
+
 -- the ceremony's stays with the rows of the request, from its moment on
 abbrev pub stays_from_moment : List Stay → ℕ → Way → List (List ℕ) → ℕ → List Stay
 stays_from_moment stays ceremony way people at = map (clipped_to_moment at) (stays_after_request stays ceremony way people at)

@@ -1,5 +1,5 @@
 //! What a request of the sheet changes, by stays, or the first reason why it is refused.
-ghost use Rattle.std.specs.Prelude.{MatchResult, Some, ◌≢◌, ◌≡◌, IfOk, None, map};
+ghost use Rattle.std.specs.Prelude.{MatchResult, Some, ◌≢◌, ◌≡◌, IfOk, OnOk, None, map, ◌++◌};
 ghost use Rattle.std.specs.List.{find, filter, list_any};
 ghost use Rattle.kcr_base.specs.declared.refusal.Refusal.TheVariants.{Memory};
 ghost use Rattle.kcr_room.specs.Requests;
@@ -105,55 +105,40 @@ fn with_end(people: &[Initials], at: Moment, stay: &Stay) -> Stay
     }
 }
 
-fn new_stay(ceremony: u32, at: Moment, who: Initials) -> Stay
-    ensures { result ≡ Requests.new_stay ceremony at who }
-{
-    Stay {
-        ceremony,
-        who,
-        since: at,
-        until: None,
-    }
-}
-
 fn is_open_stay_of(ceremony: u32, people: &[Initials], stay: &Stay) -> bool
     ensures { result ≡ Requests.is_open_stay_of ceremony people.now stay.now }
 {
     stay.ceremony == ceremony && is_among(people, stay.who) && has_no_end(stay.until)
 }
 
-// The ceremony's stays with those who come, from the moment on.
-fn after_enter(
-    alloc: Global,
-    stays: &[Stay],
-    request: &SheetRequest<'_>,
-) -> Result<Vec<Stay>, AllocError>
-    ensures { let asked : SheetRequest = request.now in IfOk result (λ later.
-        later.items ≡ Requests.stays_from_moment stays.now asked.ceremony Enter asked.people.now asked.at) }
+// A stay of the ceremony after the request, from its moment on.
+fn later_stay(request: &SheetRequest<'_>, stay: &Stay) -> Stay
+    ensures { let asked : SheetRequest = request.now in
+        result ≡ Requests.later_stay asked.way asked.people.now asked.at stay.now }
 {
-    let mut later: Vec<Stay> = stays
-        .iter()
-        .filter(|stay| stay.ceremony == request.ceremony)
-        .map(|stay| clipped_to_moment(request.at, stay))
-        .collect(alloc)?;
-    later.extend_from_slice(&new_stays(alloc, request)?)?;
-    Ok(later)
+    match request.way {
+        Way::Enter => clipped_to_moment(request.at, stay),
+        Way::Leave => clipped_to_moment(request.at, &with_end(request.people, request.at, stay)),
+    }
 }
 
-// The ceremony's stays if these people leave, from the moment on.
-fn after_leave(
+// The ceremony's stays after the request, from its moment on, without those of the people who come.
+fn later_stays(
     alloc: Global,
     stays: &[Stay],
     request: &SheetRequest<'_>,
 ) -> Result<Vec<Stay>, AllocError>
     ensures { let asked : SheetRequest = request.now in IfOk result (λ later.
-        later.items ≡ Requests.stays_from_moment stays.now asked.ceremony Leave asked.people.now asked.at) }
+        later.items ≡ map (Requests.later_stay asked.way asked.people.now asked.at)
+        (filter (Requests.of_ceremony asked.ceremony) stays.now)) }
 {
-    stays
-        .iter()
-        .filter(|stay| stay.ceremony == request.ceremony)
-        .map(|stay| clipped_to_moment(request.at, &with_end(request.people, request.at, stay)))
-        .collect(alloc)
+    let mut later = Vec::new(alloc);
+    for stay in stays {
+        if stay.ceremony == request.ceremony {
+            later.push(later_stay(request, stay))?;
+        }
+    }
+    Ok(later)
 }
 
 // The ceremony's stays after the request, from its moment on.
@@ -165,21 +150,27 @@ fn stays_from_moment(
     ensures { let asked : SheetRequest = request.now in IfOk result (λ later.
         later.items ≡ Requests.stays_from_moment stays.now asked.ceremony asked.way asked.people.now asked.at) }
 {
-    match request.way {
-        Way::Enter => after_enter(alloc, stays, request),
-        Way::Leave => after_leave(alloc, stays, request),
+    let mut later = later_stays(alloc, stays, request)?;
+    if let Way::Enter = request.way {
+        add_new_stays(&mut later, request)?;
     }
+    Ok(later)
 }
 
-fn new_stays(alloc: Global, request: &SheetRequest<'_>) -> Result<Vec<Stay>, AllocError>
-    ensures { let asked : SheetRequest = request.now in IfOk result (λ changed.
-        changed.items ≡ map (Requests.new_stay asked.ceremony asked.at) asked.people.now) }
+// Adds the stays of the people who come.
+fn add_new_stays(stays: &mut Vec<Stay>, request: &SheetRequest<'_>) -> Result<(), AllocError>
+    ensures { let asked : SheetRequest = request.now in OnOk result
+        (stays.new.items ≡ stays.old.items ++ map (Requests.new_stay asked.ceremony asked.at) asked.people.now) }
 {
-    request
-        .people
-        .iter()
-        .map(|who| new_stay(request.ceremony, request.at, *who))
-        .collect(alloc)
+    for who in request.people {
+        stays.push(Stay {
+            ceremony: request.ceremony,
+            who: *who,
+            since: request.at,
+            until: None,
+        })?;
+    }
+    Ok(())
 }
 
 fn ended_stays(
@@ -191,11 +182,13 @@ fn ended_stays(
         changed.items ≡ map (Requests.with_end asked.people.now asked.at)
         (filter (Requests.is_open_stay_of asked.ceremony asked.people.now) stays.now)) }
 {
-    stays
-        .iter()
-        .filter(|stay| is_open_stay_of(request.ceremony, request.people, *stay))
-        .map(|stay| with_end(request.people, request.at, stay))
-        .collect(alloc)
+    let mut changed = Vec::new(alloc);
+    for stay in stays {
+        if is_open_stay_of(request.ceremony, request.people, stay) {
+            changed.push(with_end(request.people, request.at, stay))?;
+        }
+    }
+    Ok(changed)
 }
 
 // The stays that the request changes.
@@ -208,7 +201,11 @@ fn changed_stays(
         changed.items ≡ Requests.changed_stays stays.now asked.ceremony asked.way asked.people.now asked.at) }
 {
     match request.way {
-        Way::Enter => new_stays(alloc, request),
+        Way::Enter => {
+            let mut changed = Vec::new(alloc);
+            add_new_stays(&mut changed, request)?;
+            Ok(changed)
+        }
         Way::Leave => ended_stays(alloc, stays, request),
     }
 }

@@ -8,7 +8,6 @@ ghost use Rattle.kcr_script.specs.Script.{header};
 use crate::seats::Seats;
 use csv::ByteRecord;
 use kcr_base::Activity;
-use std::alloc::AllocError;
 use std::marker::Model;
 
 /// A step of a script.
@@ -18,17 +17,6 @@ pub struct Step {
     pub activity: Activity,
     /// Who has to be there, 1 to 16 seats.
     pub seats: Seats,
-}
-
-impl Clone for Step {
-    ghost is_clone = { λ a b. b ≡ a };
-
-    fn clone(&self) -> Result<Self, AllocError> {
-        Ok(Step {
-            activity: self.activity.clone()?,
-            seats: self.seats.clone()?,
-        })
-    }
 }
 
 /// The steps of a ceremony in order, 1 to `MAX_STEPS`: step k stands at position k - 1.
@@ -66,16 +54,6 @@ impl Script {
         ensures form { HasSteps self.now }
     {
         self.steps.as_slice()
-    }
-}
-
-impl Clone for Script {
-    ghost is_clone = { λ a b. b ≡ a };
-
-    fn clone(&self) -> Result<Self, AllocError> {
-        Ok(Script {
-            steps: self.steps.clone()?,
-        })
     }
 }
 

@@ -8,9 +8,6 @@ ghost use Rattle.kcr_script.specs.Seats.{Item, IsItem, item_text, pair_item, Spe
 ghost use Rattle.kcr_script.specs.Seats.{runs, groups, appended, all_appended, written};
 ghost use Rattle.kcr_script.specs.Reading.{seats_of};
 ghost use Rattle.kcr_script.specs.Seat.{IsSeat};
-ghost use Rattle.std.specs.Cmp.Lexicographic.{pointwise, lists_per};
-ghost use Rattle.std.specs.Cmp.Rules.{comparing};
-ghost use Rattle.std.proofs.Common.{rules};
 ghost use Rattle.kcr_script.specs.declared.seat.Seat.{Seat};
 
 use crate::seat::Seat;
@@ -52,16 +49,6 @@ impl Clone for Seats {
         Ok(Seats {
             list: self.list.clone()?,
         })
-    }
-}
-
-impl PartialEq for Seats {
-    ghost eq = { pointwise ⟦<Seat as PartialEq>⟧.eq };
-
-    ghost laws = { lists_per (Prim.search (comparing, rules)) };
-
-    fn eq(&self, other: &Self) -> bool {
-        self.list.as_slice() == other.list.as_slice()
     }
 }
 
