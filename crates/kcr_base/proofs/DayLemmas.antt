@@ -1,6 +1,6 @@
 -- A day number and its date name each other.
 use Rattle.std.proofs.Common.{◌≡◌, All, ℕ, cond, nat_lt, zero, suc, ◌+◌, ◌-◌, ◌*◌, ◌/◌, ◌%◌, ◌<◌, ◌≤◌, inl, inr, Option, Some, List, [], ◌∷◌, ◌++◌}
-use Rattle.std.proofs.Common.{length, take, drop, refl, sym, ap, ◌∙◌, arith, ℤ, pos, ◌+ℤ◌, subst}
+use Rattle.std.proofs.Common.{get_or, length, take, drop, refl, sym, ap, ◌∙◌, arith, ℤ, pos, ◌+ℤ◌, subst}
 use Rattle.std.specs.List.{AllByRecursion}
 use Rattle.std.proofs.lemmas.List.Elements.{All-append, All-from_recursion}
 use Rattle.std.proofs.lemmas.List.{take-append-drop}
@@ -268,3 +268,7 @@ unfolding moment_text day_text
 moment_ascii t h =
     All-append (λ b. b < 128) (day_text (t / 86400)) (84 ∷ clock_text (t % 86400) ++ 90 ∷ []) (day_ascii (t / 86400) (day_of_moment t h))
     (All-from_recursion (λ b. b < 128) (84 ∷ clock_text (t % 86400) ++ 90 ∷ []) (clock_ascii (t % 86400) (omega arith)))
+
+-- the two bytes from this one on
+abbrev pub two_at : ℕ → List ℕ → List ℕ
+two_at i bytes = get_or bytes i 0 ∷ get_or bytes (i + 1) 0 ∷ []

@@ -11,8 +11,8 @@ use Rattle.kcr_seats.specs.Search.{IsClosed, IsListed, IsMarked, IsReached, IsRo
 use Rattle.kcr_seats.proofs.Between.{IsAlternatingPath}
 use Rattle.kcr_seats.proofs.Counting.{length_under, same_or_not, true_or_false}
 use Rattle.kcr_seats.proofs.Least.{first_below, rising_apart, short}
-use Rattle.kcr_seats.proofs.SearchLemmas.{can_take_at, can_take_some, last_or_not, marked_more, order_short, placed, reached_more}
-use Rattle.kcr_seats.proofs.SearchLemmas.{root_marked, root_reached, some_more, way_back}
+use Rattle.kcr_seats.proofs.SearchLemmas.{can_take_at, can_take_some, listed_more, listed_same, marked_more, order_short, placed, reached_more}
+use Rattle.kcr_seats.proofs.SearchLemmas.{root_marked, root_reached, way_back}
 
 -- a relation that has a seating has no short list of seats: a seating gives the seats of a list as many people who fit one of them
 pub not_both : NotBoth
@@ -97,24 +97,6 @@ walk {root = root} {index = index} {person = person} {w = w} {order = order} {fr
 ]
 
 -- the marked seats below n, rising
-listed_more : {marked : List Bool} {n : ℕ} {s : List ℕ} → IsListed marked n s → get_or marked n false ≡ true → IsListed marked (suc n) (s ++ n ∷ [])
-listed_more {marked} {n} {s} l passes = record {
-  rising = λ i h. (
-      let here : get_or (s ++ n ∷ []) i 0 ≡ get_or s i 0 = get_or-append s (n ∷ []) 0 i (let h' = simp length-append at h in omega arith) in
-      elim (last_or_not s n (i + 1) h) [ inl a ↦ rw (a.1, here) (l.rising i a.0) | inr a ↦ rw (a.1, here) (l.low i (omega (arith, a.0))) ]);
-  low = λ i h. elim (last_or_not s n i h) [ inl a ↦ rw a.1 (omega (arith, l.low i a.0)) | inr a ↦ rw a.1 (omega arith) ];
-  only = λ i h. elim (last_or_not s n i h) [ inl a ↦ rw a.1 (l.only i a.0) | inr a ↦ rw a.1 passes ];
-  all = λ j h e. some_more s n j (elim (same_or_not j n) [ inl q ↦ inr (sym q) | inr q ↦ inl (l.all j (omega arith) e) ]);
-}
-
-listed_same : {marked : List Bool} {n : ℕ} {s : List ℕ} → IsListed marked n s → get_or marked n false ≡ false → IsListed marked (suc n) s
-listed_same {marked} {n} l not_so = record {
-  rising = l.rising;
-  low = λ i h. omega (arith, l.low i h);
-  only = l.only;
-  all = λ j h e. elim (same_or_not j n) [ inl q ↦ (let passes : get_or marked n false ≡ true = rw q at e in absurd (cc)) | inr q ↦ l.all j (omega arith) e ];
-}
-
 list_of : (marked : List Bool) (n : ℕ) → (s : List ℕ) × IsListed marked n s
 list_of marked zero = (
   [],
@@ -125,10 +107,10 @@ list_of marked zero = (
     all = λ j h. absurd (omega arith);
   },
 )
-list_of marked (suc n) = let r = list_of marked n in elim (true_or_false (get_or marked n false)) [
+list_of marked (suc n) = let r = list_of marked n in rw (← add-one) (elim (true_or_false (get_or marked n false)) [
   | inl passes ↦ (r.0 ++ n ∷ [], listed_more r.1 passes)
   | inr not_so ↦ (r.0, listed_same r.1 not_so)
-]
+])
 
 module _ (fits : ℕ → ℕ → Bool) (seats people n : ℕ) (w : List ℕ) (y : IsSeating fits n people w) (room : n < seats) where
   -- whether the person has a seat

@@ -2,13 +2,13 @@
 use Rattle.std.proofs.Common.{◌≡◌, ◌≢◌, ℕ, suc, ◌+◌, ◌<◌, ◌≤◌, ◌⊎◌, inl, inr, Bool, true, false, List, [], ◌∷◌, ◌++◌, length, get_or}
 use Rattle.std.proofs.Common.{set, replicate, refl, arith, sym, ◌∙◌, ap, length-append}
 use Rattle.std.specs.Prelude.{SomeIndex}
-use Rattle.std.proofs.lemmas.List.{length-set, length-replicate, get_or-replicate, set-set, set-get_or, get_or-set_same, get_or-set_other}
+use Rattle.std.proofs.lemmas.List.{get_or_read, length-set, length-replicate, get_or-replicate, set-set, set-get_or, get_or-set_same, get_or-set_other}
 use Rattle.std.proofs.lemmas.List.Elements.{All-from_get_or}
 use Rattle.std.proofs.lemmas.List.Folds.{list_any_at, list_any_none}
 use Rattle.std.proofs.Math.ListN.{get_or-append}
 use Rattle.std.proofs.Math.Seq.{get_or-append_seam}
 use Rattle.kcr_seats.specs.Seating.{can_take}
-use Rattle.kcr_seats.specs.Search.{IsRootAlone, IsReached, IsMarked, IsClosed}
+use Rattle.kcr_seats.specs.Search.{IsRootAlone, IsReached, IsMarked, IsClosed, IsListed}
 use Rattle.kcr_seats.proofs.Between.{IsAlternatingPath, IsRow}
 use Rattle.kcr_seats.specs.Placement.{IsPlaced}
 use Rattle.kcr_seats.proofs.Counting.{pigeonhole, true_or_false, same_or_not}
@@ -200,6 +200,17 @@ module _ {fits : ℕ → ℕ → Bool} {root fixed next other seat : ℕ} {w ord
   ]
 
 module _ {fits : ℕ → ℕ → Bool} {people root index person : ℕ} {w order from : List ℕ} (y : IsAlternatingPath fits people root index person w order from) where
+  -- the seat that was read at the index is one of the list
+  pub read_inside : {fixed seat : ℕ} {w0 : List ℕ} → IsReached fits root fixed w0 order from → length w ≡ length w0 → seat ≡ get_or order index seat
+      → seat < length w
+  read_inside {seat = seat} r long e = let high = r.high index y.inside in omega (arith, get_or_read order index seat y.inside e 0, high)
+
+  -- the index that was read there is lower
+  pub read_before : {fixed before : ℕ} {w0 : List ℕ} → IsReached fits root fixed w0 order from → 0 < index → before ≡ get_or from index before
+      → before < index
+  read_before {before = before} r some e =
+      omega (arith, get_or_read from index before (omega (arith, r.linked, y.inside)) e 0, y.before index some (omega arith))
+
   -- the way shortens by a seat
   pub way_back : {fixed index' person' seat : ℕ} {w0 : List ℕ} → IsReached fits root fixed w0 order from → length w ≡ length w0 → 0 < index
       → index' ≡ get_or from index 0 → seat ≡ get_or order index 0 → person' ≡ get_or w seat 0
@@ -246,3 +257,23 @@ module _ {fits : ℕ → ℕ → Bool} {people root index person : ℕ} {w order
 -- the seat has its person back
 pub restored : (w w' : List ℕ) (seat person old : ℕ) → w' ≡ set w seat person → old ≡ get_or w seat old → set w' seat old ≡ w
 restored w w' seat person old e o = rw (e, set-set) (ap (λ x. set w seat x) o ∙ set-get_or w seat old)
+
+-- a marked seat is one more of the list
+pub listed_more : {marked : List Bool} {n : ℕ} {s : List ℕ} → IsListed marked n s → get_or marked n false ≡ true → IsListed marked (n + 1) (s ++ n ∷ [])
+listed_more {marked} {n} {s} l passes = record {
+  rising = λ i h. (
+      let here : get_or (s ++ n ∷ []) i 0 ≡ get_or s i 0 = get_or-append s (n ∷ []) 0 i (let h' = simp length-append at h in omega arith) in
+      elim (last_or_not s n (i + 1) h) [ inl a ↦ rw (a.1, here) (l.rising i a.0) | inr a ↦ rw (a.1, here) (l.low i (omega (arith, a.0))) ]);
+  low = λ i h. elim (last_or_not s n i h) [ inl a ↦ rw a.1 (omega (arith, l.low i a.0)) | inr a ↦ rw a.1 (omega arith) ];
+  only = λ i h. elim (last_or_not s n i h) [ inl a ↦ rw a.1 (l.only i a.0) | inr a ↦ rw a.1 passes ];
+  all = λ j h e. some_more s n j (elim (same_or_not j n) [ inl q ↦ inr (sym q) | inr q ↦ inl (l.all j (omega arith) e) ]);
+}
+
+-- a seat that is not marked is not of the list
+pub listed_same : {marked : List Bool} {n : ℕ} {s : List ℕ} → IsListed marked n s → get_or marked n false ≡ false → IsListed marked (n + 1) s
+listed_same {marked} {n} l not_so = record {
+  rising = l.rising;
+  low = λ i h. omega (arith, l.low i h);
+  only = l.only;
+  all = λ j h e. elim (same_or_not j n) [ inl q ↦ (let passes : get_or marked n false ≡ true = rw q at e in absurd (cc)) | inr q ↦ l.all j (omega arith) e ];
+}

@@ -1,9 +1,10 @@
 -- Rows of people.
-use Rattle.std.proofs.Common.{◌≡◌, ℕ, ◌<◌, inl, inr, true, false, List, length, get_or, refl, arith, subst}
-use Rattle.std.proofs.lemmas.List.{get_or_past}
+use Rattle.std.proofs.Common.{◌≡◌, ℕ, ◌+◌, ◌<◌, inl, inr, true, false, List, [], ◌∷◌, ◌++◌, length, get_or, refl, arith, subst}
+use Rattle.std.proofs.lemmas.List.{get_or_past, get_or_push, get_or_append_left}
 use Rattle.std.proofs.lemmas.Nat.Bits.{bit_at-zero}
 use Rattle.kcr_seats.specs.People.{contains, nobody}
 use Rattle.kcr_seats.specs.declared.people.People.{People}
+use Rattle.kcr_seats.proofs.Counting.{same_or_not}
 use Rattle.kcr_seats.proofs.Least.{below_or_not}
 
 -- nobody is in the empty set
@@ -22,4 +23,12 @@ any_row rows people n long old i person h = elim (below_or_not i n) [
       let none : contains nobody person ≡ false = nobody_in person in
       let some : contains nobody person ≡ true = subst (λ x. contains x person ≡ true) past h in
       absurd (cc)
+]
+
+-- what holds of each row and of one more holds of each row with that one
+pub row_more : (P : ℕ → People → Type 0) (rows : List People) (row : People) (n : ℕ) → length rows ≡ n
+    → ((i : ℕ) → i < n → P i (get_or rows i nobody)) → P n row → (i : ℕ) → i < n + 1 → P i (get_or (rows ++ row ∷ []) i nobody)
+row_more P rows row n long old here i h = elim (same_or_not i n) [
+  | inl e ↦ rw (e, get_or_push rows row nobody n long) here
+  | inr ne ↦ rw (get_or_append_left rows (row ∷ []) nobody i (omega arith)) (old i (omega arith))
 ]

@@ -49,3 +49,7 @@ in_improve seats people root h = omega (arith, mul-le-mul_right (1 + search_step
 pub in_all : (seats people : ℕ) → seats * (1 + 2 * people) + all_steps seats people ≤ (people + 2) * 4 * (seats + 1) * (seats + 1) * (people + 1)
 unfolding search_steps lower_steps all_steps
 in_all seats people = omega arith
+
+-- an iteration that is not the last leaves room for one more
+pub in_loop : (n i cost : ℕ) → i < n → i * cost + cost ≤ n * cost
+in_loop n i cost h = let a : i + 1 ≤ n = omega arith in omega (arith, mul-le-mul_right cost a)

@@ -1,4 +1,5 @@
 use Rattle.std.proofs.Common.{◌≡◌, ◌≢◌, ◌+◌, ◌≤◌, ◌∙◌, ap, sym, arith, get_or, true, false}
+use Rattle.std.proofs.lemmas.Grind.{get_or_default_zero}
 use Rattle.kcr_seats.proofs.Turns.{in_lower}
 use Rattle.kcr_seats.proofs.search.assign_lowest.Goals as goal
 use Rattle.kcr_seats.specs.Matrix.{fits_of}
@@ -51,4 +52,21 @@ returns-then-branch-clause-lowered g c =
       seating = tried.seating;
       same = λ k below. tried.same k below ∙ ap (λ x. get_or x k 0) before;
       lowest = λ v s same. rw tried.here (c.loop-person.invariant.reached v s same);
+    }
+
+pub try_person-requires-clause-other : goal.try_person-requires-clause-other
+try_person-requires-clause-other g c = λ e.
+    let is = ap (λ x. get_or x c.args.seat 0) c.loop-person.invariant.same in
+    let end = get_or_default_zero c.args.seating.now.items c.args.seat c.index-person-end.result.now (omega arith) in
+    absurd (omega (arith, e, is, end, c.index-person-end.ensures))
+
+pub returns-clause-lowered : goal.returns-clause-lowered
+returns-clause-lowered g c =
+    let before = c.loop-person.invariant.same in
+    let is = ap (λ x. get_or x c.args.seat 0) before in
+    let end = get_or_default_zero c.args.seating.now.items c.args.seat c.index-person-end.result.now (omega arith) in
+    record {
+      seating = rw before c.requires.seating;
+      same = λ k below. ap (λ x. get_or x k 0) before;
+      lowest = λ v s same. omega (arith, is, end, c.index-person-end.ensures, c.loop-person.invariant.reached v s same);
     }

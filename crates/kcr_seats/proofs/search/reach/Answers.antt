@@ -1,5 +1,5 @@
-use Rattle.std.proofs.Common.{◌≡◌, ◌+◌, ◌≤◌, false, get_or, arith, length, ap}
-use Rattle.std.proofs.lemmas.Grind.{common_steps}
+use Rattle.std.proofs.Common.{◌≡◌, ◌+◌, ◌≤◌, ◌∙◌, false, get_or, arith, length, ap, sym}
+use Rattle.std.proofs.lemmas.List.{get_or_read}
 use Rattle.std.proofs.Math.Nat.{mul-le-mul_right}
 use Rattle.kcr_seats.proofs.SearchLemmas.{order_short, root_reached, root_marked, not_root, row_start, row_closed, row_more, row_less}
 use Rattle.kcr_seats.proofs.Turns.{in_row}
@@ -23,7 +23,7 @@ queue-init g c = record {
 pub row-init : goal.row-init
 row-init g c = record {
   row = row_start c.queue.next c.index-seat.result.now c.queue.invariant.reached c.queue.invariant.marks c.queue.invariant.closed
-      (omega arith) (grind (arith, common_steps));
+      (omega arith) (sym (get_or_read c.queue.reached.order.items c.queue.next _ (omega arith) c.index-seat.ensures 0));
   cost = omega arith;
 }
 
@@ -33,12 +33,13 @@ row-preserved g c =
     record {
       cost = omega arith;
       row = elim c.if-not-index.branch [
-        | then-not-index+then-contains+in_ok-put w ↦ row_more c.row.invariant.row (omega arith) (omega arith) (grind (arith, common_steps))
+        | then-not-index+then-contains+in_ok-put w ↦ row_more c.row.invariant.row (omega arith) (omega arith) (sym (rw w.if-not-index.true at c.index.ensures))
             (cc (told, w.if-contains.ensures)) (cc (w.in_ok-put.ensures.order_is)) (cc (w.in_ok-put.ensures.from_is)) (cc (w.in_ok-put.ensures.marked_is))
         | else-not-index w ↦ row_less c.row.invariant.row
             (λ h. elim w.else-not-index.branch [
               | else-not-index-via-then-not-index+else-contains v ↦ absurd (cc (told, v.if-contains.ensures))
-              | else-not-index-via-else-not-index v ↦ grind (arith, common_steps)
+              | else-not-index-via-else-not-index v ↦ sym (get_or_read c.row.reached.marked.items c.row.other _
+                  (omega (arith, c.row.invariant.row.marks.table)) c.index.ensures false) ∙ v.if-not-index.false
             ])
             (ap (λ v. v.order.items) w.reached-is) (ap (λ v. v.from.items) w.reached-is) (ap (λ v. v.marked.items) w.reached-is)
       ];
@@ -66,9 +67,14 @@ returns-clause-cost g c =
 
 pub contains-requires : goal.contains-requires
 contains-requires g c =
-    let unmarked : get_or c.row.reached.marked.items c.row.other false ≡ false = grind (arith, common_steps) in
+    let unmarked : get_or c.row.reached.marked.items c.row.other false ≡ false = sym (rw c.if-not-index.true at c.index.ensures) in
     let other = not_root c.row.invariant.row.reached c.row.other c.row.invariant.row.marks unmarked in
     omega (arith, c.requires.seated.in_range c.row.other (omega arith) other)
 
 pub returns-clause-closed : goal.returns-clause-closed
 returns-clause-closed g c = λ i j l. c.queue.invariant.closed i j (omega arith)
+
+pub row-fitting-requires : goal.row-fitting-requires
+row-fitting-requires g c =
+    let high = c.queue.invariant.reached.high c.queue.next (omega arith) in
+    omega (arith, high, get_or_read c.queue.reached.order.items c.queue.next c.index-seat.result.now (omega arith) c.index-seat.ensures 0)
