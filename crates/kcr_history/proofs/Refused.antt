@@ -6,7 +6,6 @@ use Rattle.std.specs.Fmt.{decimal}
 use Rattle.kcr_base.specs.Refusal.{number_of, word_of}
 use Rattle.kcr_base.specs.declared.refusal.Refusal.{Refusal}
 use Rattle.kcr_base.specs.declared.refusal.Refusal.TheVariants as refusal
-use Rattle.kcr_history.specs.Json.{object}
 use Rattle.kcr_history.specs.Refusals.{carries, refused_with, refusal_text}
 
 -- the word of a refusal has at most ten bytes
@@ -38,7 +37,3 @@ joined n w = simp append_assoc
 pub bare_text : (r : Refusal) → carries r ≡ false
     → (((([] ++ codes "{\"number\":") ++ decimal (number_of r)) ++ codes ",\"refusal\":\"") ++ word_of r) ++ codes "\"}" ≡ refusal_text r
 bare_text r h = rw (bare r h) (joined (decimal (number_of r)) (word_of r))
-
--- an object of three members, piece by piece
-pub of_three : (a b c : List ℕ) → (((((codes "{" ++ a) ++ codes ",") ++ b) ++ codes ",") ++ c) ++ codes "}" ≡ object (a ∷ b ∷ c ∷ [])
-of_three a b c = simp append_assoc

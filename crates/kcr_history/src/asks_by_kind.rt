@@ -103,8 +103,9 @@ fn asks_bag(alloc: Global, ceremony: CeremonyNumber, serial: Serial, at: Moment)
 fn asks_person(alloc: Global, who: Initials) -> Result<Asks, AllocError>
     ensures { IfOk result (λ asks. asks ≡ AsksByKind.asks_person who) }
 {
+    let people = only(alloc, who)?;
     let mut asks = asks_nothing();
-    asks.people = Selection::Matching(only(alloc, who)?);
+    asks.people = Selection::Matching(people);
     Ok(asks)
 }
 
@@ -168,8 +169,9 @@ fn asks_to_add(
 ) -> Result<Asks, AllocError>
     ensures { IfOk result (λ asks. asks ≡ AsksByKind.asks_to_add ceremony item at) }
 {
+    let items = only_item(alloc, item)?;
     let mut asks = asks_trained(alloc, ceremony, at);
-    asks.items = Selection::Matching(ItemFilter::Codes(only_item(alloc, item)?));
+    asks.items = Selection::Matching(ItemFilter::Codes(items));
     Ok(asks)
 }
 
@@ -216,9 +218,10 @@ fn asks_sheet(
 ) -> Result<Asks, AllocError>
     ensures { IfOk result (λ asks. asks ≡ AsksByKind.asks_sheet ceremony way people.now at) }
 {
-    let people = people.as_slice();
-    let mut asks = asks_room(ceremony, InitialsList::copy_of(alloc, people)?, at);
-    asks.people = Selection::Matching(InitialsList::copy_of(alloc, people)?);
+    let known = InitialsList::copy_of(alloc, people.as_slice())?;
+    let present = InitialsList::copy_of(alloc, people.as_slice())?;
+    let mut asks = asks_room(ceremony, present, at);
+    asks.people = Selection::Matching(known);
     asks.stay_count = stay_count_asked(way, ceremony);
     Ok(asks)
 }
@@ -258,8 +261,9 @@ fn asks_to_turn(
 ) -> Result<Asks, AllocError>
     ensures { IfOk result (λ asks. asks ≡ AsksByKind.asks_to_turn ceremony by at) }
 {
+    let people = only(alloc, by)?;
     let mut asks = asks_bare_room(alloc, ceremony, at);
-    asks.people = Selection::Matching(only(alloc, by)?);
+    asks.people = Selection::Matching(people);
     asks.trainings = Selection::Matching(TrainingFilter::Person(by));
     asks.withdrawals = Selection::Matching(by);
     asks.safes = true;

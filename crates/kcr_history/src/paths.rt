@@ -13,11 +13,7 @@ use std::alloc::{AllocError, Global};
 fn at_person(alloc: Global, who: &Initials, rest: &str) -> Result<String, AllocError>
     ensures { IfOk result (λ text. string_bytes text ≡ Texts.at_person who.now rest.now) }
 {
-    let mut text = String::from_str(alloc, "/people/")?;
-    text.push_str(who.as_str())?;
-    text.push_str("/")?;
-    text.push_str(rest)?;
-    Ok(text)
+    ["/people/", who.as_str(), "/", rest].concat(alloc)
 }
 
 /// `/custodians/`, the place, a slash, and the rest of the path.
@@ -25,11 +21,7 @@ fn at_place(alloc: Global, place: Place, rest: &str) -> Result<String, AllocErro
     ensures { IfOk result (λ text. string_bytes text ≡ Texts.at_place (place_text place) rest.now) }
 {
     let code = place.text();
-    let mut text = String::from_str(alloc, "/custodians/")?;
-    text.push_str(code.as_str())?;
-    text.push_str("/")?;
-    text.push_str(rest)?;
-    Ok(text)
+    ["/custodians/", code.as_str(), "/", rest].concat(alloc)
 }
 
 /// `/ceremonies/`, the ceremony's number, a slash, and the rest of the path.
@@ -37,11 +29,7 @@ fn at_ceremony(alloc: Global, ceremony: CeremonyNumber, rest: &str) -> Result<St
     ensures { IfOk result (λ text. string_bytes text ≡ Texts.at_ceremony ceremony rest.now) }
 {
     let mut number = Buffer::new();
-    let mut text = String::from_str(alloc, "/ceremonies/")?;
-    text.push_str(number.format(ceremony.get()))?;
-    text.push_str("/")?;
-    text.push_str(rest)?;
-    Ok(text)
+    ["/ceremonies/", number.format(ceremony.get()), "/", rest].concat(alloc)
 }
 
 /// The same for a bag: `bags/`, its serial, a slash, and the rest.
@@ -53,11 +41,8 @@ fn at_bag(
 ) -> Result<String, AllocError>
     ensures { IfOk result (λ text. string_bytes text ≡ Texts.at_bag ceremony serial.now rest.now) }
 {
-    let mut text = at_ceremony(alloc, ceremony, "bags/")?;
-    text.push_str(serial.as_str())?;
-    text.push_str("/")?;
-    text.push_str(rest)?;
-    Ok(text)
+    let bag = ["bags/", serial.as_str(), "/", rest].concat(alloc)?;
+    at_ceremony(alloc, ceremony, bag.as_str())
 }
 
 /// The same for a step: `steps/`, its number, and `/signature`.
@@ -65,10 +50,8 @@ fn at_step(alloc: Global, ceremony: CeremonyNumber, step: StepNumber) -> Result<
     ensures { IfOk result (λ text. string_bytes text ≡ Texts.at_step ceremony step) }
 {
     let mut number = Buffer::new();
-    let mut text = at_ceremony(alloc, ceremony, "steps/")?;
-    text.push_str(number.format(step.get()))?;
-    text.push_str("/signature")?;
-    Ok(text)
+    let step = ["steps/", number.format(step.get()), "/signature"].concat(alloc)?;
+    at_ceremony(alloc, ceremony, step.as_str())
 }
 
 /// The same for a safe: `safes/`, and its number.

@@ -112,32 +112,13 @@ fn bracketed(alloc: Global, list: &str) -> Result<String, AllocError>
     ["[", list, "]"].concat(alloc)
 }
 
-/// Adds a member of an object: its name, and the JSON text of its value.
-fn push_member(text: &mut String, name: &str, value: &str) -> Result<(), AllocError>
-    ensures { OnOk result (string_bytes text.new ≡ string_bytes text.old ++ json.member name.now value.now) }
+/// A member of an object: its name, and the JSON text of its value.
+fn member(alloc: Global, name: &str, value: &str) -> Result<String, AllocError>
+    ensures { IfOk result (λ text. string_bytes text ≡ json.member name.now value.now) }
 {
-    text.push_str("\"")?;
-    text.push_str(name)?;
-    text.push_str("\":")?;
-    text.push_str(value)
-}
-
-/// Adds the member with a refusal's number.
-fn push_number(text: &mut String, refusal: &Refusal) -> Result<(), AllocError>
-    ensures { OnOk result (string_bytes text.new
-        ≡ string_bytes text.old ++ json.member (codes "number") (decimal (number_of refusal.now))) }
-{
-    push_member(text, "number", Buffer::new().format(refusal.number()))
-}
-
-/// Adds the member with a refusal's word.
-fn push_word(text: &mut String, refusal: &Refusal) -> Result<(), AllocError>
-    ensures { OnOk result (string_bytes text.new
-        ≡ string_bytes text.old ++ json.member (codes "refusal") (json.quoted (word_of refusal.now))) }
-{
-    text.push_str("\"refusal\":\"")?;
-    text.push_str(refusal.word())?;
-    text.push_str("\"")
+    let mut text = ["\"", name, "\":"].concat(alloc)?;
+    text.push_str(value)?;
+    Ok(text)
 }
 
 /// The text of a refusal with this member before its number.
@@ -145,13 +126,20 @@ fn led_by(alloc: Global, name: &str, value: &str, refusal: &Refusal) -> Result<T
     ensures { IfOk result (λ text.
         text ≡ Refusals.refused_with (json.member name.now value.now ∷ []) refusal.now [] []) }
 {
-    let mut text = String::from_str(alloc, "{")?;
-    push_member(&mut text, name, value)?;
-    text.push_str(",")?;
-    push_number(&mut text, refusal)?;
-    text.push_str(",")?;
-    push_word(&mut text, refusal)?;
-    text.push_str("}")?;
+    let carried = member(alloc, name, value)?;
+    let mut digits = Buffer::new();
+    let number = digits.format(refusal.number());
+    let word = refusal.word();
+    let text = [
+        "{",
+        carried.as_str(),
+        ",\"number\":",
+        number,
+        ",\"refusal\":\"",
+        word,
+        "\"}",
+    ]
+    .concat(alloc)?;
     Ok(Text::from_string(text))
 }
 
@@ -168,6 +156,28 @@ fn led_by_text(
     led_by(alloc, name, quoted(alloc, before)?.as_str(), refusal)
 }
 
+/// The text of a refusal with this member between its number and its word.
+fn parted_by(alloc: Global, refusal: &Refusal, name: &str, value: &str) -> Result<Text, AllocError>
+    ensures { IfOk result (λ text.
+        text ≡ Refusals.refused_with [] refusal.now (json.member name.now value.now ∷ []) []) }
+{
+    let carried = member(alloc, name, value)?;
+    let mut digits = Buffer::new();
+    let number = digits.format(refusal.number());
+    let word = refusal.word();
+    let text = [
+        "{\"number\":",
+        number,
+        ",",
+        carried.as_str(),
+        ",\"refusal\":\"",
+        word,
+        "\"}",
+    ]
+    .concat(alloc)?;
+    Ok(Text::from_string(text))
+}
+
 /// The text of a refusal with this text, in quotes, between its number and its word.
 fn parted_by_text(
     alloc: Global,
@@ -178,14 +188,7 @@ fn parted_by_text(
     ensures { IfOk result (λ text.
         text ≡ Refusals.refused_with [] refusal.now (json.member name.now (json.quoted part.now) ∷ []) []) }
 {
-    let mut text = String::from_str(alloc, "{")?;
-    push_number(&mut text, refusal)?;
-    text.push_str(",")?;
-    push_member(&mut text, name, quoted(alloc, part)?.as_str())?;
-    text.push_str(",")?;
-    push_word(&mut text, refusal)?;
-    text.push_str("}")?;
-    Ok(Text::from_string(text))
+    parted_by(alloc, refusal, name, quoted(alloc, part)?.as_str())
 }
 
 /// The text of a refusal with this member behind its word.
@@ -198,13 +201,20 @@ fn followed_by(
     ensures { IfOk result (λ text.
         text ≡ Refusals.refused_with [] refusal.now [] (json.member name.now value.now ∷ [])) }
 {
-    let mut text = String::from_str(alloc, "{")?;
-    push_number(&mut text, refusal)?;
-    text.push_str(",")?;
-    push_word(&mut text, refusal)?;
-    text.push_str(",")?;
-    push_member(&mut text, name, value)?;
-    text.push_str("}")?;
+    let carried = member(alloc, name, value)?;
+    let mut digits = Buffer::new();
+    let number = digits.format(refusal.number());
+    let word = refusal.word();
+    let text = [
+        "{\"number\":",
+        number,
+        ",\"refusal\":\"",
+        word,
+        "\",",
+        carried.as_str(),
+        "}",
+    ]
+    .concat(alloc)?;
     Ok(Text::from_string(text))
 }
 

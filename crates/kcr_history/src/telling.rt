@@ -7,11 +7,12 @@ ghost use Rattle.kcr_base.specs.Place.{place_text};
 ghost use Rattle.kcr_base.specs.declared.refusal.Member.TheVariants as Members;
 ghost use Rattle.kcr_custody.specs.Destinations.{destination_text};
 ghost use Rattle.kcr_history.specs.Texts.{Word, deed_members, members_of};
+ghost use Rattle.kcr_history.specs.declared.commands.Act.TheVariants as Kinds;
 
 use crate::commands::{Act, Deed};
 use itoa::Buffer;
 use kcr_base::lists::{DistinctList, ListElement};
-use kcr_base::{CeremonyNumber, Day, Member, Moment, Place};
+use kcr_base::{BoxNumber, CeremonyNumber, Day, Facility, Initials, Member, Moment, Place, Text};
 use kcr_custody::Destination;
 use std::alloc::AllocError;
 
@@ -117,6 +118,52 @@ fn tell_deed<W: Teller>(ceremony: CeremonyNumber, deed: &Deed, to: &mut W) -> Re
     }
 }
 
+/// Writes the members of an appointment.
+fn tell_appointment<W: Teller>(
+    place: Place,
+    who: Initials,
+    day: Day,
+    to: &mut W,
+) -> Result<(), AllocError>
+    ensures { OnOk result (W.seen to.new ≡ fold W.adds (W.seen to.old) (members_of (Kinds.Appoint place who day))) }
+{
+    tell_place(to, place)?;
+    to.text(Member::Who, who.as_str())?;
+    tell_day(to, Member::Day, day)
+}
+
+/// Writes the members of a new box.
+fn tell_box<W: Teller>(
+    facility: Facility,
+    number: BoxNumber,
+    place: Place,
+    to: &mut W,
+) -> Result<(), AllocError>
+    ensures { OnOk result (W.seen to.new
+        ≡ fold W.adds (W.seen to.old) (members_of (Kinds.AddBox facility number place))) }
+{
+    to.text(Member::Facility, facility.text())?;
+    to.number(Member::Box, number.get())?;
+    tell_place(to, place)
+}
+
+/// Writes the members of a planned ceremony.
+fn tell_plan<W: Teller>(
+    number: CeremonyNumber,
+    facility: Facility,
+    day: Day,
+    script: &Text,
+    to: &mut W,
+) -> Result<(), AllocError>
+    ensures { OnOk result (W.seen to.new
+        ≡ fold W.adds (W.seen to.old) (members_of (Kinds.Plan number facility day script.now))) }
+{
+    to.number(Member::Number, number.get())?;
+    to.text(Member::Facility, facility.text())?;
+    tell_day(to, Member::Day, day)?;
+    to.text(Member::Script, script.as_str())
+}
+
 /// Writes the members of an act's body but the key, in the order in which the API lists them. The error is out of
 /// memory.
 pub fn tell<W: Teller>(act: &Act, to: &mut W) -> Result<(), AllocError>
@@ -141,11 +188,7 @@ pub fn tell<W: Teller>(act: &Act, to: &mut W) -> Result<(), AllocError>
             to.text(Member::Role, role.text())?;
             tell_day(to, Member::Day, *day)
         }
-        Act::Appoint { place, who, day } => {
-            tell_place(to, *place)?;
-            to.text(Member::Who, who.as_str())?;
-            tell_day(to, Member::Day, *day)
-        }
+        Act::Appoint { place, who, day } => tell_appointment(*place, *who, *day, to),
         Act::Replace { who, day, .. } => {
             to.text(Member::Who, who.as_str())?;
             tell_day(to, Member::Day, *day)
@@ -155,22 +198,13 @@ pub fn tell<W: Teller>(act: &Act, to: &mut W) -> Result<(), AllocError>
             facility,
             number,
             place,
-        } => {
-            to.text(Member::Facility, facility.text())?;
-            to.number(Member::Box, number.get())?;
-            tell_place(to, *place)
-        }
+        } => tell_box(*facility, *number, *place, to),
         Act::Plan {
             number,
             facility,
             day,
             script,
-        } => {
-            to.number(Member::Number, number.get())?;
-            to.text(Member::Facility, facility.text())?;
-            tell_day(to, Member::Day, *day)?;
-            to.text(Member::Script, script.as_str())
-        }
+        } => tell_plan(*number, *facility, *day, script, to),
         Act::Ceremony { ceremony, at, deed } => {
             tell_deed(*ceremony, deed, to)?;
             tell_moment(to, *at)

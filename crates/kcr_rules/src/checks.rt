@@ -13,7 +13,6 @@ use std::alloc::Global;
 
 impl DecisionContext<'_> {
     /// An act in a ceremony.
-    #[tactic(auto, using(crate::proofs::OwnRefusals::check_kind))]
     fn check_deed(&self, ceremony: u32, at: Moment, deed: &Deed) -> Result<(), Refusal>
         ensures told { IsCheckResult self.now.view.now self.now.is_full (Ceremony ceremony at deed.now) result }
         ensures kind { IfErr result (λ refusal. IsTrue (may_refuse (Ceremony ceremony at deed.now) refusal)) }

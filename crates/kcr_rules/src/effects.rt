@@ -40,7 +40,6 @@ fn plain(changes: Result<Vec<Change>, Refusal>) -> Result<Effect, Refusal>
 
 impl DecisionContext<'_> {
     /// The effect of an act in a ceremony, or its first refusal.
-    #[tactic(auto, using(crate::proofs::Plain::plain_acts))]
     fn deed_effect(&self, ceremony: u32, at: Moment, deed: &Deed) -> Result<Effect, Refusal>
         requires cleared { IsCleared self.now.view.now self.now.is_full (Ceremony ceremony at deed.now) }
         ensures { IsEffectResult self.now.view.now self.now.is_full (Ceremony ceremony at deed.now) result }
@@ -73,7 +72,6 @@ impl DecisionContext<'_> {
     }
 
     /// The effect of an act, or its first refusal.
-    #[tactic(auto, using(crate::proofs::Plain::plain_acts))]
     fn effect(&self, act: &Act) -> Result<Effect, Refusal>
         requires cleared { IsCleared self.now.view.now self.now.is_full act.now }
         ensures { IsEffectResult self.now.view.now self.now.is_full act.now result }

@@ -4,6 +4,7 @@ ghost use Rattle.std.specs.Prelude.{get_or, length, map, filter};
 ghost use Rattle.kcr_base.specs.declared.limits.TheConstants.{MAX_PRESENT};
 ghost use Rattle.kcr_base.specs.declared.refusal.Refusal.TheVariants.{Memory};
 ghost use Rattle.kcr_room.specs.Stays.{present_in_by};
+ghost use Rattle.kcr_seats.specs.Answer.{IsAnswer};
 ghost use Rattle.kcr_history.specs.Fitting.{fits_by};
 ghost use Rattle.kcr_history.specs.Machine.{SeatRequest};
 ghost use Rattle.kcr_history.specs.Views.{is_training_of};
@@ -121,6 +122,35 @@ impl DecisionContext<'_> {
         self.seat_people(ceremony, at, seats, &people)
     }
 
+    /// Searches a seating of these people, who are in the room.
+    fn search(
+        &self,
+        ceremony: u32,
+        at: Moment,
+        seats: &[Seat],
+        people: &[Initials],
+    ) -> Result<Answer, AllocError>
+        requires few { length seats.now ≤ 16 }
+        requires fit { length people.now ≤ MAX_PRESENT }
+        requires present { people.now ≡ present_in_by self.now.view.now.stays.items ceremony at }
+        ensures { let s : SeatRequest = record { ceremony = ceremony; at = at; seats = seats.now } in IfOk result
+            (IsAnswer (Signing.fits_request_by self.now.view.now s) (length seats.now)
+            (length (Signing.room_by self.now.view.now s))) }
+    {
+        let own = trainings_of_each(self.alloc, &self.view.trainings, people)?;
+        let room = SeatingProblem {
+            seats,
+            people,
+            trainings: &self.view.trainings,
+            own: &own,
+            withdrawals: &self.view.withdrawals,
+            rows: &self.view.appointments,
+            facility: self.facility(ceremony),
+            day: at.day(),
+        };
+        kcr_seats::seat_uncounted(self.alloc, &room)
+    }
+
     /// Fills the seats with these people, who are in the room.
     fn seat_people(
         &self,
@@ -136,18 +166,7 @@ impl DecisionContext<'_> {
             (λ people. Signing.IsSeatedBy self.now.view.now s people × (length people ≤ 16))
             (λ refusal. refusal ≢ Memory → Signing.IsUnseatedBy self.now.view.now s refusal) }
     {
-        let own = trainings_of_each(self.alloc, &self.view.trainings, people)?;
-        let room = SeatingProblem {
-            seats,
-            people,
-            trainings: &self.view.trainings,
-            own: &own,
-            withdrawals: &self.view.withdrawals,
-            rows: &self.view.appointments,
-            facility: self.facility(ceremony),
-            day: at.day(),
-        };
-        match kcr_seats::seat_uncounted(self.alloc, &room)? {
+        match self.search(ceremony, at, seats, people)? {
             Answer::Seated(numbers) => Ok(named(self.alloc, people, &numbers)?),
             Answer::Short(numbers) => Err(Refusal::Short {
                 seats: Positions::from_indices(&numbers),

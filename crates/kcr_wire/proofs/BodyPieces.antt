@@ -1,5 +1,5 @@
 -- The pieces in which a body is written are its text.
-use Rattle.std.proofs.Common.{◌≡◌, ℕ, true, false, map, List, [], ◌∷◌, ◌++◌, codes, refl, sym, ap, ◌∙◌, append_assoc, arith, All}
+use Rattle.std.proofs.Common.{◌≡◌, ℕ, true, false, map, List, [], ◌∷◌, ◌++◌, codes, refl, sym, ap, ◌∙◌, append_assoc, append-nil, arith, All}
 use Rattle.std.proofs.lemmas.List.Elements.{All-head, All-tail}
 use Rattle.json.proofs.Printed.Strings.{escape_byte_plain}
 use Rattle.json.specs.Print.{escape, escape_byte, quoted}
@@ -23,16 +23,13 @@ word-escape (b ∷ text) each =
     let alone = escape_byte_plain b (λ e. grind (arith, is, e)) (λ e. grind (arith, is, e)) (grind (arith, is)) in
     rw (alone, word-escape text (All-tail IsKeyByte b text each)) refl
 
-pieces : (t a n b v : List ℕ) → (((t ++ a) ++ n) ++ b) ++ v ≡ t ++ (a ++ (n ++ (b ++ v)))
-pieces t a n b v = simp append_assoc
-
 -- the pieces of a member are the member behind others
 pub value_told : (text : List ℕ) (m : Member) (value : Data)
-    → text ++ codes ",\"" ++ member_text m ++ codes "\":" ++ compact_text value ≡ text ++ next_member (member_text m) value
+    → text ++ (codes ",\"" ++ (member_text m ++ (codes "\":" ++ (compact_text value ++ [])))) ≡ text ++ next_member (member_text m) value
 value_told text m value =
     let n = member_text m in
     let v = compact_text value in
-    pieces text (codes ",\"") n (codes "\":") v
+    ap (λ (v : List ℕ). text ++ 44 ∷ 34 ∷ (n ++ 34 ∷ 58 ∷ v)) (append-nil v)
     ∙ ap (λ (s : List ℕ). text ++ 44 ∷ 34 ∷ s) (sym (append_assoc n (34 ∷ []) (58 ∷ v)))
     ∙ ap (λ (e : List ℕ). text ++ 44 ∷ 34 ∷ ((e ++ 34 ∷ []) ++ 58 ∷ v)) (sym (word-escape n (name-word m)))
 

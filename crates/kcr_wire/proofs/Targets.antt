@@ -20,13 +20,12 @@ use Rattle.kcr_base.specs.declared.refusal.Refusal.{Refusal}
 use Rattle.kcr_base.specs.declared.refusal.Refusal.TheVariants as refusal
 use Rattle.kcr_custody.specs.declared.SafeNumber.{SafeNumber}
 use Rattle.kcr_custody.specs.declared.SafeNumber.TheVariants.{One, Two}
-use Rattle.kcr_history.specs.declared.questions.Question.TheVariants as question
 use Rattle.kcr_history.specs.Texts.{at_person, at_place, at_ceremony, at_bag, at_step, at_safe, safe_text, path_text}
 use Rattle.kcr_history.specs.declared.commands.Act.{Act}
 use Rattle.kcr_history.specs.declared.commands.Act.TheVariants as act
 use Rattle.kcr_history.specs.declared.commands.Deed.TheVariants as deed
 use Rattle.kcr_forms.specs.Acts.{IsAct}
-use Rattle.kcr_forms.specs.Forms.{initials_of, place_of, ceremony_of, step_of, serial_of, safe_of, day_of, moment_of}
+use Rattle.kcr_forms.specs.Forms.{initials_of, place_of, ceremony_of, step_of, serial_of, safe_of}
 use Rattle.kcr_forms.proofs.Posts.{post_of, IsPost}
 use Rattle.kcr_forms.proofs.Readers.{any, mapped, chained}
 use Rattle.kcr_forms.specs.declared.post.Post.{Post}
@@ -43,11 +42,11 @@ use Rattle.kcr_forms.specs.declared.post.BagPath.{BagPath}
 use Rattle.kcr_forms.specs.declared.post.BagPath.TheVariants.{Seal, Take, Put, Cut}
 use Rattle.kcr_forms.proofs.Formed.{initials, places-read, ceremonies, steps, serials, safes}
 use Rattle.kcr_wire.specs.Routes.{table, add_all, add}
-use Rattle.kcr_wire.specs.Endpoints.{Parts, path_of, ascii_in, parts_in, part_as, ceremony_in, serial_in, after_of, endpoint_of, target_at, target_of, with_parts}
+use Rattle.kcr_wire.specs.Endpoints.{Parts, path_of, ascii_in, parts_in, part_as, ceremony_in, serial_in, post_at, inquiry_at, endpoint_of, target_at, target_of, with_parts}
+use Rattle.kcr_wire.specs.declared.route.PostRoute.{PostRoute}
+use Rattle.kcr_wire.specs.declared.route.PostRoute.TheVariants as posted
 use Rattle.kcr_wire.specs.declared.route.Route.{Route}
 use Rattle.kcr_wire.specs.declared.route.Route.TheVariants as route
-use Rattle.kcr_wire.specs.declared.question.Inquiry.{Inquiry}
-use Rattle.kcr_wire.specs.declared.question.Inquiry.TheVariants as inquiry
 use Rattle.kcr_wire.specs.declared.endpoint.Endpoint.{Endpoint}
 use Rattle.kcr_wire.specs.declared.endpoint.Endpoint.TheVariants as target
 use Rattle.kcr_wire.proofs.Bytes.{IsWord, literal, initials-word, serial-word, number-word, place-word, word-slash, word-below}
@@ -95,7 +94,7 @@ in_table = tt
 
 -- the route to a collection
 abbrev CollectionIn : List ℕ → CollectionPath → Type 0
-CollectionIn path kind = NoneIn path (route.Collection kind)
+CollectionIn path kind = NoneIn path (route.Post (posted.Collection kind))
 
 collections-in : CollectionIn (codes "/people") People × CollectionIn (codes "/custodians") Custodians × CollectionIn (codes "/boxes") Boxes
     × CollectionIn (codes "/items") Items × CollectionIn (codes "/ceremonies") Ceremonies
@@ -104,7 +103,7 @@ collections-in = (refl, refl, refl, refl, refl)
 
 -- the route on a person
 abbrev PersonIn : List ℕ → PersonPath → Type 0
-PersonIn back kind = OneIn (codes "/people/") (codes "who") back (route.Person kind)
+PersonIn back kind = OneIn (codes "/people/") (codes "who") back (route.Post (posted.Person kind))
 
 people-in : PersonIn (codes "roles") Roles × PersonIn (codes "withdrawals") Withdrawals
 unfolding in_table
@@ -112,7 +111,7 @@ people-in = (refl, refl)
 
 -- the route on a place
 abbrev PlaceIn : List ℕ → PlacePath → Type 0
-PlaceIn back kind = OneIn (codes "/custodians/") (codes "place") back (route.Place kind)
+PlaceIn back kind = OneIn (codes "/custodians/") (codes "place") back (route.Post (posted.Place kind))
 
 places-in : PlaceIn (codes "replacement") Replacement × PlaceIn (codes "release") Release
 unfolding in_table
@@ -120,7 +119,7 @@ places-in = (refl, refl)
 
 -- the route on a ceremony
 abbrev CeremonyIn : List ℕ → CeremonyPath → Type 0
-CeremonyIn back kind = OneIn (codes "/ceremonies/") (codes "ceremony") back (route.Ceremony kind)
+CeremonyIn back kind = OneIn (codes "/ceremonies/") (codes "ceremony") back (route.Post (posted.Ceremony kind))
 
 ceremonies-in : CeremonyIn (codes "opening") Opening × CeremonyIn (codes "closing") Closing × CeremonyIn (codes "sheet") Sheet
     × CeremonyIn (codes "exceptions") Exceptions
@@ -129,17 +128,17 @@ ceremonies-in = (refl, refl, refl, refl)
 
 -- the route on a bag
 abbrev BagIn : List ℕ → BagPath → Type 0
-BagIn back kind = TwoIn (codes "bags/") (codes "serial") back (route.Bag kind)
+BagIn back kind = TwoIn (codes "bags/") (codes "serial") back (route.Post (posted.Bag kind))
 
 bags-in : BagIn (codes "seal") Seal × BagIn (codes "take") Take × BagIn (codes "put") Put × BagIn (codes "cut") Cut
 unfolding in_table
 bags-in = (refl, refl, refl, refl)
 
-step-in : TwoIn (codes "steps/") (codes "step") (codes "signature") route.Signature
+step-in : TwoIn (codes "steps/") (codes "step") (codes "signature") (route.Post posted.Signature)
 unfolding in_table
 step-in = refl
 
-safes-in : (safe : SafeNumber) → LastIn (codes "safes/") (safe_text safe) (codes "safe") route.Safe
+safes-in : (safe : SafeNumber) → LastIn (codes "safes/") (safe_text safe) (codes "safe") (route.Post posted.Safe)
 unfolding in_table
 safes-in One = refl
 safes-in Two = refl
@@ -170,37 +169,37 @@ ceremony-word n is = number-word MAX_CEREMONY n (omega arith) is
 collection : (path : List ℕ) → IsPath 20 path → (kind : CollectionPath) → CollectionIn path kind → IsPathTo path (post.Collection kind)
 collection path is kind is_in = record {
   is = wider (omega arith) is;
-  asks = by-route path (route.Collection kind) path [] (target.Post (post.Collection kind)) (first table path)
-      (literal-route sight path table (route.Collection kind, (path, [])) is_in) (λ text places named. refl);
+  asks = by-route path (route.Post (posted.Collection kind)) path [] (target.Post (post.Collection kind)) (first table path)
+      (literal-route sight path table (route.Post (posted.Collection kind), (path, [])) is_in) (λ text places named. refl);
 }
 
 -- one part in braces
 module _ {V : Type 0} (front name : List ℕ) (front_is : IsPath 20 front) (read : List ℕ → Option V) (w : List ℕ) (v : V) (word : IsWord w) (same : read w ≡ Some v) where
-  one-path : (make : V → Post) (r : Route) → ((w : List ℕ) → endpoint_of r ((name, w) ∷ []) ≡ option_map (λ v. target.Post (make v)) (read w))
-      → (back : List ℕ) → IsPath 20 back → OneIn front name back r → IsPathTo (front ++ w ++ codes "/" ++ back) (make v)
+  one-path : (make : V → Post) (r : PostRoute) → ((w : List ℕ) → post_at r ((name, w) ∷ []) ≡ option_map make (read w))
+      → (back : List ℕ) → IsPath 20 back → OneIn front name back (route.Post r) → IsPathTo (front ++ w ++ codes "/" ++ back) (make v)
   one-path make r asks back back_is is_in =
       let path = front ++ (w ++ 47 ∷ back) in
       let pattern = front ++ 256 ∷ 47 ∷ back in
       record {
         is = wider (omega arith) (with-word front w back front_is word back_is);
         asks = subst (λ path. target_at path ≡ Some (target.Post (make v))) (sym (piece front w back))
-            (by-route path r pattern (name ∷ []) (target.Post (make v)) (first table path)
-            (piece-route sight front back table (r, (pattern, name ∷ [])) is_in w (word-piece w word))
+            (by-route path (route.Post r) pattern (name ∷ []) (target.Post (make v)) (first table path)
+            (piece-route sight front back table (route.Post r, (pattern, name ∷ [])) is_in w (word-piece w word))
             (λ text places named.
-            ap (endpoint_of r) (one-taken front w (path-small front front_is) (word-slash w word.bytes) back text back name places named)
-            ∙ asks w ∙ ap (option_map (λ v. target.Post (make v))) same));
+            ap (endpoint_of (route.Post r)) (one-taken front w (path-small front front_is) (word-slash w word.bytes) back text back name places named)
+            ∙ ap (option_map target.Post) (asks w ∙ ap (option_map make) same)));
       }
 
 person : (who : List ℕ) → IsInitials who → (kind : PersonPath) (back : List ℕ) → IsPath 20 back → PersonIn back kind → IsPathTo (at_person who back) (post.Person who kind)
 person who is kind =
     one-path (codes "/people/") (codes "who") (words (codes "/people/") refl) initials_of who who (initials-word who is) (initials.again who is)
-    (λ who. post.Person who kind) (route.Person kind) (λ w. refl)
+    (λ who. post.Person who kind) (posted.Person kind) (λ w. refl)
 
 place-path : (place : Place) → IsPlace place → (kind : PlacePath) (back : List ℕ) → IsPath 20 back → PlaceIn back kind
     → IsPathTo (at_place (place_text place) back) (post.Place place kind)
 place-path place is kind =
     one-path (codes "/custodians/") (codes "place") (words (codes "/custodians/") refl) place_of (place_text place) place (place-word place is) (places-read.again place is)
-    (λ place. post.Place place kind) (route.Place kind) (λ w. refl)
+    (λ place. post.Place place kind) (posted.Place kind) (λ w. refl)
 
 -- the paths of ceremonies begin so
 in_ceremonies : IsPath 20 (codes "/ceremonies/")
@@ -210,19 +209,19 @@ module _ (n : ℕ) (is : IsNumber MAX_CEREMONY n) where
   ceremony : (kind : CeremonyPath) (back : List ℕ) → IsPath 20 back → CeremonyIn back kind → IsPathTo (at_ceremony n back) (post.Ceremony n kind)
   ceremony kind =
       one-path (codes "/ceremonies/") (codes "ceremony") in_ceremonies ceremony_of (decimal n) n (ceremony-word n is) (ceremonies.again n is)
-      (λ n. post.Ceremony n kind) (route.Ceremony kind) (λ w. refl)
+      (λ n. post.Ceremony n kind) (posted.Ceremony kind) (λ w. refl)
 
   -- two parts in braces, the first of them a ceremony
   module _ {V : Type 0} (middle name : List ℕ) (middle_is : IsPath 20 middle) (read : List ℕ → Option V) (w : List ℕ) (v : V) (word : IsWord w) (same : read w ≡ Some v)
-      (make : ℕ → V → Post) (r : Route)
-      (asks : (n w : List ℕ) → endpoint_of r ((codes "ceremony", n) ∷ (name, w) ∷ []) ≡ with_parts (λ n v. target.Post (make n v)) (ceremony_of n) (read w)) where
-    both : endpoint_of r ((codes "ceremony", decimal n) ∷ (name, w) ∷ []) ≡ Some (target.Post (make n v))
-    both = asks (decimal n) w ∙ (λ i. with_parts (λ n v. target.Post (make n v)) (ceremonies.again n is i) (same i))
+      (make : ℕ → V → Post) (r : PostRoute)
+      (asks : (n w : List ℕ) → post_at r ((codes "ceremony", n) ∷ (name, w) ∷ []) ≡ with_parts make (ceremony_of n) (read w)) where
+    both : endpoint_of (route.Post r) ((codes "ceremony", decimal n) ∷ (name, w) ∷ []) ≡ Some (target.Post (make n v))
+    both = ap (option_map target.Post) (asks (decimal n) w ∙ (λ i. with_parts make (ceremonies.again n is i) (same i)))
 
     small : All (λ b. b < 256) (47 ∷ middle)
     small = All-cons (λ b. b < 256) 47 middle (omega arith) (path-small middle middle_is)
 
-    two-path : (back : List ℕ) → IsPath 20 back → TwoIn middle name back r → IsPathTo (at_ceremony n (middle ++ w ++ codes "/" ++ back)) (make n v)
+    two-path : (back : List ℕ) → IsPath 20 back → TwoIn middle name back (route.Post r) → IsPathTo (at_ceremony n (middle ++ w ++ codes "/" ++ back)) (make n v)
     two-path back back_is is_in =
         let path = codes "/ceremonies/" ++ (decimal n ++ 47 ∷ (middle ++ (w ++ 47 ∷ back))) in
         let pattern = codes "/ceremonies/" ++ 256 ∷ 47 ∷ (middle ++ 256 ∷ 47 ∷ back) in
@@ -233,14 +232,14 @@ module _ (n : ℕ) (is : IsNumber MAX_CEREMONY n) where
           is = wider (omega arith) (with-word (codes "/ceremonies/") (decimal n) (middle ++ w ++ codes "/" ++ back) in_ceremonies (ceremony-word n is)
               (with-word middle w back middle_is word back_is));
           asks = subst (λ path. target_at path ≡ Some (target.Post (make n v))) (sym form)
-              (by-route path r pattern names (target.Post (make n v)) (first table path)
-              (pieces-route sight (codes "/ceremonies/") middle back table (r, (pattern, names)) is_in (decimal n) w (word-piece (decimal n) (ceremony-word n is)) (word-piece w word))
+              (by-route path (route.Post r) pattern names (target.Post (make n v)) (first table path)
+              (pieces-route sight (codes "/ceremonies/") middle back table (route.Post r, (pattern, names)) is_in (decimal n) w (word-piece (decimal n) (ceremony-word n is)) (word-piece w word))
               (λ text places named.
-              ap (endpoint_of r) (two-taken (codes "/ceremonies/") (decimal n) (path-small (codes "/ceremonies/") in_ceremonies)
+              ap (endpoint_of (route.Post r)) (two-taken (codes "/ceremonies/") (decimal n) (path-small (codes "/ceremonies/") in_ceremonies)
               (word-slash (decimal n) (ceremony-word n is).bytes) (omega arith) middle small text (codes "ceremony") name back w back (word-slash w word.bytes) places named) ∙ both));
         }
 
-    last-path : IsPath 100 (middle ++ w) → LastIn middle w name r → IsPathTo (at_ceremony n (middle ++ w)) (make n v)
+    last-path : IsPath 100 (middle ++ w) → LastIn middle w name (route.Post r) → IsPathTo (at_ceremony n (middle ++ w)) (make n v)
     last-path last_is is_in =
         let path = codes "/ceremonies/" ++ (decimal n ++ 47 ∷ (middle ++ w)) in
         let pattern = codes "/ceremonies/" ++ 256 ∷ 47 ∷ (middle ++ 256 ∷ []) in
@@ -248,28 +247,28 @@ module _ (n : ℕ) (is : IsNumber MAX_CEREMONY n) where
         record {
           is = wider (omega arith) (with-word (codes "/ceremonies/") (decimal n) (middle ++ w) in_ceremonies (ceremony-word n is) last_is);
           asks = subst (λ path. target_at path ≡ Some (target.Post (make n v))) (sym (piece (codes "/ceremonies/") (decimal n) (middle ++ w)))
-              (by-route path r pattern names (target.Post (make n v)) (first table path)
-              (tail-route sight (codes "/ceremonies/") (middle ++ w) table (r, (pattern, names)) is_in (decimal n) (word-piece (decimal n) (ceremony-word n is)))
+              (by-route path (route.Post r) pattern names (target.Post (make n v)) (first table path)
+              (tail-route sight (codes "/ceremonies/") (middle ++ w) table (route.Post r, (pattern, names)) is_in (decimal n) (word-piece (decimal n) (ceremony-word n is)))
               (λ text places named.
-              ap (endpoint_of r) (last-taken (codes "/ceremonies/") (decimal n) (path-small (codes "/ceremonies/") in_ceremonies)
+              ap (endpoint_of (route.Post r)) (last-taken (codes "/ceremonies/") (decimal n) (path-small (codes "/ceremonies/") in_ceremonies)
               (word-slash (decimal n) (ceremony-word n is).bytes) (omega arith) middle small text (codes "ceremony") name w places named) ∙ both));
         }
 
   bag : (serial : List ℕ) → IsSerial serial → (kind : BagPath) (back : List ℕ) → IsPath 20 back → BagIn back kind → IsPathTo (at_bag n serial back) (post.Bag n serial kind)
   bag serial is_serial kind =
       two-path (codes "bags/") (codes "serial") (words (codes "bags/") refl) serial_of serial serial (serial-word serial is_serial) (serials.again serial is_serial)
-      (λ n serial. post.Bag n serial kind) (route.Bag kind) (λ n w. refl)
+      (λ n serial. post.Bag n serial kind) (posted.Bag kind) (λ n w. refl)
 
   step : (k : ℕ) → IsNumber MAX_STEPS k → IsPathTo (at_step n k) (post.Signature n k)
   step k is_step =
       subst (λ rest. IsPathTo (at_ceremony n rest) (post.Signature n k)) (append_assoc (codes "steps/" ++ decimal k) (codes "/") (codes "signature"))
       (two-path (codes "steps/") (codes "step") (words (codes "steps/") refl) step_of (decimal k) k (number-word MAX_STEPS k (omega arith) is_step) (steps.again k is_step)
-      post.Signature route.Signature (λ n w. refl) (codes "signature") (words (codes "signature") refl) step-in)
+      post.Signature posted.Signature (λ n w. refl) (codes "signature") (words (codes "signature") refl) step-in)
 
   safe-path : (safe : SafeNumber) → IsWord (safe_text safe) → IsPath 20 (codes "safes/" ++ safe_text safe) → IsPathTo (at_safe n safe) (post.Safe n safe)
   safe-path safe word last_is =
       last-path (codes "safes/") (codes "safe") (words (codes "safes/") refl) safe_of (safe_text safe) safe word (safes.again safe tt)
-      post.Safe route.Safe (λ n w. refl) (wider (omega arith) last_is) (safes-in safe)
+      post.Safe posted.Safe (λ n w. refl) (wider (omega arith) last_is) (safes-in safe)
 
   safe : (safe : SafeNumber) → IsPathTo (at_safe n safe) (post.Safe n safe)
   safe One = safe-path One (record { some = omega arith; short = omega arith; bytes = literal (codes "1") refl }) (words (codes "safes/1") refl)
@@ -321,16 +320,11 @@ part-is : {V : Type 0} (IsValue : V → Type 0) (read : List ℕ → Option V) �
     → (name : List ℕ) (parts : Parts) → IfSome (part_as read name parts) IsValue
 part-is IsValue read found name parts = chained (λ _. ⊤) IsValue read (λ text _. found text) (named name parts) (any (named name parts))
 
-both-are : {A B : Type 0} (P : A → Type 0) (Q : B → Type 0) (make : A → B → Endpoint) → ((a : A) (b : B) → P a → Q b → IsEndpoint (make a b))
-    → (part : Option A) (other : Option B) → IfSome part P → IfSome other Q → IfSome (with_parts make part other) IsEndpoint
+both-are : {A B : Type 0} (P : A → Type 0) (Q : B → Type 0) (make : A → B → Post) → ((a : A) (b : B) → P a → Q b → IsPost (make a b))
+    → (part : Option A) (other : Option B) → IfSome part P → IfSome other Q → IfSome (with_parts make part other) IsPost
 both-are P Q make is None other p q = tt
 both-are P Q make is (Some a) None p q = tt
 both-are P Q make is (Some a) (Some b) p q = is a b p q
-
--- the same of what asks for something
-asked : {A : Type 0} (make : A → Inquiry) (part : Option A) → IfSome (option_map (λ a. target.Ask (make a)) part) IsEndpoint
-asked make None = tt
-asked make (Some a) = tt
 
 ceremony-is : (parts : Parts) → IfSome (ceremony_in parts) (IsNumber MAX_CEREMONY)
 ceremony-is = part-is (IsNumber MAX_CEREMONY) ceremony_of ceremonies.found (codes "ceremony")
@@ -338,34 +332,29 @@ ceremony-is = part-is (IsNumber MAX_CEREMONY) ceremony_of ceremonies.found (code
 serial-is : (parts : Parts) → IfSome (serial_in parts) IsSerial
 serial-is = part-is IsSerial serial_of serials.found (codes "serial")
 
-endpoint-is : (r : Route) (parts : Parts) → IfSome (endpoint_of r parts) IsEndpoint
-endpoint-is (route.Collection path) parts = tt
-endpoint-is (route.Person path) parts =
-    mapped IsInitials IsEndpoint (λ who. target.Post (post.Person who path)) (λ who is. is) (part_as initials_of (codes "who") parts)
+post-is : (r : PostRoute) (parts : Parts) → IfSome (post_at r parts) IsPost
+post-is (posted.Collection path) parts = tt
+post-is (posted.Person path) parts =
+    mapped IsInitials IsPost (λ who. post.Person who path) (λ who is. is) (part_as initials_of (codes "who") parts)
     (part-is IsInitials initials_of initials.found (codes "who") parts)
-endpoint-is (route.Place path) parts =
-    mapped IsPlace IsEndpoint (λ place. target.Post (post.Place place path)) (λ place is. is) (part_as place_of (codes "place") parts)
+post-is (posted.Place path) parts =
+    mapped IsPlace IsPost (λ place. post.Place place path) (λ place is. is) (part_as place_of (codes "place") parts)
     (part-is IsPlace place_of places-read.found (codes "place") parts)
-endpoint-is (route.Ceremony path) parts =
-    mapped (IsNumber MAX_CEREMONY) IsEndpoint (λ n. target.Post (post.Ceremony n path)) (λ n is. is) (ceremony_in parts) (ceremony-is parts)
-endpoint-is route.Signature parts =
-    both-are (IsNumber MAX_CEREMONY) (IsNumber MAX_STEPS) (λ n step. target.Post (post.Signature n step)) (λ n step is is_step. (is, is_step))
+post-is (posted.Ceremony path) parts =
+    mapped (IsNumber MAX_CEREMONY) IsPost (λ n. post.Ceremony n path) (λ n is. is) (ceremony_in parts) (ceremony-is parts)
+post-is posted.Signature parts =
+    both-are (IsNumber MAX_CEREMONY) (IsNumber MAX_STEPS) post.Signature (λ n step is is_step. (is, is_step))
     (ceremony_in parts) (part_as step_of (codes "step") parts) (ceremony-is parts) (part-is (IsNumber MAX_STEPS) step_of steps.found (codes "step") parts)
-endpoint-is route.Safe parts =
+post-is posted.Safe parts =
     let safe = part_as safe_of (codes "safe") parts in
-    both-are (IsNumber MAX_CEREMONY) (λ _. ⊤) (λ n safe. target.Post (post.Safe n safe)) (λ n safe is _. is) (ceremony_in parts) safe (ceremony-is parts) (any safe)
-endpoint-is (route.Bag path) parts =
-    both-are (IsNumber MAX_CEREMONY) IsSerial (λ n serial. target.Post (post.Bag n serial path)) (λ n serial is is_serial. (is, is_serial))
+    both-are (IsNumber MAX_CEREMONY) (λ _. ⊤) post.Safe (λ n safe is _. is) (ceremony_in parts) safe (ceremony-is parts) (any safe)
+post-is (posted.Bag path) parts =
+    both-are (IsNumber MAX_CEREMONY) IsSerial (λ n serial. post.Bag n serial path) (λ n serial is is_serial. (is, is_serial))
     (ceremony_in parts) (serial_in parts) (ceremony-is parts) (serial-is parts)
-endpoint-is route.CustodiansOn parts = asked (λ day. inquiry.Question (question.Custodians day)) (part_as day_of (codes "day") parts)
-endpoint-is route.BagShown parts = asked (λ serial. inquiry.Question (question.Bag serial)) (serial_in parts)
-endpoint-is route.Room parts =
-    let at = part_as moment_of (codes "at") parts in
-    both-are (λ _. ⊤) (λ _. ⊤) (λ n at. target.Ask (inquiry.Question (question.Room n at))) (λ n at _ _. tt) (ceremony_in parts) at (any (ceremony_in parts)) (any at)
-endpoint-is route.Script parts = asked inquiry.Script (ceremony_in parts)
-endpoint-is route.Attendance parts = asked inquiry.Attendance (ceremony_in parts)
-endpoint-is route.Custody parts = tt
-endpoint-is route.Commands parts = asked inquiry.Commands (part_as after_of (codes "after") parts)
+
+endpoint-is : (r : Route) (parts : Parts) → IfSome (endpoint_of r parts) IsEndpoint
+endpoint-is (route.Post r) parts = mapped IsPost IsEndpoint target.Post (λ p is. is) (post_at r parts) (post-is r parts)
+endpoint-is (route.Ask r) parts = mapped (λ _. ⊤) IsEndpoint target.Ask (λ i _. tt) (inquiry_at r parts) (any (inquiry_at r parts))
 
 ok-if : {A : Type 0} (P : A → Type 0) (o : Option A) (e : Refusal) → IfSome o P → IfOk (ok_or o e) P
 ok-if P None e h = tt

@@ -16,6 +16,7 @@ use Rattle.kcr_base.specs.declared.refusal.Refusal.TheVariants as refusal
 use Rattle.kcr_forms.specs.Forms.{number_by_text, initials_of, day_of, moment_of, serial_of, ceremony_of, step_of}
 use Rattle.kcr_forms.specs.Forms.{safe_of, place_of}
 use Rattle.kcr_forms.specs.declared.post.CollectionPath.TheVariants.{People}
+use Rattle.kcr_forms.specs.declared.post.Post.{Post}
 use Rattle.kcr_forms.specs.declared.post.Post.TheVariants as post
 use Rattle.kcr_history.specs.declared.questions.Question.TheVariants as question
 use Rattle.kcr_wire.specs.Routes.{table}
@@ -23,7 +24,12 @@ use Rattle.kcr_wire.specs.declared.allow.Allow.{Allow}
 use Rattle.kcr_wire.specs.declared.allow.Allow.TheVariants as allow
 use Rattle.kcr_wire.specs.declared.endpoint.Endpoint.{Endpoint}
 use Rattle.kcr_wire.specs.declared.endpoint.Endpoint.TheVariants as target
+use Rattle.kcr_wire.specs.declared.question.Inquiry.{Inquiry}
 use Rattle.kcr_wire.specs.declared.question.Inquiry.TheVariants as inquiry
+use Rattle.kcr_wire.specs.declared.route.AskRoute.{AskRoute}
+use Rattle.kcr_wire.specs.declared.route.AskRoute.TheVariants as asked
+use Rattle.kcr_wire.specs.declared.route.PostRoute.{PostRoute}
+use Rattle.kcr_wire.specs.declared.route.PostRoute.TheVariants as posted
 use Rattle.kcr_wire.specs.declared.route.Route.{Route}
 use Rattle.kcr_wire.specs.declared.route.Route.TheVariants as route
 use Rattle.kcr_wire.specs.declared.unread.Unread.{Unread}
@@ -65,34 +71,34 @@ unfoldable pub after_of : List ℕ → Option ℕ
 after_of text = number_by_text decimal 0 MAX_COMMANDS text
 
 -- what two parts make, if each is of its form
-abbrev pub with_parts : {A B : Type 0} → (A → B → Endpoint) → Option A → Option B → Option Endpoint
+abbrev pub with_parts : {A B C : Type 0} → (A → B → C) → Option A → Option B → Option C
 with_parts make part other = option_and_then (λ a. option_map (make a) other) part
+
+-- a path of this route that takes a command, if each of its parts is of its form
+abbrev pub post_at : PostRoute → Parts → Option Post
+post_at (posted.Collection path) parts = Some (post.Collection path)
+post_at (posted.Person path) parts = option_map (λ who. post.Person who path) (part_as initials_of (codes "who") parts)
+post_at (posted.Place path) parts = option_map (λ place. post.Place place path) (part_as place_of (codes "place") parts)
+post_at (posted.Ceremony path) parts = option_map (λ n. post.Ceremony n path) (ceremony_in parts)
+post_at posted.Signature parts = with_parts post.Signature (ceremony_in parts) (part_as step_of (codes "step") parts)
+post_at posted.Safe parts = with_parts post.Safe (ceremony_in parts) (part_as safe_of (codes "safe") parts)
+post_at (posted.Bag path) parts = with_parts (λ n serial. post.Bag n serial path) (ceremony_in parts) (serial_in parts)
+
+-- what a path of this route is asked for, if each of its parts is of its form
+abbrev pub inquiry_at : AskRoute → Parts → Option Inquiry
+inquiry_at asked.CustodiansOn parts = option_map (λ day. inquiry.Question (question.Custodians day)) (part_as day_of (codes "day") parts)
+inquiry_at asked.BagShown parts = option_map (λ serial. inquiry.Question (question.Bag serial)) (serial_in parts)
+inquiry_at asked.Room parts =
+    with_parts (λ n at. inquiry.Question (question.Room n at)) (ceremony_in parts) (part_as moment_of (codes "at") parts)
+inquiry_at asked.Script parts = option_map inquiry.Script (ceremony_in parts)
+inquiry_at asked.Attendance parts = option_map inquiry.Attendance (ceremony_in parts)
+inquiry_at asked.Custody parts = Some inquiry.Custody
+inquiry_at asked.Commands parts = option_map inquiry.Commands (part_as after_of (codes "after") parts)
 
 -- what a path of this route asks for, if each of its parts is of its form
 abbrev pub endpoint_of : Route → Parts → Option Endpoint
-endpoint_of (route.Collection path) parts = Some (target.Post (post.Collection path))
-endpoint_of (route.Person path) parts =
-    option_map (λ who. target.Post (post.Person who path)) (part_as initials_of (codes "who") parts)
-endpoint_of (route.Place path) parts =
-    option_map (λ place. target.Post (post.Place place path)) (part_as place_of (codes "place") parts)
-endpoint_of (route.Ceremony path) parts = option_map (λ n. target.Post (post.Ceremony n path)) (ceremony_in parts)
-endpoint_of route.Signature parts =
-    with_parts (λ n step. target.Post (post.Signature n step)) (ceremony_in parts) (part_as step_of (codes "step") parts)
-endpoint_of route.Safe parts =
-    with_parts (λ n safe. target.Post (post.Safe n safe)) (ceremony_in parts) (part_as safe_of (codes "safe") parts)
-endpoint_of (route.Bag path) parts =
-    with_parts (λ n serial. target.Post (post.Bag n serial path)) (ceremony_in parts) (serial_in parts)
-endpoint_of route.CustodiansOn parts =
-    option_map (λ day. target.Ask (inquiry.Question (question.Custodians day))) (part_as day_of (codes "day") parts)
-endpoint_of route.BagShown parts = option_map (λ serial. target.Ask (inquiry.Question (question.Bag serial))) (serial_in parts)
-endpoint_of route.Room parts =
-    with_parts (λ n at. target.Ask (inquiry.Question (question.Room n at))) (ceremony_in parts)
-    (part_as moment_of (codes "at") parts)
-endpoint_of route.Script parts = option_map (λ n. target.Ask (inquiry.Script n)) (ceremony_in parts)
-endpoint_of route.Attendance parts = option_map (λ n. target.Ask (inquiry.Attendance n)) (ceremony_in parts)
-endpoint_of route.Custody parts = Some (target.Ask inquiry.Custody)
-endpoint_of route.Commands parts =
-    option_map (λ after. target.Ask (inquiry.Commands after)) (part_as after_of (codes "after") parts)
+endpoint_of (route.Post r) parts = option_map target.Post (post_at r parts)
+endpoint_of (route.Ask r) parts = option_map target.Ask (inquiry_at r parts)
 
 -- what a path asks for, by the route that the router finds for it and the parts that it takes
 abbrev pub target_at : List ℕ → Option Endpoint

@@ -3,7 +3,8 @@ ghost use Rattle.std.specs.Prelude.{◌≡◌, IfOk, IfSome, Some};
 ghost use Rattle.kcr_history.specs.Texts.{command_text};
 ghost use Rattle.kcr_history.specs.declared.commands.Act.{Act};
 ghost use Rattle.kcr_forms.specs.Acts.{IsAct};
-ghost use Rattle.kcr_wire.specs.ActTexts.{told_at, act_told, if_told, act_of};
+ghost use Rattle.kcr_wire.specs.ActTexts.{told_at, act_told, act_of};
+ghost use Rattle.kcr_base.specs.Same.{same_text};
 
 use crate::endpoint::{Endpoint, RouteTable};
 use kcr_base::{Refusal, same_text};
@@ -25,16 +26,12 @@ fn told_at(alloc: Global, endpoint: Endpoint, text: &[u8]) -> Result<Option<Act>
     }
 }
 
-// The act, if this is its text.
-fn if_told(alloc: Global, act: Act, text: &[u8]) -> Result<Option<Act>, AllocError>
-    ensures { IfOk result (λ found. found ≡ if_told act text.now) }
+// Whether this is the act's text.
+fn is_told(alloc: Global, act: &Act, text: &[u8]) -> Result<bool, AllocError>
+    ensures { IfOk result (λ is. is ≡ same_text (command_text act.now) text.now) }
 {
-    let again = command_text(alloc, &act)?;
-    if same_text(again.as_bytes(), text) {
-        Ok(Some(act))
-    } else {
-        Ok(None)
-    }
+    let again = command_text(alloc, act)?;
+    Ok(same_text(again.as_bytes(), text))
 }
 
 impl RouteTable {
@@ -57,9 +54,13 @@ impl RouteTable {
     fn act_of_text(&self, alloc: Global, text: &[u8]) -> Result<Option<Act>, AllocError>
         ensures { IfOk result (λ act. act ≡ act_of text.now) }
     {
-        match self.act_told(alloc, text)? {
-            Some(act) => if_told(alloc, act, text),
-            None => Ok(None),
+        let Some(act) = self.act_told(alloc, text)? else {
+            return Ok(None);
+        };
+        if is_told(alloc, &act, text)? {
+            Ok(Some(act))
+        } else {
+            Ok(None)
         }
     }
 

@@ -29,10 +29,8 @@ impl BodyText {
             ≡ string_bytes self.old.text ++ next_member (member_text name) (view value.now)) }
     {
         let written = value.to_string(self.alloc)?;
-        self.text.push_str(",\"")?;
-        self.text.push_str(name.text())?;
-        self.text.push_str("\":")?;
-        self.text.push_str(written.as_str())?;
+        let member = [",\"", name.text(), "\":", written.as_str()].concat(self.alloc)?;
+        self.text.push_str(member.as_str())?;
         Ok(())
     }
 }

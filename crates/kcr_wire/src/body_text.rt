@@ -14,9 +14,7 @@ fn with_key(alloc: Global, key: &str) -> Result<String, AllocError>
         string_bytes text ≡ codes "{\"key\":" ++ compact_text (string key.now)) }
 {
     let key = text_value(alloc, key)?.to_string(alloc)?;
-    let mut text = String::from_str(alloc, "{\"key\":")?;
-    text.push_str(key.as_str())?;
-    Ok(text)
+    ["{\"key\":", key.as_str()].concat(alloc)
 }
 
 /// The body of a command's request: a JSON object without blanks, with the key and then the members of its act, in the

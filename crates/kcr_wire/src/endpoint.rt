@@ -1,18 +1,16 @@
 //! What a request's target asks for.
-#![tactic(auto, using(kcr_base::proofs::FormLemmas::form_readings, kcr_base::proofs::ValueLemmas::value_readings))]
+#![tactic(auto, unfolding(kcr_base::specs::Forms::ceremony_of, kcr_base::specs::Forms::step_of, kcr_base::specs::Forms::number_of))]
 
-ghost use Rattle.std.specs.Prelude.{◌≡◌, ◌==◌, ◌<◌, codes, length, position, option_map, IfErr, IfSome};
-ghost use Rattle.matchit.specs.Params.{AllText, named};
-ghost use Rattle.kcr_forms.specs.Forms.{initials_of, place_of, ceremony_of, step_of, serial_of, day_of, moment_of, safe_of};
-ghost use Rattle.kcr_wire.specs.Endpoints.{path_of, ascii_in, parts_of, part_as, after_of, endpoint_of, target_of};
+ghost use Rattle.std.specs.Prelude.{◌≡◌, ◌==◌, ◌<◌, length, position, option_map, IfErr, IfSome};
+ghost use Rattle.matchit.specs.Params.{AllText};
+ghost use Rattle.kcr_wire.specs.Endpoints.{path_of, ascii_in, parts_of, post_at, inquiry_at, endpoint_of, target_of};
 ghost use Rattle.kcr_wire.specs.Endpoints.{allow_of_endpoint};
 
-use crate::after::After;
 use crate::allow::Allow;
+use crate::path_part::in_path;
 use crate::question::Inquiry;
-use crate::route::{Route, router};
-use kcr_base::{CeremonyNumber, Day, Initials, Moment, Place, Refusal, Serial, StepNumber};
-use kcr_custody::SafeNumber;
+use crate::route::{AskRoute, PostRoute, Route, router};
+use kcr_base::Refusal;
 use kcr_forms::{CollectionPath, Post};
 use kcr_history::Question;
 use matchit::{Params, Router};
@@ -55,111 +53,59 @@ fn ascii_in(bytes: &[u8]) -> Option<&str>
     }
 }
 
-// The part of a path with this name.
-fn part<'p>(parts: &Params<'_, 'p>, name: &str) -> Option<&'p [u8]>
+// The path of this route with its parts read, if they have their forms.
+fn read_post(route: PostRoute, parts: &Params<'_, '_>) -> Option<Post>
     requires { AllText (parts_of parts.now) }
-    ensures { option_map (λ part. part.now) result ≡ named name.now (parts_of parts.now) }
+    ensures { result ≡ post_at route (parts_of parts.now) }
 {
-    Some(parts.get(name)?.as_bytes())
-}
-
-fn initials_in(parts: &Params<'_, '_>) -> Option<Initials>
-    requires { AllText (parts_of parts.now) }
-    ensures { result ≡ part_as initials_of (codes "who") (parts_of parts.now) }
-{
-    Initials::read(part(parts, "who")?)
-}
-
-fn place_in(parts: &Params<'_, '_>) -> Option<Place>
-    requires { AllText (parts_of parts.now) }
-    ensures { result ≡ part_as place_of (codes "place") (parts_of parts.now) }
-{
-    Place::read(part(parts, "place")?)
-}
-
-fn ceremony_in(parts: &Params<'_, '_>) -> Option<CeremonyNumber>
-    requires { AllText (parts_of parts.now) }
-    ensures { result ≡ part_as ceremony_of (codes "ceremony") (parts_of parts.now) }
-{
-    CeremonyNumber::read(part(parts, "ceremony")?)
-}
-
-fn step_in(parts: &Params<'_, '_>) -> Option<StepNumber>
-    requires { AllText (parts_of parts.now) }
-    ensures { result ≡ part_as step_of (codes "step") (parts_of parts.now) }
-{
-    StepNumber::read(part(parts, "step")?)
-}
-
-fn serial_in(parts: &Params<'_, '_>) -> Option<Serial>
-    requires { AllText (parts_of parts.now) }
-    ensures { result ≡ part_as serial_of (codes "serial") (parts_of parts.now) }
-{
-    Serial::read(part(parts, "serial")?)
-}
-
-fn day_in(parts: &Params<'_, '_>) -> Option<Day>
-    requires { AllText (parts_of parts.now) }
-    ensures { result ≡ part_as day_of (codes "day") (parts_of parts.now) }
-{
-    Day::read(part(parts, "day")?)
-}
-
-fn moment_in(parts: &Params<'_, '_>) -> Option<Moment>
-    requires { AllText (parts_of parts.now) }
-    ensures { result ≡ part_as moment_of (codes "at") (parts_of parts.now) }
-{
-    Moment::read(part(parts, "at")?)
-}
-
-fn after_in(parts: &Params<'_, '_>) -> Option<After>
-    requires { AllText (parts_of parts.now) }
-    ensures { result ≡ part_as after_of (codes "after") (parts_of parts.now) }
-{
-    After::read(part(parts, "after")?)
-}
-
-#[tactic(auto, unfolding(kcr_forms::specs::Forms::safe_of))]
-fn safe_in(parts: &Params<'_, '_>) -> Option<SafeNumber>
-    requires { AllText (parts_of parts.now) }
-    ensures { result ≡ part_as safe_of (codes "safe") (parts_of parts.now) }
-{
-    match part(parts, "safe")? {
-        b"1" => Some(SafeNumber::One),
-        b"2" => Some(SafeNumber::Two),
-        _ => None,
-    }
+    let post = match route {
+        PostRoute::Collection(path) => Post::Collection(path),
+        PostRoute::Person(path) => Post::Person(in_path(parts, "who")?, path),
+        PostRoute::Place(path) => Post::Place(in_path(parts, "place")?, path),
+        PostRoute::Ceremony(path) => Post::Ceremony(in_path(parts, "ceremony")?, path),
+        PostRoute::Signature => Post::Signature(
+            in_path(parts, "ceremony")?,
+            in_path(parts, "step")?,
+        ),
+        PostRoute::Safe => Post::Safe(in_path(parts, "ceremony")?, in_path(parts, "safe")?),
+        PostRoute::Bag(path) => Post::Bag(
+            in_path(parts, "ceremony")?,
+            in_path(parts, "serial")?,
+            path,
+        ),
+    };
+    Some(post)
 }
 
 // What a path of this route asks for, if its parts have their forms.
+fn read_inquiry(route: AskRoute, parts: &Params<'_, '_>) -> Option<Inquiry>
+    requires { AllText (parts_of parts.now) }
+    ensures { result ≡ inquiry_at route (parts_of parts.now) }
+{
+    let inquiry = match route {
+        AskRoute::CustodiansOn => Inquiry::Question(Question::Custodians(in_path(parts, "day")?)),
+        AskRoute::BagShown => Inquiry::Question(Question::Bag(in_path(parts, "serial")?)),
+        AskRoute::Room => Inquiry::Question(Question::Room(
+            in_path(parts, "ceremony")?,
+            in_path(parts, "at")?,
+        )),
+        AskRoute::Script => Inquiry::Script(in_path(parts, "ceremony")?),
+        AskRoute::Attendance => Inquiry::Attendance(in_path(parts, "ceremony")?),
+        AskRoute::Custody => Inquiry::Custody,
+        AskRoute::Commands => Inquiry::Commands(in_path(parts, "after")?),
+    };
+    Some(inquiry)
+}
+
+// A path of this route with its parts read, if they have their forms.
 fn read_parts(route: Route, parts: &Params<'_, '_>) -> Option<Endpoint>
     requires { AllText (parts_of parts.now) }
     ensures { result ≡ endpoint_of route (parts_of parts.now) }
 {
-    let target = match route {
-        Route::Collection(path) => Endpoint::Post(Post::Collection(path)),
-        Route::Person(path) => Endpoint::Post(Post::Person(initials_in(parts)?, path)),
-        Route::Place(path) => Endpoint::Post(Post::Place(place_in(parts)?, path)),
-        Route::Ceremony(path) => Endpoint::Post(Post::Ceremony(ceremony_in(parts)?, path)),
-        Route::Signature => Endpoint::Post(Post::Signature(ceremony_in(parts)?, step_in(parts)?)),
-        Route::Safe => Endpoint::Post(Post::Safe(ceremony_in(parts)?, safe_in(parts)?)),
-        Route::Bag(path) => {
-            Endpoint::Post(Post::Bag(ceremony_in(parts)?, serial_in(parts)?, path))
-        }
-        Route::CustodiansOn => Endpoint::Ask(Inquiry::Question(Question::Custodians(day_in(
-            parts,
-        )?))),
-        Route::BagShown => Endpoint::Ask(Inquiry::Question(Question::Bag(serial_in(parts)?))),
-        Route::Room => Endpoint::Ask(Inquiry::Question(Question::Room(
-            ceremony_in(parts)?,
-            moment_in(parts)?,
-        ))),
-        Route::Script => Endpoint::Ask(Inquiry::Script(ceremony_in(parts)?)),
-        Route::Attendance => Endpoint::Ask(Inquiry::Attendance(ceremony_in(parts)?)),
-        Route::Custody => Endpoint::Ask(Inquiry::Custody),
-        Route::Commands => Endpoint::Ask(Inquiry::Commands(after_in(parts)?)),
-    };
-    Some(target)
+    match route {
+        Route::Post(route) => Some(Endpoint::Post(read_post(route, parts)?)),
+        Route::Ask(route) => Some(Endpoint::Ask(read_inquiry(route, parts)?)),
+    }
 }
 
 /// The paths of the register. Whoever answers a stream makes it once, since making it takes memory,

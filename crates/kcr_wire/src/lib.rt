@@ -18,6 +18,7 @@ mod body_text;
 pub mod command;
 pub mod endpoint;
 pub mod method;
+mod path_part;
 pub mod question;
 pub mod request;
 pub mod route;

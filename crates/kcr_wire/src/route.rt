@@ -2,10 +2,9 @@
 ghost use Rattle.std.specs.Prelude.{◌≡◌, [], true, IfOk, OnOk};
 ghost use Rattle.kcr_wire.specs.Routes.{rows_of, table, add, add_all, can_add, can_add_all};
 
-use self::Route::{
-    Attendance, Bag, BagShown, Ceremony, Collection, Commands, CustodiansOn, Custody, Person,
-    Place, Room, Safe, Script, Signature,
-};
+use self::AskRoute::{Attendance, BagShown, Commands, CustodiansOn, Custody, Room, Script};
+use self::PostRoute::{Bag, Ceremony, Collection, Person, Place, Safe, Signature};
+use self::Route::{Ask, Post};
 use kcr_forms::BagPath::{self, Cut, Put, Seal, Take};
 use kcr_forms::CeremonyPath::{self, Closing, Exceptions, Opening, Sheet};
 use kcr_forms::CollectionPath::{self, Boxes, Ceremonies, Custodians, Items, People};
@@ -14,9 +13,16 @@ use kcr_forms::PlacePath::{self, Release, Replacement};
 use matchit::{InsertError, Router};
 use std::alloc::{AllocError, Global};
 
-/// A kind of path, with its parts in braces left out.
+/// A kind of path, with its parts in braces left out: one that takes a command, or one that is only asked.
 #[derive(Clone, Copy)]
 pub enum Route {
+    Post(PostRoute),
+    Ask(AskRoute),
+}
+
+/// A kind of path that takes a command.
+#[derive(Clone, Copy)]
+pub enum PostRoute {
     Collection(CollectionPath),
     Person(PersonPath),
     Place(PlacePath),
@@ -24,6 +30,11 @@ pub enum Route {
     Signature,
     Safe,
     Bag(BagPath),
+}
+
+/// A kind of path that is only asked.
+#[derive(Clone, Copy)]
+pub enum AskRoute {
     CustodiansOn,
     BagShown,
     Room,
@@ -35,32 +46,38 @@ pub enum Route {
 
 /// Every route as `matchit` reads it, with a name for each part in braces, in the order in which the router takes them.
 pub const ROUTES: [(&str, Route); 26] = [
-    ("/people", Collection(People)),
-    ("/people/{who}/roles", Person(Roles)),
-    ("/people/{who}/withdrawals", Person(Withdrawals)),
-    ("/custodians", Collection(Custodians)),
-    ("/custodians/{place}/replacement", Place(Replacement)),
-    ("/custodians/{place}/release", Place(Release)),
-    ("/boxes", Collection(Boxes)),
-    ("/items", Collection(Items)),
-    ("/ceremonies", Collection(Ceremonies)),
-    ("/ceremonies/{ceremony}/opening", Ceremony(Opening)),
-    ("/ceremonies/{ceremony}/closing", Ceremony(Closing)),
-    ("/ceremonies/{ceremony}/sheet", Ceremony(Sheet)),
-    ("/ceremonies/{ceremony}/steps/{step}/signature", Signature),
-    ("/ceremonies/{ceremony}/exceptions", Ceremony(Exceptions)),
-    ("/ceremonies/{ceremony}/safes/{safe}", Safe),
-    ("/ceremonies/{ceremony}/bags/{serial}/seal", Bag(Seal)),
-    ("/ceremonies/{ceremony}/bags/{serial}/take", Bag(Take)),
-    ("/ceremonies/{ceremony}/bags/{serial}/put", Bag(Put)),
-    ("/ceremonies/{ceremony}/bags/{serial}/cut", Bag(Cut)),
-    ("/custodians/{day}", CustodiansOn),
-    ("/bags/{serial}", BagShown),
-    ("/ceremonies/{ceremony}/room/{at}", Room),
-    ("/ceremonies/{ceremony}/script", Script),
-    ("/ceremonies/{ceremony}/attendance.csv", Attendance),
-    ("/custody", Custody),
-    ("/commands/{after}", Commands),
+    ("/people", Post(Collection(People))),
+    ("/people/{who}/roles", Post(Person(Roles))),
+    ("/people/{who}/withdrawals", Post(Person(Withdrawals))),
+    ("/custodians", Post(Collection(Custodians))),
+    ("/custodians/{place}/replacement", Post(Place(Replacement))),
+    ("/custodians/{place}/release", Post(Place(Release))),
+    ("/boxes", Post(Collection(Boxes))),
+    ("/items", Post(Collection(Items))),
+    ("/ceremonies", Post(Collection(Ceremonies))),
+    ("/ceremonies/{ceremony}/opening", Post(Ceremony(Opening))),
+    ("/ceremonies/{ceremony}/closing", Post(Ceremony(Closing))),
+    ("/ceremonies/{ceremony}/sheet", Post(Ceremony(Sheet))),
+    (
+        "/ceremonies/{ceremony}/steps/{step}/signature",
+        Post(Signature),
+    ),
+    (
+        "/ceremonies/{ceremony}/exceptions",
+        Post(Ceremony(Exceptions)),
+    ),
+    ("/ceremonies/{ceremony}/safes/{safe}", Post(Safe)),
+    ("/ceremonies/{ceremony}/bags/{serial}/seal", Post(Bag(Seal))),
+    ("/ceremonies/{ceremony}/bags/{serial}/take", Post(Bag(Take))),
+    ("/ceremonies/{ceremony}/bags/{serial}/put", Post(Bag(Put))),
+    ("/ceremonies/{ceremony}/bags/{serial}/cut", Post(Bag(Cut))),
+    ("/custodians/{day}", Ask(CustodiansOn)),
+    ("/bags/{serial}", Ask(BagShown)),
+    ("/ceremonies/{ceremony}/room/{at}", Ask(Room)),
+    ("/ceremonies/{ceremony}/script", Ask(Script)),
+    ("/ceremonies/{ceremony}/attendance.csv", Ask(Attendance)),
+    ("/custody", Ask(Custody)),
+    ("/commands/{after}", Ask(Commands)),
 ];
 
 // Takes one more route, which reads and which no route held conflicts with, so that only memory can be wanting.

@@ -1,14 +1,16 @@
 //! Answers as JSON: compact, with the members of an object in byte order.
-ghost use Rattle.std.specs.Prelude.{◌≡◌, IfOk, map};
-ghost use Rattle.serde_json.specs.View.{view};
+ghost use Rattle.std.specs.Prelude.{◌≡◌, IfOk, OnOk, map};
+ghost use Rattle.serde_json.specs.Data.{string, put as with_member};
+ghost use Rattle.serde_json.specs.View.{view, members_view};
 ghost use Rattle.kcr_history.specs.Refusals.{refusal_text};
 ghost use Rattle.kcr_wire.specs.ShownJson.{shown_text};
 
+use crate::body_members::text_value;
 use kcr_base::{Initials, ItemCode, Refusal, Text};
 use kcr_history::{
     BagShown, CustodiansShown, HolderShown, PersonShown, RoleShown, RoomShown, Shown, refusal_text,
 };
-use serde_json::{Value, json};
+use serde_json::{Map, Value, json, put};
 use std::alloc::{AllocError, Global};
 
 /// What is shown as JSON.
@@ -36,13 +38,26 @@ fn values<T: ToJson>(alloc: Global, things: &[T]) -> Result<Vec<Value>, AllocErr
     Ok(values)
 }
 
+// Puts a member that is a text.
+fn put_text(
+    members: &mut Map<String, Value>,
+    alloc: Global,
+    name: &str,
+    text: &str,
+) -> Result<(), AllocError>
+    ensures { OnOk result (members_view members.new.entries
+        ≡ with_member name.now (string text.now) (members_view members.old.entries)) }
+{
+    put(members, alloc, name, text_value(alloc, text)?)
+}
+
 impl ToJson for Initials {
     ghost use Rattle.serde_json.specs.Data.{string};
 
     ghost json = { string };
 
     fn to_json(&self, alloc: Global) -> Result<Value, AllocError> {
-        json!(in alloc; self.as_str())
+        text_value(alloc, self.as_str())
     }
 }
 
@@ -52,7 +67,7 @@ impl ToJson for ItemCode {
     ghost json = { string };
 
     fn to_json(&self, alloc: Global) -> Result<Value, AllocError> {
-        json!(in alloc; self.as_str())
+        text_value(alloc, self.as_str())
     }
 }
 
@@ -63,16 +78,14 @@ impl ToJson for RoleShown {
 
     fn to_json(&self, alloc: Global) -> Result<Value, AllocError> {
         let (since, until) = (self.since.code(), self.until.code());
-        let (since, until) = (since.as_str(), until.as_str());
-        let role = self.role.text();
-        match self.withdrawn {
-            None => json!(in alloc; {"from": since, "role": role, "until": until}),
-            Some(day) => {
-                let day = day.code();
-                let day = day.as_str();
-                json!(in alloc; {"from": since, "role": role, "until": until, "withdrawn": day})
-            }
+        let mut members = Map::new(alloc);
+        put_text(&mut members, alloc, "from", since.as_str())?;
+        put_text(&mut members, alloc, "role", self.role.text())?;
+        put_text(&mut members, alloc, "until", until.as_str())?;
+        if let Some(day) = self.withdrawn {
+            put_text(&mut members, alloc, "withdrawn", day.code().as_str())?;
         }
+        Ok(Value::Object(members))
     }
 }
 

@@ -6,10 +6,9 @@ use Rattle.kcr_wire.proofs.body_members.BodyText.push.Goals as goal
 pub returns : goal.returns
 returns c =
     rw (
-      c.in_ok-push_str-4.ensures.bytes,
-      c.in_ok-push_str-3.ensures.bytes,
-      c.in_ok-push_str-2.ensures.bytes,
       c.in_ok-push_str.ensures.bytes,
+      c.as_str-2.ensures.value,
+      c.in_ok-member.ensures.ok,
       c.as_str.ensures.value,
       c.in_ok-written.ensures.text c.requires,
       c.text.ensures,
