@@ -9,54 +9,38 @@ def parts(names, rest):
     return "".join(f"({name}, " for name in names) + rest + ")" * len(names)
 
 
-MADE = "(refl, refl, (refl, refl), refl, refl, refl, refl)"
+MADE = "(refl, refl, refl, refl)"
 
 
 def lemmas_make():
     n = len(TABLES)
     out = f"""-- One CREATE TABLE after the other.
-use Rattle.std.proofs.Common.{{◌≡◌, ℕ, zero, suc, ◌+◌, ◌<◌, [], false, take, Ok, refl, sym, ap, ◌∙◌, arith}}
+use Rattle.std.proofs.Common.{{◌≡◌, ℕ, zero, suc, ◌+◌, ◌<◌, [], ◌∷◌, ◌++◌, take, Ok, refl, arith}}
 use Rattle.sqlite.specs.Table.{{Table}}
-use Rattle.sqlite.specs.Command.TheVariants.{{CreateTable}}
-use Rattle.sqlite.specs.Compile.{{table_defined_by}}
-use Rattle.sqlite.specs.Change.{{created, next_tree}}
-use Rattle.sqlite.specs.Does.{{lacks_sequence}}
 use Rattle.sqlite.specs.State.{{State, Executes}}
-use Rattle.sqlite.specs.Listing.{{understood}}
-use Rattle.sqlite.proofs.Callers.{{IsPlain, command_of, statement_of}}
 use Rattle.sqlite_tied.specs.Compute.{{everything}}
 use Rattle.sqlite_catalog.specs.Listing.{{IsSound}}
+use Rattle.sqlite_trees.proofs.ListLemmas.{{all-append}}
 use Rattle.kcr_rows.specs.Columns.{{AreEmpty}}
-use Rattle.kcr_rows.proofs.CreateLemmas.{{creates}}
+use Rattle.kcr_rows.proofs.CreateLemmas.{{Makes, creates, keeps_empty}}
 use Rattle.kcr_tables.specs.Schema.{{all_tables, {', '.join(t.name for t in TABLES)}}}
 use Rattle.kcr_tables.specs.Creation.{{text_at, schema_prefix}}
 
 -- text N makes this table after those before it
-abbrev pub Makes : ℕ → Table → Type 0
-Makes at table =
-    (command_of (understood (schema_prefix at) (text_at at)) ≡ CreateTable)
-    × (statement_of (text_at at) (understood (schema_prefix at) (text_at at)) ≡ text_at at)
-    × IsPlain (understood (schema_prefix at) (text_at at))
-    × (table_defined_by (text_at at) ≡ Ok (record table {{ tree = 0 }}))
-    × (created (schema_prefix at) (record table {{ tree = 0 }}) ≡ schema_prefix (at + 1))
-    × (next_tree (schema_prefix at) ≡ table.tree)
-    × (lacks_sequence (schema_prefix (at + 1)) ≡ false)
-
--- whatever table the text defines, the schema with it is the next one
-pub defines : (at : ℕ) (table : Table) → Makes at table → (found : Table) → table_defined_by (text_at at) ≡ Ok found → created (schema_prefix at) found ≡ schema_prefix (at + 1)
-defines at table makes found h =
-    let both : Ok found ≡ Ok (record table {{ tree = 0 }}) = sym h ∙ makes.3 in
-    let same : found ≡ record table {{ tree = 0 }} = cc in
-    ap (created (schema_prefix at)) same ∙ makes.4
-
-makes_next : (at : ℕ) (table : Table) → Makes at table → (old new : State) (count : ℕ) → old.now.schema ≡ schema_prefix at → AreEmpty (schema_prefix at).tables old.now.trees → Executes (text_at at) [] old new (Ok count) → (new.now.schema ≡ schema_prefix (at + 1)) × AreEmpty ((schema_prefix at).tables ++ table ∷ []) new.now.trees × IsSound (schema_prefix (at + 1)) new.now.trees
-makes_next at table makes = creates (schema_prefix at) (text_at at) table (schema_prefix (at + 1)) makes.0 makes.1 makes.2 (defines at table makes) makes.5 makes.6
+abbrev pub MakesAt : ℕ → Table → Type 0
+MakesAt at table = Makes (schema_prefix at) (text_at at) table (schema_prefix (at + 1))
+"""
+    out += """
+makes_next : (at : ℕ) (table : Table) → MakesAt at table → (old new : State) (count : ℕ) → old.now.schema ≡ schema_prefix at → AreEmpty (schema_prefix at).tables old.now.trees → Executes (text_at at) [] old new (Ok count) → (new.now.schema ≡ schema_prefix (at + 1)) × AreEmpty ((schema_prefix at).tables ++ table ∷ []) new.now.trees × IsSound (schema_prefix (at + 1)) new.now.trees
+makes_next at table makes old new count has empty ran =
+    let made = creates (schema_prefix at) (text_at at) table (schema_prefix (at + 1)) makes old new count has ran in
+    (made.0, all-append _ (schema_prefix at).tables (table ∷ []) (keeps_empty (schema_prefix at).tables _ _ made.1 empty) (made.2, tt), made.3)
 """
     for t in TABLES[15:]:
         out += f"""
 -- an older version lacks it, and it is made over the others too
-pub makes_{t.name} : Makes {t.at} {t.name}
-unfolding understood everything
+pub makes_{t.name} : MakesAt {t.at} {t.name}
+unfolding everything
 makes_{t.name} = {MADE}
 """
     out += f"""
@@ -65,7 +49,7 @@ Next at old new = (new.now.schema ≡ schema_prefix (at + 1)) × AreEmpty (take 
 
 -- a text that is executed in its turn leaves the next schema, and all its tables empty
 pub create_next : (at : ℕ) → at < {n} → (old new : State) (count : ℕ) → old.now.schema ≡ schema_prefix at → AreEmpty (take at all_tables) old.now.trees → Executes (text_at at) [] old new (Ok count) → Next at old new
-unfolding understood everything
+unfolding everything
 """
     for t in TABLES:
         pattern = "zero"
@@ -76,7 +60,6 @@ unfolding understood everything
     for _ in range(n):
         pattern = f"(suc {pattern})"
     out += f"create_next {pattern} low = absurd (omega arith)\n"
-    out = out.replace("[], false,", "[], ◌∷◌, ◌++◌, false,")
     write("proofs/MakeLemmas.antt", out)
 
     out = f"""-- A new register.

@@ -8,7 +8,7 @@ from table_writer import write, codes, listed
 # what all laws take from one module: its own lemmas, and those that it hands on
 SHARED = """shows is_given inserts_as inserts_row updates_row cast_all cast_int cast_null cast_loose cast_or_null cast_within each_is
 everything has_value number_in number_ties one_ceremony_state one_facility one_number one_place one_rest one_role one_safe
-one_seats one_spot one_step_state one_truth one_way same_text still_at text_in text_ties understood value_is within_is
+one_seats one_spot one_step_state one_truth one_way same_text still_at text_in text_ties value_is within_is
 InsertsRow IsLookup IsTable LookupSpec SelectsRows TableSpec UpdatesRow""".split()
 
 
@@ -64,16 +64,16 @@ def puts(t):
 casts : (x : {t.type}) → cast_all {t.name}.columns ({t.row_of} x) ≡ {t.row_of} x
 casts x i = {listed(casts(t))}
 """
-    by = f"inserts_row {t.at} {t.name} casts (refl, refl) refl"
+    by = f"inserts_row {t.at} {t.name} casts (refl, refl, refl) refl"
     if t.alias:
         stored = ""
         terms = in_front(t, [f"col 0 {i}" for i, _ in enumerate(t.columns)], "lit Null")
         given = in_front(t, [c.value("x") for c in t.columns], "Null")
-        by = f"inserts_as {t.at} {t.name} ({terms}) (λ x. {given}) (λ x i. {in_front(t, casts(t), 'cast_null i')}) (refl, refl) refl"
+        by = f"inserts_as {t.at} {t.name} ({terms}) (λ x. {given}) (λ x i. {in_front(t, casts(t), 'cast_null i')}) (refl, refl, refl) refl"
     out = f"""{stored}
 -- the text that adds the row of a value
 pub inserts : InsertsRow ({codes(t.insert_text())}) {t.place} {t.row_of}
-unfolding understood everything
+unfolding everything
 inserts = {by}
 """
     if not t.may_change:
@@ -81,8 +81,8 @@ inserts = {by}
     return out + f"""
 -- the text that puts it in the place of the row with its key
 pub updates : UpdatesRow ({codes(t.update_text())}) {t.place} {t.row_of}
-unfolding understood everything
-updates = updates_row {t.at} {t.name} casts (refl, refl) refl
+unfolding everything
+updates = updates_row {t.at} {t.name} casts (refl, refl, refl) refl
 """
 
 
@@ -102,9 +102,9 @@ abbrev pub {p} : LookupSpec {'ℕ' if is_number else '(List ℕ)'} {t.type}
 {p} = {way}
 
 pub {p}_laws : IsLookup {p} {t.place} {'(λ n. Int (pos n))' if is_number else 'Text'} {t.row_of}
-unfolding understood everything
+unfolding everything
 {p}_laws = record {{
-  finds = λ {r.arg}. shows {t.name} (is_given {t.places()[place]}) (refl, refl) refl;
+  finds = λ {r.arg}. shows {t.name} (is_given {t.places()[place]}) (refl, refl, refl) refl;
   under = λ {r.arg} x. {under};
 }}
 """
@@ -174,7 +174,7 @@ use Rattle.sqlite.specs.Term.{lit, col}
     out += f"\n-- no two values stand for one row\npub one_value : (x y : {t.type}) → {known} → {t.row_of} x ≡ {t.row_of} y → x ≡ y\n"
     one = f"one_value x y read held h = λ i. {record(**fields)}\n"
     out += one if len(one) <= DEFINITIONS else f"one_value x y read held h = λ i. {lines(fields)}"
-    out += f"\nlists : SelectsRows table.all_sql {t.place} [] (λ _. true)\nunfolding understood everything\nlists = shows {t.name} [] (refl, refl) refl\n"
+    out += f"\nlists : SelectsRows table.all_sql {t.place} [] (λ _. true)\nunfolding everything\nlists = shows {t.name} [] (refl, refl, refl) refl\n"
     for r in t.readings:
         out += finds(t, r)
     out += puts(t) + table_laws(t)

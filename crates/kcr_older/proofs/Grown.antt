@@ -1,68 +1,40 @@
 -- An older file with the tables that it lacks, which have no rows yet: what CREATE TABLE does to tables that have rows.
-use Rattle.std.proofs.Common.{rules, ◌≡◌, ℕ, zero, suc, List, [], ◌∷◌, map, drop, take, ◌∙◌, ◌+◌, None, Ok, false, sym, ap, subst}
+use Rattle.std.proofs.Common.{rules, ◌≡◌, ℕ, zero, suc, List, [], ◌∷◌, map, drop, take, ◌∙◌, ◌+◌, Ok}
 use Rattle.sqlite.specs.Tree.{Trees}
 use Rattle.sqlite.specs.Table.{Table}
-use Rattle.sqlite.specs.Change.{KeepsRows, created, next_tree}
+use Rattle.sqlite.specs.Change.{KeepsRows}
 use Rattle.sqlite.specs.Effect.{Database}
 use Rattle.sqlite_catalog.specs.Listing.{IsSound}
 use Rattle.sqlite.specs.Order.{Row}
 use Rattle.kcr_rows.specs.Keyed.{TreeHolds, TableLayout}
-use Rattle.kcr_rows.proofs.CreateLemmas.{bare}
+use Rattle.kcr_rows.proofs.CreateLemmas.{bare, creates}
 use Rattle.kcr_rows.proofs.TableLemmas.{keeps_on}
 use Rattle.kcr_rows.specs.Rows.{stay_row, withdrawal_row}
 use Rattle.kcr_tables.specs.Schema.{all_tables, register_schema, stays, withdrawals}
 use Rattle.kcr_tables.specs.StoredTables.{StoredTables, TreesHold, Holds, stays_place, withdrawals_place}
 use Rattle.kcr_older.specs.NewTable.{Gains}
 use Rattle.kcr_older.specs.OldFiles.{HoldsFirst}
-use Rattle.sqlite.specs.Command.TheVariants.{CreateTable}
-use Rattle.sqlite.specs.Compile.{table_defined_by}
-use Rattle.sqlite.specs.Does.{Tally, lacks_sequence}
-use Rattle.sqlite.specs.State.{State, Executes, Writes}
-use Rattle.sqlite.specs.Listing.{understood}
-use Rattle.sqlite.proofs.Callers.{IsPlain, command_of, statement_of, runs_as}
-use Rattle.kcr_rows.proofs.WriteLemmas.{went, same_value}
+use Rattle.sqlite.specs.State.{State, Executes}
 use Rattle.kcr_tables.specs.Creation.{text_at, schema_prefix}
-use Rattle.kcr_tables.proofs.MakeLemmas.{defines, makes_stays, makes_withdrawals}
+use Rattle.kcr_tables.proofs.MakeLemmas.{MakesAt, makes_stays, makes_withdrawals}
 
 -- ---- one more table
 
 -- the rows of the tables that were there stay, and the new one has none
-module _ (at : ℕ) (table : Table)
-    (is : command_of (understood (schema_prefix at) (text_at at)) ≡ CreateTable)
-    (whole : statement_of (text_at at) (understood (schema_prefix at) (text_at at)) ≡ text_at at)
-    (plain : IsPlain (understood (schema_prefix at) (text_at at)))
-    (after_is : (found : Table) → table_defined_by (text_at at) ≡ Ok found → created (schema_prefix at) found ≡ schema_prefix (at + 1))
-    (tree_is : next_tree (schema_prefix at) ≡ table.tree)
-    (uncounted : lacks_sequence (schema_prefix (at + 1)) ≡ false) where
-  creates_over : (old new : State) (count : ℕ) → old.now.schema ≡ schema_prefix at → Executes (text_at at) [] old new (Ok count) → Gains at table old.now new.now
-  creates_over old new count has h =
-      let w = subst (λ t. Writes old new None CreateTable t [] count) whole (runs_as (text_at at) [] old new (schema_prefix at) has CreateTable is plain count h) in
-      let all = went w.changed in
-      let made_as = went all.1 in
-      let made = made_as.1 in
-      let schema_is : made_as.0.schema ≡ schema_prefix (at + 1) = made.is ∙ ap (λ s. created s made.table) has ∙ after_is made.table made.defined in
-      let lacks : lacks_sequence made_as.0.schema ≡ false = ap lacks_sequence schema_is ∙ uncounted in
-      let now : new.now ≡ made_as.0 = ap (λ (p : Tally × Database). p.1) (same_value all.2) ∙ same_value (rw lacks at made_as.2) in
-      let trees : new.now.trees ≡ made_as.0.trees = ap (λ (d : Database). d.trees) now in
-      let schema : new.now.schema ≡ schema_prefix (at + 1) = ap (λ (d : Database). d.schema) now ∙ schema_is in
-      let kept : KeepsRows (schema_prefix at).tables old.now.trees made_as.0.trees = subst (λ s. KeepsRows s.tables old.now.trees made_as.0.trees) has made.others in
-      let bare : made_as.0.trees table.tree ≡ [] = subst (λ t. made_as.0.trees t ≡ []) (ap next_tree has ∙ tree_is) made.empty in
-      record {
-        schema = schema;
-        shared = subst (λ (n : Trees). KeepsRows (schema_prefix at).tables old.now.trees n) (sym trees) kept;
-        empty = subst (λ (n : Trees). n table.tree ≡ []) (sym trees) bare;
-        sound = subst (λ s. IsSound s new.now.trees) schema w.sound;
-      }
+creates_over : (at : ℕ) (table : Table) → MakesAt at table → (old new : State) (count : ℕ) → old.now.schema ≡ schema_prefix at
+    → Executes (text_at at) [] old new (Ok count) → Gains at table old.now new.now
+creates_over at table makes old new count has h =
+    let made = creates (schema_prefix at) (text_at at) table (schema_prefix (at + 1)) makes old new count has h in
+    record { schema = made.0; shared = made.1; empty = made.2; sound = made.3 }
 
 -- after the first 15 tables, CREATE TABLE adds the table of stays, without rows
 pub creates_stays : (old new : State) (count : ℕ) → old.now.schema ≡ schema_prefix 15 → Executes (text_at 15) [] old new (Ok count) → Gains 15 stays old.now new.now
-creates_stays = creates_over 15 stays makes_stays.0 makes_stays.1 makes_stays.2 (defines 15 stays makes_stays) makes_stays.5 makes_stays.6
+creates_stays = creates_over 15 stays makes_stays
 
 -- after the first 16 tables, CREATE TABLE adds the table of withdrawals, without rows
 pub creates_withdrawals : (old new : State) (count : ℕ) → old.now.schema ≡ schema_prefix 16 → Executes (text_at 16) [] old new (Ok count)
     → Gains 16 withdrawals old.now new.now
-creates_withdrawals = creates_over 16 withdrawals makes_withdrawals.0 makes_withdrawals.1 makes_withdrawals.2
-    (defines 16 withdrawals makes_withdrawals) makes_withdrawals.5 makes_withdrawals.6
+creates_withdrawals = creates_over 16 withdrawals makes_withdrawals
 
 -- ---- all that an older file lacks
 

@@ -9,7 +9,6 @@ use Rattle.sqlite_schema.specs.Names.{same_name}
 use Rattle.sqlite_trees.proofs.ListLemmas.{map-map}
 use Rattle.sqlite.specs.Change.{KeepsRows}
 use Rattle.sqlite.specs.Tree.{Trees}
-use Rattle.sqlite_trees.specs.declared.store.Shape.TheVariants as shape
 use Rattle.kcr_rows.specs.Keyed.{TreeHolds, cells}
 use Rattle.kcr_rows.specs.Rows.{version_row}
 use Rattle.kcr_rows.specs.declared.row_impls.Version.{Version}

@@ -13,7 +13,6 @@ use Rattle.sqlite.specs.Ops.{binary}
 use Rattle.sqlite.specs.Collation.TheVariants.{Binary}
 use Rattle.sqlite.specs.State.{State, Shown}
 use Rattle.sqlite.specs.Tree.{Trees, IsAscending}
-use Rattle.sqlite.specs.Listing.{understood}
 use Rattle.sqlite_sql.specs.declared.ops.BinaryOp.TheVariants.{Compare}
 use Rattle.sqlite_sql.specs.declared.ops.CompareOp.TheVariants.{Eq, Gt, Le}
 use Rattle.sqlite_trees.proofs.ListLemmas.{IsPermutation-filter, all_weaker}
@@ -124,8 +123,8 @@ exceptions_text =
 
 -- it shows the first of the ceremony's exceptions past the last
 pub exceptions_shown : (ceremony : ℕ) (last : Option ℕ) → ShowsFirst exceptions_text exceptions_place (number_params ceremony last) (numbered ceremony last)
-unfolding understood everything
-exceptions_shown ceremony last = shows schema.exceptions number_test (refl, refl) refl
+unfolding everything
+exceptions_shown ceremony last = shows schema.exceptions number_test (refl, refl, refl) refl
 
 -- the first exception past the last is the next of those to come
 pub next_exception : (ceremony : ℕ) (last : Option ℕ) (m : machine.Tables) {db : Trees} (k : TreesHoldTables m db) (found : Option ExceptionRow)
@@ -142,8 +141,8 @@ steps_text = codes "SELECT ceremony, step, activity, seats, state, at FROM steps
 
 -- it shows the first 16 of the ceremony's steps past the last
 pub steps_shown : (ceremony : ℕ) (last : Option ℕ) → ShowsSome 16 steps_text steps_place (number_params ceremony last) (numbered ceremony last)
-unfolding understood everything
-steps_shown ceremony last = shows schema.steps number_test (refl, refl) refl
+unfolding everything
+steps_shown ceremony last = shows schema.steps number_test (refl, refl, refl) refl
 
 module _ (ceremony : ℕ) (last : Option ℕ) (m : machine.Tables) {db : Trees} (k : TreesHoldTables m db) (rows : List StepRow) (found : Option StepRow)
     (ends : found ≡ slice_get rows (length rows - 1)) (count : ℕ) (first : AreFirst count step_row (numbered ceremony last) k.t.rows.steps rows) where
@@ -188,8 +187,8 @@ passes ceremony from until = (by_test 3 seatings_test (seatings_params ceremony 
 -- it shows the ceremony's seatings of these steps
 pub seatings_shown : (ceremony : ℕ) (from until : Option ℕ)
     → SelectsRows seatings_text seatings_place (seatings_params ceremony from until) (passes ceremony from until)
-unfolding understood everything
-seatings_shown ceremony from until = shows schema.seatings seatings_test (refl, refl) refl
+unfolding everything
+seatings_shown ceremony from until = shows schema.seatings seatings_test (refl, refl, refl) refl
 
 abbrev is_within : ℕ → Option ℕ → Option ℕ → SeatingRow → Bool
 is_within ceremony from until x = x.ceremony == ceremony && is_past_until from until x.step

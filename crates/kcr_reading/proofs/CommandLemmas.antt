@@ -5,7 +5,6 @@ use Rattle.std.specs.Option.{option_map_or, option_to_list}
 use Rattle.std.proofs.lemmas.Bool.{false≢true}
 use Rattle.std.proofs.lemmas.List.Sorted.{length_permutation}
 use Rattle.sqlite.specs.declared.types.Value.TheVariants.{Int}
-use Rattle.sqlite.specs.Listing.{understood}
 use Rattle.sqlite_tied.specs.Compute.{everything}
 use Rattle.sqlite_trees.proofs.ListLemmas.{all-permutation}
 use Rattle.kcr_rows.specs.Rows.{key_row}
@@ -29,9 +28,9 @@ number_text = codes "SELECT \"key\", accepted, command, reply FROM keys WHERE ac
 
 -- it shows the rows that have this number
 pub number_shown : (number : ℕ) → SelectsUnordered number_text keys_place (Int (pos number) ∷ []) (has_value 1 (Int (pos number)))
-unfolding understood everything
+unfolding everything
 number_shown number =
-    record { test = is_given 0; project = shown_columns keys_place; order = []; names = column_names schema.keys; bare = (refl, refl); is = refl }
+    record { test = is_given 0; project = shown_columns keys_place; order = []; names = column_names schema.keys; means = (refl, refl, refl); is = refl }
 
 -- a row has this number as a value if and only if it is its accepted command's
 pub is_numbered : (number : ℕ) (x : KeyRow) → has_value 1 (Int (pos number)) (key_row x) ≡ (x.accepted == number)

@@ -11,7 +11,6 @@ use Rattle.sqlite.specs.Term.{Term, lit, col, op2}
 use Rattle.sqlite.specs.Ops.{binary, is_true, from_truth}
 use Rattle.sqlite.specs.Collation.TheVariants.{Binary}
 use Rattle.sqlite.specs.Tree.{Trees, IsAscending}
-use Rattle.sqlite.specs.Listing.{understood}
 use Rattle.sqlite_sql.specs.declared.ops.BinaryOp.TheVariants.{Compare, Is}
 use Rattle.sqlite_sql.specs.declared.ops.CompareOp.TheVariants.{Gt}
 use Rattle.sqlite_trees.proofs.ListLemmas.{ascending_weaker, ascending_from_map}
@@ -111,9 +110,9 @@ bags_choice last = by_test 1 (behind_test last) (behind_params last)
 
 -- the text shows the first of these bags
 pub bags_shown : (last : Option (List ℕ)) → ShowsFirst (bags_text last) bags_place (behind_params last) (bags_choice last)
-unfolding understood everything
-bags_shown None = shows schema.bags (behind_test None) (refl, refl) refl
-bags_shown (Some last) = shows schema.bags (behind_test (Some last)) (refl, refl) refl
+unfolding everything
+bags_shown None = shows schema.bags (behind_test None) (refl, refl, refl) refl
+bags_shown (Some last) = shows schema.bags (behind_test (Some last)) (refl, refl, refl) refl
 
 -- the first row that is shown is the first bag past the last serial
 pub first_bag : (last : Option (List ℕ)) (m : machine.Tables) {db : Trees} (k : TreesHoldTables m db) (found : Option Bag)
@@ -149,9 +148,9 @@ loose_choice last = by_test 1 (loose_test last) (behind_params last)
 
 -- the text shows the first of these items
 pub loose_shown : (last : Option (List ℕ)) → ShowsFirst (loose_text last) items_place (behind_params last) (loose_choice last)
-unfolding understood everything
-loose_shown None = shows schema.items (loose_test None) (refl, refl) refl
-loose_shown (Some last) = shows schema.items (loose_test (Some last)) (refl, refl) refl
+unfolding everything
+loose_shown None = shows schema.items (loose_test None) (refl, refl, refl) refl
+loose_shown (Some last) = shows schema.items (loose_test (Some last)) (refl, refl, refl) refl
 
 is_chosen : (last : Option (List ℕ)) (x : Item) → (loose_choice last).passes (item_row x) ≡ (is_loose x && is_behind last x.code)
 unfolding binary value_cmp

@@ -13,12 +13,12 @@ use Rattle.sqlite.specs.Query.{Query, IsAnswer, Output, output_cmp}
 use Rattle.sqlite.specs.Tree.{Trees, IsAscending}
 use Rattle.sqlite.specs.State.{State, Shown}
 use Rattle.sqlite.specs.Program.{overlay}
-use Rattle.sqlite.proofs.Callers.{reads_as}
 use Rattle.sqlite_sql.proofs.QueryLemmas.{output_cmp_total}
 use Rattle.sqlite_trees.proofs.ListLemmas.{map-map, filter-map, IsPermutation-filter, ascending-map, ascending_weaker, all-permutation, all-filter}
 use Rattle.sqlite_keyed.proofs.SortLemmas.{sorted_unique}
 use Rattle.kcr_rows.specs.Keyed.{cells, TableLayout, TreeHolds}
 use Rattle.kcr_rows.proofs.ReadLemmas.{asking, kept_cells}
+use Rattle.kcr_rows.proofs.TextLemmas.{reads_shown}
 use Rattle.kcr_rows.proofs.TableLemmas.{same_values}
 use Rattle.kcr_tables.specs.Schema.{register_schema}
 use Rattle.kcr_tables.specs.Statements.{Choice}
@@ -69,7 +69,7 @@ module _ (count : ℕ) (sql : List ℕ) (place : TableLayout) (params : Row) (ch
         → (those : List X) → IsPermutation (filter (λ x. choice.passes (row_of x)) ys) those
         → IsAscending (λ a b. choice.compare (row_of a) (row_of b) ≡ Less) those → xs ≡ take count those
     shown_first IsRead IsStored one old new xs has h read ys held keeps those same up =
-        let it = reads_as sql params old new register_schema has _ (λ i. (s.is i).command) s.bare (λ i. (s.is i).reads_catalog) (map row_of xs) h in
+        let it = reads_shown register_schema sql _ s.means params old new has (map row_of xs) h in
         let stored : IsPermutation (filter choice.passes (map (cells place) (old.now.trees place.tree))) (map row_of those) =
         IsPermutation-trans _ _ _ (IsPermutation-sym _ _ (IsPermutation-filter choice.passes _ _ keeps.same))
         (subst (λ l. IsPermutation l (map row_of those)) (sym (filter-map choice.passes row_of ys)) (IsPermutation-map row_of _ _ same)) in

@@ -19,7 +19,6 @@ use Rattle.sqlite.specs.Term.{Term, col, op2}
 use Rattle.sqlite.specs.Ops.{binary}
 use Rattle.sqlite.specs.Collation.TheVariants.{Binary}
 use Rattle.sqlite.specs.Tree.{Trees, IsAscending}
-use Rattle.sqlite.specs.Listing.{understood}
 use Rattle.sqlite_keyed.proofs.ListLemmas.{all_from_test}
 use Rattle.sqlite_keyed.proofs.SortLemmas.{sorted_unique}
 use Rattle.sqlite_sql.specs.declared.ops.BinaryOp.TheVariants.{Compare}
@@ -154,8 +153,8 @@ together ceremony last = by_test 2 together_test (together_params ceremony last)
 
 -- the text shows the first 16 of them
 pub shows_together : (ceremony : ℕ) (last : Stay) → ShowsSome 16 together_text stays_place (together_params ceremony last) (together ceremony last)
-unfolding understood everything
-shows_together ceremony last = shows schema.stays together_test (refl, refl) refl
+unfolding everything
+shows_together ceremony last = shows schema.stays together_test (refl, refl, refl) refl
 
 passes_together : (ceremony : ℕ) (last x : Stay) → (together ceremony last).passes (stay_row x) ≡ (is_of ceremony x && begins_with last x)
 unfolding binary
@@ -202,13 +201,13 @@ begins_later ceremony last =
 
 -- the text shows the first 16 of them
 pub shows_later : (ceremony : ℕ) (last : Option Stay) → ShowsSome 16 later_text stays_place (later_params ceremony last) (begins_later ceremony last)
-unfolding understood everything
+unfolding everything
 shows_later ceremony last = record {
   test = later_test;
   project = shown_columns stays_place;
   order = (col 1 2, ascending Binary) ∷ (col 1 1, ascending Binary) ∷ [];
   names = column_names schema.stays;
-  bare = (refl, refl);
+  means = (refl, refl, refl);
   is = refl;
 }
 

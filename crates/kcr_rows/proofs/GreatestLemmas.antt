@@ -19,8 +19,6 @@ use Rattle.sqlite.specs.Collation.TheVariants.{Binary}
 use Rattle.sqlite.specs.Command.TheVariants.{Select}
 use Rattle.sqlite.specs.Schema.{Schema}
 use Rattle.sqlite.specs.State.{State, Shown}
-use Rattle.sqlite.specs.Listing.{understood, reads_listing}
-use Rattle.sqlite.proofs.Callers.{IsPlain, command_of, reads_as}
 use Rattle.sqlite_sql.proofs.QueryLemmas.{output_cmp_total}
 use Rattle.sqlite_value.proofs.OrderLemmas.{value_cmp-Int, then-Equal}
 use Rattle.sqlite_rules.proofs.ListLemmas.{all_has, all_from}
@@ -28,6 +26,9 @@ use Rattle.sqlite_rules.proofs.ProbeLemmas.{mapped_has}
 use Rattle.sqlite_trees.proofs.ListLemmas.{filter-map, IsPermutation-filter}
 use Rattle.kcr_rows.specs.Keyed.{cells, TableLayout, TreeHolds}
 use Rattle.kcr_rows.specs.Greatest.{IsGreatest}
+use Rattle.sqlite_resolve.specs.Compile.{compiled}
+use Rattle.kcr_rows.specs.Texts.{Means}
+use Rattle.kcr_rows.proofs.TextLemmas.{reads_shown}
 use Rattle.kcr_rows.proofs.ReadLemmas.{asking, kept_cells}
 use Rattle.kcr_rows.proofs.TableLemmas.{same_values, each_is}
 use Rattle.kcr_rows.proofs.PutLemmas.{mapped_from, has_same}
@@ -62,9 +63,7 @@ pub none_from : {X Y : Type 0} (f : X → Y) (xs : List X) → map f xs ≡ [] �
 none_from f xs h = nil_from_length xs (sym (length-map xs f) ∙ ap length h)
 
 module _ (place : TableLayout) (schema : Schema) (sql : List ℕ) (params : Row) (test project : List Term) (at : ℕ) (names : List (List ℕ)) (passes : Row → Bool)
-    (is : (command_of (understood schema sql) ≡ Select (record { lets = []; body = greatest place test project at }) names)
-    × (reads_listing schema sql ≡ false))
-    (bare : IsPlain (understood schema sql))
+    (is : Means (Select (record { lets = []; body = greatest place test project at }) names) (compiled schema sql))
     (shows : (r : Row) → output (greatest place test project at) (params ∷ r ∷ []) ≡ with_number at (cells place r))
     (tests : (r : Row) → list_all (holds (params ∷ r ∷ [])) test ≡ passes (cells place r))
     (low : nat_le (2 ^ 31) place.tree ≡ false)
@@ -114,7 +113,7 @@ module _ (place : TableLayout) (schema : Schema) (sql : List ℕ) (params : Row)
       → TreeHolds place old.now.trees (map row_of ys)
       → IsGreatest number (filter (λ y. passes (row_of y)) ys) xs
   shown_greatest old new xs has h ys keeps =
-      let read = reads_as sql params old new schema has _ is.0 bare is.1 (map row_of xs) h in
+      let read = reads_shown schema sql _ is params old new has (map row_of xs) h in
       let a : IsAnswer q (overlay old.now.trees []) params (map row_of xs) = read.answer Null in
       let entries = old.now.trees place.tree in
       let shown = cells place in

@@ -9,6 +9,7 @@ pub mod FilterLemmas
 pub mod SameLemmas
 pub mod OrderLemmas
 pub mod GreatestLemmas
+pub mod TextLemmas
 pub mod CreateLemmas
 pub mod StateLemmas
 pub mod FrameLemmas

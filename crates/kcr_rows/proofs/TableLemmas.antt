@@ -21,8 +21,8 @@ use Rattle.sqlite.specs.Edit.{id_in, IsNoIndex}
 use Rattle.sqlite.specs.Effect.{value_rows}
 use Rattle.sqlite.specs.Does.{Does}
 use Rattle.sqlite.specs.State.{State, mode_of, Executes, Shown}
-use Rattle.sqlite.specs.Listing.{understood, reads_listing}
-use Rattle.sqlite.proofs.Callers.{IsPlain, command_of, statement_of, runs_as, reads_as}
+use Rattle.sqlite.specs.Listing.{understood}
+use Rattle.sqlite.proofs.Callers.{statement_of, runs_as}
 use Rattle.sqlite_trees.specs.View.{is_int, IsShaped}
 use Rattle.sqlite_trees.specs.declared.store.Shape.TheVariants as shape
 use Rattle.sqlite_trees.proofs.ListLemmas.{all-permutation, all_from_map, filter_all, filter-map}
@@ -40,6 +40,9 @@ use Rattle.sqlite_rules.proofs.ListLemmas.{all_has, all_from}
 use Rattle.sqlite_rules.proofs.TableLemmas.{int_is}
 use Rattle.kcr_rows.specs.Columns.{simple_as}
 use Rattle.kcr_rows.specs.Keyed.{cells, by_key, is_full, TableLayout, TreeHolds, put_in}
+use Rattle.sqlite_resolve.specs.Compile.{compiled}
+use Rattle.kcr_rows.specs.Texts.{Means}
+use Rattle.kcr_rows.proofs.TextLemmas.{command_is, is_plain, reads_shown}
 use Rattle.kcr_rows.proofs.ReadLemmas.{reading, with_key, reads_rows, reads_exact}
 use Rattle.kcr_rows.proofs.PutLemmas.{put, keeps_put, put_row_same, has_same}
 use Rattle.kcr_rows.proofs.KeyLemmas.{places_from, full, fresh_key, not_any}
@@ -86,8 +89,7 @@ module _ (place : TableLayout) (schema : Schema) (at : ℕ) (like : Table)
     → list_all (λ i. not (guards i (simple_as place.tree like) && clashes i.order i.columns rows row)) schema.indexes
     ≡ (not (clashes plain (places_from 1 place.keys) rows row) && others rows row))
     (sql : List ℕ) (terms : List Term)
-    (is : command_of (understood schema sql) ≡ Insert at (Values terms (suc (length place.at))))
-    (bare : IsPlain (understood schema sql))
+    (is : Means (Insert at (Values terms (suc (length place.at)))) (compiled schema sql))
     (values given : Row)
     (gives : value_rows (values ++ []) (suc (length place.at)) (length terms / suc (length place.at)) terms ≡ given ∷ [])
     (casts : cast_row (simple_as place.tree like) given ≡ given)
@@ -133,7 +135,7 @@ module _ (place : TableLayout) (schema : Schema) (at : ℕ) (like : Table)
   pub executes_insert : (old new : State) (count : ℕ) → old.now.schema ≡ schema → Executes sql values old new (Ok count)
       → (new.now.schema ≡ schema) × Changes place schema values old.now.trees new.now.trees
   executes_insert old new count has h =
-      let w = runs_as sql values old new schema has Inserts is bare count h in
+      let w = runs_as sql values old new schema has Inserts (command_is schema sql _ is) (is_plain schema sql _ is) count h in
       let text = statement_of sql (understood schema sql) in
       let p =
       inserts schema at place.tree like terms (suc (length place.at)) values given here alone gives casts
@@ -195,9 +197,7 @@ each_is (x ∷ xs) = (tt, each_is xs)
 -- what a query on one table shows, as values
 module _ (place : TableLayout) (schema : Schema) (sql : List ℕ) (params : Row) (test project : List Term) (order : List (Term × Key)) (names : List (List ℕ))
     (passes : Row → Bool)
-    (is : (command_of (understood schema sql) ≡ Select (record { lets = []; body = reading place.tree test project order }) names)
-    × (reads_listing schema sql ≡ false))
-    (bare : IsPlain (understood schema sql))
+    (is : Means (Select (record { lets = []; body = reading place.tree test project order }) names) (compiled schema sql))
     (shows : (r : Row) → output (reading place.tree test project order) (params ∷ r ∷ []) ≡ with_key place.keys (cells place r))
     (tests : (r : Row) → list_all (holds (params ∷ r ∷ [])) test ≡ passes (cells place r))
     (sorts : (a b : Row) → output_cmp (reading place.tree test project order) (with_key place.keys a) (with_key place.keys b) ≡ by_key place.keys a b)
@@ -209,7 +209,7 @@ module _ (place : TableLayout) (schema : Schema) (sql : List ℕ) (params : Row)
       → AllByRecursion IsRead xs → (ys : List X) → AllByRecursion IsStored ys → TreeHolds place old.now.trees (map row_of ys)
       → xs ≡ filter (λ y. passes (row_of y)) ys
   shown_checked IsRead IsStored one old new xs has h read ys held keeps =
-      let it = reads_as sql params old new schema has _ is.0 bare is.1 (map row_of xs) h in
+      let it = reads_shown schema sql _ is params old new has (map row_of xs) h in
       let rows = reads_rows place test project order params passes shows tests sorts low old.now.trees (map row_of xs) (map row_of ys) keeps (it.answer Null) in
       same_values row_of IsRead IsStored one xs (filter (λ y. passes (row_of y)) ys) read (all_filter IsStored (λ y. passes (row_of y)) ys held)
       (rows ∙ filter-map passes row_of ys)
@@ -218,7 +218,7 @@ module _ (place : TableLayout) (schema : Schema) (sql : List ℕ) (params : Row)
   pub shown_exact : (old new : State) (xs : List X) → old.now.schema ≡ schema → Shown sql params old new (map row_of xs)
       → IsPermutation (filter passes (map (cells place) (old.now.trees place.tree))) (map row_of xs)
   shown_exact old new xs has h =
-      let read = reads_as sql params old new schema has _ is.0 bare is.1 (map row_of xs) h in
+      let read = reads_shown schema sql _ is params old new has (map row_of xs) h in
       reads_exact place test project order params passes shows tests sorts low old.now.trees (map row_of xs) (read.answer Null)
 
 -- a test that all pass keeps all

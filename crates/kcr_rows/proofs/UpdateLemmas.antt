@@ -21,7 +21,7 @@ use Rattle.sqlite.specs.State.{State, mode_of, Executes}
 use Rattle.sqlite.specs.Table.{Table}
 use Rattle.sqlite.specs.Term.{Term, eval_all, holds}
 use Rattle.sqlite.specs.Tree.{Trees, rowid}
-use Rattle.sqlite.proofs.Callers.{IsPlain, command_of, statement_of, runs_as, one_step}
+use Rattle.sqlite.proofs.Callers.{statement_of, runs_as, one_step}
 use Rattle.sqlite_catalog.specs.Listing.{IsSound}
 use Rattle.sqlite_rules.proofs.ListLemmas.{has_filtered}
 use Rattle.sqlite_rules.specs.Action.{works}
@@ -30,6 +30,9 @@ use Rattle.sqlite_schema.specs.declared.schema.Keys.TheVariants.{Enforced}
 use Rattle.sqlite_value.specs.Keys.{rising}
 use Rattle.kcr_rows.specs.Columns.{simple_as}
 use Rattle.kcr_rows.specs.Keyed.{cells, by_key, is_full, TableLayout, TreeHolds}
+use Rattle.sqlite_resolve.specs.Compile.{compiled}
+use Rattle.kcr_rows.specs.Texts.{Means}
+use Rattle.kcr_rows.proofs.TextLemmas.{command_is, is_plain}
 use Rattle.kcr_rows.proofs.PutLemmas.{put}
 use Rattle.kcr_rows.proofs.KeyLemmas.{full, agrees, same_from, same_is}
 use Rattle.kcr_rows.proofs.OverLemmas.{finding, rewriting, has_key, one_row, is_found, found_one, keeps_changed}
@@ -77,7 +80,6 @@ module _ (place : TableLayout) (schema : Schema) (at : ℕ) (like : Table)
     (compares : (a b : Row) → by_key place.keys (cells place a) (cells place b) ≡ key_cmp 1 (rising place.keys []) a b)
     (fulls : (a : Row) → is_full place.keys (cells place a) ≡ full 1 place.keys a)
     (sql : List ℕ)
-    (bare : IsPlain (understood schema sql))
     (values : Row)
     (casts : cast_all like.columns values ≡ values)
     (shown_as : (id : ℤ) → cells place (Int id ∷ values) ≡ values)
@@ -86,7 +88,7 @@ module _ (place : TableLayout) (schema : Schema) (at : ℕ) (like : Table)
     (tests : (r : Row) → list_all (holds (values ∷ r ∷ [])) test ≡ same_from 1 place.keys r (Int (pos 0) ∷ values))
     (gives : (r : Row) → eval_all sets (values ∷ r ∷ []) ≡ rowid r ∷ rowid r ∷ values)
     (low : nat_le (2 ^ 31) place.tree ≡ false)
-    (is : command_of (understood schema sql) ≡ Update at (record { lets = []; body = finding place.tree test sets })) where
+    (is : Means (Update at (record { lets = []; body = finding place.tree test sets })) (compiled schema sql)) where
   abbrev that : Table
   that = simple_as place.tree like
 
@@ -173,7 +175,7 @@ module _ (place : TableLayout) (schema : Schema) (at : ℕ) (like : Table)
   pub executes_update : (old new : State) (count : ℕ) → old.now.schema ≡ schema → Executes sql values old new (Ok count)
       → (new.now.schema ≡ schema) × Updated place schema values old.now.trees new.now.trees count
   executes_update old new count has h =
-      let w = runs_as sql values old new schema has Updates_it is bare count h in
+      let w = runs_as sql values old new schema has Updates_it (command_is schema sql _ is) (is_plain schema sql _ is) count h in
       let text = statement_of sql (understood schema sql) in
       let p = updates old.step_limit old.now.trees text w.tally new.now
       (subst (λ s. Does old.step_limit (mode_of old) values (record old.now { schema = s }) text None

@@ -9,3 +9,4 @@ pub mod Frame
 pub mod CountRow
 pub mod Cells
 pub mod Kinds
+pub mod Texts

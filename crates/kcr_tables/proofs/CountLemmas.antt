@@ -11,11 +11,10 @@ use Rattle.sqlite.specs.Term.{Term, lit, col, holds}
 use Rattle.sqlite.specs.Query.{Query, inner, counted, end, IsAnswer, Output, output, output_cmp}
 use Rattle.sqlite.specs.Program.{overlay}
 use Rattle.sqlite.specs.Tree.{Trees}
-use Rattle.sqlite.specs.Command.{Command}
 use Rattle.sqlite.specs.Command.TheVariants.{Select}
 use Rattle.sqlite.specs.State.{State, Shown}
-use Rattle.sqlite.specs.Listing.{understood, reads_listing}
-use Rattle.sqlite.proofs.Callers.{IsPlain, command_of, reads_as}
+use Rattle.sqlite.specs.Listing.{understood}
+use Rattle.sqlite.proofs.Callers.{IsPlain}
 use Rattle.sqlite_sql.proofs.QueryLemmas.{output_cmp_total}
 use Rattle.sqlite_trees.proofs.ListLemmas.{filter-map, IsPermutation-filter}
 use Rattle.sqlite_keyed.proofs.SortLemmas.{sorted_unique}
@@ -26,6 +25,9 @@ use Rattle.kcr_rows.specs.CountRow.{count_row}
 use Rattle.kcr_rows.specs.declared.count_row.CountRow.{CountRow}
 use Rattle.kcr_rows.specs.Keyed.{TreeHolds, cells}
 use Rattle.kcr_rows.specs.Rows.{stay_row}
+use Rattle.sqlite_resolve.specs.Compile.{compiled}
+use Rattle.kcr_rows.specs.Texts.{Means}
+use Rattle.kcr_rows.proofs.TextLemmas.{is_plain, reads_shown}
 use Rattle.kcr_rows.proofs.FilterLemmas.{filter_as, value_is}
 use Rattle.kcr_rows.proofs.ReadLemmas.{matched}
 use Rattle.kcr_rows.proofs.SameLemmas.{number_ties}
@@ -59,35 +61,20 @@ count_sql = codes "SELECT (SELECT COUNT(*) FROM stays WHERE ceremony = ?1)"
 abbrev names : List (List ℕ)
 names = codes "(SELECT COUNT(*) FROM stays WHERE ceremony = ?1)" ∷ []
 
--- what is computed of the text
-record Counting : Type 0 where
-  pub command : Command
-  pub reads_catalog : Bool
-  pub passes : Row → Bool
-
-abbrev counting_by : ℕ → Counting
-counting_by ceremony = record {
-  command = command_of (understood register_schema count_sql);
-  reads_catalog = reads_listing register_schema count_sql;
-  passes = λ r. list_all (holds ((Int (pos ceremony) ∷ []) ∷ r ∷ [])) (is_given 3);
-}
-
--- it counts the stays of the ceremony
-abbrev counting_of : ℕ → Counting
-counting_of ceremony = record {
-  command = Select (record { lets = []; body = counting stays_place.tree (is_given 3) }) names;
-  reads_catalog = false;
-  passes = λ r. has_number 2 ceremony (cells stays_place r);
-}
+-- the text counts the rows of the given ceremony
+count_means : Means (Select (record { lets = []; body = counting stays_place.tree (is_given 3) }) names) (compiled register_schema count_sql)
+unfolding everything
+count_means = (refl, refl, refl)
 
 -- the text has no RETURNING and does not read the time
 pub count_bare : IsPlain (understood register_schema count_sql)
-unfolding understood everything
-count_bare = (refl, refl)
+count_bare = is_plain register_schema count_sql _ count_means
 
-count_is : (ceremony : ℕ) → counting_by ceremony ≡ counting_of ceremony
-unfolding understood everything
-count_is ceremony = refl
+-- they are the stays of this ceremony
+passes_is : (ceremony : ℕ)
+    → ◌≡◌ {A = Row → Bool} (λ r. list_all (holds ((Int (pos ceremony) ∷ []) ∷ r ∷ [])) (is_given 3)) (λ r. has_number 2 ceremony (cells stays_place r))
+unfolding everything
+passes_is ceremony = refl
 
 -- of the rows that a table keeps those of the ceremony are as many as the stays
 of_tree : (ceremony : ℕ) (db : Trees) (stays : List Stay) → TreeHolds stays_place db (map stay_row stays)
@@ -117,14 +104,13 @@ count_shown ceremony old new rows has h stays keeps =
     let test = is_given 3 in
     let q = counting tree test in
     let p = λ (r : Row). list_all (holds (params ∷ r ∷ [])) test in
-    let read = reads_as count_sql params old new register_schema has _ (λ i. (count_is ceremony i).command) count_bare
-    (λ i. (count_is ceremony i).reads_catalog) rows h in
+    let read = reads_shown register_schema count_sql _ count_means params old new has rows h in
     let a : IsAnswer q (overlay db []) params rows = read.answer Null in
     let over : overlay db [] tree ≡ db tree = refl in
     let many = ap length (matched p (λ r. params ∷ r ∷ []) (overlay db [] tree))
     ∙ length-map (filter p (overlay db [] tree)) (λ r. params ∷ r ∷ [])
     ∙ ap (λ (l : List Row). length (filter p l)) over
-    ∙ ap (λ (test : Row → Bool). length (filter test (db tree))) (λ i. (count_is ceremony i).passes)
+    ∙ ap (λ (test : Row → Bool). length (filter test (db tree))) (passes_is ceremony)
     ∙ of_tree ceremony db stays keeps in
     let out : ℕ → List Output = λ n. ([], Int (pos (min most n)) ∷ []) ∷ [] in
     let kept : a.kept ≡ out (stay_count stays ceremony) = a.distinct ∙ ap (map (output q)) a.grouped ∙ ap out many in

@@ -10,7 +10,6 @@ use Rattle.sqlite.specs.Order.{column, value_cmp}
 use Rattle.sqlite.specs.Ops.{is_null, is_true, truth, from_truth, or3, binary}
 use Rattle.sqlite.specs.Term.{lit, col, op2}
 use Rattle.sqlite.specs.Collation.TheVariants.{Binary}
-use Rattle.sqlite.specs.Listing.{understood}
 use Rattle.sqlite_schema.specs.Rules.{equal}
 use Rattle.sqlite_sql.specs.declared.ops.BinaryOp.TheVariants.{Compare, Is, Or}
 use Rattle.sqlite_sql.specs.declared.ops.CompareOp.{CompareOp}
@@ -61,8 +60,8 @@ key_sql = codes "SELECT \"key\", accepted, command, reply FROM keys ORDER BY acc
 
 -- the text shows the row of keys with the greatest number of a command
 pub selects_key : SelectsLast key_sql keys_place [] (λ _. true) 1
-unfolding understood everything
-selects_key = record { test = []; project = shown_columns keys_place; names = column_names schema.keys; bare = (refl, refl); is = refl }
+unfolding everything
+selects_key = record { test = []; project = shown_columns keys_place; names = column_names schema.keys; means = (refl, refl, refl); is = refl }
 
 -- the query for the row of the last accepted command
 abbrev pub last_key : Query keys.table key_row
@@ -74,8 +73,8 @@ stay_sql = codes "SELECT who, since, ceremony, until FROM stays WHERE who = ?1 O
 
 -- the text shows the stay of the person with the latest beginning
 pub selects_stay : (who : List ℕ) → SelectsLast stay_sql stays_place (Text who ∷ []) (has_text 0 who) 1
-unfolding understood everything
-selects_stay who = record { test = is_given 1; project = shown_columns stays_place; names = column_names schema.stays; bare = (refl, refl); is = refl }
+unfolding everything
+selects_stay who = record { test = is_given 1; project = shown_columns stays_place; names = column_names schema.stays; means = (refl, refl, refl); is = refl }
 
 -- the query for the stay of a person that began last
 abbrev pub last_stay : List ℕ → Query stays.table stay_row
@@ -88,9 +87,9 @@ to_sql = codes "SELECT place, since, who, until FROM appointments WHERE place = 
 
 -- the text shows the appointment to the place with the latest beginning
 pub selects_to : (place : List ℕ) → SelectsLast to_sql appointments_place (Text place ∷ []) (has_text 0 place) 1
-unfolding understood everything
+unfolding everything
 selects_to place =
-    record { test = is_given 1; project = shown_columns appointments_place; names = column_names schema.appointments; bare = (refl, refl); is = refl }
+    record { test = is_given 1; project = shown_columns appointments_place; names = column_names schema.appointments; means = (refl, refl, refl); is = refl }
 
 -- the query for the appointment to a place that began last
 abbrev pub last_to : Custodian → Query appointments.table appointment_row
@@ -104,9 +103,9 @@ of_sql = codes "SELECT place, since, who, until FROM appointments WHERE who = ?1
 
 -- the text shows the appointment of the person with the latest beginning
 pub selects_of : (who : List ℕ) → SelectsLast of_sql appointments_place (Text who ∷ []) (has_text 2 who) 1
-unfolding understood everything
+unfolding everything
 selects_of who =
-    record { test = is_given 3; project = shown_columns appointments_place; names = column_names schema.appointments; bare = (refl, refl); is = refl }
+    record { test = is_given 3; project = shown_columns appointments_place; names = column_names schema.appointments; means = (refl, refl, refl); is = refl }
 
 -- the query for the appointment of a person that began last
 abbrev pub last_of : List ℕ → Query appointments.table appointment_row
@@ -119,9 +118,9 @@ seating_sql = codes "SELECT ceremony, step, seat, who FROM seatings WHERE ceremo
 
 -- the text shows a seating of the ceremony with the greatest step
 pub selects_seating : (ceremony : ℕ) → SelectsLast seating_sql seatings_place (Int (pos ceremony) ∷ []) (has_number 0 ceremony) 1
-unfolding understood everything
+unfolding everything
 selects_seating ceremony =
-    record { test = is_given 1; project = shown_columns seatings_place; names = column_names schema.seatings; bare = (refl, refl); is = refl }
+    record { test = is_given 1; project = shown_columns seatings_place; names = column_names schema.seatings; means = (refl, refl, refl); is = refl }
 
 -- the query for a seating of the last step of a ceremony that has one
 abbrev pub last_seating : ℕ → Query seatings.table seating_row
@@ -184,13 +183,13 @@ lasting_sql = codes "SELECT who, role, since, until FROM trainings WHERE until >
 -- the text shows the trainings whose last day is the day or later
 pub selects_lasting : (day : ℕ)
     → SelectsUnordered lasting_sql trainings_place (Int (pos day) ∷ []) (λ row. is_true (binary (Compare Ge Binary) (column row 3) (Int (pos day))) && true)
-unfolding understood everything
+unfolding everything
 selects_lasting day = record {
   test = op2 (Compare Ge Binary) (col 1 4) (col 0 0) ∷ [];
   project = shown_columns trainings_place;
   order = (col 1 0, ascending Binary) ∷ [];
   names = column_names schema.trainings;
-  bare = (refl, refl);
+  means = (refl, refl, refl);
   is = refl;
 }
 
@@ -207,13 +206,13 @@ beyond_sql = codes "SELECT place, since, who, until FROM appointments WHERE unti
 
 -- the text shows the appointments that have no end, or one after the day
 pub selects_beyond : (day : ℕ) → SelectsUnordered beyond_sql appointments_place (Int (pos day) ∷ []) (λ row. ends Gt (column row 3) day && true)
-unfolding understood everything
+unfolding everything
 selects_beyond day = record {
   test = op2 Or (op2 (Is Binary) (col 1 4) (lit Null)) (op2 (Compare Gt Binary) (col 1 4) (col 0 0)) ∷ [];
   project = shown_columns appointments_place;
   order = (col 1 0, ascending Binary) ∷ [];
   names = column_names schema.appointments;
-  bare = (refl, refl);
+  means = (refl, refl, refl);
   is = refl;
 }
 
@@ -237,7 +236,7 @@ room_sql = codes "SELECT who, since, ceremony, until FROM stays WHERE ceremony =
 -- the text shows the stays of the ceremony that have no end, or one at the moment or later
 pub selects_room : (ceremony at : ℕ) → SelectsUnordered room_sql stays_place (Int (pos ceremony) ∷ Int (pos at) ∷ [])
     (λ row. equal Binary (column row 2) (Int (pos ceremony)) && (ends Ge (column row 3) at && true))
-unfolding understood everything
+unfolding everything
 selects_room ceremony at = record {
   test = op2 (Compare Eq Binary) (col 1 3) (col 0 0)
       ∷ op2 Or (op2 (Is Binary) (col 1 4) (lit Null)) (op2 (Compare Ge Binary) (col 1 4) (col 0 1))
@@ -245,7 +244,7 @@ selects_room ceremony at = record {
   project = shown_columns stays_place;
   order = (col 1 2, ascending Binary) ∷ (col 1 1, ascending Binary) ∷ [];
   names = column_names schema.stays;
-  bare = (refl, refl);
+  means = (refl, refl, refl);
   is = refl;
 }
 
@@ -272,9 +271,9 @@ step_sql = codes "SELECT ceremony, step, activity, seats, state, at FROM steps W
 -- the text shows the rows of the ceremony with the number of the step
 pub selects_step : (ceremony step : ℕ) → SelectsRows step_sql steps_place (Int (pos ceremony) ∷ Int (pos step) ∷ [])
     (λ row. equal Binary (column row 0) (Int (pos ceremony)) && has_number 1 step row)
-unfolding understood everything
+unfolding everything
 selects_step ceremony step =
-    shows schema.steps (op2 (Compare Eq Binary) (col 1 1) (col 0 0) ∷ op2 (Compare Eq Binary) (col 1 2) (col 0 1) ∷ []) (refl, refl) refl
+    shows schema.steps (op2 (Compare Eq Binary) (col 1 1) (col 0 0) ∷ op2 (Compare Eq Binary) (col 1 2) (col 0 1) ∷ []) (refl, refl, refl) refl
 
 -- the query for the row of a step
 abbrev pub row_of_step : ℕ → ℕ → Query steps.table step_row

@@ -9,7 +9,7 @@ use Rattle.sqlite.specs.Program.{overlay}
 use Rattle.sqlite.specs.Query.{Output, IsAnswer}
 use Rattle.sqlite.specs.State.{State, Shown}
 use Rattle.sqlite.specs.Listing.{understood}
-use Rattle.sqlite.proofs.Callers.{IsPlain, reads_as}
+use Rattle.sqlite.proofs.Callers.{IsPlain}
 use Rattle.sqlite_trees.proofs.ListLemmas.{map-map}
 use Rattle.kcr_base.specs.declared.refusal.Refusal.{Refusal}
 use Rattle.kcr_history.specs.declared.views.Selection.{Selection}
@@ -18,6 +18,7 @@ use Rattle.kcr_rows.proofs.FailLemmas.{if_ok}
 use Rattle.kcr_rows.proofs.FilterLemmas.{filter_as}
 use Rattle.kcr_rows.proofs.GreatestLemmas.{greatest, with_number, shown_greatest}
 use Rattle.kcr_rows.proofs.ReadLemmas.{kept_cells}
+use Rattle.kcr_rows.proofs.TextLemmas.{is_plain, reads_shown}
 use Rattle.kcr_rows.specs.Greatest.{IsGreatest}
 use Rattle.kcr_rows.specs.Keyed.{TableLayout, TreeHolds}
 use Rattle.kcr_tables.specs.Schema.{register_schema}
@@ -32,7 +33,7 @@ one_shown : {sql : List ℕ} {place : TableLayout} {params : Row} {passes : Row 
     → (old new : State) (rows : List Row) → old.now.schema ≡ register_schema → Shown sql params old new rows
     → IsOneOf (filter passes (rows_at place old.now.trees)) rows
 one_shown {sql} {place} {params} {passes} {at} s old new rows has h =
-    let read = reads_as sql params old new register_schema has _ (λ i. (s.is i).command) s.bare (λ i. (s.is i).reads_catalog) rows h in
+    let read = reads_shown register_schema sql _ s.means params old new has rows h in
     let a : IsAnswer (greatest place s.test s.project at) (overlay old.now.trees []) params rows = read.answer Null in
     let out = with_number at in
     let second = λ (o : Output). o.1 in
@@ -44,10 +45,10 @@ one_shown {sql} {place} {params} {passes} {at} s old new rows has h =
 
 module _ {X : Type 0} (row_of : X → Row) (sql : List ℕ) (place : TableLayout) (params : Row) (passes : Row → Bool) where
   -- the text changes nothing
-  pub is_plain : (which : Which X) → SelectsWhich row_of which sql place params passes → IsPlain (understood register_schema sql)
-  is_plain Ordered s = s.bare
-  is_plain Unordered s = s.1.bare
-  is_plain (Last number) s = s.1.1.bare
+  pub changes_nothing : (which : Which X) → SelectsWhich row_of which sql place params passes → IsPlain (understood register_schema sql)
+  changes_nothing Ordered s = is_plain register_schema sql _ s.means
+  changes_nothing Unordered s = is_plain register_schema sql _ s.1.means
+  changes_nothing (Last number) s = is_plain register_schema sql _ s.1.1.means
 
   -- of the rows that a table has, whatever these are, it shows these
   pub rows_told : (which : Which X) → SelectsWhich row_of which sql place params passes → (old new : State) (xs : List X) → old.now.schema ≡ register_schema
@@ -69,7 +70,7 @@ module _ {X : Type 0} (row_of : X → Row) (sql : List ℕ) (place : TableLayout
   values_told IsRead IsStored one test same (Last number) s old new xs ys has h read stored keeps =
       let it = s.1.1 in
       subst (λ l. IsGreatest number l xs) (filter_as (λ x. passes (row_of x)) test same ys)
-      (shown_greatest place register_schema sql params it.test it.project s.1.0 it.names passes (λ i. (it.is i).command, λ i. (it.is i).reads_catalog) it.bare
+      (shown_greatest place register_schema sql params it.test it.project s.1.0 it.names passes it.means
       (λ r i. (it.is i).shows r) (λ r i. (it.is i).passes r) (λ i. (it.is i).is_far) row_of s.0 number s.1.2 old new xs has h ys keeps)
 
 -- a text, by what it shows

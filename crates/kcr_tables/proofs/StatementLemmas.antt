@@ -11,7 +11,6 @@ use Rattle.sqlite.specs.Order.{Row}
 use Rattle.sqlite.specs.Program.{overlay}
 use Rattle.sqlite.specs.Query.{Output, IsAnswer, output}
 use Rattle.sqlite.specs.State.{State, HasCleanDisk, Shown, Executes}
-use Rattle.sqlite.proofs.Callers.{reads_as}
 use Rattle.sqlite_schema.specs.Rules.{clashes}
 use Rattle.sqlite_value.specs.Keys.{plain}
 use Rattle.sqlite_trees.proofs.ListLemmas.{map-map, filter-map, IsPermutation-filter}
@@ -23,6 +22,7 @@ use Rattle.kcr_rows.proofs.OrderLemmas.{put_in_all}
 use Rattle.kcr_rows.proofs.FailLemmas.{if_ok}
 use Rattle.kcr_rows.proofs.FilterLemmas.{filter_as}
 use Rattle.kcr_rows.proofs.ReadLemmas.{asking, kept_from}
+use Rattle.kcr_rows.proofs.TextLemmas.{reads_shown}
 use Rattle.kcr_rows.proofs.UpdateLemmas.{Updated, executes_update}
 use Rattle.kcr_tables.specs.Schema.{register_schema}
 use Rattle.kcr_tables.specs.Exact.{rows_at}
@@ -38,7 +38,7 @@ module _ {X : Type 0} (sql : List ℕ) (place : TableLayout) (params : Row) (pas
       → (old new : State) (xs : List X) → old.now.schema ≡ register_schema → Shown sql params old new (map row_of xs) → AllByRecursion IsRead xs
       → (ys : List X) → AllByRecursion IsStored ys → TreeHolds place old.now.trees (map row_of ys) → xs ≡ filter test ys
   rows_shown IsRead IsStored one test same old new xs has h read ys stored keeps =
-      shown_checked place register_schema sql params s.test s.project s.order s.names passes (λ i. (s.is i).command, λ i. (s.is i).reads_catalog) s.bare
+      shown_checked place register_schema sql params s.test s.project s.order s.names passes s.means
       (λ r i. (s.is i).shows r) (λ r i. (s.is i).passes r) (λ a b i. (s.is i).compares a b) (λ i. (s.is i).is_far) row_of IsRead IsStored
       one old new xs has h read ys stored keeps
       ∙ filter_as (λ y. passes (row_of y)) test same ys
@@ -47,7 +47,7 @@ module _ {X : Type 0} (sql : List ℕ) (place : TableLayout) (params : Row) (pas
   pub every_row : (old new : State) (xs : List X) → old.now.schema ≡ register_schema → Shown sql params old new (map row_of xs)
       → IsPermutation (filter passes (map (cells place) (old.now.trees place.tree))) (map row_of xs)
   every_row old new xs has h =
-      shown_exact place register_schema sql params s.test s.project s.order s.names passes (λ i. (s.is i).command, λ i. (s.is i).reads_catalog) s.bare
+      shown_exact place register_schema sql params s.test s.project s.order s.names passes s.means
       (λ r i. (s.is i).shows r) (λ r i. (s.is i).passes r) (λ a b i. (s.is i).compares a b) (λ i. (s.is i).is_far) row_of old new xs has h
 
 -- the rows of values in whatever order are those of the same values in that order
@@ -76,7 +76,7 @@ module _ {place : TableLayout} {sql : List ℕ} {params : Row} {passes : Row →
       → IsPermutation (filter passes (rows_at place old.now.trees)) rows
   passing_rows old new rows has h =
       let query = asking place.tree s.test s.project s.order (negsuc 0) in
-      let read = reads_as sql params old new register_schema has _ (λ i. (s.is i).command) s.bare (λ i. (s.is i).reads_catalog) rows h in
+      let read = reads_shown register_schema sql _ s.means params old new has rows h in
       let a : IsAnswer query (overlay old.now.trees []) params rows = read.answer Null in
       let second = λ (o : Output). o.1 in
       let entries = old.now.trees place.tree in
@@ -123,7 +123,7 @@ module _ {X : Type 0} (sql : List ℕ) (place : TableLayout) (row_of : X → Row
       executes_insert place register_schema p.at p.table (λ i. (p.is i).giving.writing.here) (λ olds news i. (p.is i).giving.writing.alone olds news)
       (λ a b i. (p.is i).giving.writing.compares a b) (λ a i. (p.is i).giving.writing.fulls a) (λ rows row. list_all (λ columns. not (clashes plain columns rows row)) p.others)
       (λ rows row i. (p.is i).guarded rows row) sql p.terms
-      (λ i. (p.is i).giving.writing.command) p.bare (row_of x) (p.given x) (λ i. (p.is i).giving.given x) (p.casts x)
+      p.means (row_of x) (p.given x) (λ i. (p.is i).giving.given x) (p.casts x)
       (λ entries i. (p.is i).numbered x entries) (λ entries i. (p.is i).shown x entries) (λ i. (p.is i).giving.writing.filled x) old new count has h
 
   -- or is changed, if there is one that has its key
@@ -131,9 +131,9 @@ module _ {X : Type 0} (sql : List ℕ) (place : TableLayout) (row_of : X → Row
       → (new.now.schema ≡ register_schema) × Updated place register_schema (row_of x) old.now.trees new.now.trees count
   row_updated p =
       executes_update place register_schema p.at p.table (λ i. (p.is i).writing.here) (λ olds news i. (p.is i).writing.alone olds news)
-      (λ a b i. (p.is i).writing.compares a b) (λ a i. (p.is i).writing.fulls a) sql p.bare (row_of x) (p.casts x) (λ id i. (p.is i).shown x id)
+      (λ a b i. (p.is i).writing.compares a b) (λ a i. (p.is i).writing.fulls a) sql (row_of x) (p.casts x) (λ id i. (p.is i).shown x id)
       (λ i. (p.is i).writing.filled x) p.test p.sets (λ r i. (p.is i).tests x r) (λ r i. (p.is i).gives x r) (λ i. (p.is i).is_far)
-      (λ i. (p.is i).writing.command) old new count has h
+      p.means old new count has h
 
 -- the rows that the tree has then
 pub rows_put : {X : Type 0} (place : TableLayout) (row_of : X → Row) (IsStored : X → Type 0) (x : X) → IsStored x → (old new : Trees)

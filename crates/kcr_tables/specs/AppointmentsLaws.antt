@@ -10,8 +10,8 @@ use Rattle.kcr_people.specs.declared.Appointment.{Appointment}
 use Rattle.kcr_tables.specs.Schema.{appointments}
 use Rattle.kcr_tables.specs.StoredTables.{appointments_place}
 use Rattle.kcr_tables.specs.TableTexts.{shows, inserts_row, updates_row, cast_all, cast_int, cast_or_null, each_is}
-use Rattle.kcr_tables.specs.TableTexts.{everything, number_in, one_number, one_place, still_at, text_in, understood}
-use Rattle.kcr_tables.specs.TableTexts.{InsertsRow, IsTable, SelectsRows, TableSpec, UpdatesRow}
+use Rattle.kcr_tables.specs.TableTexts.{everything, number_in, one_number, one_place, still_at, text_in, InsertsRow}
+use Rattle.kcr_tables.specs.TableTexts.{IsTable, SelectsRows, TableSpec, UpdatesRow}
 
 abbrev pub table : TableSpec Appointment
 table = record {
@@ -32,8 +32,8 @@ one_value x y read held h = λ i. record {
 }
 
 lists : SelectsRows table.all_sql appointments_place [] (λ _. true)
-unfolding understood everything
-lists = shows appointments [] (refl, refl) refl
+unfolding everything
+lists = shows appointments [] (refl, refl, refl) refl
 
 -- its values are stored as they are
 casts : (x : Appointment) → cast_all appointments.columns (appointment_row x) ≡ appointment_row x
@@ -42,14 +42,14 @@ casts x i = Text (place_text x.place) ∷ cast_int (pos x.since) i ∷ Text x.wh
 -- the text that adds the row of a value
 pub inserts : InsertsRow
     (codes "INSERT INTO appointments (place, since, who, until) VALUES (?1, ?2, ?3, ?4)") appointments_place appointment_row
-unfolding understood everything
-inserts = inserts_row 2 appointments casts (refl, refl) refl
+unfolding everything
+inserts = inserts_row 2 appointments casts (refl, refl, refl) refl
 
 -- the text that puts it in the place of the row with its key
 pub updates : UpdatesRow
     (codes "UPDATE appointments SET place = ?1, since = ?2, who = ?3, until = ?4 WHERE place = ?1 AND since = ?2") appointments_place appointment_row
-unfolding understood everything
-updates = updates_row 2 appointments casts (refl, refl) refl
+unfolding everything
+updates = updates_row 2 appointments casts (refl, refl, refl) refl
 
 pub table_laws : IsTable table appointment_row (λ _. ⊤)
 table_laws = record {

@@ -10,8 +10,8 @@ use Rattle.kcr_rows.specs.States.{HasBoxNumber}
 use Rattle.kcr_tables.specs.Schema.{bags}
 use Rattle.kcr_tables.specs.StoredTables.{bags_place}
 use Rattle.kcr_tables.specs.TableTexts.{shows, is_given, inserts_row, updates_row, cast_all, everything, one_spot}
-use Rattle.kcr_tables.specs.TableTexts.{still_at, text_in, text_ties, understood, value_is, InsertsRow, IsLookup}
-use Rattle.kcr_tables.specs.TableTexts.{IsTable, LookupSpec, SelectsRows, TableSpec, UpdatesRow}
+use Rattle.kcr_tables.specs.TableTexts.{still_at, text_in, text_ties, value_is, InsertsRow, IsLookup, IsTable}
+use Rattle.kcr_tables.specs.TableTexts.{LookupSpec, SelectsRows, TableSpec, UpdatesRow}
 
 abbrev pub table : TableSpec Bag
 table = record {
@@ -30,17 +30,17 @@ one_value x y read held h = λ i. record {
 }
 
 lists : SelectsRows table.all_sql bags_place [] (λ _. true)
-unfolding understood everything
-lists = shows bags [] (refl, refl) refl
+unfolding everything
+lists = shows bags [] (refl, refl, refl) refl
 
 -- the row of the bag with this serial, alone, or none
 abbrev pub bag_of : LookupSpec (List ℕ) Bag
 bag_of = record { is_under = λ serial x. is_of_serial serial x; column = 0; find_sql = codes "SELECT serial, spot FROM bags WHERE serial = ?1 ORDER BY serial" }
 
 pub bag_of_laws : IsLookup bag_of bags_place Text bag_row
-unfolding understood everything
+unfolding everything
 bag_of_laws = record {
-  finds = λ serial. shows bags (is_given 1) (refl, refl) refl;
+  finds = λ serial. shows bags (is_given 1) (refl, refl, refl) refl;
   under = λ serial x. value_is (Text x.serial) (Text serial) refl refl ∙ sym (text_ties x.serial serial);
 }
 
@@ -50,13 +50,13 @@ casts x i = Text x.serial ∷ Text (spot_text x.spot) ∷ []
 
 -- the text that adds the row of a value
 pub inserts : InsertsRow (codes "INSERT INTO bags (serial, spot) VALUES (?1, ?2)") bags_place bag_row
-unfolding understood everything
-inserts = inserts_row 5 bags casts (refl, refl) refl
+unfolding everything
+inserts = inserts_row 5 bags casts (refl, refl, refl) refl
 
 -- the text that puts it in the place of the row with its key
 pub updates : UpdatesRow (codes "UPDATE bags SET serial = ?1, spot = ?2 WHERE serial = ?1") bags_place bag_row
-unfolding understood everything
-updates = updates_row 5 bags casts (refl, refl) refl
+unfolding everything
+updates = updates_row 5 bags casts (refl, refl, refl) refl
 
 pub table_laws : IsTable table bag_row HasBoxNumber
 table_laws = record {

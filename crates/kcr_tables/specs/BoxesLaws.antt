@@ -10,8 +10,8 @@ use Rattle.kcr_custody.specs.declared.BoxRow.{BoxRow}
 use Rattle.kcr_tables.specs.Schema.{boxes}
 use Rattle.kcr_tables.specs.StoredTables.{boxes_place}
 use Rattle.kcr_tables.specs.TableTexts.{shows, inserts_row, cast_all, cast_int, each_is, everything, number_in}
-use Rattle.kcr_tables.specs.TableTexts.{one_facility, one_place, still_at, text_in, understood, InsertsRow, IsTable}
-use Rattle.kcr_tables.specs.TableTexts.{SelectsRows, TableSpec}
+use Rattle.kcr_tables.specs.TableTexts.{one_facility, one_place, still_at, text_in, InsertsRow, IsTable, SelectsRows}
+use Rattle.kcr_tables.specs.TableTexts.{TableSpec}
 
 abbrev pub table : TableSpec BoxRow
 table = record {
@@ -31,8 +31,8 @@ one_value x y read held h = λ i. record {
 }
 
 lists : SelectsRows table.all_sql boxes_place [] (λ _. true)
-unfolding understood everything
-lists = shows boxes [] (refl, refl) refl
+unfolding everything
+lists = shows boxes [] (refl, refl, refl) refl
 
 -- its values are stored as they are
 casts : (x : BoxRow) → cast_all boxes.columns (box_row x) ≡ box_row x
@@ -40,8 +40,8 @@ casts x i = Text (facility_text x.facility) ∷ cast_int (pos x.number) i ∷ Te
 
 -- the text that adds the row of a value
 pub inserts : InsertsRow (codes "INSERT INTO boxes (facility, box, place) VALUES (?1, ?2, ?3)") boxes_place box_row
-unfolding understood everything
-inserts = inserts_row 3 boxes casts (refl, refl) refl
+unfolding everything
+inserts = inserts_row 3 boxes casts (refl, refl, refl) refl
 
 pub table_laws : IsTable table box_row (λ _. ⊤)
 table_laws = record {

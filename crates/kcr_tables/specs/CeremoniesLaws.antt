@@ -13,8 +13,8 @@ use Rattle.kcr_tables.specs.Schema.{ceremonies}
 use Rattle.kcr_tables.specs.StoredTables.{ceremonies_place}
 use Rattle.kcr_tables.specs.TableTexts.{shows, is_given, inserts_row, updates_row, cast_all, cast_int, cast_or_null}
 use Rattle.kcr_tables.specs.TableTexts.{each_is, everything, number_in, number_ties, one_ceremony_state, one_facility}
-use Rattle.kcr_tables.specs.TableTexts.{one_number, still_at, text_in, understood, value_is, InsertsRow, IsLookup}
-use Rattle.kcr_tables.specs.TableTexts.{IsTable, LookupSpec, SelectsRows, TableSpec, UpdatesRow}
+use Rattle.kcr_tables.specs.TableTexts.{one_number, still_at, text_in, value_is, InsertsRow, IsLookup, IsTable}
+use Rattle.kcr_tables.specs.TableTexts.{LookupSpec, SelectsRows, TableSpec, UpdatesRow}
 
 abbrev pub table : TableSpec CeremonyRow
 table = record {
@@ -37,17 +37,17 @@ one_value x y read held h = λ i. record {
 }
 
 lists : SelectsRows table.all_sql ceremonies_place [] (λ _. true)
-unfolding understood everything
-lists = shows ceremonies [] (refl, refl) refl
+unfolding everything
+lists = shows ceremonies [] (refl, refl, refl) refl
 
 -- the row of the ceremony with this number, alone, or none
 abbrev pub ceremony_of : LookupSpec ℕ CeremonyRow
 ceremony_of = record { is_under = λ number x. is_of_number number x; column = 0; find_sql = codes "SELECT number, facility, day, state, opened, closed FROM ceremonies WHERE number = ?1 ORDER BY number" }
 
 pub ceremony_of_laws : IsLookup ceremony_of ceremonies_place (λ n. Int (pos n)) ceremony_row
-unfolding understood everything
+unfolding everything
 ceremony_of_laws = record {
-  finds = λ number. shows ceremonies (is_given 1) (refl, refl) refl;
+  finds = λ number. shows ceremonies (is_given 1) (refl, refl, refl) refl;
   under = λ number x. value_is (Int (pos x.number)) (Int (pos number)) refl refl ∙ sym (number_ties x.number number);
 }
 
@@ -59,14 +59,14 @@ casts x i = cast_int (pos x.number) i ∷ Text (facility_text x.facility) ∷ ca
 -- the text that adds the row of a value
 pub inserts : InsertsRow
     (codes "INSERT INTO ceremonies (number, facility, day, state, opened, closed) VALUES (?1, ?2, ?3, ?4, ?5, ?6)") ceremonies_place ceremony_row
-unfolding understood everything
-inserts = inserts_row 7 ceremonies casts (refl, refl) refl
+unfolding everything
+inserts = inserts_row 7 ceremonies casts (refl, refl, refl) refl
 
 -- the text that puts it in the place of the row with its key
 pub updates : UpdatesRow
     (codes "UPDATE ceremonies SET number = ?1, facility = ?2, day = ?3, state = ?4, opened = ?5, closed = ?6 WHERE number = ?1") ceremonies_place ceremony_row
-unfolding understood everything
-updates = updates_row 7 ceremonies casts (refl, refl) refl
+unfolding everything
+updates = updates_row 7 ceremonies casts (refl, refl, refl) refl
 
 pub table_laws : IsTable table ceremony_row (λ _. ⊤)
 table_laws = record {

@@ -10,8 +10,8 @@ use Rattle.kcr_history.specs.declared.row_types.ExceptionRow.{ExceptionRow}
 use Rattle.kcr_tables.specs.Schema.{exceptions}
 use Rattle.kcr_tables.specs.StoredTables.{exceptions_place}
 use Rattle.kcr_tables.specs.TableTexts.{shows, is_given, inserts_row, cast_all, cast_int, cast_or_null, each_is}
-use Rattle.kcr_tables.specs.TableTexts.{everything, number_in, number_ties, one_number, still_at, text_in, understood}
-use Rattle.kcr_tables.specs.TableTexts.{value_is, InsertsRow, IsLookup, IsTable, LookupSpec, SelectsRows, TableSpec}
+use Rattle.kcr_tables.specs.TableTexts.{everything, number_in, number_ties, one_number, still_at, text_in, value_is}
+use Rattle.kcr_tables.specs.TableTexts.{InsertsRow, IsLookup, IsTable, LookupSpec, SelectsRows, TableSpec}
 
 abbrev pub table : TableSpec ExceptionRow
 table = record {
@@ -33,17 +33,17 @@ one_value x y read held h = λ i. record {
 }
 
 lists : SelectsRows table.all_sql exceptions_place [] (λ _. true)
-unfolding understood everything
-lists = shows exceptions [] (refl, refl) refl
+unfolding everything
+lists = shows exceptions [] (refl, refl, refl) refl
 
 -- the rows of one ceremony
 abbrev pub exceptions_of : LookupSpec ℕ ExceptionRow
 exceptions_of = record { is_under = λ ceremony x. is_exception_of ceremony x; column = 0; find_sql = codes "SELECT ceremony, exception, text, at, passed FROM exceptions WHERE ceremony = ?1 ORDER BY ceremony, exception" }
 
 pub exceptions_of_laws : IsLookup exceptions_of exceptions_place (λ n. Int (pos n)) exception_row
-unfolding understood everything
+unfolding everything
 exceptions_of_laws = record {
-  finds = λ ceremony. shows exceptions (is_given 1) (refl, refl) refl;
+  finds = λ ceremony. shows exceptions (is_given 1) (refl, refl, refl) refl;
   under = λ ceremony x. value_is (Int (pos x.ceremony)) (Int (pos ceremony)) refl refl
       ∙ sym (number_ties x.ceremony ceremony);
 }
@@ -56,8 +56,8 @@ casts x i = cast_int (pos x.ceremony) i ∷ cast_int (pos x.exception) i ∷ Tex
 -- the text that adds the row of a value
 pub inserts : InsertsRow
     (codes "INSERT INTO exceptions (ceremony, exception, text, at, passed) VALUES (?1, ?2, ?3, ?4, ?5)") exceptions_place exception_row
-unfolding understood everything
-inserts = inserts_row 12 exceptions casts (refl, refl) refl
+unfolding everything
+inserts = inserts_row 12 exceptions casts (refl, refl, refl) refl
 
 pub table_laws : IsTable table exception_row (λ _. ⊤)
 table_laws = record {

@@ -12,8 +12,8 @@ use Rattle.kcr_tables.specs.Schema.{items}
 use Rattle.kcr_tables.specs.StoredTables.{items_place}
 use Rattle.kcr_tables.specs.TableTexts.{shows, is_given, inserts_row, updates_row, cast_all, cast_loose, cast_within}
 use Rattle.kcr_tables.specs.TableTexts.{each_is, everything, one_rest, same_text, still_at, text_in, text_ties}
-use Rattle.kcr_tables.specs.TableTexts.{understood, value_is, within_is, InsertsRow, IsLookup, IsTable, LookupSpec}
-use Rattle.kcr_tables.specs.TableTexts.{SelectsRows, TableSpec, UpdatesRow}
+use Rattle.kcr_tables.specs.TableTexts.{value_is, within_is, InsertsRow, IsLookup, IsTable, LookupSpec, SelectsRows}
+use Rattle.kcr_tables.specs.TableTexts.{TableSpec, UpdatesRow}
 
 abbrev pub table : TableSpec Item
 table = record {
@@ -32,17 +32,17 @@ one_value x y read held h = λ i. record {
 }
 
 lists : SelectsRows table.all_sql items_place [] (λ _. true)
-unfolding understood everything
-lists = shows items [] (refl, refl) refl
+unfolding everything
+lists = shows items [] (refl, refl, refl) refl
 
 -- the row of the item with this code, alone, or none
 abbrev pub item_of : LookupSpec (List ℕ) Item
 item_of = record { is_under = λ code x. same_text x.code code; column = 0; find_sql = codes "SELECT code, facility, serial FROM items WHERE code = ?1 ORDER BY code" }
 
 pub item_of_laws : IsLookup item_of items_place Text item_row
-unfolding understood everything
+unfolding everything
 item_of_laws = record {
-  finds = λ code. shows items (is_given 1) (refl, refl) refl;
+  finds = λ code. shows items (is_given 1) (refl, refl, refl) refl;
   under = λ code x. value_is (Text x.code) (Text code) refl refl ∙ sym (text_ties x.code code);
 }
 
@@ -51,9 +51,9 @@ abbrev pub items_within : LookupSpec (List ℕ) Item
 items_within = record { is_under = λ serial x. is_item_of (Wanted.Bag serial) x; column = 2; find_sql = codes "SELECT code, facility, serial FROM items WHERE serial = ?1 ORDER BY code" }
 
 pub items_within_laws : IsLookup items_within items_place Text item_row
-unfolding understood everything
+unfolding everything
 items_within_laws = record {
-  finds = λ serial. shows items (is_given 3) (refl, refl) refl;
+  finds = λ serial. shows items (is_given 3) (refl, refl, refl) refl;
   under = λ serial x. within_is x.rest serial;
 }
 
@@ -63,14 +63,14 @@ casts x i = Text x.code ∷ cast_loose x.rest i ∷ cast_within x.rest i ∷ []
 
 -- the text that adds the row of a value
 pub inserts : InsertsRow (codes "INSERT INTO items (code, facility, serial) VALUES (?1, ?2, ?3)") items_place item_row
-unfolding understood everything
-inserts = inserts_row 6 items casts (refl, refl) refl
+unfolding everything
+inserts = inserts_row 6 items casts (refl, refl, refl) refl
 
 -- the text that puts it in the place of the row with its key
 pub updates : UpdatesRow
     (codes "UPDATE items SET code = ?1, facility = ?2, serial = ?3 WHERE code = ?1") items_place item_row
-unfolding understood everything
-updates = updates_row 6 items casts (refl, refl) refl
+unfolding everything
+updates = updates_row 6 items casts (refl, refl, refl) refl
 
 pub table_laws : IsTable table item_row (λ _. ⊤)
 table_laws = record {

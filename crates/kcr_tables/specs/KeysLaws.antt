@@ -10,8 +10,8 @@ use Rattle.kcr_history.specs.declared.row_types.KeyRow.{KeyRow}
 use Rattle.kcr_tables.specs.Schema.{keys}
 use Rattle.kcr_tables.specs.StoredTables.{keys_place}
 use Rattle.kcr_tables.specs.TableTexts.{shows, is_given, inserts_as, cast_int, cast_null, each_is, everything}
-use Rattle.kcr_tables.specs.TableTexts.{number_in, still_at, text_in, text_ties, understood, value_is, InsertsRow}
-use Rattle.kcr_tables.specs.TableTexts.{IsLookup, IsTable, LookupSpec, SelectsRows, TableSpec}
+use Rattle.kcr_tables.specs.TableTexts.{number_in, still_at, text_in, text_ties, value_is, InsertsRow, IsLookup}
+use Rattle.kcr_tables.specs.TableTexts.{IsTable, LookupSpec, SelectsRows, TableSpec}
 
 abbrev pub table : TableSpec KeyRow
 table = record {
@@ -32,28 +32,28 @@ one_value x y read held h = λ i. record {
 }
 
 lists : SelectsRows table.all_sql keys_place [] (λ _. true)
-unfolding understood everything
-lists = shows keys [] (refl, refl) refl
+unfolding everything
+lists = shows keys [] (refl, refl, refl) refl
 
 -- the row of this key, alone, or none
 abbrev pub key_row_of : LookupSpec (List ℕ) KeyRow
 key_row_of = record { is_under = λ key x. is_of_key key x; column = 0; find_sql = codes "SELECT \"key\", accepted, command, reply FROM keys WHERE \"key\" = ?1 ORDER BY \"key\"" }
 
 pub key_row_of_laws : IsLookup key_row_of keys_place Text key_row
-unfolding understood everything
+unfolding everything
 key_row_of_laws = record {
-  finds = λ key. shows keys (is_given 1) (refl, refl) refl;
+  finds = λ key. shows keys (is_given 1) (refl, refl, refl) refl;
   under = λ key x. value_is (Text x.key) (Text key) refl refl ∙ sym (text_ties x.key key);
 }
 
 -- the text that adds the row of a value
 pub inserts : InsertsRow
     (codes "INSERT INTO keys (\"key\", accepted, command, reply) VALUES (?1, ?2, ?3, ?4)") keys_place key_row
-unfolding understood everything
+unfolding everything
 inserts = inserts_as 14 keys (col 0 1 ∷ col 0 0 ∷ lit Null ∷ col 0 2 ∷ col 0 3 ∷ [])
     (λ x. Int (pos x.accepted) ∷ Text x.key ∷ Null ∷ Text x.command ∷ Text x.reply ∷ [])
     (λ x i. cast_int (pos x.accepted) i ∷ Text x.key ∷ cast_null i ∷ Text x.command ∷ Text x.reply ∷ [])
-    (refl, refl) refl
+    (refl, refl, refl) refl
 
 pub table_laws : IsTable table key_row (λ _. ⊤)
 table_laws = record {

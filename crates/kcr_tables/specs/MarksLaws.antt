@@ -9,8 +9,8 @@ use Rattle.kcr_history.specs.declared.row_types.MarkRow.{MarkRow}
 use Rattle.kcr_tables.specs.Schema.{marks}
 use Rattle.kcr_tables.specs.StoredTables.{marks_place}
 use Rattle.kcr_tables.specs.TableTexts.{shows, is_given, inserts_row, updates_row, cast_all, cast_int, each_is}
-use Rattle.kcr_tables.specs.TableTexts.{everything, number_in, number_ties, still_at, understood, value_is, InsertsRow}
-use Rattle.kcr_tables.specs.TableTexts.{IsLookup, IsTable, LookupSpec, SelectsRows, TableSpec, UpdatesRow}
+use Rattle.kcr_tables.specs.TableTexts.{everything, number_in, number_ties, still_at, value_is, InsertsRow, IsLookup}
+use Rattle.kcr_tables.specs.TableTexts.{IsTable, LookupSpec, SelectsRows, TableSpec, UpdatesRow}
 
 abbrev pub table : TableSpec MarkRow
 table = record {
@@ -26,17 +26,17 @@ pub one_value : (x y : MarkRow) → ⊤ → ⊤ → mark_row x ≡ mark_row y �
 one_value x y read held h = λ i. record { ceremony = number_in 0 (h i); at = number_in 1 (h i) }
 
 lists : SelectsRows table.all_sql marks_place [] (λ _. true)
-unfolding understood everything
-lists = shows marks [] (refl, refl) refl
+unfolding everything
+lists = shows marks [] (refl, refl, refl) refl
 
 -- the row of the ceremony, alone, or none
 abbrev pub mark_of : LookupSpec ℕ MarkRow
 mark_of = record { is_under = λ ceremony x. is_mark_of ceremony x; column = 0; find_sql = codes "SELECT ceremony, at FROM marks WHERE ceremony = ?1 ORDER BY ceremony" }
 
 pub mark_of_laws : IsLookup mark_of marks_place (λ n. Int (pos n)) mark_row
-unfolding understood everything
+unfolding everything
 mark_of_laws = record {
-  finds = λ ceremony. shows marks (is_given 1) (refl, refl) refl;
+  finds = λ ceremony. shows marks (is_given 1) (refl, refl, refl) refl;
   under = λ ceremony x. value_is (Int (pos x.ceremony)) (Int (pos ceremony)) refl refl
       ∙ sym (number_ties x.ceremony ceremony);
 }
@@ -47,13 +47,13 @@ casts x i = cast_int (pos x.ceremony) i ∷ cast_int (pos x.at) i ∷ []
 
 -- the text that adds the row of a value
 pub inserts : InsertsRow (codes "INSERT INTO marks (ceremony, at) VALUES (?1, ?2)") marks_place mark_row
-unfolding understood everything
-inserts = inserts_row 8 marks casts (refl, refl) refl
+unfolding everything
+inserts = inserts_row 8 marks casts (refl, refl, refl) refl
 
 -- the text that puts it in the place of the row with its key
 pub updates : UpdatesRow (codes "UPDATE marks SET ceremony = ?1, at = ?2 WHERE ceremony = ?1") marks_place mark_row
-unfolding understood everything
-updates = updates_row 8 marks casts (refl, refl) refl
+unfolding everything
+updates = updates_row 8 marks casts (refl, refl, refl) refl
 
 pub table_laws : IsTable table mark_row (λ _. ⊤)
 table_laws = record {

@@ -8,8 +8,8 @@ use Rattle.kcr_people.specs.declared.Person.{Person}
 use Rattle.kcr_tables.specs.Schema.{people}
 use Rattle.kcr_tables.specs.StoredTables.{people_place}
 use Rattle.kcr_tables.specs.TableTexts.{shows, is_given, inserts_row, cast_all, each_is, everything, same_text}
-use Rattle.kcr_tables.specs.TableTexts.{still_at, text_in, text_ties, understood, value_is, InsertsRow, IsLookup}
-use Rattle.kcr_tables.specs.TableTexts.{IsTable, LookupSpec, SelectsRows, TableSpec}
+use Rattle.kcr_tables.specs.TableTexts.{still_at, text_in, text_ties, value_is, InsertsRow, IsLookup, IsTable}
+use Rattle.kcr_tables.specs.TableTexts.{LookupSpec, SelectsRows, TableSpec}
 
 abbrev pub table : TableSpec Person
 table = record {
@@ -25,17 +25,17 @@ pub one_value : (x y : Person) → ⊤ → ⊤ → person_row x ≡ person_row y
 one_value x y read held h = λ i. record { who = text_in 0 (h i); name = text_in 1 (h i) }
 
 lists : SelectsRows table.all_sql people_place [] (λ _. true)
-unfolding understood everything
-lists = shows people [] (refl, refl) refl
+unfolding everything
+lists = shows people [] (refl, refl, refl) refl
 
 -- the row of the person with these initials, alone, or none
 abbrev pub person_of : LookupSpec (List ℕ) Person
 person_of = record { is_under = λ who x. same_text x.who who; column = 0; find_sql = codes "SELECT who, name FROM people WHERE who = ?1 ORDER BY who" }
 
 pub person_of_laws : IsLookup person_of people_place Text person_row
-unfolding understood everything
+unfolding everything
 person_of_laws = record {
-  finds = λ who. shows people (is_given 1) (refl, refl) refl;
+  finds = λ who. shows people (is_given 1) (refl, refl, refl) refl;
   under = λ who x. value_is (Text x.who) (Text who) refl refl ∙ sym (text_ties x.who who);
 }
 
@@ -45,8 +45,8 @@ casts x i = Text x.who ∷ Text x.name ∷ []
 
 -- the text that adds the row of a value
 pub inserts : InsertsRow (codes "INSERT INTO people (who, name) VALUES (?1, ?2)") people_place person_row
-unfolding understood everything
-inserts = inserts_row 0 people casts (refl, refl) refl
+unfolding everything
+inserts = inserts_row 0 people casts (refl, refl, refl) refl
 
 pub table_laws : IsTable table person_row (λ _. ⊤)
 table_laws = record {

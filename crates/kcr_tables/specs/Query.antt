@@ -3,13 +3,14 @@ use Rattle.std.specs.Prelude.{◌≡◌, ℕ, pos, Bool, true, List, [], ◌∷�
 use Rattle.std.specs.Global.{Global}
 use Rattle.sqlite.specs.declared.types.Value.TheVariants.{Int}
 use Rattle.sqlite.specs.Collation.TheVariants.{Binary}
-use Rattle.sqlite.specs.Listing.{understood}
 use Rattle.sqlite.specs.Order.{Row, column}
+use Rattle.sqlite.specs.Command.TheVariants.{Select}
+use Rattle.sqlite_resolve.specs.Compile.{compiled}
+use Rattle.kcr_rows.specs.Texts.{Means}
 use Rattle.sqlite.specs.Query.{key_cmp}
 use Rattle.sqlite.specs.Store.{Ghosts}
 use Rattle.sqlite.specs.Term.{Term}
 use Rattle.sqlite.specs.declared.transaction.Transaction.{Transaction}
-use Rattle.sqlite.proofs.Callers.{IsPlain}
 use Rattle.kcr_base.specs.declared.refusal.Refusal.{Refusal}
 use Rattle.kcr_rows.specs.Frame.{ImpliesOpen}
 use Rattle.kcr_rows.specs.Greatest.{IsGreatest}
@@ -53,9 +54,10 @@ pub record SelectsLast (sql : List ℕ) (place : TableLayout) (params : Row) (pa
   pub test : List Term
   pub project : List Term
   pub names : List (List ℕ)
-  pub bare : IsPlain (understood register_schema sql)
-  pub is : showing sql place params (by_number at passes) test (greatest place test project at)
-      ≡ wanted_showing place (by_number at passes) (greatest place test project at) names
+  pub means : Means (Select (record { lets = []; body = greatest place test project at }) names)
+      (compiled register_schema sql)
+  pub is : showing place params (by_number at passes) test (greatest place test project at)
+      ≡ wanted_showing place (by_number at passes)
 
 -- the text shows which of the rows that pass; if not all in the order of their keys, each value has a row of its own
 abbrev pub SelectsWhich : {X : Type 0} → (X → Row) → Which X → List ℕ → TableLayout → Row → (Row → Bool) → Type 0

@@ -11,8 +11,8 @@ use Rattle.kcr_custody.specs.declared.SafeRow.{SafeRow}
 use Rattle.kcr_tables.specs.Schema.{safes}
 use Rattle.kcr_tables.specs.StoredTables.{safes_place}
 use Rattle.kcr_tables.specs.TableTexts.{shows, inserts_row, updates_row, cast_all, cast_int, each_is, everything}
-use Rattle.kcr_tables.specs.TableTexts.{number_in, one_facility, one_safe, one_truth, still_at, text_in, understood}
-use Rattle.kcr_tables.specs.TableTexts.{InsertsRow, IsTable, SelectsRows, TableSpec, UpdatesRow}
+use Rattle.kcr_tables.specs.TableTexts.{number_in, one_facility, one_safe, one_truth, still_at, text_in, InsertsRow}
+use Rattle.kcr_tables.specs.TableTexts.{IsTable, SelectsRows, TableSpec, UpdatesRow}
 
 abbrev pub table : TableSpec SafeRow
 table = record {
@@ -32,8 +32,8 @@ one_value x y read held h = λ i. record {
 }
 
 lists : SelectsRows table.all_sql safes_place [] (λ _. true)
-unfolding understood everything
-lists = shows safes [] (refl, refl) refl
+unfolding everything
+lists = shows safes [] (refl, refl, refl) refl
 
 -- its values are stored as they are
 casts : (x : SafeRow) → cast_all safes.columns (safe_row x) ≡ safe_row x
@@ -42,14 +42,14 @@ casts x i = Text (facility_text x.facility) ∷ cast_int (pos (safe_digit x.safe
 
 -- the text that adds the row of a value
 pub inserts : InsertsRow (codes "INSERT INTO safes (facility, safe, state) VALUES (?1, ?2, ?3)") safes_place safe_row
-unfolding understood everything
-inserts = inserts_row 4 safes casts (refl, refl) refl
+unfolding everything
+inserts = inserts_row 4 safes casts (refl, refl, refl) refl
 
 -- the text that puts it in the place of the row with its key
 pub updates : UpdatesRow
     (codes "UPDATE safes SET facility = ?1, safe = ?2, state = ?3 WHERE facility = ?1 AND safe = ?2") safes_place safe_row
-unfolding understood everything
-updates = updates_row 4 safes casts (refl, refl) refl
+unfolding everything
+updates = updates_row 4 safes casts (refl, refl, refl) refl
 
 pub table_laws : IsTable table safe_row (λ _. ⊤)
 table_laws = record {

@@ -8,7 +8,7 @@ use Rattle.kcr_history.specs.declared.row_types.SeatingRow.{SeatingRow}
 use Rattle.kcr_tables.specs.Schema.{seatings}
 use Rattle.kcr_tables.specs.StoredTables.{seatings_place}
 use Rattle.kcr_tables.specs.TableTexts.{shows, inserts_row, cast_all, cast_int, each_is, everything, number_in}
-use Rattle.kcr_tables.specs.TableTexts.{still_at, text_in, understood, InsertsRow, IsTable, SelectsRows, TableSpec}
+use Rattle.kcr_tables.specs.TableTexts.{still_at, text_in, InsertsRow, IsTable, SelectsRows, TableSpec}
 
 abbrev pub table : TableSpec SeatingRow
 table = record {
@@ -29,8 +29,8 @@ one_value x y read held h = λ i. record {
 }
 
 lists : SelectsRows table.all_sql seatings_place [] (λ _. true)
-unfolding understood everything
-lists = shows seatings [] (refl, refl) refl
+unfolding everything
+lists = shows seatings [] (refl, refl, refl) refl
 
 -- its values are stored as they are
 casts : (x : SeatingRow) → cast_all seatings.columns (seating_row x) ≡ seating_row x
@@ -39,8 +39,8 @@ casts x i = cast_int (pos x.ceremony) i ∷ cast_int (pos x.step) i ∷ cast_int
 -- the text that adds the row of a value
 pub inserts : InsertsRow
     (codes "INSERT INTO seatings (ceremony, step, seat, who) VALUES (?1, ?2, ?3, ?4)") seatings_place seating_row
-unfolding understood everything
-inserts = inserts_row 10 seatings casts (refl, refl) refl
+unfolding everything
+inserts = inserts_row 10 seatings casts (refl, refl, refl) refl
 
 pub table_laws : IsTable table seating_row (λ _. ⊤)
 table_laws = record {

@@ -9,7 +9,7 @@ use Rattle.kcr_room.specs.declared.SheetRow.{SheetRow}
 use Rattle.kcr_tables.specs.Schema.{sheet}
 use Rattle.kcr_tables.specs.StoredTables.{sheet_place}
 use Rattle.kcr_tables.specs.TableTexts.{shows, inserts_row, cast_all, cast_int, each_is, everything, number_in, one_way}
-use Rattle.kcr_tables.specs.TableTexts.{still_at, text_in, understood, InsertsRow, IsTable, SelectsRows, TableSpec}
+use Rattle.kcr_tables.specs.TableTexts.{still_at, text_in, InsertsRow, IsTable, SelectsRows, TableSpec}
 
 abbrev pub table : TableSpec SheetRow
 table = record {
@@ -30,8 +30,8 @@ one_value x y read held h = λ i. record {
 }
 
 lists : SelectsRows table.all_sql sheet_place [] (λ _. true)
-unfolding understood everything
-lists = shows sheet [] (refl, refl) refl
+unfolding everything
+lists = shows sheet [] (refl, refl, refl) refl
 
 -- its values are stored as they are
 casts : (x : SheetRow) → cast_all sheet.columns (sheet_row x) ≡ sheet_row x
@@ -40,8 +40,8 @@ casts x i = Text x.who ∷ cast_int (pos x.at) i ∷ cast_int (pos x.ceremony) i
 -- the text that adds the row of a value
 pub inserts : InsertsRow
     (codes "INSERT INTO sheet (who, at, ceremony, way) VALUES (?1, ?2, ?3, ?4)") sheet_place sheet_row
-unfolding understood everything
-inserts = inserts_row 11 sheet casts (refl, refl) refl
+unfolding everything
+inserts = inserts_row 11 sheet casts (refl, refl, refl) refl
 
 pub table_laws : IsTable table sheet_row (λ _. ⊤)
 table_laws = record {

@@ -10,13 +10,9 @@ use Rattle.sqlite.specs.Query.{Query, Output, key_cmp, output, output_cmp}
 use Rattle.sqlite.specs.Collation.TheVariants.{Binary}
 use Rattle.sqlite.specs.Cast.{cast_all, cast_row}
 use Rattle.sqlite.specs.Tree.{rowid}
-use Rattle.sqlite.specs.Source.{Source}
 use Rattle.sqlite.specs.Source.TheVariants.{Values}
-use Rattle.sqlite.specs.Command.{Command}
 use Rattle.sqlite.specs.Command.TheVariants.{Insert, Select, Update}
 use Rattle.sqlite.specs.Effect.{value_rows}
-use Rattle.sqlite.specs.Listing.{understood, reads_listing}
-use Rattle.sqlite.proofs.Callers.{IsPlain, command_of}
 use Rattle.sqlite_schema.specs.Rules.{guards, clashes}
 use Rattle.sqlite_schema.specs.declared.schema.Keys.TheVariants.{Enforced}
 use Rattle.sqlite_schema.specs.declared.schema.Table.{Table}
@@ -25,9 +21,11 @@ use Rattle.sqlite_sql.specs.declared.ops.CompareOp.TheVariants.{Eq}
 use Rattle.sqlite_value.specs.declared.keys.Key.{Key}
 use Rattle.sqlite_value.specs.Keys.{plain, rising, ascending}
 use Rattle.sqlite_trees.specs.View.{is_int}
+use Rattle.sqlite_resolve.specs.Compile.{compiled}
 use Rattle.sqlite_rules.specs.Action.{Work, works}
 use Rattle.kcr_rows.specs.Columns.{simple_as}
 use Rattle.kcr_rows.specs.Keyed.{TableLayout, cells, by_key, is_full}
+use Rattle.kcr_rows.specs.Texts.{Means}
 use Rattle.kcr_rows.proofs.ReadLemmas.{asking}
 use Rattle.kcr_rows.proofs.KeyLemmas.{places_from, full, same_from}
 use Rattle.kcr_rows.proofs.WriteLemmas.{entered}
@@ -54,20 +52,16 @@ pub record Choice : Type 0 where
   pub rank : Row → Row
   pub compare : Row → Row → Ordering
 
--- what is computed of a text
+-- what is computed of a query
 pub record Showing : Type 0 where
-  pub command : Command
-  pub reads_catalog : Bool
   pub is_far : Bool
   pub passes : Row → Bool
   pub shows : Row → Output
   pub compares : Row → Row → Ordering
 
 -- of this one
-abbrev pub showing : List ℕ → TableLayout → Row → Choice → List Term → Query → Showing
-showing sql place params choice test query = record {
-  command = command_of (understood register_schema sql);
-  reads_catalog = reads_listing register_schema sql;
+abbrev pub showing : TableLayout → Row → Choice → List Term → Query → Showing
+showing place params choice test query = record {
   is_far = nat_le (2 ^ 31) place.tree;
   passes = λ r. list_all (holds (params ∷ r ∷ [])) test;
   shows = λ r. output query (params ∷ r ∷ []);
@@ -75,10 +69,8 @@ showing sql place params choice test query = record {
 }
 
 -- of one that chooses so
-abbrev pub wanted_showing : TableLayout → Choice → Query → List (List ℕ) → Showing
-wanted_showing place choice query names = record {
-  command = Select (record { lets = []; body = query }) names;
-  reads_catalog = false;
+abbrev pub wanted_showing : TableLayout → Choice → Showing
+wanted_showing place choice = record {
   is_far = false;
   passes = λ r. choice.passes (cells place r);
   shows = λ r. (choice.rank (cells place r), cells place r);
@@ -92,9 +84,10 @@ pub record Selects (sql : List ℕ) (place : TableLayout) (params : Row) (choice
   pub project : List Term
   pub order : List (Term × Key)
   pub names : List (List ℕ)
-  pub bare : IsPlain (understood register_schema sql)
-  pub is : showing sql place params choice test (asking place.tree test project order limit)
-      ≡ wanted_showing place choice (asking place.tree test project order limit) names
+  pub means : Means (Select (record { lets = []; body = asking place.tree test project order limit }) names)
+      (compiled register_schema sql)
+  pub is : showing place params choice test (asking place.tree test project order limit)
+      ≡ wanted_showing place choice
 
 -- The text shows all rows that pass, in the order of their keys.
 abbrev pub SelectsRows : List ℕ → TableLayout → Row → (Row → Bool) → Type 0
@@ -110,7 +103,7 @@ new_terms count = lit Null ∷ map (col 0) (range_with_len 0 count)
 abbrev pub update_terms : ℕ → List Term
 update_terms count = col 1 0 ∷ col 1 0 ∷ map (col 0) (range_with_len 0 count)
 
--- what is computed of a table and of a text that changes its rows
+-- what is computed of a table whose rows are changed
 pub record Writing (X : Type 0) : Type 0 where
   -- the table, what is asked of others if its rows change, and which rows have one key
   pub here : Option Table
@@ -119,29 +112,25 @@ pub record Writing (X : Type 0) : Type 0 where
   pub fulls : Row → Bool
   -- whether the row of a value has a whole key
   pub filled : X → Bool
-  -- the text
-  pub command : Command
 
 -- of these
-abbrev pub writing : {X : Type 0} → List ℕ → TableLayout → (X → Row) → ℕ → Writing X
-writing sql place row_of at = record {
+abbrev pub writing : {X : Type 0} → TableLayout → (X → Row) → ℕ → Writing X
+writing place row_of at = record {
   here = slice_get register_schema.tables at;
   alone = works register_schema Enforced 0 place.tree;
   compares = λ a b. by_key place.keys (cells place a) (cells place b);
   fulls = λ a. is_full place.keys (cells place a);
   filled = λ x. is_full place.keys (row_of x);
-  command = command_of (understood register_schema sql);
 }
 
--- of a table that stands alone, and of this command
-abbrev pub writing_to : {X : Type 0} → TableLayout → Table → Command → Writing X
-writing_to place table command = record {
+-- of a table that stands alone
+abbrev pub writing_to : {X : Type 0} → TableLayout → Table → Writing X
+writing_to place table = record {
   here = Some table;
   alone = λ olds news. [];
   compares = key_cmp 1 (rising place.keys []);
   fulls = full 1 place.keys;
   filled = λ x. true;
-  command = command;
 }
 
 -- what is computed of one that gives it a row
@@ -151,17 +140,17 @@ pub record Giving (X : Type 0) : Type 0 where
   pub given : X → List Row
 
 -- of these
-abbrev pub giving : {X : Type 0} → List ℕ → TableLayout → (X → Row) → ℕ → List Term → Giving X
-giving sql place row_of at terms =
+abbrev pub giving : {X : Type 0} → TableLayout → (X → Row) → ℕ → List Term → Giving X
+giving place row_of at terms =
     let width = suc (length place.at) in record {
-      writing = writing sql place row_of at;
+      writing = writing place row_of at;
       given = λ x. value_rows (row_of x ++ []) width (length terms / width) terms;
     }
 
 -- of a command that gives one row, which is made of the terms
-abbrev pub giving_one : {X : Type 0} → TableLayout → Table → List Term → (Source → Command) → (X → Row) → Giving X
-giving_one place table terms command given = record {
-  writing = writing_to place table (command (Values terms (suc (length place.at))));
+abbrev pub giving_one : {X : Type 0} → TableLayout → Table → (X → Row) → Giving X
+giving_one place table given = record {
+  writing = writing_to place table;
   given = λ x. given x ∷ [];
 }
 
@@ -175,9 +164,9 @@ pub record Inserting (X : Type 0) : Type 0 where
   pub guarded : List Row → Row → Bool
 
 -- of these
-abbrev pub inserting : {X : Type 0} → List ℕ → TableLayout → (X → Row) → ℕ → Table → List Term → (X → Row) → Inserting X
-inserting sql place row_of at table terms given = record {
-  giving = giving sql place row_of at terms;
+abbrev pub inserting : {X : Type 0} → TableLayout → (X → Row) → ℕ → Table → List Term → (X → Row) → Inserting X
+inserting place row_of at table terms given = record {
+  giving = giving place row_of at terms;
   numbered = λ x entries. is_int (rowid (entered entries (given x)));
   shown = λ x entries. cells place (entered entries (given x));
   guarded = λ rows row.
@@ -185,10 +174,9 @@ inserting sql place row_of at table terms given = record {
 }
 
 -- of one whose key no row has before, in a table with other keys as well, by the columns of each
-abbrev pub inserting_new : {X : Type 0} → TableLayout → (X → Row) → ℕ → Table → List Term → (X → Row) → List (List ℕ)
-    → Inserting X
-inserting_new place row_of at table terms given others = record {
-  giving = giving_one place table terms (Insert at) given;
+abbrev pub inserting_new : {X : Type 0} → TableLayout → (X → Row) → Table → (X → Row) → List (List ℕ) → Inserting X
+inserting_new place row_of table given others = record {
+  giving = giving_one place table given;
   numbered = λ x entries. true;
   shown = λ x entries. row_of x;
   guarded = λ rows row. not (clashes plain (places_from 1 place.keys) rows row)
@@ -204,9 +192,9 @@ pub record InsertsRow {X : Type 0} (sql : List ℕ) (place : TableLayout) (row_o
   pub given : X → Row
   pub others : List (List ℕ)
   pub casts : (x : X) → cast_row (simple_as place.tree table) (given x) ≡ given x
-  pub bare : IsPlain (understood register_schema sql)
-  pub is : inserting sql place row_of at (simple_as place.tree table) terms given
-      ≡ inserting_new place row_of at (simple_as place.tree table) terms given others
+  pub means : Means (Insert at (Values terms (suc (length place.at)))) (compiled register_schema sql)
+  pub is : inserting place row_of at (simple_as place.tree table) terms given
+      ≡ inserting_new place row_of (simple_as place.tree table) given others
 
 -- ---- texts that change a row that is there
 
@@ -225,9 +213,9 @@ pub record Updating (X : Type 0) : Type 0 where
   pub gives : X → Row → Row
 
 -- of these
-abbrev pub updating : {X : Type 0} → List ℕ → TableLayout → (X → Row) → ℕ → List Term → List Term → Updating X
-updating sql place row_of at test sets = record {
-  writing = writing sql place row_of at;
+abbrev pub updating : {X : Type 0} → TableLayout → (X → Row) → ℕ → List Term → List Term → Updating X
+updating place row_of at test sets = record {
+  writing = writing place row_of at;
   shown = λ x id. cells place (Int id ∷ row_of x);
   is_far = nat_le (2 ^ 31) place.tree;
   tests = λ x r. list_all (holds (row_of x ∷ r ∷ [])) test;
@@ -235,9 +223,9 @@ updating sql place row_of at test sets = record {
 }
 
 -- of one that finds it by its key alone, and gives it the row of the value
-abbrev pub updating_by_key : {X : Type 0} → TableLayout → (X → Row) → ℕ → Table → List Term → List Term → Updating X
-updating_by_key place row_of at table test sets = record {
-  writing = writing_to place table (Update at (record { lets = []; body = finding place.tree test sets }));
+abbrev pub updating_by_key : {X : Type 0} → TableLayout → (X → Row) → Table → Updating X
+updating_by_key place row_of table = record {
+  writing = writing_to place table;
   shown = λ x id. row_of x;
   is_far = false;
   tests = λ x r. same_from 1 place.keys r (Int (pos 0) ∷ row_of x);
@@ -251,6 +239,5 @@ pub record UpdatesRow {X : Type 0} (sql : List ℕ) (place : TableLayout) (row_o
   pub test : List Term
   pub sets : List Term
   pub casts : (x : X) → cast_all table.columns (row_of x) ≡ row_of x
-  pub bare : IsPlain (understood register_schema sql)
-  pub is : updating sql place row_of at test sets
-      ≡ updating_by_key place row_of at (simple_as place.tree table) test sets
+  pub means : Means (Update at (record { lets = []; body = finding place.tree test sets })) (compiled register_schema sql)
+  pub is : updating place row_of at test sets ≡ updating_by_key place row_of (simple_as place.tree table)

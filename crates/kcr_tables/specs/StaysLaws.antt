@@ -9,8 +9,8 @@ use Rattle.kcr_room.specs.declared.Stay.{Stay}
 use Rattle.kcr_tables.specs.Schema.{stays}
 use Rattle.kcr_tables.specs.StoredTables.{stays_place}
 use Rattle.kcr_tables.specs.TableTexts.{shows, inserts_row, updates_row, cast_all, cast_int, cast_or_null, each_is}
-use Rattle.kcr_tables.specs.TableTexts.{everything, number_in, one_number, still_at, text_in, understood, InsertsRow}
-use Rattle.kcr_tables.specs.TableTexts.{IsTable, SelectsRows, TableSpec, UpdatesRow}
+use Rattle.kcr_tables.specs.TableTexts.{everything, number_in, one_number, still_at, text_in, InsertsRow, IsTable}
+use Rattle.kcr_tables.specs.TableTexts.{SelectsRows, TableSpec, UpdatesRow}
 
 abbrev pub table : TableSpec Stay
 table = record {
@@ -31,8 +31,8 @@ one_value x y read held h = λ i. record {
 }
 
 lists : SelectsRows table.all_sql stays_place [] (λ _. true)
-unfolding understood everything
-lists = shows stays [] (refl, refl) refl
+unfolding everything
+lists = shows stays [] (refl, refl, refl) refl
 
 -- its values are stored as they are
 casts : (x : Stay) → cast_all stays.columns (stay_row x) ≡ stay_row x
@@ -41,14 +41,14 @@ casts x i = Text x.who ∷ cast_int (pos x.since) i ∷ cast_int (pos x.ceremony
 -- the text that adds the row of a value
 pub inserts : InsertsRow
     (codes "INSERT INTO stays (who, since, ceremony, until) VALUES (?1, ?2, ?3, ?4)") stays_place stay_row
-unfolding understood everything
-inserts = inserts_row 15 stays casts (refl, refl) refl
+unfolding everything
+inserts = inserts_row 15 stays casts (refl, refl, refl) refl
 
 -- the text that puts it in the place of the row with its key
 pub updates : UpdatesRow
     (codes "UPDATE stays SET who = ?1, since = ?2, ceremony = ?3, until = ?4 WHERE who = ?1 AND since = ?2") stays_place stay_row
-unfolding understood everything
-updates = updates_row 15 stays casts (refl, refl) refl
+unfolding everything
+updates = updates_row 15 stays casts (refl, refl, refl) refl
 
 pub table_laws : IsTable table stay_row (λ _. ⊤)
 table_laws = record {

@@ -11,8 +11,8 @@ use Rattle.kcr_rows.specs.States.{HasOnlyTheseSeats, HasSeatsText}
 use Rattle.kcr_tables.specs.Schema.{steps}
 use Rattle.kcr_tables.specs.StoredTables.{steps_place}
 use Rattle.kcr_tables.specs.TableTexts.{shows, inserts_row, updates_row, cast_all, cast_int, cast_or_null, everything}
-use Rattle.kcr_tables.specs.TableTexts.{number_in, one_number, one_seats, one_step_state, still_at, text_in, understood}
-use Rattle.kcr_tables.specs.TableTexts.{InsertsRow, IsTable, SelectsRows, TableSpec, UpdatesRow}
+use Rattle.kcr_tables.specs.TableTexts.{number_in, one_number, one_seats, one_step_state, still_at, text_in, InsertsRow}
+use Rattle.kcr_tables.specs.TableTexts.{IsTable, SelectsRows, TableSpec, UpdatesRow}
 
 abbrev pub table : TableSpec StepRow
 table = record {
@@ -35,8 +35,8 @@ one_value x y read held h = λ i. record {
 }
 
 lists : SelectsRows table.all_sql steps_place [] (λ _. true)
-unfolding understood everything
-lists = shows steps [] (refl, refl) refl
+unfolding everything
+lists = shows steps [] (refl, refl, refl) refl
 
 -- its values are stored as they are
 casts : (x : StepRow) → cast_all steps.columns (step_row x) ≡ step_row x
@@ -46,14 +46,14 @@ casts x i = cast_int (pos x.ceremony) i ∷ cast_int (pos x.step) i ∷ Text x.a
 -- the text that adds the row of a value
 pub inserts : InsertsRow
     (codes "INSERT INTO steps (ceremony, step, activity, seats, state, at) VALUES (?1, ?2, ?3, ?4, ?5, ?6)") steps_place step_row
-unfolding understood everything
-inserts = inserts_row 9 steps casts (refl, refl) refl
+unfolding everything
+inserts = inserts_row 9 steps casts (refl, refl, refl) refl
 
 -- the text that puts it in the place of the row with its key
 pub updates : UpdatesRow
     (codes "UPDATE steps SET ceremony = ?1, step = ?2, activity = ?3, seats = ?4, state = ?5, at = ?6 WHERE ceremony = ?1 AND step = ?2") steps_place step_row
-unfolding understood everything
-updates = updates_row 9 steps casts (refl, refl) refl
+unfolding everything
+updates = updates_row 9 steps casts (refl, refl, refl) refl
 
 pub table_laws : IsTable table step_row HasOnlyTheseSeats
 table_laws = record {

@@ -10,8 +10,8 @@ use Rattle.kcr_people.specs.declared.Training.{Training}
 use Rattle.kcr_tables.specs.Schema.{trainings}
 use Rattle.kcr_tables.specs.StoredTables.{trainings_place}
 use Rattle.kcr_tables.specs.TableTexts.{shows, is_given, inserts_row, cast_all, cast_int, each_is, everything}
-use Rattle.kcr_tables.specs.TableTexts.{number_in, one_role, still_at, text_in, text_ties, understood, value_is}
-use Rattle.kcr_tables.specs.TableTexts.{InsertsRow, IsLookup, IsTable, LookupSpec, SelectsRows, TableSpec}
+use Rattle.kcr_tables.specs.TableTexts.{number_in, one_role, still_at, text_in, text_ties, value_is, InsertsRow}
+use Rattle.kcr_tables.specs.TableTexts.{IsLookup, IsTable, LookupSpec, SelectsRows, TableSpec}
 
 abbrev pub table : TableSpec Training
 table = record {
@@ -32,17 +32,17 @@ one_value x y read held h = λ i. record {
 }
 
 lists : SelectsRows table.all_sql trainings_place [] (λ _. true)
-unfolding understood everything
-lists = shows trainings [] (refl, refl) refl
+unfolding everything
+lists = shows trainings [] (refl, refl, refl) refl
 
 -- the rows of one person
 abbrev pub trainings_of : LookupSpec (List ℕ) Training
 trainings_of = record { is_under = λ who x. is_training_of who x; column = 0; find_sql = codes "SELECT who, role, since, until FROM trainings WHERE who = ?1 ORDER BY who, role, since, until" }
 
 pub trainings_of_laws : IsLookup trainings_of trainings_place Text training_row
-unfolding understood everything
+unfolding everything
 trainings_of_laws = record {
-  finds = λ who. shows trainings (is_given 1) (refl, refl) refl;
+  finds = λ who. shows trainings (is_given 1) (refl, refl, refl) refl;
   under = λ who x. value_is (Text x.who) (Text who) refl refl ∙ sym (text_ties x.who who);
 }
 
@@ -53,8 +53,8 @@ casts x i = Text x.who ∷ Text (role_text x.role) ∷ cast_int (pos x.since) i 
 -- the text that adds the row of a value
 pub inserts : InsertsRow
     (codes "INSERT INTO trainings (who, role, since, until) VALUES (?1, ?2, ?3, ?4)") trainings_place training_row
-unfolding understood everything
-inserts = inserts_row 1 trainings casts (refl, refl) refl
+unfolding everything
+inserts = inserts_row 1 trainings casts (refl, refl, refl) refl
 
 pub table_laws : IsTable table training_row (λ _. ⊤)
 table_laws = record {

@@ -4,38 +4,31 @@ use Rattle.std.specs.List.{list_all}
 use Rattle.sqlite.specs.Order.{Row}
 use Rattle.sqlite.specs.Term.{Term, holds}
 use Rattle.sqlite.specs.Query.{Query, output}
-use Rattle.sqlite.specs.Command.{Command}
 use Rattle.sqlite.specs.Command.TheVariants.{Select}
-use Rattle.sqlite.specs.Listing.{understood, reads_listing}
-use Rattle.sqlite.proofs.Callers.{IsPlain, command_of}
+use Rattle.sqlite_resolve.specs.Compile.{compiled}
 use Rattle.sqlite_value.specs.declared.keys.Key.{Key}
 use Rattle.kcr_rows.specs.Keyed.{TableLayout, cells}
+use Rattle.kcr_rows.specs.Texts.{Means}
 use Rattle.kcr_rows.proofs.ReadLemmas.{asking}
 use Rattle.kcr_tables.specs.Schema.{register_schema}
 
--- what is computed of a text whose order is of no account
+-- what is computed of a query whose order is of no account
 pub record Passing : Type 0 where
-  pub command : Command
-  pub reads_catalog : Bool
   pub is_far : Bool
   pub passes : Row → Bool
   pub shows : Row → Row
 
 -- of this one
-abbrev pub passing : List ℕ → TableLayout → Row → List Term → Query → Passing
-passing sql place params test query = record {
-  command = command_of (understood register_schema sql);
-  reads_catalog = reads_listing register_schema sql;
+abbrev pub passing : TableLayout → Row → List Term → Query → Passing
+passing place params test query = record {
   is_far = nat_le (2 ^ 31) place.tree;
   passes = λ r. list_all (holds (params ∷ r ∷ [])) test;
   shows = λ r. (output query (params ∷ r ∷ [])).1;
 }
 
 -- of one that shows the rows that pass
-abbrev pub wanted_passing : TableLayout → (Row → Bool) → Query → List (List ℕ) → Passing
-wanted_passing place passes query names = record {
-  command = Select (record { lets = []; body = query }) names;
-  reads_catalog = false;
+abbrev pub wanted_passing : TableLayout → (Row → Bool) → Passing
+wanted_passing place passes = record {
   is_far = false;
   passes = λ r. passes (cells place r);
   shows = cells place;
@@ -47,6 +40,6 @@ pub record SelectsUnordered (sql : List ℕ) (place : TableLayout) (params : Row
   pub project : List Term
   pub order : List (Term × Key)
   pub names : List (List ℕ)
-  pub bare : IsPlain (understood register_schema sql)
-  pub is : passing sql place params test (asking place.tree test project order (negsuc 0))
-      ≡ wanted_passing place passes (asking place.tree test project order (negsuc 0)) names
+  pub means : Means (Select (record { lets = []; body = asking place.tree test project order (negsuc 0) }) names)
+      (compiled register_schema sql)
+  pub is : passing place params test (asking place.tree test project order (negsuc 0)) ≡ wanted_passing place passes

@@ -9,7 +9,7 @@ use Rattle.kcr_tables.specs.Schema.{versions}
 use Rattle.kcr_tables.specs.StoredTables.{versions_place}
 use Rattle.kcr_tables.specs.NewTables.{new_tables}
 use Rattle.kcr_tables.specs.TableTexts.{shows, inserts_row, cast_all, cast_int, each_is, everything, number_in}
-use Rattle.kcr_tables.specs.TableTexts.{still_at, understood, InsertsRow, IsTable, SelectsRows, TableSpec}
+use Rattle.kcr_tables.specs.TableTexts.{still_at, InsertsRow, IsTable, SelectsRows, TableSpec}
 
 abbrev pub table : TableSpec Version
 table = record {
@@ -25,8 +25,8 @@ pub one_value : (x y : Version) → ⊤ → ⊤ → version_row x ≡ version_ro
 one_value x y read held h = λ i. record { number = number_in 0 (h i) }
 
 lists : SelectsRows table.all_sql versions_place [] (λ _. true)
-unfolding understood everything
-lists = shows versions [] (refl, refl) refl
+unfolding everything
+lists = shows versions [] (refl, refl, refl) refl
 
 -- its values are stored as they are
 casts : (x : Version) → cast_all versions.columns (version_row x) ≡ version_row x
@@ -34,8 +34,8 @@ casts x i = cast_int (pos x.number) i ∷ []
 
 -- the text that adds the row of a value
 pub inserts : InsertsRow (codes "INSERT INTO versions (number) VALUES (?1)") versions_place version_row
-unfolding understood everything
-inserts = inserts_row 13 versions casts (refl, refl) refl
+unfolding everything
+inserts = inserts_row 13 versions casts (refl, refl, refl) refl
 
 pub table_laws : IsTable table version_row (λ _. ⊤)
 table_laws = record {

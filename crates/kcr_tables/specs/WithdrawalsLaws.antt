@@ -10,9 +10,8 @@ use Rattle.kcr_people.specs.declared.Withdrawal.{Withdrawal}
 use Rattle.kcr_tables.specs.Schema.{withdrawals}
 use Rattle.kcr_tables.specs.StoredTables.{withdrawals_place}
 use Rattle.kcr_tables.specs.TableTexts.{shows, is_given, inserts_row, updates_row, cast_all, cast_int, each_is}
-use Rattle.kcr_tables.specs.TableTexts.{everything, number_in, one_role, still_at, text_in, text_ties, understood}
-use Rattle.kcr_tables.specs.TableTexts.{value_is, InsertsRow, IsLookup, IsTable, LookupSpec, SelectsRows, TableSpec}
-use Rattle.kcr_tables.specs.TableTexts.{UpdatesRow}
+use Rattle.kcr_tables.specs.TableTexts.{everything, number_in, one_role, still_at, text_in, text_ties, value_is}
+use Rattle.kcr_tables.specs.TableTexts.{InsertsRow, IsLookup, IsTable, LookupSpec, SelectsRows, TableSpec, UpdatesRow}
 
 abbrev pub table : TableSpec Withdrawal
 table = record {
@@ -34,17 +33,17 @@ one_value x y read held h = λ i. record {
 }
 
 lists : SelectsRows table.all_sql withdrawals_place [] (λ _. true)
-unfolding understood everything
-lists = shows withdrawals [] (refl, refl) refl
+unfolding everything
+lists = shows withdrawals [] (refl, refl, refl) refl
 
 -- the rows of one person
 abbrev pub withdrawals_of : LookupSpec (List ℕ) Withdrawal
 withdrawals_of = record { is_under = λ who x. is_withdrawal_of who x; column = 0; find_sql = codes "SELECT who, role, since, until, day FROM withdrawals WHERE who = ?1 ORDER BY who, role, since, until" }
 
 pub withdrawals_of_laws : IsLookup withdrawals_of withdrawals_place Text withdrawal_row
-unfolding understood everything
+unfolding everything
 withdrawals_of_laws = record {
-  finds = λ who. shows withdrawals (is_given 1) (refl, refl) refl;
+  finds = λ who. shows withdrawals (is_given 1) (refl, refl, refl) refl;
   under = λ who x. value_is (Text x.who) (Text who) refl refl ∙ sym (text_ties x.who who);
 }
 
@@ -56,14 +55,14 @@ casts x i = Text x.who ∷ Text (role_text x.role) ∷ cast_int (pos x.since) i 
 -- the text that adds the row of a value
 pub inserts : InsertsRow
     (codes "INSERT INTO withdrawals (who, role, since, until, day) VALUES (?1, ?2, ?3, ?4, ?5)") withdrawals_place withdrawal_row
-unfolding understood everything
-inserts = inserts_row 16 withdrawals casts (refl, refl) refl
+unfolding everything
+inserts = inserts_row 16 withdrawals casts (refl, refl, refl) refl
 
 -- the text that puts it in the place of the row with its key
 pub updates : UpdatesRow
     (codes "UPDATE withdrawals SET who = ?1, role = ?2, since = ?3, until = ?4, day = ?5 WHERE who = ?1 AND role = ?2 AND since = ?3 AND until = ?4") withdrawals_place withdrawal_row
-unfolding understood everything
-updates = updates_row 16 withdrawals casts (refl, refl) refl
+unfolding everything
+updates = updates_row 16 withdrawals casts (refl, refl, refl) refl
 
 pub table_laws : IsTable table withdrawal_row (λ _. ⊤)
 table_laws = record {

@@ -8,6 +8,8 @@ use Rattle.kcr_rows.specs.Rows.{key_row}
 use Rattle.kcr_rows.proofs.FailLemmas.{if_ok}
 use Rattle.kcr_history.specs.declared.row_types.KeyRow.{KeyRow}
 use Rattle.kcr_tables.specs.KeysLaws as laws
+use Rattle.kcr_rows.proofs.TextLemmas.{is_plain}
+use Rattle.kcr_tables.specs.Schema.{register_schema}
 use Rattle.kcr_tables.proofs.FrameLemmas.{reads_by}
 use Rattle.kcr_tables.proofs.HoldLemmas.{held_of}
 use Rattle.kcr_tables.proofs.StatementLemmas.{passing_told}
@@ -29,5 +31,5 @@ returns g c =
           IsPermutation-trans _ _ _ (IsPermutation-filter (λ (row : KeyRow). row.accepted == number) _ _ h.tables.stands.rows.keys) same) c.query_rows.result
           (told clean h.tables.t (held_of m old.now h));
       opened = search rules;
-      frame = reads_by number_text text.bare did.same did.frame;
+      frame = reads_by number_text (is_plain register_schema number_text _ text.means) did.same did.frame;
     }

@@ -1,6 +1,8 @@
 use Rattle.sqlite.specs.Held.{state}
 use Rattle.sqlite.specs.Values.{bound}
 use Rattle.kcr_rows.proofs.FailLemmas.{if_both}
+use Rattle.kcr_rows.proofs.TextLemmas.{is_plain}
+use Rattle.kcr_tables.specs.Schema.{register_schema}
 use Rattle.kcr_tables.proofs.FrameLemmas.{reads_by}
 use Rattle.kcr_reading.proofs.FirstLemmas.{shown_first}
 use Rattle.kcr_reading.proofs.seek.first_rows.Goals as goal
@@ -19,4 +21,4 @@ returns-clause-rows g c count choice shows clean t held =
 pub returns-clause-frame : goal.returns-clause-frame
 returns-clause-frame g c count choice shows =
     let did = c.query_rows.ensures in
-    reads_by c.args.sql.now shows.bare did.same did.frame
+    reads_by c.args.sql.now (is_plain register_schema c.args.sql.now _ shows.means) did.same did.frame

@@ -5,6 +5,8 @@ use Rattle.sqlite.specs.State.{Shown}
 use Rattle.kcr_rows.proofs.FailLemmas.{if_ok}
 use Rattle.kcr_rows.specs.Rows.{seating_row}
 use Rattle.kcr_tables.proofs.HoldLemmas.{held_of}
+use Rattle.kcr_rows.proofs.TextLemmas.{is_plain}
+use Rattle.kcr_tables.specs.Schema.{register_schema}
 use Rattle.kcr_tables.proofs.FrameLemmas.{reads_by}
 use Rattle.kcr_reading.proofs.CeremonyLemmas.{seatings_text, seatings_shown, seated}
 use Rattle.kcr_reading.proofs.steps.seatings_within.Goals as goal
@@ -21,4 +23,4 @@ returns-clause-people g c clean m h =
 pub returns-clause-frame : goal.returns-clause-frame
 returns-clause-frame g c =
     let did = c.query_rows.ensures in
-    reads_by seatings_text (seatings_shown c.args.ceremony c.args.from c.args.until).bare did.same did.frame
+    reads_by seatings_text (is_plain register_schema seatings_text _ (seatings_shown c.args.ceremony c.args.from c.args.until).means) did.same did.frame

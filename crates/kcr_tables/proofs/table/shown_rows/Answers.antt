@@ -6,7 +6,7 @@ use Rattle.sqlite.specs.Given.{IsPlain}
 use Rattle.sqlite.specs.Listing.{understood}
 use Rattle.kcr_rows.proofs.FailLemmas.{if_both, if_ok}
 use Rattle.kcr_tables.proofs.FrameLemmas.{reads_by}
-use Rattle.kcr_tables.proofs.QueryLemmas.{is_plain, rows_told, values_told}
+use Rattle.kcr_tables.proofs.QueryLemmas.{changes_nothing, rows_told, values_told}
 use Rattle.kcr_tables.proofs.table.shown_rows.Goals as goal
 
 pub returns : goal.returns
@@ -26,7 +26,7 @@ returns g c q text params =
       exact = λ clean has. if_ok _ _ (λ all h. rows_told row_of q.sql T.place q.params q.passes q.which q.selects old new all.items has h)
           c.query_rows.result (shown clean);
       opened = did.opened;
-      frame = reads_by q.sql (is_plain row_of q.sql T.place q.params q.passes q.which q.selects)
+      frame = reads_by q.sql (changes_nothing row_of q.sql T.place q.params q.passes q.which q.selects)
           (subst (λ (sql : List ℕ). HasCleanDisk new → IsPlain (understood old.now.schema sql) → OnOk c.query_rows.result (IsUnchanged old new)) text did.same)
           did.frame;
     }

@@ -5,6 +5,8 @@ use Rattle.sqlite.specs.Listing.{understood}
 use Rattle.sqlite.specs.State.{HasCleanDisk, IsUnchanged, Shown}
 use Rattle.kcr_rows.proofs.FailLemmas.{if_ok}
 use Rattle.kcr_rows.proofs.TableLemmas.{filter_every}
+use Rattle.kcr_rows.proofs.TextLemmas.{is_plain}
+use Rattle.kcr_tables.specs.Schema.{register_schema}
 use Rattle.kcr_tables.proofs.FrameLemmas.{reads_by}
 use Rattle.kcr_tables.proofs.StatementLemmas.{every_row}
 use Rattle.kcr_tables.specs.Exact.{rows_at}
@@ -24,7 +26,7 @@ returns g c =
       rows = λ clean has. if_ok _ _ (λ all h.
           subst (λ l. IsPermutation l (map cells_of all.items)) (filter_every (rows_at T.place old.now.trees))
           (every_row T.all_sql T.place [] (λ _. true) lists cells_of old new all.items has h)) c.query_rows.result (shown clean);
-      frame = reads_by T.all_sql lists.bare
+      frame = reads_by T.all_sql (is_plain register_schema T.all_sql _ lists.means)
           (subst (λ (sql : List ℕ). HasCleanDisk new → IsPlain (understood old.now.schema sql) → OnOk c.query_rows.result (IsUnchanged old new)) text did.same)
           did.frame;
     }
