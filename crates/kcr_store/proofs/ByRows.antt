@@ -1,18 +1,18 @@
 -- A command by the rows that the tables hold, and by the tables of a history.
 use Rattle.std.proofs.Common.{◌≡◌, ◌∙◌, inl, inr, Bool, false, true, ℕ, List, Some, None, Result, Ok, Err, IsTrue, refl, sym, ap, subst}
 use Rattle.std.proofs.lemmas.Bool.{true≢false}
-use Rattle.std.specs.Prelude.{◌↔◌, ⊤, IfOk, IsErrAnd}
+use Rattle.std.specs.Prelude.{◌⊎◌, ◌↔◌, IfOk, IsErrAnd}
 use Rattle.sqlite.specs.declared.error.Error.{Error}
 use Rattle.sqlite.specs.Effect.{Database}
 use Rattle.sqlite.specs.Held.{Held, state}
 use Rattle.sqlite.specs.State.{State, HasCleanDisk, Shows}
 use Rattle.sqlite.specs.Store.{Ghosts}
+use Rattle.sqlite.specs.declared.transaction.Transaction.{Transaction}
 use Rattle.kcr_base.specs.declared.refusal.Refusal.{Refusal}
 use Rattle.kcr_base.specs.declared.refusal.Refusal.TheVariants.{Disk}
 use Rattle.kcr_history.specs.AsksByKind.{asks_of}
 use Rattle.kcr_history.specs.Changes.{all_changed}
-use Rattle.kcr_history.specs.Early.{early_asks}
-use Rattle.kcr_history.specs.Tables.{Tables, tables}
+use Rattle.kcr_history.specs.Tables.{Tables}
 use Rattle.kcr_history.specs.Views.{IsViewOf, row_of_key}
 use Rattle.kcr_history.specs.declared.commands.Command.{Command}
 use Rattle.kcr_history.specs.declared.commands.Reply.{Reply}
@@ -20,14 +20,14 @@ use Rattle.kcr_history.specs.declared.row_types.KeyRow.{KeyRow}
 use Rattle.kcr_history.specs.declared.views.Change.{Change}
 use Rattle.kcr_history.specs.declared.views.Verdict.{Verdict}
 use Rattle.kcr_history.specs.declared.views.View.{View}
-use Rattle.kcr_rules.specs.ByRows.{IsCheckResult, IsCleared}
+use Rattle.kcr_rules.specs.ByRows.{IsCleared}
 use Rattle.kcr_machine.specs.NewDecision.{IsRowDecision}
 use Rattle.kcr_machine.specs.RowDecision.{IsRowRepeat, is_full_by}
-use Rattle.kcr_machine.proofs.Decided.{decision}
 use Rattle.kcr_tables.specs.MachineTables.{HoldsTables}
 use Rattle.kcr_tables.specs.Refusals.{IsFault}
-use Rattle.kcr_store.specs.ByRows.{DecidesBy, EndsByRows, IsDecidedBy, RepliesBy, TakesStepByRows, number_by, rows_after}
+use Rattle.kcr_store.specs.ByRows.{DecidesBy, EndsByRows, IsDecidedBy, IsRefusedEarly, RefusesNew, RepliesBy, TakesStepByRows, number_by, rows_after}
 use Rattle.kcr_store.specs.Calls.{RowsLead}
+use Rattle.kcr_store.proofs.StoreLemmas.{fault_steps}
 use Rattle.kcr_store.specs.Register.{HasRows, RegisterState}
 use Rattle.kcr_store.specs.TransactionResult.{is_in_doubt, last_number_after, result_of}
 use Rattle.kcr_store.specs.declared.transaction.TransactionResult.{TransactionResult}
@@ -53,10 +53,10 @@ module _ (m : Tables) (last : ℕ) (x : Command) (after : Database) where
   by_repeat row (Err e) there is held = record { decided = inr (rw there is); holds = tt }
 
   module _ (new : row_of_key x.key m.keys ≡ None) where
-    -- a refusal by the rows that are read first is one by the tables, if the key is new
-    pub by_early : (view : View) (e : Refusal) → IsViewOf (early_asks (asks_of x)) m view → IsCheckResult {X = ⊤} view (is_full_by last) x.act (Err e)
-        → DecidesBy m last x (Err e) after
-    by_early view e rows told = record { decided = inr (rw new (inl (record { view = view; rows = rows; told = told }))); holds = tt }
+    -- a refusal by the rows that are read first is one by the tables, if the key is new; so is a fault
+    pub by_early : (e : Refusal) → IsFault e ⊎ IsRefusedEarly m last x e → DecidesBy m last x (Err e) after
+    by_early e (inl fault) = by_fault e fault
+    by_early e (inr early) = record { decided = inr (rw new (inl early)); holds = tt }
 
     -- a decision by the rows that are asked for is one by the tables, if the key is new and those read first clear it
     pub by_late : (view : View) (r : Result Verdict Refusal) → IsViewOf (asks_of x) m view → IsCleared view (is_full_by last) x.act
@@ -67,6 +67,11 @@ module _ (m : Tables) (last : ℕ) (x : Command) (after : Database) where
     }
     by_late view (Err e) rows cleared told held =
         record { decided = inr (rw new (inr (record { view = view; rows = rows; cleared = cleared; told = told }))); holds = tt }
+
+-- a fault refuses it
+pub fault_refuses : {S : Type 0} {g : Ghosts S} {count : ℕ} {x : Command} {old new : Transaction S} (e : Refusal) → IsFault e
+    → RefusesNew g count x old new e
+fault_refuses {x = x} e fault = record { by_rows = λ clean m held. inl fault; step = λ clean A register held new number. fault_steps A x e fault }
 
 -- ---- a command as one transaction
 

@@ -7,7 +7,7 @@ use Rattle.sqlite.specs.Store.{Ghosts}
 use Rattle.sqlite.specs.Tree.{Trees}
 use Rattle.sqlite.specs.State.{State, HasCleanDisk, KeepsCommit, IsRolledBack, IsUnchanged, Survives, Shows}
 use Rattle.sqlite.specs.declared.transaction.Transaction.{Transaction}
-use Rattle.sqlite.proofs.StateLemmas.{survives_then}
+use Rattle.sqlite.proofs.StateLemmas.{survives_then, survives_weaker}
 use Rattle.sqlite.specs.Effect.{Database}
 use Rattle.sqlite.specs.Steps.{FailsToCommit}
 use Rattle.sqlite.specs.Held.{Held, state}
@@ -29,7 +29,7 @@ use Rattle.kcr_store.specs.Register as register
 use Rattle.kcr_store.specs.Register.{whole}
 use Rattle.std.proofs.lemmas.Bool.{true≢false}
 use Rattle.std.proofs.lemmas.Option.{none-some}
-use Rattle.std.specs.Prelude.{◌↔◌, ◌≢◌, IsSome, is_some, unwrap_or}
+use Rattle.std.specs.Prelude.{◌↔◌, IsSome, is_some, unwrap_or}
 use Rattle.kcr_base.specs.declared.refusal.Refusal.{Refusal}
 use Rattle.kcr_base.specs.declared.refusal.Refusal.TheVariants.{Disk}
 use Rattle.kcr_history.specs.declared.commands.Reply.{Reply}
@@ -228,6 +228,14 @@ outside_then g P old mid end one two = record {
   survives = survives_then (state g old) (state g mid) (state g end) P (λ _. ⊥) P (λ _ db made. made) (λ _ db none. absurd none) one.survives two.survives;
 }
 
+-- a call that may leave less
+pub outside_weaker : {S : Type 0} {g : Ghosts S} {P R : Trees → Type 0} {old new : Held S} → ((db : Trees) → P db → R db) → StaysOutside g P old new
+    → StaysOutside g R old new
+outside_weaker {g = g} {P} {R} {old} {new} weaker left = record {
+  autocommit = left.autocommit;
+  survives = survives_weaker (state g old) (state g new) P R (λ _. weaker) left.survives;
+}
+
 -- what is whole, with its number
 pub counted_as : {count : ℕ} {accepted : History} {s : State} → IsDurable accepted s → (HasCleanDisk s → count ≡ length accepted) → IsDurableWith count accepted s
 counted_as whole counts = record { whole = whole; counts = counts }
@@ -368,7 +376,7 @@ module _ {S : Type 0} (g : Ghosts S) (old new : RegisterState S) (x : Command) (
 
 -- ---- a call that only reads
 
-survives_still : (s : State) → Survives s s (λ _. ⊥)
+pub survives_still : (s : State) → Survives s s (λ _. ⊥)
 survives_still s = record {
   clean = omega arith;
   shield = λ shielded. shielded;

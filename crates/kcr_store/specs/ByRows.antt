@@ -1,13 +1,17 @@
 -- What a command comes to by the rows that the tables hold, whoever wrote them.
-use Rattle.std.specs.Prelude.{◌≡◌, ◌⊎◌, ◌↔◌, ⊤, ℕ, false, Result, Ok, Err, MatchOption, IfOk, IsTrue}
+use Rattle.std.specs.Prelude.{◌≡◌, ◌⊎◌, ◌↔◌, ⊤, ℕ, false, length, None, Result, Ok, Err, MatchOption, IfOk, IsTrue}
 use Rattle.sqlite.specs.Effect.{Database}
 use Rattle.sqlite.specs.State.{State}
+use Rattle.sqlite.specs.Store.{Ghosts}
+use Rattle.sqlite.specs.declared.transaction.Transaction.{Transaction}
 use Rattle.kcr_base.specs.declared.refusal.Refusal.{Refusal}
 use Rattle.kcr_base.specs.declared.refusal.Refusal.TheVariants.{Broken, Disk}
 use Rattle.kcr_history.specs.AsksByKind.{asks_of}
 use Rattle.kcr_history.specs.Changes.{all_changed}
 use Rattle.kcr_history.specs.Early.{early_asks}
-use Rattle.kcr_history.specs.Tables.{Tables}
+use Rattle.kcr_history.specs.History.{History}
+use Rattle.kcr_history.specs.Machine.{IsRegister}
+use Rattle.kcr_history.specs.Tables.{Tables, tables}
 use Rattle.kcr_history.specs.Views.{IsViewOf, row_of_key}
 use Rattle.kcr_history.specs.declared.commands.Command.{Command}
 use Rattle.kcr_history.specs.declared.commands.Reply.{Reply}
@@ -16,9 +20,10 @@ use Rattle.kcr_history.specs.declared.views.View.{View}
 use Rattle.kcr_rules.specs.ByRows.{IsCheckResult, IsCleared}
 use Rattle.kcr_machine.specs.NewDecision.{IsRowDecision}
 use Rattle.kcr_machine.specs.RowDecision.{IsRowRepeat, RepeatsRow, is_full_by}
+use Rattle.kcr_rows.specs.Frame.{IfClean}
 use Rattle.kcr_tables.specs.MachineTables.{HoldsTables}
 use Rattle.kcr_tables.specs.Refusals.{IsFault}
-use Rattle.kcr_store.specs.Commands.{number_after}
+use Rattle.kcr_store.specs.Commands.{AppliesCommand, number_after}
 use Rattle.kcr_store.specs.Register.{HasRows, RegisterRows}
 use Rattle.kcr_store.specs.TransactionResult.{ends_with, is_in_doubt, last_number_after, result_of}
 use Rattle.kcr_store.specs.declared.transaction.TransactionResult.{TransactionResult}
@@ -51,6 +56,14 @@ IsDecidedBy m last x (Err refusal) =
 pub record DecidesBy (m : Tables) (last : ℕ) (x : Command) (result : Result Verdict Refusal) (after : Database) : Type 0 where
   pub decided : IsDecidedBy m last x result
   pub holds : IfOk result (λ verdict. HoldsTables (all_changed verdict.changes.items m) after)
+
+-- a call in the transaction of a command whose key is new refuses it so: by the rows that are read first, or for a fault;
+-- over the tables of a history the refusal is the machine's
+pub record RefusesNew {S : Type 0} (g : Ghosts S) (count : ℕ) (x : Command) (old new : Transaction S) (refusal : Refusal) : Type 0 where
+  pub by_rows : IfClean g old new (λ before _. (m : Tables) → HoldsTables m before.now
+      → IsFault refusal ⊎ IsRefusedEarly m count x refusal)
+  pub step : IfClean g old new (λ before _. (A : History) → IsRegister A → HoldsTables (tables A) before.now
+      → row_of_key x.key (tables A).keys ≡ None → count ≡ length A → AppliesCommand A x (Err refusal) A)
 
 -- a command is told the reply or the refusal of such a decision
 pub record RepliesBy (m : Tables) (last : ℕ) (x : Command) (result : Result Reply Refusal) (after : State) : Type 0 where

@@ -1,9 +1,14 @@
 //! One command as one transaction, and one question or one row of a report as one that changes nothing.
-ghost use Rattle.std.specs.Prelude.{◌≡◌, false, length, Ok, IsTrue, IfOk, OnOk, MatchResult, ⊤};
+ghost use Rattle.std.specs.Prelude.{◌≡◌, false, length, Ok, IsTrue, IfErr, IfOk, OnOk, MatchResult, ⊤};
 ghost use Rattle.sqlite.specs.State.{HasCleanDisk, Survives};
 ghost use Rattle.sqlite.specs.Held.{state};
 ghost use Rattle.kcr_history.specs.History.{History};
+ghost use Rattle.kcr_history.specs.AsksByKind.{asks_of};
 ghost use Rattle.kcr_history.specs.Tables.{Tables};
+ghost use Rattle.kcr_history.specs.Views.{IsViewOf};
+ghost use Rattle.kcr_machine.specs.RowDecision.{MayBeRefused, is_full_by};
+ghost use Rattle.kcr_rules.specs.ByRows.{IsCleared};
+ghost use Rattle.kcr_tables.specs.Frame.{ChangesMachineTables, OfMachineTables};
 ghost use Rattle.kcr_tables.specs.MachineTables.{HoldsTables};
 ghost use Rattle.kcr_tables.specs.Refusals.{IsFault};
 ghost use Rattle.kcr_rows.specs.Frame.{IfClean, StaysInTransaction};
@@ -12,7 +17,7 @@ ghost use Rattle.kcr_store.specs.Stored.{Stores, OfStoredRows, OfStored};
 ghost use Rattle.kcr_history.specs.Questions.{ArePeopleShown, AreCustodiansShown, IsBagShown, IsRoomShown};
 ghost use Rattle.kcr_store.specs.Commands as steps;
 ghost use Rattle.kcr_store.specs.Commands.{AppliesCommand, with_reply, IsQuestionResult, IsQuestionRefusal, MayBeReplied, MayRefuseQuestion};
-ghost use Rattle.kcr_store.specs.ByRows.{DecidesBy, EndsByRows, RepliesBy};
+ghost use Rattle.kcr_store.specs.ByRows.{DecidesBy, EndsByRows, RefusesNew, RepliesBy};
 ghost use Rattle.kcr_store.specs.TransactionResult.{ends_with};
 ghost use Rattle.kcr_store.specs.Register.{HasRows, IsDurableWith};
 ghost use Rattle.kcr_store.specs.Rows.{GivesNext, IsRowOf, HasNoRow, MayHaveNoRow};
@@ -28,7 +33,7 @@ use kcr_base::{CeremonyNumber, Day, Key, Moment, Refusal, Serial, Thing};
 use kcr_custody::{Bag, Item};
 use kcr_history::{
     BagShown, CeremonyRow, Command, CustodiansShown, KeyRow, PersonShown, Question, ReplyData,
-    RoomShown, Shown, Verdict, asks,
+    RoomShown, Shown, Verdict, View, asks,
 };
 use kcr_machine::{check_early, decide_new, decide_repeat};
 use kcr_people::{Person, Training, Withdrawal};
@@ -41,9 +46,31 @@ use kcr_tables::{
 use sqlite::{Alter, Connection, Error, ErrorCode, Transaction};
 use std::alloc::Global;
 
+/// The rows that a command whose key is new asks for; `count` is the number of the last command before it. If the first
+/// part of them tells its refusal, the others are not read. Nothing is changed.
+fn read_cleared<S: Alter>(
+    alloc: Global,
+    tx: &mut Transaction<'_, S>,
+    count: u32,
+    command: &Command,
+) -> Result<View, Refusal>
+    ensures view { OfMachineTables S.Store tx.old tx.new result (IsViewOf (asks_of command.now)) }
+    ensures cleared { IfOk result (λ view. IsCleared view (is_full_by count) command.now.act) }
+    ensures kind { IfErr result (MayBeRefused command.now) }
+    ensures tables { ChangesMachineTables S.Store tx.old tx.new result (λ m. m) }
+    ensures frame { StaysInTransaction S.Store (RefusesNew S.Store count command.now tx.old tx.new) tx.old tx.new result }
+{
+    let Ok(asked) = asks(alloc, command) else {
+        return Err(Refusal::Memory);
+    };
+    let front = read_early_rows(alloc, tx, &asked)?;
+    check_early(alloc, &front, count, command)?;
+    read_remaining_rows(alloc, tx, &asked, front)
+}
+
 /// Decides a command and puts the rows that the decision gives; `count` is the number of the last command before it. The
 /// row of its key alone decides a repeat, which puts none. A command whose key is new is decided by the rows that it asks
-/// for; if the first part of them tells its refusal, the others are not read. Nothing is committed.
+/// for. Nothing is committed.
 fn decide_and_write<S: Alter>(
     alloc: Global,
     tx: &mut Transaction<'_, S>,
@@ -67,10 +94,7 @@ fn decide_and_write<S: Alter>(
     if let Some(row) = find_row::<_, Key, KeyRow>(alloc, tx, &command.key)? {
         return decide_repeat(alloc, &row, command);
     }
-    let asked = asks(alloc, command)?;
-    let front = read_early_rows(alloc, tx, &asked)?;
-    check_early(alloc, &front, count, command)?;
-    let view = read_remaining_rows(alloc, tx, &asked, front)?;
+    let view = read_cleared(alloc, tx, count, command)?;
     let verdict = decide_new(alloc, &view, count, command)?;
     change_all(alloc, tx, verdict.changes.as_slice())?;
     Ok(verdict)

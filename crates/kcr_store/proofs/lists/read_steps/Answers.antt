@@ -1,7 +1,7 @@
-use Rattle.std.proofs.Common.{◌∙◌, ap}
+use Rattle.std.proofs.Common.{◌∙◌, ap, inl}
 use Rattle.kcr_reading.specs.Remaining.{seated_steps, exceptions_of}
 use Rattle.kcr_history.specs.Tables.{tables}
-use Rattle.kcr_rows.proofs.FrameLemmas.{clean_before}
+use Rattle.kcr_rows.proofs.FrameLemmas.{clean_before, within_fails, within_then, within_to}
 use Rattle.kcr_store.proofs.QuestionLemmas.{steps_of_history}
 use Rattle.kcr_store.proofs.StoreLemmas.{held_in}
 use Rattle.kcr_store.proofs.lists.read_steps.Goals as goal
@@ -28,3 +28,16 @@ returns-clause-rows g c clean m had =
 pub returns-clause-shown : goal.returns-clause-shown
 returns-clause-shown g c clean accepted had =
     steps_of_history accepted c.args.ceremony _ (returns-clause-rows g c clean (tables accepted) (λ live. held_in accepted _ (had live)))
+
+pub returns-clause-frame : goal.returns-clause-frame
+returns-clause-frame g c =
+    within_to _ tt (within_then (within_then c.in_ok-row.ensures.frame c.in_ok-steps.ensures.frame.within) c.in_ok-exceptions.ensures.frame.within)
+
+pub returns-in_err-steps-clause-frame : goal.returns-in_err-steps-clause-frame
+returns-in_err-steps-clause-frame g c =
+    within_then c.in_ok-row.ensures.frame (within_fails _ c.from_residual-in_err-steps.ensures.1 (λ fault. inl fault) c.in_err-steps.ensures.frame.within)
+
+pub returns-in_err-exceptions-clause-frame : goal.returns-in_err-exceptions-clause-frame
+returns-in_err-exceptions-clause-frame g c =
+    within_then (within_then c.in_ok-row.ensures.frame c.in_ok-steps.ensures.frame.within)
+    (within_fails _ c.from_residual-in_err-exceptions.ensures.1 (λ fault. inl fault) c.in_err-exceptions.ensures.frame.within)

@@ -2,12 +2,56 @@ use Rattle.std.proofs.Common.{rules, ap, inl, inr, length, sym, ℕ}
 use Rattle.sqlite.specs.Held.{state}
 use Rattle.kcr_history.specs.History.{History}
 use Rattle.kcr_rows.proofs.InsideLemmas.{was_clean}
-use Rattle.kcr_store.proofs.WholeLemmas.{if_ok}
+use Rattle.kcr_store.proofs.WholeLemmas.{if_ok, outside_weaker}
 use Rattle.kcr_store.proofs.OpenLemmas.{is_taken, nothing_accepted, number_answer, of_empty, of_ours, of_first_version, of_second_version, of_strange}
-use Rattle.kcr_store.proofs.OpenLemmas.{known_1, known_2, known_3, none_older, older_kept}
+use Rattle.kcr_store.proofs.OpenLemmas.{empty_answer, foreign_answer, known_1, known_2, known_3, none_older, none_strange, older_kept, stranger_answer}
+use Rattle.kcr_older.specs.Kind.{IsForeignSchema, numbered_table}
+use Rattle.kcr_rows.proofs.FailLemmas.{on_ok}
 use Rattle.kcr_older.specs.declared.migration.OldVersion.TheVariants as older
-use Rattle.std.specs.Prelude.{Ok}
+use Rattle.std.specs.Prelude.{Ok, Err, IsTrue, is_some}
 use Rattle.kcr_store.proofs.open.open_or_migrate.Goals as goal
+
+-- ---- each answer is what its name says
+
+pub returns-in-Err-clause-answer : goal.returns-in-Err-clause-answer
+returns-in-Err-clause-answer g c clean =
+    empty_answer {A = ℕ} (state g.S.Store c.args.conn.now).now (Err c.in-Err.fault) (search rules) c.in-Err.ensures.kind
+
+pub returns-in-Current-clause-answer : goal.returns-in-Current-clause-answer
+returns-in-Current-clause-answer g c clean =
+    number_answer 3 known_3 (state g.S.Store c.args.conn.now).now c.open_current.result (search rules)
+    (c.open_current.ensures.answer clean c.inspect.ensures.live (search rules))
+
+pub returns-in-Version2-clause-answer : goal.returns-in-Version2-clause-answer
+returns-in-Version2-clause-answer g c clean =
+    number_answer 2 known_2 (state g.S.Store c.args.conn.now).now c.migrate_database.result (search rules)
+    (c.migrate_database.ensures.answer clean c.inspect.ensures.live (search rules))
+
+pub returns-in-Version1-clause-answer : goal.returns-in-Version1-clause-answer
+returns-in-Version1-clause-answer g c clean =
+    number_answer 1 known_1 (state g.S.Store c.args.conn.now).now c.migrate_database-in-Version1.result (search rules)
+    (c.migrate_database-in-Version1.ensures.answer clean c.inspect.ensures.live (search rules))
+
+pub returns-in-Versioned-clause-answer : goal.returns-in-Versioned-clause-answer
+returns-in-Versioned-clause-answer g c clean =
+    let old = (state g.S.Store c.args.conn.now).now in
+    let strange : IsForeignSchema old.schema = search rules in
+    let numbered : IsTrue (is_some (numbered_table old.schema)) = search rules in
+    stranger_answer old c.unknown_database_fault.result strange (c.unknown_database_fault.ensures.answer clean c.inspect.ensures.live numbered)
+
+pub returns-in-Foreign-clause-answer : goal.returns-in-Foreign-clause-answer
+returns-in-Foreign-clause-answer g c clean = foreign_answer (state g.S.Store c.args.conn.now).now (search rules) (search rules)
+
+pub returns-in-Current-clause-known : goal.returns-in-Current-clause-known
+returns-in-Current-clause-known g c = on_ok _ c.open_current.result (λ strange. none_strange 3 _ strange (search rules) known_3)
+
+pub returns-in-Version2-clause-known : goal.returns-in-Version2-clause-known
+returns-in-Version2-clause-known g c = on_ok _ c.migrate_database.result (λ strange. none_strange 2 _ strange (search rules) known_2)
+
+pub returns-in-Version1-clause-known : goal.returns-in-Version1-clause-known
+returns-in-Version1-clause-known g c = on_ok _ c.migrate_database-in-Version1.result (λ strange. none_strange 1 _ strange (search rules) known_1)
+
+-- ---- a genuine one is taken, and shows its history
 
 pub returns-in-Ok-clause-found : goal.returns-in-Ok-clause-found
 returns-in-Ok-clause-found g c clean accepted founded =
@@ -31,7 +75,7 @@ returns-in-Current-clause-taken g c clean live accepted founded =
     let before = was_clean _ _ _ c.open_current.ensures.frame.survives clean in
     let old = state g.S.Store c.args.conn.now in
     is_taken accepted old (search rules) c.inspect.ensures.live before live founded c.open_current.result
-    (number_answer 3 known_3 old.now c.open_current.result (search rules) (c.open_current.ensures.answer clean c.inspect.ensures.live (search rules)))
+    (returns-in-Current-clause-answer g c clean)
 
 pub returns-in-Version2-clause-found : goal.returns-in-Version2-clause-found
 returns-in-Version2-clause-found g c clean accepted founded =
@@ -45,7 +89,7 @@ returns-in-Version2-clause-taken g c clean live accepted founded =
     let before = was_clean _ _ _ c.migrate_database.ensures.frame.survives clean in
     let old = state g.S.Store c.args.conn.now in
     is_taken accepted old (search rules) c.inspect.ensures.live before live founded c.migrate_database.result
-    (number_answer 2 known_2 old.now c.migrate_database.result (search rules) (c.migrate_database.ensures.answer clean c.inspect.ensures.live (search rules)))
+    (returns-in-Version2-clause-answer g c clean)
 
 pub returns-in-Version1-clause-found : goal.returns-in-Version1-clause-found
 returns-in-Version1-clause-found g c clean accepted founded =
@@ -59,8 +103,7 @@ returns-in-Version1-clause-taken g c clean live accepted founded =
     let before = was_clean _ _ _ c.migrate_database-in-Version1.ensures.frame.survives clean in
     let old = state g.S.Store c.args.conn.now in
     is_taken accepted old (search rules) c.inspect.ensures.live before live founded c.migrate_database-in-Version1.result
-    (number_answer 1 known_1 old.now c.migrate_database-in-Version1.result (search rules)
-    (c.migrate_database-in-Version1.ensures.answer clean c.inspect.ensures.live (search rules)))
+    (returns-in-Version1-clause-answer g c clean)
 
 pub returns-in-Versioned-clause-taken : goal.returns-in-Versioned-clause-taken
 returns-in-Versioned-clause-taken g c clean live accepted founded =
@@ -88,3 +131,32 @@ pub returns-in-Version1-clause-older : goal.returns-in-Version1-clause-older
 returns-in-Version1-clause-older g c clean =
     older_kept older.V1 (state g.S.Store c.args.conn.now) _ c.migrate_database-in-Version1.result (search rules)
     (c.migrate_database-in-Version1.ensures.answer clean c.inspect.ensures.live (search rules)) (c.migrate_database-in-Version1.ensures.rows clean)
+
+-- ---- what a crash leaves
+
+pub returns-in-Ok-clause-frame : goal.returns-in-Ok-clause-frame
+returns-in-Ok-clause-frame g c = outside_weaker (λ db made. inl (search rules, made)) c.create_tables.ensures.frame
+
+pub returns-in-Err-clause-frame : goal.returns-in-Err-clause-frame
+returns-in-Err-clause-frame g c = outside_weaker (λ db made. inl (search rules, made)) c.create_tables.ensures.frame
+
+pub returns-in-Current-clause-frame : goal.returns-in-Current-clause-frame
+returns-in-Current-clause-frame g c = outside_weaker (λ db none. absurd none) c.open_current.ensures.frame
+
+pub returns-in-Version2-clause-frame : goal.returns-in-Version2-clause-frame
+returns-in-Version2-clause-frame g c = outside_weaker (λ db made. inr (inr (search rules, made))) c.migrate_database.ensures.frame
+
+pub returns-in-Version1-clause-frame : goal.returns-in-Version1-clause-frame
+returns-in-Version1-clause-frame g c = outside_weaker (λ db made. inr (inl (search rules, made))) c.migrate_database-in-Version1.ensures.frame
+
+pub returns-in-Versioned-clause-frame : goal.returns-in-Versioned-clause-frame
+returns-in-Versioned-clause-frame g c = outside_weaker (λ db none. absurd none) c.unknown_database_fault.ensures.frame
+
+pub returns-in-Version2-clause-left : goal.returns-in-Version2-clause-left
+returns-in-Version2-clause-left g c = c.migrate_database.ensures.left
+
+pub returns-in-Version1-clause-left : goal.returns-in-Version1-clause-left
+returns-in-Version1-clause-left g c = c.migrate_database-in-Version1.ensures.left
+
+pub returns-in-Versioned-clause-left : goal.returns-in-Versioned-clause-left
+returns-in-Versioned-clause-left g c _ = c.unknown_database_fault.ensures.frame.survives

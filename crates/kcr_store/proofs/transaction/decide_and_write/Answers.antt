@@ -5,8 +5,6 @@ use Rattle.kcr_base.specs.declared.refusal.Refusal.{Refusal}
 use Rattle.kcr_history.specs.Tables.{tables}
 use Rattle.kcr_history.specs.declared.views.Verdict.{Verdict}
 use Rattle.kcr_history.proofs.Steps.{greatest-keys}
-use Rattle.kcr_machine.specs.RowDecision.{is_full_by}
-use Rattle.kcr_machine.proofs.Completed.{still-cleared}
 use Rattle.kcr_rows.proofs.FrameLemmas.{within_then, within_to, within_fails, clean_before}
 use Rattle.kcr_store.specs.TransactionResult.{RefusesAsMachine}
 use Rattle.kcr_store.proofs.ByRows.{by_early, by_fault, by_late, by_repeat, handed_on}
@@ -26,10 +24,20 @@ returns-in-Some-clause-frame g c =
 
 -- ---- the key is new, and the rows cannot be read or put
 
+pub returns-in_err-view-clause-frame : goal.returns-in_err-view-clause-frame
+returns-in_err-view-clause-frame g c =
+    let kept = c.in_ok-row.ensures in
+    let failed = c.in_err-view.ensures.frame in
+    within_then kept.frame.within
+    (within_fails _ c.from_residual-in_err-view.ensures.1 (λ refuses clean A had number.
+    let before = clean_before failed clean in
+    let was = had (kept.opened before) in
+    let held = held_in _ _ was in
+    failed.cause.step clean A was.tables.register (kept.frame.tables before (tables A) held) (sym (kept.row before (tables A) held) ∙ c.in_default.is) number) failed)
+
 pub returns-in_err-change_all-clause-frame : goal.returns-in_err-change_all-clause-frame
 returns-in_err-change_all-clause-frame g c =
-    within_then
-    (within_then (within_then c.in_ok-row.ensures.frame.within c.in_ok-front.ensures.frame.within) c.in_ok-view.ensures.frame.within)
+    within_then (within_then c.in_ok-row.ensures.frame.within c.in_ok-view.ensures.frame)
     (within_fails _ c.from_residual-in_err-change_all.ensures.1 (λ fault clean A had number. fault_steps A c.args.command.now _ fault)
     c.in_err-change_all.ensures.frame)
 
@@ -39,78 +47,44 @@ handed : (P : Result Verdict Refusal → Type 0) (e : Refusal) (result : Result 
 handed P e (Ok verdict) is p = absurd is
 handed P e (Err r) is p = subst (λ (q : Refusal). P (Err q)) (sym is) p
 
-pub returns-in_err-check_early-clause-frame : goal.returns-in_err-check_early-clause-frame
-returns-in_err-check_early-clause-frame g c =
-    let old = state g.S.Store c.args.tx.now.conn.now in
-    let new = state g.S.Store c.read_early_rows.new.tx.conn.now in
-    let x = c.args.command.now in
-    let made = c.from_residual-in_err-check_early in
-    let kept = c.in_ok-row.ensures in
-    let front = c.in_ok-front.ensures in
-    let decision : IsDecided old new c.args.count x (Err c.in_err-check_early.field-0.0) =
-    λ clean A had number.
-    let before = clean_before front.frame.within clean in
-    let was = had (kept.opened before) in
-    let held = held_in _ _ was in
-    let view = front.view clean (tables A) (kept.frame.tables before (tables A) held) in
-    c.in_err-check_early.ensures.step A was.tables.register (sym (kept.row before (tables A) held) ∙ c.in_default.is) (rw c.in_ok-asked.ensures at view)
-    (number ∙ sym (greatest-keys A was.tables.register)) in
-    handed (λ r. RefusesAsMachine g.S.Store c.args.count x c.args.tx.now c.read_early_rows.new.tx r) c.in_err-check_early.field-0.0 made.result made.ensures.1
-    (within_to _ (refused old new c.args.count x (Err c.in_err-check_early.field-0.0) decision) (within_then kept.frame.within front.frame.within))
-
--- what the first rows clear is cleared by all of them
-pub decide_new-requires : goal.decide_new-requires
-decide_new-requires g c =
-    record {
-      cleared = still-cleared c.in_ok-front.front c.in_ok-view.view (is_full_by c.args.count) c.args.command.now.act
-          c.in_ok-view.ensures.completes c.in_ok-check_early.ensures.told;
-    }
-
 pub returns-in_err-verdict-clause-frame : goal.returns-in_err-verdict-clause-frame
 returns-in_err-verdict-clause-frame g c =
     let old = state g.S.Store c.args.tx.now.conn.now in
-    let new = state g.S.Store c.read_remaining_rows.new.tx.conn.now in
+    let new = state g.S.Store c.read_cleared.new.tx.conn.now in
     let x = c.args.command.now in
     let made = c.from_residual-in_err-verdict in
     let kept = c.in_ok-row.ensures in
-    let front = c.in_ok-front.ensures in
     let seen = c.in_ok-view.ensures in
     let decision : IsDecided old new c.args.count x (Err c.in_err-verdict.field-0.0) =
     λ clean A had number.
-    let after = clean_before seen.frame.within clean in
-    let before = clean_before front.frame.within after in
+    let before = clean_before seen.frame clean in
     let was = had (kept.opened before) in
     let held = held_in _ _ was in
-    let held1 = kept.frame.tables before (tables A) held in
-    let view = seen.view clean (tables A) (front.frame.tables after (tables A) held1) (front.view after (tables A) held1) in
-    c.in_err-verdict.ensures.step A was.tables.register (sym (kept.row before (tables A) held) ∙ c.in_default.is) (rw c.in_ok-asked.ensures at view)
+    let view = seen.view clean (tables A) (kept.frame.tables before (tables A) held) in
+    c.in_err-verdict.ensures.step A was.tables.register (sym (kept.row before (tables A) held) ∙ c.in_default.is) view
     (number ∙ sym (greatest-keys A was.tables.register)) in
-    handed (λ r. RefusesAsMachine g.S.Store c.args.count x c.args.tx.now c.read_remaining_rows.new.tx r) c.in_err-verdict.field-0.0 made.result made.ensures.1
-    (within_to _ (refused old new c.args.count x (Err c.in_err-verdict.field-0.0) decision)
-    (within_then (within_then kept.frame.within front.frame.within) seen.frame.within))
+    handed (λ r. RefusesAsMachine g.S.Store c.args.count x c.args.tx.now c.read_cleared.new.tx r) c.in_err-verdict.field-0.0 made.result made.ensures.1
+    (within_to _ (refused old new c.args.count x (Err c.in_err-verdict.field-0.0) decision) (within_then kept.frame.within seen.frame))
 
 -- ---- the key is new, and the rows are put
 
 pub returns-clause-done : goal.returns-clause-done
 returns-clause-done g c clean inside A number had =
     let kept = c.in_ok-row.ensures in
-    let front = c.in_ok-front.ensures in
     let seen = c.in_ok-view.ensures in
     let put = c.in_ok-change_all.ensures in
     let x = c.args.command.now in
     let verdict = c.in_ok-verdict.verdict in
     let last = clean_before put.frame clean in
-    let after = clean_before seen.frame.within last in
-    let before = clean_before front.frame.within after in
+    let before = clean_before seen.frame last in
     let was = had (kept.opened before) in
     let held = held_in _ _ was in
     let held1 = kept.frame.tables before (tables A) held in
-    let held2 = front.frame.tables after (tables A) held1 in
-    let view = seen.view last (tables A) held2 (front.view after (tables A) held1) in
-    let decision = c.in_ok-verdict.ensures.step A was.tables.register (sym (kept.row before (tables A) held) ∙ c.in_default.is) (rw c.in_ok-asked.ensures at view)
+    let view = seen.view last (tables A) held1 in
+    let decision = c.in_ok-verdict.ensures.step A was.tables.register (sym (kept.row before (tables A) held) ∙ c.in_default.is) view
     (number ∙ sym (greatest-keys A was.tables.register)) in
-    let made = put.tables clean (tables A) (seen.frame.tables last (tables A) held2) in
-    let within = within_then (within_then kept.frame.within front.frame.within) seen.frame.within in (
+    let made = put.tables clean (tables A) (seen.tables last (tables A) held1) in
+    let within = within_then kept.frame.within seen.frame in (
       steps A x verdict verdict.new_reply decision,
       next_stores A x verdict verdict.new_reply _ _ was decision (rw c.as_slice.ensures.value at made),
       put.frame.inside clean (within.inside last inside),
@@ -118,9 +92,7 @@ returns-clause-done g c clean inside A number had =
 
 pub returns-clause-frame : goal.returns-clause-frame
 returns-clause-frame g c =
-    within_to _ tt
-    (within_then (within_then (within_then c.in_ok-row.ensures.frame.within c.in_ok-front.ensures.frame.within) c.in_ok-view.ensures.frame.within)
-    c.in_ok-change_all.ensures.frame)
+    within_to _ tt (within_then (within_then c.in_ok-row.ensures.frame.within c.in_ok-view.ensures.frame) c.in_ok-change_all.ensures.frame)
 
 -- ---- by whatever rows the tables hold
 
@@ -131,63 +103,42 @@ returns-in-Some-clause-by_rows g c clean m had =
     by_repeat m c.args.count c.args.command.now _ c.in-Some.row c.decide_repeat.result (sym (kept.row clean m held) ∙ c.in-Some.is)
     c.decide_repeat.ensures.by_row (kept.frame.tables clean m held)
 
-pub returns-in_err-front-clause-by_rows : goal.returns-in_err-front-clause-by_rows
-returns-in_err-front-clause-by_rows g c clean m had =
-    let made = c.from_residual-in_err-front in
-    handed_on m c.args.count c.args.command.now _ _ made.result (by_fault m c.args.count c.args.command.now _ _ c.in_err-front.ensures.frame.within.cause) made.ensures.1
-
 pub returns-in_err-view-clause-by_rows : goal.returns-in_err-view-clause-by_rows
 returns-in_err-view-clause-by_rows g c clean m had =
     let made = c.from_residual-in_err-view in
-    handed_on m c.args.count c.args.command.now _ _ made.result (by_fault m c.args.count c.args.command.now _ _ c.in_err-view.ensures.frame.within.cause) made.ensures.1
+    let kept = c.in_ok-row.ensures in
+    let failed = c.in_err-view.ensures.frame in
+    let before = clean_before failed clean in
+    let held = had (kept.opened before) in
+    handed_on m c.args.count c.args.command.now _ _ made.result
+    (by_early m c.args.count c.args.command.now _ (sym (kept.row before m held) ∙ c.in_default.is) _
+    (failed.cause.by_rows clean m (kept.frame.tables before m held))) made.ensures.1
 
 pub returns-in_err-change_all-clause-by_rows : goal.returns-in_err-change_all-clause-by_rows
 returns-in_err-change_all-clause-by_rows g c clean m had =
     let made = c.from_residual-in_err-change_all in
     handed_on m c.args.count c.args.command.now _ _ made.result (by_fault m c.args.count c.args.command.now _ _ c.in_err-change_all.ensures.frame.cause) made.ensures.1
 
-pub returns-in_err-check_early-clause-by_rows : goal.returns-in_err-check_early-clause-by_rows
-returns-in_err-check_early-clause-by_rows g c clean m had =
-    let made = c.from_residual-in_err-check_early in
-    let kept = c.in_ok-row.ensures in
-    let front = c.in_ok-front.ensures in
-    let before = clean_before front.frame.within clean in
-    let held = had (kept.opened before) in
-    let view = front.view clean m (kept.frame.tables before m held) in
-    handed_on m c.args.count c.args.command.now _ c.in_err-check_early.field-0.0 made.result
-    (by_early m c.args.count c.args.command.now _ (sym (kept.row before m held) ∙ c.in_default.is) c.in_ok-front.front c.in_err-check_early.field-0.0
-    (rw c.in_ok-asked.ensures at view) c.in_err-check_early.ensures.told) made.ensures.1
-
 pub returns-in_err-verdict-clause-by_rows : goal.returns-in_err-verdict-clause-by_rows
 returns-in_err-verdict-clause-by_rows g c clean m had =
     let made = c.from_residual-in_err-verdict in
     let kept = c.in_ok-row.ensures in
-    let front = c.in_ok-front.ensures in
     let seen = c.in_ok-view.ensures in
-    let after = clean_before seen.frame.within clean in
-    let before = clean_before front.frame.within after in
+    let before = clean_before seen.frame clean in
     let held = had (kept.opened before) in
-    let held1 = kept.frame.tables before m held in
-    let view = seen.view clean m (front.frame.tables after m held1) (front.view after m held1) in
     handed_on m c.args.count c.args.command.now _ c.in_err-verdict.field-0.0 made.result
     (by_late m c.args.count c.args.command.now _ (sym (kept.row before m held) ∙ c.in_default.is) c.in_ok-view.view (Err c.in_err-verdict.field-0.0)
-    (rw c.in_ok-asked.ensures at view) (still-cleared c.in_ok-front.front c.in_ok-view.view (is_full_by c.args.count) c.args.command.now.act
-    c.in_ok-view.ensures.completes c.in_ok-check_early.ensures.told) c.in_err-verdict.ensures.by_rows tt) made.ensures.1
+    (seen.view clean m (kept.frame.tables before m held)) seen.cleared c.in_err-verdict.ensures.by_rows tt) made.ensures.1
 
 pub returns-clause-by_rows : goal.returns-clause-by_rows
 returns-clause-by_rows g c clean m had =
     let kept = c.in_ok-row.ensures in
-    let front = c.in_ok-front.ensures in
     let seen = c.in_ok-view.ensures in
     let put = c.in_ok-change_all.ensures in
     let last = clean_before put.frame clean in
-    let after = clean_before seen.frame.within last in
-    let before = clean_before front.frame.within after in
+    let before = clean_before seen.frame last in
     let held = had (kept.opened before) in
     let held1 = kept.frame.tables before m held in
-    let held2 = front.frame.tables after m held1 in
-    let view = seen.view last m held2 (front.view after m held1) in
-    let made = put.tables clean m (seen.frame.tables last m held2) in
+    let made = put.tables clean m (seen.tables last m held1) in
     by_late m c.args.count c.args.command.now _ (sym (kept.row before m held) ∙ c.in_default.is) c.in_ok-view.view (Ok c.in_ok-verdict.verdict)
-    (rw c.in_ok-asked.ensures at view) (still-cleared c.in_ok-front.front c.in_ok-view.view (is_full_by c.args.count) c.args.command.now.act
-    c.in_ok-view.ensures.completes c.in_ok-check_early.ensures.told) c.in_ok-verdict.ensures.by_rows (rw c.as_slice.ensures.value at made)
+    (seen.view last m held1) seen.cleared c.in_ok-verdict.ensures.by_rows (rw c.as_slice.ensures.value at made)

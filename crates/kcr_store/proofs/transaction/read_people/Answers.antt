@@ -6,7 +6,7 @@ use Rattle.kcr_tables.proofs.HoldLemmas.{held_of}
 use Rattle.kcr_tables.proofs.JointLemmas.{kept_rises}
 use Rattle.kcr_history.specs.declared.questions.PersonShown.{PersonShown}
 use Rattle.kcr_history.specs.Tables.{tables}
-use Rattle.kcr_rows.proofs.FrameLemmas.{clean_before}
+use Rattle.kcr_rows.proofs.FrameLemmas.{clean_before, within_fails, within_then, within_to}
 use Rattle.kcr_store.specs.Shown.{AreRolesOf}
 use Rattle.kcr_store.proofs.ShownLemmas.{people_of_history, people_shown}
 use Rattle.kcr_store.proofs.StoreLemmas.{held_in}
@@ -49,3 +49,18 @@ returns-clause-by_rows g c =
         each = subst₂ HaveRoles c.deref.ensures.value c.deref-2.ensures.value c.in_ok-people_shown.ensures.roles;
       },
     )
+
+pub returns-clause-frame : goal.returns-clause-frame
+returns-clause-frame g c =
+    within_to _ tt
+    (within_then (within_then c.in_ok-people.ensures.frame.within c.in_ok-trainings.ensures.frame.within) c.in_ok-withdrawals.ensures.frame.within)
+
+pub returns-in_err-trainings-clause-frame : goal.returns-in_err-trainings-clause-frame
+returns-in_err-trainings-clause-frame g c =
+    within_then c.in_ok-people.ensures.frame.within
+    (within_fails _ c.from_residual-in_err-trainings.ensures.1 (λ fault. fault) c.in_err-trainings.ensures.frame.within)
+
+pub returns-in_err-withdrawals-clause-frame : goal.returns-in_err-withdrawals-clause-frame
+returns-in_err-withdrawals-clause-frame g c =
+    within_then (within_then c.in_ok-people.ensures.frame.within c.in_ok-trainings.ensures.frame.within)
+    (within_fails _ c.from_residual-in_err-withdrawals.ensures.1 (λ fault. fault) c.in_err-withdrawals.ensures.frame.within)
