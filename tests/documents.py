@@ -473,7 +473,7 @@ def replies(program, requests):
 
 def same_paths(_):
     """docs/openapi.yaml and the headings of docs/API.md have the routes of the code, and no other."""
-    routes = re.findall(r'(?m)^ +\("(/[^"]*)", \w', text_of("crates/kcr_wire/src/route.rt"))
+    routes = re.findall(r'\(\s*"(/[^"]*)",\s+\w', text_of("crates/kcr_wire/src/route.rt"))
     agree("the paths of the code", sorted(re.sub("{.*?}", "{}", route) for route in routes),
           sorted(re.sub("{.*?}", "{}", path) for path in document()["paths"]))
     for path, item in document()["paths"].items():
