@@ -10,10 +10,10 @@ ghost use Rattle.kcr_journal.specs.Journal as said;
 use crate::line::push_line;
 use crate::named::{is_of_ceremony, named_people};
 use crate::reply::{exception_in, passed_in};
-use kcr_base::{CeremonyNumber, Initials, Refusal};
+use kcr_base::{CeremonyNumber, Refusal};
 use kcr_history::{Act, KeyRow};
 use kcr_people::Person;
-use kcr_reading::{CommandCursor, Cursor, name_of};
+use kcr_reading::{CommandCursor, Cursor, with_names};
 use kcr_wire::RouteTable;
 use sqlite::{Alter, Transaction};
 use std::alloc::Global;
@@ -40,25 +40,6 @@ impl JournalLine {
     {
         self.bytes.as_slice()
     }
-}
-
-/// The people with their names. `Disk` if one of them was never entered, since then the row is one that no register
-/// stores.
-fn with_names<S: Alter>(
-    alloc: Global,
-    tx: &mut Transaction<'_, S>,
-    people: &[Initials],
-) -> Result<Vec<Person>, Refusal>
-    ensures names { OfMachineTables S.Store tx.old tx.new result
-        (λ m all. all.items ≡ map (said.with_name m.people) people.now) }
-    ensures frame { Reads S.Store tx.old tx.new result }
-{
-    let mut all = Vec::new(alloc);
-    for who in people {
-        let name = name_of(alloc, tx, who)?;
-        all.push(Person { who: *who, name })?;
-    }
-    Ok(all)
 }
 
 /// The act that a row keeps. The error is `Memory` when out of memory, and `Disk` if the row's text is no command's.

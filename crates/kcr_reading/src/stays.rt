@@ -1,12 +1,10 @@
 //! The stays in the room of a ceremony, each with the name of the person.
 
-ghost use Rattle.std.specs.Prelude.{◌≡◌, ◌++◌, None, map, filter};
+ghost use Rattle.std.specs.Prelude.{◌≡◌, ◌++◌, None, filter};
 ghost use Rattle.sqlite.specs.Value.{owned};
 ghost use Rattle.sqlite.specs.Values.{bound_value};
 ghost use Rattle.sqlite.specs.declared.types.Value.TheVariants.{Int};
 ghost use Rattle.kcr_room.specs.Stays.{attendance_in_by};
-ghost use Rattle.kcr_history.specs.Prints.{name_of};
-ghost use Rattle.kcr_history.specs.Questions.{with_name};
 ghost use Rattle.kcr_history.specs.Tables as machine;
 ghost use Rattle.kcr_rows.specs.Frame.{ImpliesOpen};
 ghost use Rattle.kcr_tables.specs.Frame.{OfMachineTables, Reads};
@@ -15,13 +13,12 @@ ghost use Rattle.kcr_reading.specs.Remaining.{Begin, IsNextBatchOf, is_stay_in_r
 ghost use Rattle.kcr_reading.specs.Remaining.{read_ahead, stays_past};
 
 use crate::batched::{BatchSource, Batched};
+use crate::names::with_names;
 use crate::seek::{first_rows, past_cell};
-use kcr_base::{Initials, Name, Refusal};
+use kcr_base::Refusal;
 use kcr_history::StayWithName;
-use kcr_people::Person;
 use kcr_room::Stay;
 use kcr_rows::cells::{number_cell, text_cell};
-use kcr_tables::find_row;
 use sqlite::types::ValueRef;
 use sqlite::{Alter, Transaction};
 use std::alloc::Global;
@@ -120,40 +117,6 @@ fn next_stays<S: Alter>(
         *last = Some(*stay);
     }
     Ok(found)
-}
-
-/// The person's name. `Disk` if nobody with these initials was entered: then the row that names the person is invalid.
-pub fn name_of<S: Alter>(
-    alloc: Global,
-    tx: &mut Transaction<'_, S>,
-    who: &Initials,
-) -> Result<Name, Refusal>
-    ensures name { OfMachineTables S.Store tx.old tx.new result (λ m name. name ≡ name_of m.people who.now) }
-    ensures opened { ImpliesOpen S.Store tx.old tx.new result }
-    ensures frame { Reads S.Store tx.old tx.new result }
-{
-    match find_row(alloc, tx, who)? {
-        Some(Person { who: _, name }) => Ok(name),
-        None => Err(Refusal::Disk),
-    }
-}
-
-/// These stays, each with the name of the person.
-fn with_names<S: Alter>(
-    alloc: Global,
-    tx: &mut Transaction<'_, S>,
-    stays: &[Stay],
-) -> Result<Vec<StayWithName>, Refusal>
-    ensures names { OfMachineTables S.Store tx.old tx.new result
-        (λ m all. all.items ≡ map (with_name m.people) stays.now) }
-    ensures frame { Reads S.Store tx.old tx.new result }
-{
-    let mut all = Vec::new(alloc);
-    for stay in stays {
-        let name = name_of(alloc, tx, &stay.who)?;
-        all.push(StayWithName { stay: *stay, name })?;
-    }
-    Ok(all)
 }
 
 /// The stays of a ceremony behind the one that was read last.

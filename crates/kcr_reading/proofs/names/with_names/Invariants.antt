@@ -4,14 +4,13 @@ use Rattle.sqlite.specs.State.{HasCleanDisk}
 use Rattle.kcr_history.specs.Tables as machine
 use Rattle.kcr_tables.specs.Frame.{Reads}
 use Rattle.kcr_tables.specs.MachineTables.{HoldsTables}
-use Rattle.kcr_journal.specs.Journal.{with_name}
-use Rattle.kcr_journal.proofs.cursor.with_names.Given as goal
+use Rattle.kcr_reading.proofs.names.with_names.Given as goal
 
--- the people so far have their names
-abbrev pub invariant-loop-who : goal.invariant-loop-who
-invariant-loop-who g l =
+-- the rows so far have their names
+abbrev pub invariant-loop-row : goal.invariant-loop-row
+invariant-loop-row g l =
     let old = state g.S.Store l.fn.tx.conn.now in
     let now = state g.S.Store l.tx.conn.now in record {
       frame : Reads {A = Unit {0}} g.S.Store l.fn.tx l.tx (Ok tt);
-      names : HasCleanDisk now → (m : machine.Tables) → HoldsTables m old.now → l.all.items ≡ map (with_name m.people) (take l.who-index l.people);
+      names : HasCleanDisk now → (m : machine.Tables) → HoldsTables m old.now → l.all.items ≡ map (g.T.NamesPerson.named m.people) (take l.row-index l.rows);
     }

@@ -1,6 +1,6 @@
 use Rattle.std.proofs.Common.{◌∙◌, [], Option, option_map, sym, unwrap_or, ap}
 use Rattle.kcr_people.specs.declared.Person.{Person}
-use Rattle.kcr_reading.proofs.stays.name_of.Goals as goal
+use Rattle.kcr_reading.proofs.names.name_of.Goals as goal
 
 pub returns-in-Some-clause-name : goal.returns-in-Some-clause-name
 returns-in-Some-clause-name g c clean m h =
