@@ -23,7 +23,7 @@ use kcr_wire::Allow;
 use std::io::Write;
 
 /// What a body is: JSON, a plain text or a table of comma separated values, both in UTF-8.
-#[derive(Clone, Copy, PartialEq, Eq)]
+#[derive(Clone, Copy)]
 pub enum MediaType {
     Json,
     Text,

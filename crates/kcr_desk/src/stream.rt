@@ -25,7 +25,7 @@ use std::alloc::Global;
 use std::io::{Read, Write};
 
 /// A stream that was answered whole: to its end, or to a message or a faulty item that closes it.
-#[derive(Clone, Copy, PartialEq, Eq)]
+#[derive(Clone, Copy)]
 pub struct Served {
     /// How many whole messages were answered. One that closes is counted, a faulty item is not.
     pub requests: u64,

@@ -52,7 +52,7 @@ pub enum Selection<K> {
 
 /// Which trainings are asked for. A training counts on a day only if it lasts to it, so those that ended before need
 /// not be read.
-#[derive(Clone, Copy, PartialEq, Eq)]
+#[derive(Clone, Copy)]
 pub enum TrainingFilter {
     /// Those of the person, whenever they end.
     Person(Initials),
@@ -63,7 +63,7 @@ pub enum TrainingFilter {
 /// Which appointments are asked for. To change one, the one to a place that began last and the one of a person that
 /// began last are enough, since neither a place nor a person has two appointments at a time. An appointment counts on a
 /// day only if it lasts beyond it, so those that ended before need not be read to tell who holds a place.
-#[derive(Clone, Copy, PartialEq, Eq)]
+#[derive(Clone, Copy)]
 pub enum AppointmentFilter {
     /// The last one to the place.
     Place(Place),
@@ -86,7 +86,7 @@ pub enum ItemFilter {
 
 /// Which step of a ceremony is asked for, with one row of the ceremony's last seating, which tells how many steps are
 /// done.
-#[derive(Clone, Copy, PartialEq, Eq)]
+#[derive(Clone, Copy)]
 pub struct StepFilter {
     pub ceremony: u32,
     /// The step's number, or none for the step after the last one that has a seating.

@@ -18,7 +18,7 @@ use sqlite::{Alter, Transaction};
 use std::alloc::Global;
 
 /// A version before this one.
-#[derive(Clone, Copy, PartialEq, Eq, Debug, Drop)]
+#[derive(Clone, Copy, Drop)]
 pub enum OldVersion {
     /// Version 1, which has neither stays nor withdrawals.
     V1,

@@ -10,7 +10,7 @@ use sqlite::Row;
 use std::alloc::Global;
 
 /// The one row of a query that counts rows.
-#[derive(Clone, Copy, PartialEq, Eq, Drop)]
+#[derive(Clone, Copy, Drop)]
 pub struct CountRow {
     pub number: u32,
 }

@@ -7,7 +7,7 @@ use sqlite::{Error, ErrorCode};
 
 /// What broke a register: what the request that was answered 34 met. A command is written to the files by its commit
 /// alone, so whatever is met before that is a read.
-#[derive(Clone, Copy, PartialEq, Eq)]
+#[derive(Clone, Copy)]
 pub enum Breakage {
     /// A commit found no room on the disk, or in a quota.
     NoRoom,

@@ -4,7 +4,7 @@ ghost use Rattle.kcr_wire.specs.Endpoints.{allow_text};
 
 /// The methods that a path takes: those of an inquiry, of both an inquiry and a command, or of a
 /// command.
-#[derive(Clone, Copy, PartialEq, Eq)]
+#[derive(Clone, Copy)]
 pub enum Allow {
     GetHead,
     GetHeadPost,

@@ -9,7 +9,7 @@ use kcr_base::Refusal;
 
 /// A method, as far as the register tells them apart: `GET` and `HEAD` ask for something, `POST` gives a command, and no
 /// path takes any other token (RFC 9110 section 9.1: they are case-sensitive).
-#[derive(Clone, Copy, PartialEq, Eq)]
+#[derive(Clone, Copy)]
 pub enum Method {
     Ask,
     Post,
