@@ -136,9 +136,11 @@ class Server:
         return output, faults, self.run.returncode
 
     def peak(self):
-        """The most memory that the process has held so far, in kilobytes."""
+        """The most memory that the process has held so far, in kilobytes, beside the pages of the program's own file: one
+        compiler's program is larger than the other's."""
         status = pathlib.Path(f"/proc/{self.run.pid}/status").read_text()
-        return int(re.search(r"VmHWM:\s*([0-9]+) kB", status)[1])
+        held, of_files = (int(re.search(rf"{word}:\s*([0-9]+) kB", status)[1]) for word in ("VmHWM", "RssFile"))
+        return held - of_files
 
 
 # Connections

@@ -47,7 +47,7 @@ SPACE_STEP = 8  # kilobytes of address space from one run to the next
 ANN_ALONE = answer(b"200 OK", b'{"people":[{"name":"Ann Abel","roles":[],"who":"AA"}]}')
 CLIENTS = 1_000
 PAUSE = 4  # seconds, less than the 5 for which a connection may be silent
-MOST_KILOBYTES = 32 * 1_024
+MOST_KILOBYTES = 27 * 1_024
 
 
 def stream(name):
