@@ -2,25 +2,32 @@
 """Runs the gate and measures it: processor minutes by crate and by part. It runs a check on each processor, if there are
 5 GiB of memory for each.
 
-    tools/gate_minutes.py            runs `rt ci`, passes on what it prints and its status, and ends with the table
+    tools/gate_minutes.py            runs `rt ci` and `tools/mutants.py`, passes on what they print and whether both ended
+                                     well, and ends with the table
+    tools/gate_minutes.py --alone    runs `rt ci` alone, which tries each mutant by itself and takes twice as long
     tools/gate_minutes.py LOG        prints the table again from a log of such a run
 
-The parts are a crate's library, its tests, and its must-fail edits. What is measured is the processor time of the
+`rt ci` runs on a copy without the mutants, and the programs that it built are put where it would have built them here. The
+parts are a crate's library, its tests, and its must-fail edits. What is measured is the processor time of the
 prover's processes below this one, read from /proc a few times a second; so each process may lose the last fraction
 of a second. The table is in the form that docs/GATE.md has. The lines `measured: CRATE PART SECONDS` of a log are
-what the second form reads.
+what the last form reads.
 """
 import os
 import pathlib
 import re
+import shutil
 import subprocess
 import sys
+import tempfile
 import threading
 import time
 
 SECONDS_BETWEEN_LOOKS = 0.25
 BYTES_FOR_A_CHECK = 5 << 30  # few take as much
 PARTS = ["library", "tests", "edits"]
+BUILT = pathlib.Path("crates/kcr_tool/out")
+PROGRAMS = ["kcr_tool", "kcr_tool.by-rattle"]
 TICKS = os.sysconf("SC_CLK_TCK")
 
 
@@ -126,13 +133,27 @@ def environment():
     return {"RT_JOBS": str(max(1, jobs)), **os.environ}
 
 
-def measured():
+def gate(room):
+    """Runs `rt ci` on a copy in this folder, and then the mutants over it: the status of what did not end well, or 0."""
+    shutil.copytree("crates", f"{room}/crates", ignore=shutil.ignore_patterns("out", "must-fail"))
+    for file in ("crates.txt", "HANDLES"):
+        shutil.copy(file, room)
+    status = subprocess.call(["rt", "ci"], cwd=room, env=environment())
+    if status:
+        return status
+    BUILT.mkdir(exist_ok=True)
+    for program in PROGRAMS:
+        shutil.copy(room / BUILT / program, BUILT)
+    return subprocess.call([sys.executable, "tools/mutants.py", room])
+
+
+def measured(is_alone):
     """Runs the gate: its status, its sums and its minutes by the clock."""
     watch = Watch()
     watch.start()
     began = time.monotonic()
-    gate = subprocess.Popen(["rt", "ci"], env=environment())
-    status = gate.wait()
+    with tempfile.TemporaryDirectory(prefix="kcr-gate-") as room:
+        status = subprocess.call(["rt", "ci"], env=environment()) if is_alone else gate(pathlib.Path(room))
     watch.ended.set()
     watch.join()
     return status, watch.sums(), (time.monotonic() - began) / 60
@@ -141,13 +162,14 @@ def measured():
 def main():
     if len(sys.argv) > 2:
         sys.exit(__doc__)
-    log = pathlib.Path(sys.argv[1]).read_text() if len(sys.argv) == 2 else None
+    is_alone = sys.argv[1:] == ["--alone"]
+    log = pathlib.Path(sys.argv[1]).read_text() if len(sys.argv) == 2 and not is_alone else None
     os.chdir(pathlib.Path(__file__).resolve().parent.parent)
     if log is not None:
         found = re.findall(r"(?m)^measured: (\S+) (\S+) ([0-9.]+)$", log)
         print(table({(crate.replace("-", " "), part): float(seconds) for crate, part, seconds in found}))
         return
-    status, sums, minutes = measured()
+    status, sums, minutes = measured(is_alone)
     for (crate, part), seconds in sorted(sums.items()):
         print(f"measured: {crate.replace(' ', '-')} {part} {seconds:.1f}")
     print(table(sums))
