@@ -143,12 +143,22 @@ def wanted(got):
 
 
 class Served:
-    """`page/serve.py` before a port, on a free port. `clock` is a file with the seconds that its clock shows."""
+    """`page/serve.py` before a port, on a port that no page of this run had: a browser keeps by the port what it saw.
+    `clock` is a file with the seconds that its clock shows."""
+
+    had = set()  # the ports
 
     def __init__(self, register, clock=None, script=SERVE):
         words = [sys.executable, str(PAGE / "serve.py")] if clock is None else [
             sys.executable, "-c", script, str(PAGE), str(clock)]
-        words += ["--port", "0", "--register", str(register)]
+        self.start([*words, "--port", "0", "--register", str(register)])
+        while self.port in self.had:
+            self.close()
+            self.start(self.run.args)
+        self.had.add(self.port)
+
+    def start(self, words):
+        """Starts it."""
         self.run = subprocess.Popen(words, stdout=subprocess.PIPE, text=True)
         self.url = self.run.stdout.readline().split()[-1]
         self.port = int(self.url.split(":")[2].strip("/"))
@@ -284,7 +294,8 @@ class Browser:
         end = time.monotonic() + WAIT
         while not test():
             if time.monotonic() > end:
-                raise Wrong(f"the page never had {what}; it says {self.text('answer')!r}, {self.text('waiting')!r}")
+                says = {name: self.text(name) for name in ("answer", "waiting", "trouble", "question") if self.shown(name)}
+                raise Wrong(f"the page never had {what}; it says {says!r:.700}")
             time.sleep(0.01)
 
     def ready(self):
