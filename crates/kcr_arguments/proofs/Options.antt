@@ -6,7 +6,8 @@ use Rattle.std.specs.List.{AllByRecursion, list_any}
 use Rattle.std.specs.Option.{option_map_or}
 use Rattle.std.specs.Str.{bytes_eq, chars}
 use Rattle.kcr_base.proofs.ListLemmas.{each-weaker, first-is}
-use Rattle.std.proofs.lemmas.Bool.{and_parts, both_ways, ne_eqb, not-true}
+use Rattle.std.proofs.lemmas.Bool.{and_parts, not-true}
+use Rattle.std.proofs.lemmas.Bool.Decides.{nat_tests}
 use Rattle.std.proofs.lemmas.Slice.Eq.{bytes_eq-Decides}
 use Rattle.clap.specs.Lexer.{long_of}
 use Rattle.clap.specs.Kinds.{Kinds, check_kinds, or_else, range_kinds}
@@ -139,13 +140,15 @@ module _ (s : Shape) (P : List Row → Type 0) where
         let before = word_keeps names w.is_trailing w.waiting w.position word w.held in
         grind (arith, each, step, before, p)
 
-    walk_keeps : (names : Names) (w : Walk) (words : List Text) → walk_fault s names w words ≡ [] → P w.held.rows
-        → P (fold (walked s.rules names) w words).held.rows
-    unfolding walk_fault
-    walk_keeps names w [] none p = p
-    walk_keeps names w (word ∷ words) none p =
-        let each = both_empty (turn_fault s names w word) (walk_fault s names (walked s.rules names w word) words) none in
-        walk_keeps names (walked s.rules names w word) words each.1 (turn_keeps names w word each.0 p)
+-- what each word that does not fail keeps, the whole walk keeps
+pub walk_keeps : (s : Shape) (names : Names) (P : Walk → Type 0)
+    → ((w : Walk) (word : Text) → turn_fault s names w word ≡ [] → P w → P (walked s.rules names w word))
+    → (w : Walk) (words : List Text) → walk_fault s names w words ≡ [] → P w → P (fold (walked s.rules names) w words)
+unfolding walk_fault
+walk_keeps s names P keeps w [] none p = p
+walk_keeps s names P keeps w (word ∷ words) none p =
+    let each = both_empty (turn_fault s names w word) (walk_fault s names (walked s.rules names w word) words) none in
+    walk_keeps s names P keeps (walked s.rules names w word) words each.1 (keeps w word each.0 p)
 
 -- ---- an option with a value
 
@@ -160,9 +163,6 @@ is_number most r = is_some (option_and_then (number_between 1 most) (row_text r)
 -- it has a text
 abbrev is_text : Row → Bool
 is_text r = is_some (slice_get r.values 0)
-
-same_bytes : (t : Text) → bytes_eq t t ≡ true
-same_bytes t = (bytes_eq-Decides t t).1 refl
 
 -- a row of one option is none of another
 apart : (x a b : Text) → bytes_eq a b ≡ false → bytes_eq x a ≡ true → bytes_eq x b ≡ false
@@ -191,7 +191,7 @@ first_row : (name : Text) (how : Reading) (source : ValueSource) (values : List 
     → find (λ r. bytes_eq r.id name) (with_values name how source values (without name rows))
     ≡ Some (record { id = name; values = values; count = None; source = Some source; reading = how })
 first_row name how source values [] none =
-    ap (λ (b : Bool). cond b (Some (record { id = name; values = values; count = None; source = Some source; reading = how })) None) (same_bytes name)
+    ap (λ (b : Bool). cond b (Some (record { id = name; values = values; count = None; source = Some source; reading = how })) None) ((bytes_eq-Decides name name).1 refl)
 first_row name how source values (r ∷ rs) none =
     let rest = first_row name how source values rs in
     grind (arith, rest, none)
@@ -224,8 +224,7 @@ other_keeps s holds name a other values rows none p = by_action (action_of a) (a
     kept : HasRow holds name (with_values a.id (reading_by a) CommandLine given (without a.id rows))
     kept =
         let differ = is_apart name a other in
-        let same = with_other a.id name (reading_by a) CommandLine given differ (without a.id rows) ∙ without_other a.id name differ rows in
-        subst (λ (o : Option Row). MatchOption o (Unit {0}) (λ r. holds r ≡ true)) (sym same) p
+        rw (with_other a.id name (reading_by a) CommandLine given differ (without a.id rows), without_other a.id name differ rows) p
 
     by_action : (x : ArgAction) → leaves_rows x ≡ true → HasRow holds name (used_as x a.id (reading_by a) given rows)
     by_action Set leaves = kept
@@ -248,23 +247,17 @@ given_keeps : (s : Shape) (holds : Row → Bool) (name : Text) (parser : ValuePa
     → Keeps s (HasRow holds name) (required_rule name parser)
 given_keeps s holds name parser once plainly passes values rows none p = by_values values none
   where
-    rule : Rule
-    rule = required_rule name parser
-
-    by_values : (values : List Text) → use_fault s.args_override_self rule values rows ≡ [] → HasRow holds name (used rule values rows)
+    by_values : (values : List Text) → use_fault s.args_override_self (required_rule name parser) values rows ≡ []
+        → HasRow holds name (used (required_rule name parser) values rows)
     by_values [] free = cc
     by_values (v ∷ w ∷ vs) free =
         let many = length (v ∷ w ∷ vs) in
         let one : (1 == many) ≡ true = only_one (many == 0) (1 == many) (both_empty (range_kinds 1 1 many) _ free).0 in
-        let other : (1 == many) ≡ false = ne_eqb 1 many (λ e. omega (arith, e)) in
-        absurd (both_ways _ other one)
+        absurd (grind (arith, nat_tests, one))
     by_values (v ∷ []) free =
-        let each = both_empty (repeat_fault s.args_override_self name rows) (values_fault rule (v ∷ [])) free in
+        let each = both_empty (repeat_fault s.args_override_self name rows) (values_fault (required_rule name parser) (v ∷ [])) free in
         let fresh : has_row name rows ≡ false = grind (arith, once, each.0) in
-        let row = first_row name AsWritten CommandLine (v ∷ []) rows fresh in
-        let has : HasRow holds name (used_as Set name AsWritten (v ∷ []) rows) =
-        subst (λ (o : Option Row). MatchOption o (Unit {0}) (λ r. holds r ≡ true)) (sym row) (passes v each.1) in
-        subst (λ (how : Reading). HasRow holds name (used_as Set name how (v ∷ []) rows)) (sym plainly) has
+        rw (plainly, first_row name AsWritten CommandLine (v ∷ []) rows fresh) (passes v each.1)
 
 -- ---- so a subcommand that is taken has it
 
@@ -291,15 +284,18 @@ defaults_left name a (x ∷ c) rows none all = defaults_left name a c (with_defa
 none_missing : (help sub missing : Bool) → check_kinds help sub missing ≡ [] → missing ≡ false
 none_missing help sub missing e = grind arith
 
+-- the subcommand requires the option, which is one of its rules
+abbrev Requires : Shape → Text → Rule → Type 0
+Requires s name a =
+    (s.args_override_self ≡ false) × AllByRecursion (IsOption name a) s.rules × (s.subcommand_negates_reqs ≡ false)
+    × ((rows : List Row) → list_any (λ a. a.required && not (is_given a.id rows)) s.rules ≡ false → is_given name rows ≡ true)
+
 required_row : (s : Shape) (holds : Row → Bool) (name : Text) (a : Rule) → Keeps s (HasRow holds name) a → a.defaults ≡ []
-    → AllByRecursion (IsOption name a) s.rules
-    → s.subcommand_negates_reqs ≡ false
-    → ((rows : List Row) → list_any (λ a. a.required && not (is_given a.id rows)) s.rules ≡ false → is_given name rows ≡ true)
-    → (words : List Text) → level_fault s [] nothing_held words false [] ≡ []
+    → Requires s name a → (words : List Text) → level_fault s [] nothing_held words false [] ≡ []
     → (r : Row) × (find (λ r. bytes_eq r.id name) (rows_after s.rules [] words) ≡ Some r) × (holds r ≡ true)
-required_row s holds name a keeps bare all negates required words none =
+required_row s holds name a keeps bare requires words none =
     let each-keeps = each-weaker (IsOption name a) (Keeps s (HasRow holds name))
-    (λ x is. elim is [ inl e ↦ subst (Keeps s (HasRow holds name)) (sym e) keeps | inr other ↦ other_keeps s holds name x other ]) s.rules all in
+    (λ x is. elim is [ inl e ↦ subst (Keeps s (HasRow holds name)) (sym e) keeps | inr other ↦ other_keeps s holds name x other ]) s.rules requires.1 in
     let end = (walk s.rules [] nothing_held words).held in
     let rows = finished s.rules end in
     let check = check_fault s rows false in
@@ -307,16 +303,12 @@ required_row s holds name a keeps bare all negates required words none =
     let each = both_empty (walk_fault s [] (walk_from nothing_held) words) (or_else (settle_fault s.rules s.args_override_self end) defaults) none in
     let settling = both_empty (settle_fault s.rules s.args_override_self end) defaults each.1 in
     let last = both_empty (defaults_fault (settled s.rules end).rows s.rules) check settling.1 in
-    let walked-over : HasRow holds name end.rows = walk_keeps s (HasRow holds name) each-keeps [] (walk_from nothing_held) words each.0 tt in
+    let walked-over : HasRow holds name end.rows =
+    walk_keeps s [] (λ w. HasRow holds name w.held.rows) (turn_keeps s (HasRow holds name) each-keeps []) (walk_from nothing_held) words each.0 tt in
     let at-end : HasRow holds name (settled s.rules end).rows = settles s (HasRow holds name) each-keeps end settling.0 walked-over in
-    let has : HasRow holds name rows =
-    subst (λ (o : Option Row). MatchOption o (Unit {0}) (λ r. holds r ≡ true))
-    (sym (defaults_left name a s.rules (settled s.rules end).rows bare all)) at-end in
-    let missing = list_any (λ a. a.required && not (is_given a.id rows)) s.rules in
-    let all-there : (not (s.subcommand_negates_reqs && false) && missing) ≡ false = none_missing _ _ _ last.1 in
-    let off : (not (s.subcommand_negates_reqs && false) && missing) ≡ missing = ap (λ (b : Bool). not (b && false) && missing) negates in
-    let there : is_given name rows ≡ true = required rows (sym off ∙ all-there) in
-    by_row (find (λ r. bytes_eq r.id name) rows) has there
+    let has : HasRow holds name rows = rw (defaults_left name a s.rules (settled s.rules end).rows bare requires.1) at-end in
+    let free : list_any (λ a. a.required && not (is_given a.id rows)) s.rules ≡ false = rw requires.2 at (none_missing _ _ _ last.1) in
+    by_row (find (λ r. bytes_eq r.id name) rows) has (requires.3 rows free)
   where
     by_row : (o : Option Row) → MatchOption o (Unit {0}) (λ r. holds r ≡ true) → option_map_or (λ r. explicit_source r.source) o false ≡ true
         → (r : Row) × (o ≡ Some r) × (holds r ≡ true)
@@ -324,23 +316,17 @@ required_row s holds name a keeps bare all negates required words none =
     by_row (Some r) has given = (r, refl, has)
 
 -- a subcommand that is taken has the number of a required option
-pub required_number : (s : Shape) (name : Text) (most : ℕ) → s.args_override_self ≡ false
-    → AllByRecursion (IsOption name (required_rule name (Unsigned 1 most))) s.rules
-    → s.subcommand_negates_reqs ≡ false
-    → ((rows : List Row) → list_any (λ a. a.required && not (is_given a.id rows)) s.rules ≡ false → is_given name rows ≡ true)
+pub required_number : (s : Shape) (name : Text) (most : ℕ) → Requires s name (required_rule name (Unsigned 1 most))
     → (words : List Text) → level_fault s [] nothing_held words false [] ≡ [] → is_some (number_at 1 most name (rows_after s.rules [] words)) ≡ true
-required_number s name most once all negates required words none =
-    let keeps = given_keeps s (is_number most) name (Unsigned 1 most) once refl (λ v free. grind (arith, free)) in
-    let row = required_row s (is_number most) name (required_rule name (Unsigned 1 most)) keeps refl all negates required words none in
+required_number s name most requires words none =
+    let keeps = given_keeps s (is_number most) name (Unsigned 1 most) requires.0 refl (λ v free. grind (arith, free)) in
+    let row = required_row s (is_number most) name (required_rule name (Unsigned 1 most)) keeps refl requires words none in
     ap (λ (o : Option Row). is_some (option_and_then (number_between 1 most) (option_and_then row_text o))) row.1 ∙ row.2
 
 -- a subcommand that is taken has the text of a required option
-pub required_text : (s : Shape) (name : Text) → s.args_override_self ≡ false
-    → AllByRecursion (IsOption name (required_rule name String)) s.rules
-    → s.subcommand_negates_reqs ≡ false
-    → ((rows : List Row) → list_any (λ a. a.required && not (is_given a.id rows)) s.rules ≡ false → is_given name rows ≡ true)
+pub required_text : (s : Shape) (name : Text) → Requires s name (required_rule name String)
     → (words : List Text) → level_fault s [] nothing_held words false [] ≡ [] → is_some (first_of name (rows_after s.rules [] words)) ≡ true
-required_text s name once all negates required words none =
-    let keeps = given_keeps s is_text name String once refl (λ v free. refl) in
-    let row = required_row s is_text name (required_rule name String) keeps refl all negates required words none in
+required_text s name requires words none =
+    let keeps = given_keeps s is_text name String requires.0 refl (λ v free. refl) in
+    let row = required_row s is_text name (required_rule name String) keeps refl requires words none in
     ap (λ (o : Option Row). is_some (option_and_then (λ r. slice_get r.values 0) o)) row.1 ∙ row.2

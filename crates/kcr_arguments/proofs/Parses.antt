@@ -1,18 +1,17 @@
 -- The program's command line is simple, so its matches are exact.
-use Rattle.std.proofs.Common.{◌≡◌, ◌⊎◌, Bool, codes, List, [], ◌∷◌, true, Option, Some, None, option_map, refl, sym, ap, inl, inr, ◌∙◌}
+use Rattle.std.proofs.Common.{◌≡◌, ◌⊎◌, List, [], ◌∷◌, true, Option, Some, None, option_map, refl, sym, inl, inr, ◌∙◌}
 use Rattle.std.specs.Prelude.{Box}
 use Rattle.std.specs.Box.{box_value}
 use Rattle.clap.specs.declared.error.kind.ErrorKind.{ErrorKind}
 use Rattle.clap.specs.declared.error.kind.ErrorKind.TheVariants.{OutOfMemory}
-use Rattle.clap.specs.Words.{IsAmong, Kinds, App, Text, Row, is_simple, is_simple_and_free, fault_of, subcommand_of, subcommand_rows, HasMatchesOf}
+use Rattle.clap.specs.Words.{IsAmong, Kinds, App, Text, Row, is_simple, is_simple_and_free, fault_of, subcommand_rows, HasMatchesOf}
 use Rattle.clap.specs.Words.{subcommand_rows_of}
 use Rattle.clap.specs.declared.parser.matches.ArgMatches.{ArgMatches}
 use Rattle.clap.specs.declared.parser.matches.SubCommand.{SubCommand}
 use Rattle.clap.specs.declared.parser.matches.ArgMatches.TheViews.{out-SubCommand}
 use Rattle.clap.proofs.OnLiterals.{clap_on_literals}
 use Rattle.kcr_arguments.specs.Commands.{tool_app}
-use Rattle.kcr_arguments.specs.Tasks.{met_in, faults_of, task_of, task_at, file_of, file_at, into_of, into_at, flag_at, is_existing, is_explained}
-use Rattle.kcr_arguments.specs.declared.words.Task.{Task}
+use Rattle.kcr_arguments.specs.Tasks.{met_in, faults_of}
 use Rattle.clap.specs.declared.parser.matches.ArgMatches.TheViews.{out-ArgMatches}
 
 -- the program's command line is simple
@@ -28,16 +27,12 @@ tool-free = refl
 -- what a parse found, if the command is the program's
 pub found_in : (app : App) (words : List Text) (m : ArgMatches) → app ≡ tool_app → HasMatchesOf app words m → subcommand_rows_of m ≡ met_in words
 unfolding met_in
-found_in app words m e h = (h (ap is_simple e ∙ tool-simple)).1 ∙ ap (λ (a : App). subcommand_of a words) e
-
--- what fails, if the command is the program's
-pub faults_in : (app : App) (words : List Text) → app ≡ tool_app → fault_of app words ≡ faults_of words
-unfolding faults_of
-faults_in app words e = ap (λ (a : App). fault_of a words) e
+found_in app words m e h = ((rw e at h) tool-simple).1
 
 -- the parse succeeded
 pub taken_in : (app : App) (words : List Text) → app ≡ tool_app → (is_simple_and_free app ≡ true → fault_of app words ≡ []) → faults_of words ≡ []
-taken_in app words e h = sym (faults_in app words e) ∙ h (ap is_simple_and_free e ∙ tool-free)
+unfolding faults_of
+taken_in app words e h = (rw e at h) tool-free
 
 not_among : (k : ErrorKind) (ks : Kinds) → IsAmong k ks → ks ≡ [] → ⊥
 not_among k [] h e = h
@@ -47,11 +42,9 @@ not_among k (x ∷ xs) h e = cc
 pub refused_in : (app : App) (words : List Text) (k : ErrorKind) → app ≡ tool_app
     → (is_simple_and_free app ≡ true → (k ≡ OutOfMemory) ⊎ IsAmong k (fault_of app words))
     → (k ≡ OutOfMemory → ⊥) → faults_of words ≡ [] → ⊥
+unfolding faults_of
 refused_in app words k e h not_memory none =
-    elim (h (ap is_simple_and_free e ∙ tool-free)) [
-      | inl memory ↦ not_memory memory
-      | inr among ↦ not_among k (fault_of app words) among (faults_in app words e ∙ none)
-    ]
+    elim ((rw e at h) tool-free) [ inl memory ↦ not_memory memory | inr among ↦ not_among k (fault_of tool_app words) among none ]
 
 -- the subcommand that was met, with its rows
 pub met : {Z : Type 0} (o : Option (Box SubCommand Z)) (name : Text) (rows : List Row) → Some name ≡ option_map (λ b. (out-SubCommand (box_value b)).name.now) o
@@ -64,33 +57,3 @@ pub met_is : (words : List Text) (m : ArgMatches) (name : Text) (rows : List Row
     → Some name ≡ option_map (λ b. (out-SubCommand (box_value b)).name.now) (out-ArgMatches m).subcommand
     → Some rows ≡ option_map (λ p. p.1) (subcommand_rows (out-ArgMatches m).subcommand) → met_in words ≡ Some (name, rows)
 met_is words m name rows found n r = sym found ∙ met (out-ArgMatches m).subcommand name rows n r
-
--- the task that the words name
-pub task_is : (words : List Text) (name : Text) (rows : List Row) (t : Task) → met_in words ≡ Some (name, rows) → task_at (name, rows) ≡ Some t
-    → task_of words ≡ Some t
-unfolding task_of
-task_is words name rows t e h = rw e h
-
--- the file that they name
-pub file_is : (words : List Text) (name : Text) (rows : List Row) (file : Option Text) → met_in words ≡ Some (name, rows) → file ≡ file_at rows
-    → file_of words ≡ file
-unfolding file_of
-file_is words name rows file e h = rw e (sym h)
-
--- the file of the new register that they name
-pub into_is : (words : List Text) (name : Text) (rows : List Row) (file : Option Text) → met_in words ≡ Some (name, rows) → file ≡ into_at rows
-    → into_of words ≡ file
-unfolding into_of
-into_is words name rows file e h = rw e (sym h)
-
--- the flags that they have
-pub existing_is : (words : List Text) (name : Text) (rows : List Row) (is : Bool) → met_in words ≡ Some (name, rows) → is ≡ flag_at (codes "existing") rows
-    → is_existing words ≡ is
-unfolding is_existing
-existing_is words name rows is e h = rw e (sym h)
-
--- the flag `explain` that they have
-pub explained_is : (words : List Text) (name : Text) (rows : List Row) (is : Bool) → met_in words ≡ Some (name, rows) → is ≡ flag_at (codes "explain") rows
-    → is_explained words ≡ is
-unfolding is_explained
-explained_is words name rows is e h = rw e (sym h)

@@ -1,7 +1,7 @@
 -- Words that are taken hold a task.
-use Rattle.std.proofs.Common.{◌≡◌, ◌&&◌, ◌++◌, ℕ, Bool, true, false, not, codes, List, [], ◌∷◌, Option, Some, None, refl, sym, ap, ◌∙◌, subst, option_map, map}
-use Rattle.std.proofs.Common.{arith, inl, inr}
-use Rattle.std.specs.Prelude.{is_some, fold, find, MatchOption, option_and_then}
+use Rattle.std.proofs.Common.{◌≡◌, ◌&&◌, ◌++◌, ℕ, Bool, true, false, not, codes, List, [], ◌∷◌, Option, Some, None, refl, sym, ap, ◌∙◌, option_map, map}
+use Rattle.std.proofs.Common.{arith, drop, inl, inr}
+use Rattle.std.specs.Prelude.{is_some, find, MatchOption, option_and_then}
 use Rattle.std.specs.List.{AllByRecursion}
 use Rattle.std.specs.Str.{bytes_eq}
 use Rattle.std.proofs.Math.Bool.{or-false}
@@ -9,7 +9,7 @@ use Rattle.std.proofs.lemmas.Bool.{cases_Bool}
 use Rattle.std.proofs.lemmas.Slice.Eq.{bytes_eq-Decides}
 use Rattle.clap.specs.Words.{Row, Shape, Text, subcommand_rows_of}
 use Rattle.clap.specs.declared.parser.matches.ArgMatches.{ArgMatches}
-use Rattle.clap.specs.Walk.{Held, Names, Rule, Step, Waiting, Walk, next, trailing, subcommand, value, walked, walk, walk_from, word_met, after_step}
+use Rattle.clap.specs.Walk.{Held, Names, Rule, Step, Waiting, Walk, subcommand, walked, walk, walk_from, word_met, after_step}
 use Rattle.clap.specs.Walk.{nothing_held, answers_to, stop_after, finished, settled, rows_after}
 use Rattle.clap.specs.Kinds.{or_else, check_kinds}
 use Rattle.clap.specs.Takes.{is_given}
@@ -25,7 +25,7 @@ use Rattle.kcr_arguments.specs.declared.words.Serving.{Serving}
 use Rattle.kcr_arguments.specs.declared.words.Task.{Task}
 use Rattle.kcr_arguments.specs.declared.words.Report.TheVariants.{Print, Attendance}
 use Rattle.kcr_arguments.specs.declared.words.Task.TheVariants.{Serve, Write, Rebuild, Pack}
-use Rattle.kcr_arguments.proofs.Options.{both_empty, required_number, required_text}
+use Rattle.kcr_arguments.proofs.Options.{both_empty, walk_keeps, required_number, required_text}
 
 -- if a walk has stopped, it is not at `help`
 abbrev PastHelp : Option (Text × List Text) → Type 0
@@ -33,9 +33,7 @@ PastHelp stopped = MatchOption stopped (Unit {0}) (λ p. bytes_eq p.0 (codes "he
 
 abbrev StepsPastHelp : Step → Type 0
 StepsPastHelp (subcommand name) = bytes_eq name (codes "help") ≡ false
-StepsPastHelp (next waiting) = Unit {0}
-StepsPastHelp (trailing position) = Unit {0}
-StepsPastHelp value = Unit {0}
+StepsPastHelp _ = Unit {0}
 
 -- a word at which nothing fails
 met_past : (s : Shape) (names : Names) → s.disable_help_subcommand ≡ false → (is_trailing : Bool) (waiting : Waiting) (position : ℕ) (word : Text) (h : Held)
@@ -55,14 +53,6 @@ turn_past s names helps w word none before =
     let past = met_past s names helps w.is_trailing w.waiting w.position word w.held in
     let step = step_past s.rules word w met.0 met.1 before in
     grind (arith, each, past, step, before)
-
-walk_past : (s : Shape) (names : Names) → s.disable_help_subcommand ≡ false → (w : Walk) (words : List Text) → walk_fault s names w words ≡ []
-    → PastHelp w.stopped → PastHelp (fold (walked s.rules names) w words).stopped
-unfolding walk_fault
-walk_past s names helps w [] none before = before
-walk_past s names helps w (word ∷ words) none before =
-    let each = both_empty (turn_fault s names w word) (walk_fault s names (walked s.rules names w word) words) none in
-    walk_past s names helps (walked s.rules names w word) words each.1 (turn_past s names helps w word each.0 before)
 
 -- of a parse that needs a subcommand and that nothing refuses: it entered one, and not `help`
 entered_there : (has needs helps some all : Bool) → needs ≡ true → helps ≡ false → check_kinds (not has && (helps && some)) (not has && needs) all ≡ []
@@ -92,7 +82,7 @@ parse_past a words needs bare helps none =
     record {
       there = entered_there has a.top.subcommand_required a.top.arg_required_else_help (not (list_any (λ r. explicit_source r.source) rows))
           (not (a.top.subcommand_negates_reqs && has) && list_any (λ r. r.required && not (is_given r.id rows)) a.top.rules) needs bare last.1;
-      past = walk_past a.top (names_of a) helps (walk_from nothing_held) words walks.0 tt;
+      past = walk_keeps a.top (names_of a) (λ w. PastHelp w.stopped) (turn_past a.top (names_of a) helps) (walk_from nothing_held) words walks.0 tt;
       calm = below.0;
     }
 
@@ -105,14 +95,8 @@ found_has f Q (x ∷ xs) all is = elim (cases_Bool (f x)) [
   | inr e ↦ (let later = found_has f Q xs all.1 (rw e at is) in (later.0, rw e later.1, later.2))
 ]
 
-some_mapped : {X Y : Type 0} (g : X → Y) (o : Option X) → is_some (option_map g o) ≡ true → is_some o ≡ true
-some_mapped g o is = grind arith
-
-not_help : (name : Text) → bytes_eq (codes "help") name ≡ true → bytes_eq name (codes "help") ≡ false → ⊥
-not_help name is past =
-    let e : codes "help" ≡ name = (bytes_eq-Decides (codes "help") name).0 is in
-    let P : Text → Type 0 = λ t. bytes_eq t (codes "help") ≡ false in
-    let no : true ≡ false = subst P (sym e) past in cc
+some_mapped : {X Y : Type 0} (g : X → Y) (o : Option X) → is_some (option_map g o) ≡ is_some o
+some_mapped g o = grind arith
 
 -- a subcommand whose words are not refused holds a task
 abbrev HoldsTask : Shape → Type 0
@@ -125,7 +109,7 @@ entered_task : (a : App) (stop : Option (Text × List Text)) → PastHelp stop �
 entered_task a None past is calm each = cc
 entered_task a (Some p) past is calm each =
     let f : Shape → Bool = λ s. answers_to p.0 (label_of s) in
-    let met = found_has f HoldsTask a.subs (each p.0 past) (some_mapped (λ s. rows_at s p.1) (find f a.subs) is) in
+    let met = found_has f HoldsTask a.subs (each p.0 past) (sym (some_mapped (λ s. rows_at s p.1) (find f a.subs)) ∙ is) in
     let free : level_fault met.0 [] nothing_held p.1 false [] ≡ [] =
     sym (ap (λ (o : Option Shape). option_map_or (λ s. level_fault s [] nothing_held p.1 false []) o []) met.1) ∙ calm in
     (rows_at met.0 p.1, ap (option_map (λ s. rows_at s p.1)) met.1, met.2 p.1 free)
@@ -140,9 +124,6 @@ all_subs : (built tool_app).subs ≡ map built_leaf tool_subs ++ built_leaf help
 unfolding tool_app
 all_subs = refl
 
-some_made : {X Y : Type 0} (f : X → Y) (o : Option X) → is_some o ≡ true → is_some (option_map f o) ≡ true
-some_made f o is = grind arith
-
 both_there : (serving : ℕ → ℕ → Serving) (a b : Option ℕ) → is_some a ≡ true → is_some b ≡ true
     → is_some (option_and_then (λ port. option_map (λ connections. Serve (serving port connections)) b) a) ≡ true
 both_there serving a b one two = grind arith
@@ -151,64 +132,52 @@ both_there serving a b one two = grind arith
 ceremony_there : (name : Text) (words : List Text) → level_fault (leaf name (ceremony_rule ∷ [])) [] nothing_held words false [] ≡ []
     → is_some (ceremony_at (rows_after (leaf name (ceremony_rule ∷ [])).rules [] words)) ≡ true
 ceremony_there name words none =
-    required_number (leaf name (ceremony_rule ∷ [])) (codes "ceremony") 9999 refl (inr refl, (inl refl, (inr refl, (inr refl, tt)))) refl
-    (λ rows free. grind arith) words none
+    required_number (leaf name (ceremony_rule ∷ [])) (codes "ceremony") 9999
+    (refl, (inr refl, (inl refl, (inr refl, (inr refl, tt)))), refl, λ rows free. grind arith) words none
 
 into_there : (name : Text) (words : List Text) → level_fault (leaf name (into_rule ∷ [])) [] nothing_held words false [] ≡ []
     → is_some (into_at (rows_after (leaf name (into_rule ∷ [])).rules [] words)) ≡ true
 into_there name words none =
-    required_text (leaf name (into_rule ∷ [])) (codes "into") refl (inr refl, (inl refl, (inr refl, (inr refl, tt)))) refl
-    (λ rows free. grind arith) words none
+    required_text (leaf name (into_rule ∷ [])) (codes "into")
+    (refl, (inr refl, (inl refl, (inr refl, (inr refl, tt)))), refl, λ rows free. grind arith) words none
 
 abbrev serve : Shape
 serve = leaf (codes "serve") serve_rules
 
 serve_holds : HoldsTask serve
 serve_holds words none =
-    let port = required_number serve (codes "port") 65535 refl
-    (inr refl, (inr refl, (inl refl, (inr refl, (inr refl, (inr refl, (inr refl, (inr refl, tt)))))))) refl (λ rows free. grind arith) words none in
-    let connections = required_number serve (codes "connections") 1000000 refl
-    (inr refl, (inr refl, (inr refl, (inl refl, (inr refl, (inr refl, (inr refl, (inr refl, tt)))))))) refl (λ rows free. grind arith) words none in
+    let port = required_number serve (codes "port") 65535
+    (refl, (inr refl, (inr refl, (inl refl, (inr refl, (inr refl, (inr refl, (inr refl, (inr refl, tt)))))))), refl, λ rows free. grind arith) words none in
+    let connections = required_number serve (codes "connections") 1000000
+    (refl, (inr refl, (inr refl, (inr refl, (inl refl, (inr refl, (inr refl, (inr refl, (inr refl, tt)))))))), refl, λ rows free. grind arith) words none in
     both_there _ _ _ port connections
 
 help_holds : (name : Text) → bytes_eq name (codes "help") ≡ false → answers_to name (label_of help_shape) ≡ true → ⊥
-help_holds name past is = not_help name (sym (or-false (bytes_eq (codes "help") name)) ∙ is) past
+help_holds name past is =
+    let e : codes "help" ≡ name = (bytes_eq-Decides (codes "help") name).0 (sym (or-false (bytes_eq (codes "help") name)) ∙ is) in
+    let no : true ≡ false = rw (← e) at past in cc
 
+print_holds : HoldsTask (leaf (codes "print") (ceremony_rule ∷ []))
+print_holds words none = some_mapped Write _ ∙ some_mapped Print _ ∙ ceremony_there (codes "print") words none
+
+attendance_holds : HoldsTask (leaf (codes "attendance") (ceremony_rule ∷ []))
+attendance_holds words none = some_mapped Write _ ∙ some_mapped Attendance _ ∙ ceremony_there (codes "attendance") words none
+
+rebuild_holds : HoldsTask (leaf (codes "rebuild") (into_rule ∷ []))
+rebuild_holds words none = some_mapped (λ into. Rebuild) _ ∙ into_there (codes "rebuild") words none
+
+pack_holds : HoldsTask (leaf (codes "pack") (into_rule ∷ []))
+pack_holds words none = some_mapped (λ into. Pack) _ ∙ into_there (codes "pack") words none
+
+-- in the order of `tool_subs`; those that need no option of their own hold their task as they are
 subs_hold : (name : Text) → bytes_eq name (codes "help") ≡ false → AllByRecursion (λ s. answers_to name (label_of s) ≡ true → HoldsTask s) (built tool_app).subs
-subs_hold name past = rw all_subs (
-  (λ is words none. refl),
-  (
-    (λ is. serve_holds),
-    (
-      (λ is words none. some_made Write _ (some_made Print _ (ceremony_there (codes "print") words none))),
-      (
-        (λ is words none. some_made Write _ (some_made Attendance _ (ceremony_there (codes "attendance") words none))),
-        (
-          (λ is words none. refl),
-          (
-            (λ is words none. refl),
-            (
-              (λ is words none. refl),
-              (
-                (λ is words none. refl),
-                (
-                  (λ is words none. refl),
-                  (
-                    (λ is words none. some_made (λ into. Rebuild) _ (into_there (codes "rebuild") words none)),
-                    (
-                      (λ is words none. some_made (λ into. Pack) _ (into_there (codes "pack") words none)),
-                      ((λ is. absurd (help_holds name past is)), tt),
-                    ),
-                  ),
-                ),
-              ),
-            ),
-          ),
-        ),
-      ),
-    ),
-  ),
-)
+subs_hold name past = rw all_subs ((λ _ _ _. refl), ((λ _. serve_holds), ((λ _. print_holds), ((λ _. attendance_holds), rest))))
+  where
+    others : AllByRecursion (λ s. answers_to name (label_of s) ≡ true → HoldsTask s) (map built_leaf (drop 9 tool_subs) ++ built_leaf help_shape ∷ [])
+    others = ((λ _. rebuild_holds), ((λ _. pack_holds), ((λ is. absurd (help_holds name past is)), tt)))
+
+    rest : AllByRecursion (λ s. answers_to name (label_of s) ≡ true → HoldsTask s) (map built_leaf (drop 4 tool_subs) ++ built_leaf help_shape ∷ [])
+    rest = ((λ _ _ _. refl), ((λ _ _ _. refl), ((λ _ _ _. refl), ((λ _ _ _. refl), ((λ _ _ _. refl), others)))))
 
 top_is : let top = (built tool_app).top in (top.subcommand_required ≡ true) × (top.arg_required_else_help ≡ false) × (top.disable_help_subcommand ≡ false)
 unfolding tool_app

@@ -1,25 +1,16 @@
 -- In a ceremony that has no rows nobody is in the room.
-use Rattle.std.proofs.Common.{◌≡◌, ℕ, ◌≤◌, Bool, true, false, ◌==◌, nat_lt, List, [], ◌∷◌, map, Option, Some, None, refl, sym, ap, subst, ◌∙◌, arith}
-use Rattle.std.proofs.Common.{option_map}
-use Rattle.std.specs.Prelude.{find}
-use Rattle.std.specs.List.{Contains, list_any}
-use Rattle.std.proofs.lemmas.Bool.{true≢false, ltb-false, and_parts, eqb-true, eq-eqb}
+use Rattle.kcr_audit.proofs.Common.{◌≡◌, ℕ, ◌≤◌, Bool, true, false, ◌==◌, nat_lt, List, [], ◌∷◌, map, Option, Some, None, refl, sym, ap, subst, ◌∙◌}
+use Rattle.kcr_audit.proofs.Common.{arith, option_map, find, Contains, list_any, true≢false, ltb-false, and_parts, eqb-true, eq-eqb, none-find}
+use Rattle.kcr_audit.proofs.Common.{any-map, any-more, SheetRow, headcount_by, Followed, followed_rows, Finding, FullView, IsTrueOf, rank, IsSometime}
+use Rattle.kcr_audit.proofs.Common.{IsSoughtAmong, is_lone, is_crowd, is_crowd_at}
 use Rattle.std.proofs.lemmas.List.Elements.{All-contains}
 use Rattle.std.proofs.lemmas.Map.Views.{Contains-from_any}
-use Rattle.kcr_base.proofs.ListLemmas.{none-find, any-map, any-more}
-use Rattle.kcr_room.specs.declared.SheetRow.{SheetRow}
 use Rattle.kcr_room.specs.declared.Stay.{Stay}
-use Rattle.kcr_room.specs.Room.{headcount_by, Followed, followed_rows}
 use Rattle.kcr_room.specs.Moments.{IsEver}
-use Rattle.kcr_room.specs.Stays.{stay_covers, stays_of, stays_by, headcount_in_by, is_crowd_in_by, comings_by}
+use Rattle.kcr_room.specs.Stays.{stay_covers, stays_of, stays_by, is_crowd_in_by, comings_by}
 use Rattle.kcr_room.proofs.Followed.{followed-same}
 use Rattle.kcr_room.proofs.Agreement.{same-crowd}
 use Rattle.kcr_room.proofs.Moments.{crowded-is_ever}
-use Rattle.kcr_history.specs.declared.views.Finding.{Finding}
-use Rattle.kcr_history.specs.declared.views.Finding.TheVariants as Findings
-use Rattle.kcr_history.specs.declared.views.FullView.{FullView}
-use Rattle.kcr_history.specs.Audit.{IsTrueOf, rank}
-use Rattle.kcr_audit.specs.Rooms.{IsSometime, IsSoughtAmong, is_lone, is_crowd, is_crowd_at}
 use Rattle.kcr_audit.proofs.Found.{is-found, counted-any}
 
 -- the stay, the row is of the ceremony
@@ -37,11 +28,8 @@ stays-listed c (followed ∷ all) h = grind (arith, h, stays-listed c all)
 -- if somebody is in the room the ceremony has a row
 crowd-listed : (rows : List SheetRow) (c t : ℕ) → 1 ≤ headcount_by rows c t → Contains (map (λ row. row.ceremony) rows) c
 crowd-listed rows c t h =
-    let e = same-crowd rows c t in
-    let held : list_any (stay_covers c t) (stays_by rows) ≡ true = counted-any (stay_covers c t) (stays_by rows)
-    (let k : 1 ≤ headcount_in_by (stays_by rows) c t = omega arith in k) in
-    let some : list_any (of_stay c) (stays_by rows) ≡ true = any-more (stay_covers c t) (of_stay c) (stays_by rows)
-    (λ stay g. (and_parts (of_stay c stay) (_) (and_parts _ _ g).0).0) held in
+    let held : list_any (stay_covers c t) (stays_by rows) ≡ true = grind (arith, counted-any, same-crowd rows c t) in
+    let some : list_any (of_stay c) (stays_by rows) ≡ true = any-more (stay_covers c t) (of_stay c) (stays_by rows) (λ stay g. grind arith) held in
     Contains-from_any {eq = λ m n. n == m} (λ x y e. sym (eqb-true y x e)) c (map (λ row. row.ceremony) rows)
     (any-map (λ n. n == c) (λ row. row.ceremony) rows
     ∙ subst (λ all. list_any (of_row c) all ≡ true) (followed-same [] rows) (stays-listed c (followed_rows rows) some))
@@ -58,14 +46,12 @@ none-listed test sheet all rows numbers list found e f g h listed none c t some 
 -- if at no moment anybody is alone in a room, no finding of somebody alone is true
 pub none-lone : (view : FullView) → ((c t : ℕ) → 1 ≤ headcount_by view.sheet.items c t → is_lone view.sheet.items c t ≡ false) → (finding : Finding)
     → rank finding ≡ 4 → IsTrueOf view finding → ⊥
-none-lone view none (Findings.Lone c t) r h = true≢false (sym (eq-eqb (headcount_by view.sheet.items c t) 1 h) ∙ none c t (omega (arith, h)))
-none-lone view none other r h = omega (arith, r)
+none-lone view none finding r h = grind (arith, true≢false, eq-eqb)
 
 -- if at no moment a room has too many people, no finding of a crowd is true
 pub none-crowd : (view : FullView) → ((c t : ℕ) → 1 ≤ headcount_by view.sheet.items c t → is_crowd view.sheet.items c t ≡ false) → (finding : Finding)
     → rank finding ≡ 5 → IsTrueOf view finding → ⊥
-none-crowd view none (Findings.Crowd c t) r h = let few = ltb-false 128 (headcount_by view.sheet.items c t) (none c t (omega (arith, h))) in omega (arith, h, few)
-none-crowd view none other r h = omega (arith, r)
+none-crowd view none finding r h = grind (arith, ltb-false)
 
 -- if there are not too many at the beginning of any stay there are not if somebody comes
 none-coming : (all stays : List Stay) (c : ℕ) → list_any (is_crowd_at all c) stays ≡ false → list_any (is_crowd_in_by all c) (comings_by stays c) ≡ false
@@ -81,7 +67,6 @@ crowded rows c stays found e f = subst (IsSometime (is_crowd rows c)) (sym f) (b
     here t = ap (λ s. is_crowd_in_by s c t) e ∙ ap (λ n. nat_lt 128 n) (same-crowd rows c t)
 
     by_find : (o : Option Stay) → find (is_crowd_at stays c) stays ≡ o → IsSometime (is_crowd rows c) (option_map (λ stay. stay.since) o)
-    by_find (Some stay) h = sym (here stay.since)
-        ∙ (and_parts (stay.ceremony == c) (is_crowd_in_by stays c stay.since) (is-found (is_crowd_at stays c) stays stay h).passes).1
+    by_find (Some stay) h = grind (arith, here, and_parts, is-found)
     by_find None h = λ t. sym (here t)
         ∙ subst (IsEver (is_crowd_in_by stays c)) (none-coming stays stays c (none-find (is_crowd_at stays c) stays h)) (crowded-is_ever stays c) t

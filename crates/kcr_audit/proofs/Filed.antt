@@ -1,45 +1,26 @@
 -- The rows of the people of a step that was signed or passed: how they are filed, and that they fill its seats in whatever order they come.
-use Rattle.std.proofs.Common.{◌≡◌, ℕ, suc, Bool, true, false, cond, ◌&&◌, ◌==◌, List, [], ◌∷◌, filter, Option, Some, None, refl, sym, ap, ◌∙◌, subst, not, map}
-use Rattle.std.proofs.Common.{option_map}
-use Rattle.std.specs.Prelude.{is_some, unwrap_or}
-use Rattle.std.specs.List.{list_all, list_any}
-use Rattle.std.proofs.lemmas.Bool.{cond_both, true≢false, and_parts, eqb-true, eq-eqb, not-false, and_right}
-use Rattle.kcr_base.proofs.RefuseLemmas.{none_holds, unmet}
-use Rattle.kcr_base.proofs.RowsLemmas.{filter-order}
+use Rattle.kcr_audit.proofs.Common.{◌≡◌, ℕ, suc, Bool, true, false, cond, ◌&&◌, ◌==◌, List, [], ◌∷◌, Option, Some, None, refl, sym, ap, ◌∙◌, map}
+use Rattle.kcr_audit.proofs.Common.{option_map, arith, rules, unwrap_or, list_all, list_any, cond_both, true≢false, and_parts, eqb-true, eq-eqb}
+use Rattle.kcr_audit.proofs.Common.{not-false, none_holds, unmet, filter-order, Seat, Act, Ceremony, Sign, RecordException, SeatingRow, History}
+use Rattle.kcr_audit.proofs.Common.{pushed_onto, is_ceremony, steps_of, steps_done, next_step, is_seating, step_done, step_result, seats_at, seatings}
+use Rattle.kcr_audit.proofs.Common.{seat_rows, seating_rows, ceremony_of_step, step_row, steps, tables, SameTables, conditions, fault, is_seated}
+use Rattle.kcr_audit.proofs.Common.{reply_to, seat_request, IsRegister, Took, took, no_ceremony, IsPermutation, list_any-IsPermutation}
+use Rattle.kcr_audit.proofs.Common.{IsPermutation-trans, StepRow, FullView, IsTrueOf, has_valid_seating, ceremony_in, has_invalid_seating, tables_of}
+use Rattle.std.proofs.Common.{filter}
 use Rattle.kcr_base.specs.Rows.{option_or}
 use Rattle.kcr_base.specs.declared.place.Role.TheVariants.{Ca, Iw}
 use Rattle.kcr_base.specs.declared.refusal.Refusal.TheVariants.{Unknown}
 use Rattle.kcr_base.specs.declared.refusal.Thing.TheVariants as Things
-use Rattle.kcr_script.specs.declared.seat.Seat.{Seat}
 use Rattle.kcr_script.specs.declared.seat.Seat.TheVariants.{Staff}
-use Rattle.kcr_history.specs.declared.commands.Act.{Act}
-use Rattle.kcr_history.specs.declared.commands.Act.TheVariants.{Ceremony}
-use Rattle.kcr_history.specs.declared.commands.Deed.TheVariants.{Sign, RecordException}
 use Rattle.kcr_history.specs.declared.commands.ReplyData.{ReplyData}
-use Rattle.kcr_history.specs.declared.row_types.SeatingRow.{SeatingRow}
 use Rattle.kcr_history.specs.declared.row_types.StepState.{StepState}
 use Rattle.kcr_history.specs.declared.row_types.StepState.TheVariants.{Signed, Passed, Undone}
-use Rattle.kcr_history.specs.History.{History, pushed_onto}
-use Rattle.kcr_history.specs.Ceremonies.{Planned, planned_as, plan_of, is_ceremony, steps_of, steps_done, next_step}
-use Rattle.kcr_history.specs.Seating.{is_seating}
-use Rattle.kcr_history.specs.Tables.{step_done, step_result, seats_at, seatings, seat_rows, seating_rows, ceremony_of_step, ceremony_row, step_row, step_keys}
-use Rattle.kcr_history.specs.Tables.{steps, tables, SameTables}
-use Rattle.kcr_history.specs.Conditions.{conditions, fault}
-use Rattle.kcr_history.specs.Laws.{is_seated}
-use Rattle.kcr_history.specs.Machine.{reply_to, seat_request, IsRegister}
 use Rattle.kcr_history.specs.declared.commands.Entry.{Entry}
-use Rattle.kcr_history.proofs.Steps.{Took, took, no_ceremony}
 use Rattle.kcr_history.proofs.Piled.{filter-pushed, pushed-alone}
 use Rattle.kcr_laws.proofs.Done.{next_signed, next-undone}
-use Rattle.std.specs.List.Sorted.{IsPermutation}
-use Rattle.std.proofs.lemmas.List.Sorted.{list_any-IsPermutation, IsPermutation-trans}
-use Rattle.kcr_history.specs.declared.row_types.StepRow.{StepRow}
 use Rattle.kcr_history.specs.declared.views.Finding.TheVariants as Findings
-use Rattle.kcr_history.specs.declared.views.FullView.{FullView}
-use Rattle.kcr_history.specs.Audit.{IsTrueOf, is_done, are_numbered, has_valid_seating, is_seating_by, ceremony_in, has_invalid_seating}
 use Rattle.kcr_history.specs.Prints.{seatings_at, seated_at, seats_filled}
 use Rattle.kcr_laws.proofs.Seated.{seated}
-use Rattle.kcr_audit.specs.Views.{tables_of}
 use Rattle.kcr_audit.proofs.Placed.{seats-in-order, people-of-seats, seats-numbered}
 use Rattle.kcr_audit.proofs.Fitting.{ceremony-found, seating-same}
 
@@ -59,8 +40,7 @@ other-rows d s c k i (who ∷ people) e = rw e (other-rows d s c k (suc i) peopl
 
 own-rows : (c k i : ℕ) (people : List (List ℕ)) → filter (is_of c k) (seat_rows c k i people) ≡ seat_rows c k i people
 own-rows c k i [] = refl
-own-rows c k i (who ∷ people) = rw (eq-eqb c c refl, eq-eqb k k refl)
-    (ap (λ rows. record { ceremony = c; step = k; seat = suc i; who = who } ∷ rows) (own-rows c k (suc i) people))
+own-rows c k i (who ∷ people) = grind (arith, eq-eqb, own-rows c k (suc i) people)
 
 -- the rows that a reply files
 abbrev filed_by : Act → ReplyData → List SeatingRow
@@ -96,15 +76,7 @@ module _ (A B : History) (c k : ℕ) where
 
   files_rows : (d step : ℕ) (fate : StepState × ℕ) (people : List (List ℕ)) → no_ceremony B d ≡ None → step ≡ suc (steps_done B d)
       → Files A B c k (seat_rows d step 0 people) (Fill A d step fate people) (cond (d == c && step == k) (Some fate) None)
-  files_rows d step fate people n next =
-      cond_both (d == c && step == k) (Some fate) None (Files A B c k (seat_rows d step 0 people) (Fill A d step fate people))
-      (λ e. let p = and_parts (d == c) (step == k) e in own (eqb-true d c p.0) (eqb-true step k p.1)) (other-rows d step c k 0 people)
-    where
-      own : (d ≡ c) → (step ≡ k) → Fill A d step fate people → Does A B c k fate (seat_rows d step 0 people)
-      own e f s =
-          subst (λ z. Does A B c k fate (seat_rows z step 0 people)) (sym e)
-          (subst (λ z. Does A B c k fate (seat_rows c z 0 people)) (sym f)
-          (record { people = people; filed = own-rows c k 0 people; seated = rw (e, f) at s; planned = rw e at (is-planned B d n); next = rw (e, f) at next }))
+  files_rows d step fate people n next = grind (arith, cond_both, and_parts, eqb-true, other-rows, own-rows, is-planned)
 
   files_to : (act : Act) (people : Option (List (List ℕ))) → fault B act ≡ None
       → Files A B c k (filed_by act (reply_to B act people)) (IsSeated A act (reply_to B act people)) (step_done c k act (reply_to B act people).step)
@@ -117,14 +89,11 @@ module _ (A B : History) (c k : ℕ) where
 
   files : (entry : Entry) → Took B entry
       → Files A B c k (filed_by entry.command.act entry.reply) (IsSeated A entry.command.act entry.reply) (step_done c k entry.command.act entry.reply.step)
-  files entry t =
-      let act = entry.command.act in
-      subst (λ (a : ReplyData). Files A B c k (filed_by act a) (IsSeated A act a) (step_done c k act a.step)) (sym t.reply) (files_to act t.people t.no_fault)
+  files entry t = grind (arith, files_to)
 
 -- if none is told now or before, none was told before
 or-none : {X : Type 0} (a b : Option X) → option_or a b ≡ None → (a ≡ None) × (b ≡ None)
-or-none None b e = (refl, e)
-or-none (Some x) b e = absurd (let f : Some x ≡ None = e in cc)
+or-none a b e = grind arith
 
 -- of a step that is not done no row is filed
 none-filed : (A B : History) → IsRegister B → (c k : ℕ) → step_result B c k ≡ None → filter (is_of c k) (seatings B) ≡ []
@@ -143,11 +112,7 @@ pub record IsFiled (A B : History) (c k : ℕ) (fate : StepState × ℕ) : Type 
   pub planned : is_ceremony B c ≡ true
 
 still-planned : (c : ℕ) (entry : Entry) (B : History) → is_ceremony B c ≡ true → is_ceremony (entry ∷ B) c ≡ true
-still-planned c entry B = still (planned_as c entry.command.act) (plan_of B c)
-  where
-    still : (o p : Option Planned) → is_some p ≡ true → is_some (option_or o p) ≡ true
-    still None p g = g
-    still (Some x) p g = refl
+still-planned c entry B = grind arith
 
 abbrev all_seated : History → History → Bool
 all_seated A entries = list_all (λ entry. is_seated A (seat_request A entry.command.act) entry.reply.seating) entries
@@ -176,15 +141,7 @@ filed A (entry ∷ B) h s c k fate e =
       seated = old.seated;
       planned = still-planned c entry B old.planned;
     }
-    by_done (Some new) did g ih =
-        let does = did parts.0 in
-        let same : new ≡ fate = (let k : Some new ≡ Some fate = g in cc) in
-        record {
-          people = does.people;
-          filed = stack (seat_rows c k 0 does.people) [] does.filed (none-filed A B h.1 c k (next-undone B h.1 c k does.next));
-          seated = subst (λ (z : StepState × ℕ). Fill A c k z does.people) same does.seated;
-          planned = still-planned c entry B does.planned;
-        }
+    by_done (Some new) did g ih = search (rules, parts, stack, none-filed, next-undone, still-planned)
 
 -- BY THE ROWS, IN WHATEVER ORDER
 
@@ -208,26 +165,18 @@ module _ (A : History) (h : IsRegister A) (view : FullView) (same : SameTables (
   well key state at e s =
       let as_filed = filed A A h (seated A h) key.0 key.1 (state, at) e in
       let rows = rows-placed (seatings A) view.view.seatings.items same.seatings key.0 key.1 as_filed.people as_filed.filed in
+      let found = ceremony-found A view same.ceremonies key.0 as_filed.planned in
       let row = row_with A key (Some (state, at)) in
-      ap (λ o. has_valid_seating view row o (Some at)) (ceremony-found A view same.ceremonies key.0 as_filed.planned)
-      ∙ ap (λ b. b && is_seating_by view (ceremony_row A key.0) at (seats_filled row) (seated_at view.view.seatings.items key.0 key.1))
-      (ap (are_numbered 1) rows ∙ seats-numbered key.0 key.1 0 as_filed.people)
-      ∙ seating-same A h view same key.0 at (seats_filled row) (seated_at view.view.seatings.items key.0 key.1)
-      ∙ ap (λ seats. is_seating A key.0 at seats (seated_at view.view.seatings.items key.0 key.1)) s
-      ∙ ap (is_seating A key.0 at (seats_for state (seats_at (steps_of A key.0) key.1)))
-      (ap (map (λ row. row.who)) rows ∙ people-of-seats key.0 key.1 0 as_filed.people)
-      ∙ as_filed.seated
+      let fit = seating-same A h view same key.0 at (seats_filled row) (seated_at view.view.seatings.items key.0 key.1) in
+      grind (arith, s, as_filed.seated, seats-numbered key.0 key.1 0 as_filed.people, people-of-seats key.0 key.1 0 as_filed.people)
 
   none-ill : (c s : ℕ) (key : ℕ × ℕ) → has_invalid_seating view c s (step_row A key) ≡ false
   none-ill c s key = by_fate (step_result A key.0 key.1) refl
     where
-      undone : (w : Bool) → (key.0 == c && key.1 == s && false && w) ≡ false
-      undone w = ap (λ b. b && w) (and_right (key.0 == c && key.1 == s) false refl)
-
       by_fate : (o : Option (StepState × ℕ)) → step_result A key.0 key.1 ≡ o → has_invalid_seating view c s (row_with A key o) ≡ false
-      by_fate None e = undone _
-      by_fate (Some (Undone, at)) e = undone _
-      by_fate (Some (state, at)) e = and_right (key.0 == c && key.1 == s && is_done state) _ (ap not (well key state at e refl))
+      by_fate None e = grind arith
+      by_fate (Some (Undone, at)) e = grind arith
+      by_fate (Some (state, at)) e = let good = well key state at e refl in grind arith
 
   none-of-steps : (c s : ℕ) (keys : List (ℕ × ℕ)) → list_any (has_invalid_seating view c s) (map (step_row A) keys) ≡ false
   none-of-steps c s [] = refl
@@ -235,5 +184,5 @@ module _ (A : History) (h : IsRegister A) (view : FullView) (same : SameTables (
 
   -- no step of a register is ill seated
   pub no-seating : (c s : ℕ) → IsTrueOf view (Findings.Seating c s) → ⊥
-  no-seating c s t = true≢false
-      (sym t ∙ sym (list_any-IsPermutation (has_invalid_seating view c s) (steps A) view.view.steps.items same.steps) ∙ none-of-steps c s (step_keys A))
+  no-seating c s t =
+      grind (arith, list_any-IsPermutation (has_invalid_seating view c s) (steps A) view.view.steps.items same.steps, none-of-steps c s)

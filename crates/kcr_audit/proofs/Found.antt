@@ -1,20 +1,11 @@
 -- What is found is true, and if nothing is found nothing is true.
-use Rattle.std.proofs.Common.{◌≡◌, ℕ, ◌≤◌, Bool, true, false, cond, ◌||◌, ◌&&◌, ◌==◌, nat_lt, not, List, [], ◌∷◌, Option, Some, None, refl, sym, ap, subst, ◌∙◌}
-use Rattle.std.proofs.Common.{arith, option_map, inl, inr}
-use Rattle.std.specs.Prelude.{find}
-use Rattle.std.specs.List.{list_any, count_by}
-use Rattle.std.proofs.lemmas.Bool.{true≢false, and_from, and_parts, cases_Bool, or_cases, or_left, or_right, eq-eqb, lt-ltb, ltb-true, ltb-false}
-use Rattle.kcr_base.specs.Same.{same_text}
-use Rattle.kcr_base.proofs.SameLemmas.{same-is}
-use Rattle.kcr_base.proofs.ListLemmas.{none-find, any-more}
-use Rattle.kcr_room.proofs.Lists.{count-cons}
-use Rattle.kcr_history.specs.declared.views.Finding.{Finding}
+use Rattle.kcr_audit.proofs.Common.{◌≡◌, ℕ, ◌≤◌, Bool, true, false, ◌||◌, ◌&&◌, nat_lt, List, [], ◌∷◌, Option, Some, None, refl, sym, subst, arith}
+use Rattle.kcr_audit.proofs.Common.{option_map, find, list_any, count_by, true≢false, and_from, and_parts, cases_Bool, or_cases, or_left, or_right}
+use Rattle.kcr_audit.proofs.Common.{eq-eqb, lt-ltb, ltb-true, same_text, same-is, none-find, any-more, count-cons, Finding, FullView, StepRow}
+use Rattle.kcr_audit.proofs.Common.{IsTrueOf, rank, has_invalid_seating, is_duplicate, is_lost, is_in_missing_box, is_step_wrong, is_item_wrong}
+use Rattle.kcr_audit.proofs.Common.{is_bag_wrong}
 use Rattle.kcr_history.specs.declared.views.Finding.TheVariants as Findings
-use Rattle.kcr_history.specs.declared.views.FullView.{FullView}
-use Rattle.kcr_history.specs.declared.row_types.StepRow.{StepRow}
-use Rattle.kcr_history.specs.Audit.{IsTrueOf, rank, has_invalid_seating, is_done, has_valid_seating, ceremony_in, is_duplicate, is_lost, is_in_missing_box}
 use Rattle.kcr_audit.specs.Kinds.{IsFindingOfKind}
-use Rattle.kcr_audit.specs.Defects.{is_step_wrong, is_item_wrong, is_bag_wrong}
 
 -- what is found passes the test, and if it passes another too, some row passes that one
 pub record IsFound {X : Type 0} (p : X → Bool) (xs : List X) (x : X) : Type 0 where
@@ -24,33 +15,24 @@ pub record IsFound {X : Type 0} (p : X → Bool) (xs : List X) (x : X) : Type 0 
 -- the row that is found passes the test and is one of the rows
 pub is-found : {X : Type 0} (p : X → Bool) (xs : List X) (x : X) → find p xs ≡ Some x → IsFound p xs x
 is-found p [] x e = absurd (let g : None ≡ Some x = e in cc)
-is-found p (y ∷ ys) x e = by_test (p y) refl e (is-found p ys x)
-  where
-    by_test : (b : Bool) → p y ≡ b → cond b (Some y) (find p ys) ≡ Some x → (find p ys ≡ Some x → IsFound p ys x) → IsFound p (y ∷ ys) x
-    by_test true h g ih = let same : y ≡ x = (let k : Some y ≡ Some x = g in cc) in
-        record { passes = subst (λ z. p z ≡ true) same h; any = λ q f. or_left (q y) (list_any q ys) (subst (λ z. q z ≡ true) (sym same) f) }
-    by_test false h g ih = let r = ih g in record { passes = r.passes; any = λ q f. or_right (q y) (list_any q ys) (r.any q f) }
+is-found p (y ∷ ys) x e = grind (arith, or_left, or_right, is-found p ys x)
 
 -- some row passes the test if some are counted
 pub any-counted : {X : Type 0} (p : X → Bool) (xs : List X) → list_any p xs ≡ nat_lt 0 (count_by p xs)
 any-counted p [] = refl
-any-counted p (x ∷ xs) = elim (cases_Bool (p x)) [
-  | inl e ↦ let next = count-cons p x xs true e in or_left (p x) (list_any p xs) e ∙ sym (lt-ltb 0 (count_by p (x ∷ xs)) (omega arith))
-  | inr e ↦ let next = count-cons p x xs false e in let same : count_by p (x ∷ xs) ≡ count_by p xs = omega arith in
-      ap (λ b. b || list_any p xs) e ∙ any-counted p xs ∙ ap (nat_lt 0) (sym same)
-]
+any-counted p (x ∷ xs) = grind (arith, cases_Bool, count-cons, or_left, lt-ltb, any-counted p xs)
 
 -- if no row passes the test, none is counted
 pub none-counted : {X : Type 0} (p : X → Bool) (xs : List X) → list_any p xs ≡ false → count_by p xs ≡ 0
-none-counted p xs h = let none = ltb-false 0 (count_by p xs) (sym (any-counted p xs) ∙ h) in omega arith
+none-counted p xs h = grind (arith, any-counted)
 
 -- if some row passes the test, at least one is counted
 pub some-counted : {X : Type 0} (p : X → Bool) (xs : List X) → list_any p xs ≡ true → 1 ≤ count_by p xs
-some-counted p xs h = let some = ltb-true 0 (count_by p xs) (sym (any-counted p xs) ∙ h) in omega arith
+some-counted p xs h = grind (arith, any-counted)
 
 -- if at least one row is counted, some row passes the test
 pub counted-any : {X : Type 0} (p : X → Bool) (xs : List X) → 1 ≤ count_by p xs → list_any p xs ≡ true
-counted-any p xs h = any-counted p xs ∙ lt-ltb 0 (count_by p xs) (omega arith)
+counted-any p xs h = grind (arith, any-counted)
 
 -- if a text is wrong that is doubled, or that a row has which is also bad, some row has a wrong text
 text-any : {X : Type 0} (key : X → List ℕ) (bad : X → Bool) (wrong : List ℕ → Bool) (text : List ℕ) (xs : List X)
@@ -62,10 +44,7 @@ text-any {X} key bad wrong text xs e f = any-more same (λ x. wrong (key x)) xs 
     same x = same_text (key x) text
 
     some : list_any same xs ≡ true
-    some = elim (or_cases (is_duplicate same xs) (list_any (λ x. same x && bad x) xs) e) [
-      | inl h ↦ let two = ltb-true 1 (count_by same xs) h in counted-any same xs (omega arith)
-      | inr h ↦ any-more (λ x. same x && bad x) same xs (λ x g. (and_parts (same x) (bad x) g).0) h
-    ]
+    some = grind (arith, or_cases, same, ltb-true, counted-any, any-more, and_parts)
 
 -- the first row that passes the test, by its finding
 sought : {X : Type 0} (view : FullView) (kind : ℕ) (test : X → Bool) (name : X → Finding) (xs : List X) (found : Option Finding)
@@ -74,11 +53,7 @@ sought : {X : Type 0} (view : FullView) (kind : ℕ) (test : X → Bool) (name :
     → ((finding : Finding) → rank finding ≡ kind → IsTrueOf view finding → list_any test xs ≡ true)
     → found ≡ option_map name (find test xs)
     → IsFindingOfKind view kind found
-sought view kind test name xs found ranked true_of any e = subst (IsFindingOfKind view kind) (sym e) (by_find (find test xs) refl)
-  where
-    by_find : (o : Option _) → find test xs ≡ o → IsFindingOfKind view kind (option_map name o)
-    by_find None h = λ finding r t. true≢false (sym (any finding r t) ∙ none-find test xs h)
-    by_find (Some x) h = (ranked x, true_of x (is-found test xs x h))
+sought view kind test name xs found ranked true_of any e = grind (arith, true≢false, none-find, is-found)
 
 step-is_ill : (view : FullView) (row : StepRow) → is_step_wrong view row ≡ true → has_invalid_seating view row.ceremony row.step row ≡ true
 step-is_ill view row h = rw (eq-eqb row.ceremony row.ceremony refl, eq-eqb row.step row.step refl) h
@@ -86,18 +61,7 @@ step-is_ill view row h = rw (eq-eqb row.ceremony row.ceremony refl, eq-eqb row.s
 -- the first step that is wrong is a finding of its kind, and without one no finding of the kind is true
 pub steps : (view : FullView) (found : Option Finding)
     → found ≡ option_map (λ row. Findings.Seating row.ceremony row.step) (find (is_step_wrong view) view.view.steps.items) → IsFindingOfKind view 0 found
-steps view found e =
-    sought view 0 (is_step_wrong view) (λ row. Findings.Seating row.ceremony row.step) view.view.steps.items found (λ row. refl)
-    (λ row f. f.any (has_invalid_seating view row.ceremony row.step) (step-is_ill view row f.passes)) by_kind e
-  where
-    by_kind : (finding : Finding) → rank finding ≡ 0 → IsTrueOf view finding → list_any (is_step_wrong view) view.view.steps.items ≡ true
-    by_kind (Findings.Seating c s) r t =
-        any-more (has_invalid_seating view c s) (is_step_wrong view) view.view.steps.items
-        (λ row h. (let p = and_parts (row.ceremony == c && row.step == s && is_done row.state)
-        (not (has_valid_seating view row (ceremony_in view row.ceremony) row.at)) h in
-        and_from (is_done row.state) (not (has_valid_seating view row (ceremony_in view row.ceremony) row.at))
-        (and_parts (row.ceremony == c && row.step == s) (is_done row.state) p.0).1 p.1)) t
-    by_kind other r t = absurd (omega (arith, r))
+steps view found e = grind (arith, sought, step-is_ill, any-more, and_parts, and_from)
 
 -- the first item that is wrong is a finding of its kind, and without one no finding of the kind is true
 pub items : (view : FullView) (found : Option Finding)

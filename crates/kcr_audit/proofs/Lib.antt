@@ -1,3 +1,4 @@
+mod Common
 pub mod Found
 pub mod Crowds
 pub mod Seen

@@ -1,39 +1,23 @@
 -- Nothing is found in the tables of a register.
-use Rattle.std.proofs.Common.{◌≡◌, ℕ, ◌<◌, ◌≤◌, Bool, true, false, cond, not, ◌||◌, ◌&&◌, List, [], ◌∷◌, map, Option, Some, None, is_some, refl, sym, ap, subst}
-use Rattle.std.proofs.Common.{◌∙◌, arith, inl, inr}
-use Rattle.std.specs.Prelude.{unwrap_or}
-use Rattle.std.specs.List.{list_any, count_by}
-use Rattle.std.specs.List.Sorted.{IsPermutation}
-use Rattle.std.proofs.lemmas.Bool.{true≢false, ltb-true, and_parts, and_from, and_right, or_cases, or_from, or_left, or_right, not-true}
-use Rattle.std.proofs.lemmas.List.Sorted.{list_any-IsPermutation, sum_by-IsPermutation}
-use Rattle.kcr_base.specs.Same.{same_text}
-use Rattle.kcr_room.proofs.Lists.{count-cons, map-map}
+use Rattle.kcr_audit.proofs.Common.{◌≡◌, ℕ, ◌≤◌, Bool, true, false, cond, not, ◌||◌, ◌&&◌, List, [], ◌∷◌, map, Option, Some, is_some, refl, sym, ap}
+use Rattle.kcr_audit.proofs.Common.{◌∙◌, arith, rules, unwrap_or, list_any, count_by, IsPermutation, true≢false, and_parts, and_right, not-true}
+use Rattle.kcr_audit.proofs.Common.{list_any-IsPermutation, sum_by-IsPermutation, same_text, count-cons, map-map, same-is, same-itself, same-turned}
+use Rattle.kcr_audit.proofs.Common.{any-same, any-map, any-more, KeyRow, FullView, Finding, IsTrueOf, is_duplicate, is_bag_there, is_lost}
+use Rattle.kcr_audit.proofs.Common.{is_in_missing_box, History, values_of_acts, is_kept, has_its_box, boxes, bags, bag_row, sealed_serial, item_row}
+use Rattle.kcr_audit.proofs.Common.{added_item, keys, key_row, tables, SameTables, IsRegister, rooms, tables_of}
 use Rattle.kcr_custody.specs.Balance.{all_differ, holds_items}
 use Rattle.kcr_custody.specs.Custody.{is_box}
 use Rattle.kcr_custody.specs.declared.Bag.{Bag}
 use Rattle.kcr_custody.specs.declared.Rest.{Rest}
-use Rattle.kcr_custody.specs.declared.Rest.TheVariants.{Loose, Within}
+use Rattle.kcr_custody.specs.declared.Rest.TheVariants.{Loose}
 use Rattle.kcr_custody.specs.declared.Spot.{Spot}
 use Rattle.kcr_custody.specs.declared.Spot.TheVariants.{InBox, Spent}
 use Rattle.kcr_base.specs.declared.place.Facility.TheVariants.{East}
-use Rattle.kcr_base.proofs.SameLemmas.{same-is, same-itself, same-turned}
-use Rattle.kcr_base.proofs.ListLemmas.{any-same, any-map, any-more}
-use Rattle.kcr_history.specs.declared.row_types.KeyRow.{KeyRow}
 use Rattle.kcr_history.specs.declared.views.Finding.TheVariants as Findings
-use Rattle.kcr_history.specs.declared.views.FullView.{FullView}
-use Rattle.kcr_room.specs.Room.{headcount_by}
-use Rattle.kcr_history.specs.declared.views.Finding.{Finding}
-use Rattle.kcr_history.specs.Audit.{IsTrueOf, is_duplicate, is_bag_there, is_lost, is_in_missing_box}
-use Rattle.kcr_history.specs.History.{History, values_of_acts}
 use Rattle.kcr_history.specs.Custody.{spot, rest}
-use Rattle.kcr_history.specs.Laws.{is_kept, has_its_box}
-use Rattle.kcr_history.specs.Tables.{boxes, bags, bag_row, sealed_serial, item_row, added_item, keys, key_row, tables, SameTables}
-use Rattle.kcr_history.specs.Machine.{IsRegister}
 use Rattle.kcr_laws.proofs.Once.{once}
 use Rattle.kcr_laws.proofs.Balance.{balanced}
-use Rattle.kcr_laws.proofs.Alone.{rooms}
 use Rattle.kcr_audit.proofs.Alike.{shown-crowd}
-use Rattle.kcr_audit.specs.Views.{tables_of}
 use Rattle.kcr_audit.proofs.Found.{none-counted}
 use Rattle.kcr_laws.proofs.Stored.{sealed_somewhere, box-there}
 use Rattle.kcr_audit.proofs.Filed.{no-seating}
@@ -49,9 +33,7 @@ differ-once key text (x ∷ xs) h = by_test (same_text (key x) text) refl (diffe
     p = and_parts (not (list_any (same_text (key x)) (map key xs))) (all_differ (map key xs)) h
 
     others : same_text (key x) text ≡ true → list_any (λ y. same_text (key y) text) xs ≡ false
-    others e =
-        any-same (λ y. same_text (key y) text) (λ y. same_text text (key y)) xs (λ y. same-turned (key y) text) ∙ sym (any-map (same_text text) key xs)
-        ∙ subst (λ t. list_any (same_text t) (map key xs) ≡ false) (same-is (key x) text e) (not-true (list_any (same_text (key x)) (map key xs)) p.0)
+    others e = grind (arith, any-same, same-turned, any-map, same-is, not-true, p)
 
     by_test : (b : Bool) → same_text (key x) text ≡ b → count_by (λ y. same_text (key y) text) xs ≤ 1 → count_by (λ y. same_text (key y) text) (x ∷ xs) ≤ 1
     by_test true e ih = let next = count-cons (λ y. same_text (key y) text) x xs true e in let none = none-counted (λ y. same_text (key y) text) xs
@@ -61,11 +43,7 @@ differ-once key text (x ∷ xs) h = by_test (same_text (key x) text) refl (diffe
 not-doubled : {X : Type 0} (key : X → List ℕ) (text : List ℕ) (rows shown : List X) → all_differ (map key rows) ≡ true → IsPermutation rows shown
     → is_duplicate (λ x. same_text (key x) text) shown ≡ true → ⊥
 not-doubled key text rows shown h p d =
-    let once = differ-once key text rows h in
-    let same : count_by (λ x. same_text (key x) text) shown ≡ count_by (λ x. same_text (key x) text) rows =
-    sum_by-IsPermutation (λ x. cond (same_text (key x) text) 1 0) rows shown p in
-    let more = ltb-true 1 (count_by (λ x. same_text (key x) text) shown) d in
-    omega arith
+    let same = sum_by-IsPermutation (λ x. cond (same_text (key x) text) 1 0) rows shown p in grind (arith, differ-once key text rows h)
 
 -- ROWS THAT ARE MADE OF TEXTS
 
@@ -73,15 +51,12 @@ not-doubled key text rows shown h p d =
 none-made : {X : Type 0} (p : X → Bool) (make : List ℕ → X) (texts : List (List ℕ))
     → ((text : List ℕ) → list_any (same_text text) texts ≡ true → p (make text) ≡ false) → list_any p (map make texts) ≡ false
 none-made p make [] f = refl
-none-made p make (text ∷ texts) f =
-    or_from (p (make text)) (list_any p (map make texts)) (f text (or_left (same_text text text) (list_any (same_text text) texts) (same-itself text)))
-    (none-made p make texts (λ other g. f other (or_right (same_text other text) (list_any (same_text other) texts) g)))
+none-made p make (text ∷ texts) f = grind (arith, f, same-itself text, none-made p make texts)
 
 -- a row that is there passes
 one-made : {X : Type 0} (p : X → Bool) (make : List ℕ → X) (text : List ℕ) (texts : List (List ℕ))
     → list_any (λ t. same_text t text) texts ≡ true → p (make text) ≡ true → list_any p (map make texts) ≡ true
-one-made p make text texts m f = any-map p make texts
-    ∙ any-more (λ t. same_text t text) (λ t. p (make t)) texts (λ t e. subst (λ t. p (make t) ≡ true) (sym (same-is t text e)) f) m
+one-made p make text texts m f = search (rules, any-map, any-more, same-is)
 
 own-texts : {X : Type 0} (key : X → List ℕ) (make : List ℕ → X) (texts : List (List ℕ)) → ((text : List ℕ) → key (make text) ≡ text)
     → map key (map make texts) ≡ texts
@@ -94,40 +69,31 @@ none-wrong : {X : Type 0} (key : X → List ℕ) (make : List ℕ → X) (bad : 
     → ((text : List ℕ) → list_any (same_text text) texts ≡ true → bad (make text) ≡ false) → (text : List ℕ)
     → (is_duplicate (λ x. same_text (key x) text) shown || list_any (λ x. same_text (key x) text && bad x) shown) ≡ true → ⊥
 none-wrong key make bad texts shown own differ p good text t =
-    elim (or_cases (is_duplicate (λ x. same_text (key x) text) shown) (list_any (λ x. same_text (key x) text && bad x) shown) t) [
-      | inl d ↦ not-doubled key text (map make texts) shown (ap all_differ (own-texts key make texts own) ∙ differ) p d
-      | inr w ↦
-          true≢false (sym w ∙ sym (list_any-IsPermutation (λ x. same_text (key x) text && bad x) (map make texts) shown p)
-          ∙ none-made (λ x. same_text (key x) text && bad x) make texts
-          (λ made m. and_right (same_text (key (make made)) text) (bad (make made)) (good made m)))
-    ]
+    let same = list_any-IsPermutation (λ x. same_text (key x) text && bad x) (map make texts) shown p in
+    let none = none-made (λ x. same_text (key x) text && bad x) make texts
+    (λ made m. and_right (same_text (key (make made)) text) (bad (make made)) (good made m)) in
+    grind (arith, not-doubled key text (map make texts) shown, own-texts key make texts own)
 
 -- BY THE KIND OF FINDING
 
 holding : (o : Option Spot) → holds_items o ≡ true → (is_some o ≡ true) × (holds_items (Some (unwrap_or o Spent)) ≡ true)
-holding None h = absurd (true≢false (sym h))
-holding (Some s) h = (refl, h)
+holding o h = grind (arith, true≢false)
 
 module _ (A : History) (h : IsRegister A) (view : FullView) (same : SameTables (tables A) (tables_of view)) where
   -- a bag of the register is in a box that is there
   boxed-bag : (o : Option Spot) → has_its_box A o ≡ true → is_in_missing_box view (unwrap_or o Spent) ≡ false
-  boxed-bag (Some (InBox f n)) e = ap not (sym (list_any-IsPermutation (is_box f n) (boxes A) view.view.boxes.items same.boxes) ∙ box-there A f n ∙ e)
+  boxed-bag (Some (InBox f n)) e = grind (arith, list_any-IsPermutation (is_box f n) (boxes A) view.view.boxes.items same.boxes, box-there A f n)
   boxed-bag other e = refl
 
   -- a bag of the register that is not spent is there
   bag-there : (serial : List ℕ) → holds_items (spot A serial) ≡ true → is_bag_there view serial ≡ true
   bag-there serial e =
-      let held = holding (spot A serial) e in
-      let there = and_from (same_text serial serial) (holds_items (Some (unwrap_or (spot A serial) Spent))) (same-itself serial) held.1 in
-      sym (list_any-IsPermutation is_there (bags A) view.view.bags.items same.bags)
-      ∙ one-made is_there (bag_row A) serial (values_of_acts sealed_serial A) (sealed_somewhere A h serial ∙ held.0) there
-    where
-      is_there : Bag → Bool
-      is_there bag = same_text bag.serial serial && holds_items (Some bag.spot)
+      let is_there = λ (bag : Bag). same_text bag.serial serial && holds_items (Some bag.spot) in
+      let shown = list_any-IsPermutation is_there (bags A) view.view.bags.items same.bags in
+      grind (arith, holding, same-itself serial, one-made is_there (bag_row A) serial (values_of_acts sealed_serial A), sealed_somewhere A h serial)
 
   kept-item : (o : Option Rest) → is_kept A o ≡ true → is_lost view (unwrap_or o (Loose East)) ≡ false
-  kept-item (Some (Within serial)) k = ap not (bag-there serial k)
-  kept-item other k = refl
+  kept-item o k = grind (arith, bag-there)
 
   -- no finding is true of the rows of a register
   pub passing : (finding : Finding) → IsTrueOf view finding → ⊥
@@ -141,8 +107,4 @@ module _ (A : History) (h : IsRegister A) (view : FullView) (same : SameTables (
   passing (Findings.Key key) t =
       not-doubled (λ row. row.key) key (keys A) view.keys.items (ap all_differ (map-map (λ (row : KeyRow). row.key) key_row A) ∙ once A h) same.keys t
   passing (Findings.Lone c m) t = (rooms A h c m).0 (sym (shown-crowd A h view.sheet.items same.sheet c m) ∙ t)
-  passing (Findings.Crowd c m) t =
-      let e = shown-crowd A h view.sheet.items same.sheet c m in
-      let few = (rooms A h c m).1 in
-      let many : 128 < headcount_by view.sheet.items c m = t in
-      omega arith
+  passing (Findings.Crowd c m) t = grind (arith, shown-crowd A h view.sheet.items same.sheet c m, (rooms A h c m).1)

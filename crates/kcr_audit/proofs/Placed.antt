@@ -1,36 +1,19 @@
 -- The rows of a step's seats, in whatever order they come, are those people once they are put in order.
-use Rattle.std.proofs.Common.{◌≡◌, ℕ, suc, ◌<◌, Bool, true, false, cond, ◌&&◌, nat_lt, List, [], ◌∷◌, map, refl, sym, ap, ◌∙◌, arith, inl, inr}
-use Rattle.std.specs.List.Sorted.{IsPermutation}
-use Rattle.std.proofs.lemmas.Bool.{cases_order, ltb-true, ltb-false, lt-ltb, le-ltb, eq-eqb}
-use Rattle.kcr_base.proofs.RowsLemmas.{Shuffled, shuffled, nothing, under, flipped, after}
-use Rattle.kcr_base.proofs.Members.{IsIn, in-shuffled}
-use Rattle.kcr_history.specs.declared.row_types.SeatingRow.{SeatingRow}
-use Rattle.kcr_history.specs.Tables.{seat_rows}
-use Rattle.kcr_history.specs.Audit.{are_numbered}
-use Rattle.kcr_audit.specs.Defects.{put_row, rows_in_order}
+use Rattle.kcr_audit.proofs.Common.{◌≡◌, ℕ, suc, ◌<◌, true, List, [], ◌∷◌, map, refl, sym, ap, ◌∙◌, arith, inl, inr, IsPermutation, cases_order}
+use Rattle.kcr_audit.proofs.Common.{ltb-true, ltb-false, lt-ltb, le-ltb, eq-eqb, Shuffled, shuffled, nothing, under, flipped, after, IsIn}
+use Rattle.kcr_audit.proofs.Common.{in-shuffled, SeatingRow, seat_rows, are_numbered, put_row, rows_in_order}
 
 -- BY SEATS
 
 -- two rows of different seats, put in their places in either order
 put-apart : (x y : SeatingRow) (zs : List SeatingRow) → x.seat < y.seat → put_row x (put_row y zs) ≡ put_row y (put_row x zs)
 put-apart x y [] l = rw (le-ltb y.seat x.seat (omega arith), lt-ltb x.seat y.seat l) refl
-put-apart x y (z ∷ zs) l = by_tests (nat_lt z.seat x.seat) (nat_lt z.seat y.seat) refl refl (put-apart x y zs l)
-  where
-    by_tests : (a b : Bool) → nat_lt z.seat x.seat ≡ a → nat_lt z.seat y.seat ≡ b → put_row x (put_row y zs) ≡ put_row y (put_row x zs)
-        → put_row x (cond b (z ∷ put_row y zs) (y ∷ z ∷ zs)) ≡ put_row y (cond a (z ∷ put_row x zs) (x ∷ z ∷ zs))
-    by_tests true true e f ih = rw (e, f) (ap (λ rest. z ∷ rest) ih)
-    by_tests false true e f ih = rw (e, f, lt-ltb x.seat y.seat l) refl
-    by_tests false false e f ih = rw (le-ltb y.seat x.seat (omega arith), lt-ltb x.seat y.seat l, f) refl
-    by_tests true false e f ih = absurd (let m = ltb-true z.seat x.seat e in let n = ltb-false z.seat y.seat f in omega arith)
+put-apart x y (z ∷ zs) l = grind (arith, lt-ltb, le-ltb, ltb-true, ltb-false, put-apart x y zs l)
 
 -- two rows put in their places in either order, if they are one if they have one seat
 put-both : (x y : SeatingRow) (zs : List SeatingRow) → (x.seat ≡ y.seat → x ≡ y)
     → put_row x (put_row y zs) ≡ put_row y (put_row x zs)
-put-both x y zs same = elim (cases_order x.seat y.seat) [
-  | inl e ↦ ap (λ z. put_row z (put_row y zs)) (same e) ∙ ap (λ z. put_row y (put_row z zs)) (sym (same e))
-  | inr (inl l) ↦ put-apart x y zs l
-  | inr (inr l) ↦ sym (put-apart y x zs l)
-]
+put-both x y zs same = grind (arith, cases_order, put-apart)
 
 -- ROWS THAT ARE ONE WHERE THEIR SEAT IS ONE
 
@@ -48,9 +31,8 @@ order-same (after xs ys zs s t) one =
 -- THE ROWS OF THE SEATS
 
 seats-above : (c k i : ℕ) (people : List (List ℕ)) (y : SeatingRow) → IsIn y (seat_rows c k i people) → i < y.seat
-seats-above c k i [] y m = absurd m
-seats-above c k i (who ∷ people) y (inl e) = let s : y.seat ≡ suc i = ap (λ (row : SeatingRow). row.seat) e in omega arith
-seats-above c k i (who ∷ people) y (inr m) = let l = seats-above c k (suc i) people y m in omega arith
+seats-above c k i [] y m = grind arith
+seats-above c k i (who ∷ people) y m = grind (arith, seats-above c k (suc i) people y)
 
 seats-one : (c k i : ℕ) (people : List (List ℕ)) → OneEach (seat_rows c k i people)
 seats-one c k i [] r o m n e = absurd m
@@ -64,14 +46,8 @@ seats-one c k i (who ∷ people) r o (inr m) (inr n) e = seats-one c k (suc i) p
 -- they stay as they are
 seats-stay : (c k i : ℕ) (people : List (List ℕ)) → rows_in_order (seat_rows c k i people) ≡ seat_rows c k i people
 seats-stay c k i [] = refl
-seats-stay c k i (who ∷ people) = ap (put_row row) (seats-stay c k (suc i) people) ∙ first people
-  where
-    row : SeatingRow
-    row = record { ceremony = c; step = k; seat = suc i; who = who }
-
-    first : (people : List (List ℕ)) → put_row row (seat_rows c k (suc i) people) ≡ row ∷ seat_rows c k (suc i) people
-    first [] = refl
-    first (next ∷ people) = rw (le-ltb (suc (suc i)) (suc i) (omega arith)) refl
+seats-stay c k i (who ∷ []) = refl
+seats-stay c k i (who ∷ next ∷ people) = grind (arith, seats-stay c k (suc i) (next ∷ people))
 
 -- in order, the rows of the seats are those that they were before
 pub seats-in-order : (c k i : ℕ) (people : List (List ℕ)) (rows : List SeatingRow) → IsPermutation (seat_rows c k i people) rows
@@ -86,5 +62,4 @@ people-of-seats c k i (who ∷ people) = ap (λ rest. who ∷ rest) (people-of-s
 -- they are numbered one after the other
 pub seats-numbered : (c k i : ℕ) (people : List (List ℕ)) → are_numbered (suc i) (seat_rows c k i people) ≡ true
 seats-numbered c k i [] = refl
-seats-numbered c k i (who ∷ people) =
-    ap (λ b. b && are_numbered (suc (suc i)) (seat_rows c k (suc i) people)) (eq-eqb (suc i) (suc i) refl) ∙ seats-numbered c k (suc i) people
+seats-numbered c k i (who ∷ people) = grind (arith, eq-eqb, seats-numbered c k (suc i) people)

@@ -1,22 +1,14 @@
 -- What the register answers to one message, from what its calls say.
-use Rattle.std.proofs.Common.{◌≡◌, List, ℕ, refl, sym, ap, subst, ◌∙◌, arith, inl, inr}
-use Rattle.std.specs.Prelude.{◌⊎◌, ◌≢◌, ◌↔◌, Bool, true, false, is_some, unwrap_or, Option, Some, None, Result, Err, MatchBool, MatchOption, MatchResult, IsSome, IsTrue}
-use Rattle.std.proofs.lemmas.Bool.{true≢false}
-use Rattle.sqlite.specs.Held.{state}
-use Rattle.sqlite.specs.State.{HasCleanDisk}
-use Rattle.sqlite.specs.Store.{Ghosts}
-use Rattle.kcr_base.specs.Refusal.{status_of}
-use Rattle.kcr_base.specs.declared.refusal.Refusal.{Refusal}
+use Rattle.kcr_desk.proofs.Common.{◌≡◌, List, ℕ, refl, sym, ap, subst, ◌∙◌, arith, inl, inr, ◌↔◌, Bool, true, is_some, unwrap_or, Option, None}
+use Rattle.kcr_desk.proofs.Common.{Result, Err, MatchBool, MatchOption, MatchResult, IsSome, false_from_ne_true, state, HasCleanDisk, Ghosts, Refusal}
+use Rattle.kcr_desk.proofs.Common.{History, Tables, Leads, ReadsHistory, RowsLead, OfHistory, OfRows, left_at, RegisterState, ShowsAt, StandsAt}
+use Rattle.kcr_desk.proofs.Common.{not_in_doubt, RegisterHistory, TakesByRows, ReadsRows, whole, json_response, refusal_response, RespondsOrMemory}
+use Rattle.kcr_desk.proofs.Common.{ReadsAsHistory, RespondsRefusal, RespondsUnread, Replies, Answered, AnswersReading, ResponseValue}
+use Rattle.std.specs.Prelude.{◌⊎◌, ◌≢◌, false, Some, IsTrue}
 use Rattle.kcr_base.specs.declared.refusal.Refusal.TheVariants as Refusals
 use Rattle.kcr_base.proofs.RefuseLemmas.{is_memory}
-use Rattle.kcr_history.specs.History.{History}
 use Rattle.kcr_history.specs.Refusals.{carries}
-use Rattle.kcr_history.specs.Tables.{Tables}
-use Rattle.kcr_store.specs.Calls.{Leads, ReadsHistory, RowsLead, OfHistory, OfRows, left_at}
-use Rattle.kcr_store.specs.Register.{RegisterState, ShowsAt, StandsAt}
-use Rattle.kcr_store.proofs.WholeLemmas.{not_in_doubt}
-use Rattle.kcr_desk.specs.Answers.{RegisterHistory, RegisterRows, TakesByRows, ReadsRows, whole, json_response, refusal_response, RespondsOrMemory, ReadsAsHistory, RespondsRefusal, RespondsUnread, Replies, Answered, AnswersReading}
-use Rattle.kcr_desk.specs.Texts.{ResponseValue}
+use Rattle.kcr_desk.specs.Answers.{RegisterRows}
 use Rattle.kcr_wire.specs.Endpoints.{allow_of, if_method}
 use Rattle.kcr_wire.specs.declared.allow.Allow.{Allow}
 
@@ -39,18 +31,11 @@ refused_or_memory told_by told r as_refusal (inr c) =
 -- a text that is told is no refusal
 pub text_is_not_memory : (text : List ℕ) (told : ResponseValue) → told ≡ json_response text → told ≡ refusal_response None Refusals.Memory → ⊥
 text_is_not_memory text told e m =
-    let same : 200 ≡ status_of Refusals.Memory = ap (λ t. t.heading.status) (sym e ∙ m) in absurd (omega arith)
+    absurd (omega (arith, ap (λ t. t.heading.status) (sym e ∙ m)))
 
-not_some : {T : Type 0} (o : Option T) → (IsSome o → ⊥) → o ≡ None
-not_some None h = refl
-not_some (Some x) h = absurd (h refl)
-
-still : (before after : RegisterHistory) → after.accepted ≡ before.accepted → before.in_doubt ≡ None → after.in_doubt ≡ None → after ≡ before
+-- the same history, of which none is in doubt
+pub still : (before after : RegisterHistory) → after.accepted ≡ before.accepted → before.in_doubt ≡ None → after.in_doubt ≡ None → after ≡ before
 still before after p q r = λ i. record { accepted = p i; in_doubt = (r ∙ sym q) i }
-
--- a history of which none is in doubt
-whole_is : (s : RegisterHistory) → s.in_doubt ≡ None → s ≡ whole s.accepted
-whole_is s none = λ i. record { accepted = s.accepted; in_doubt = none i }
 
 -- A RESULT THAT IS TOLD
 
@@ -74,13 +59,9 @@ abbrev pub MakesRows : {Value : Type 0} → (RegisterRows → Result Value Refus
     → RegisterRows → RegisterRows → Type 0
 MakesRows Does result t end = (t.is_broken ≡ false → Does t result end) × (IsTrue t.is_broken → end ≡ t)
 
--- a test that does not hold is false
-pub not_so : (b : Bool) → (IsTrue b → ⊥) → b ≡ false
-not_so true never = absurd (never refl)
-not_so false never = refl
-
 -- a history is in doubt, or none is
-by_option : {T : Type 0} (Whole Broken : Type 0) (o : Option T) → MatchBool (is_some o) Broken Whole → MatchOption o Whole (λ _. Broken)
+by_option : {T Refused : Type 0} (Whole Broken : Type 0) (o : Option T) → Refused ⊎ MatchBool (is_some o) Broken Whole
+    → Refused ⊎ MatchOption o Whole (λ _. Broken)
 by_option Whole Broken None h = h
 by_option Whole Broken (Some x) h = h
 
@@ -99,25 +80,10 @@ module _ {S Value : Type 0} (g : Ghosts S) (before after : RegisterState S) (tol
       let b = broken refl in inr (tells ∙ ap told_by b.0 ∙ as_refusal Refusals.Broken, b.1)
   answered_by s end Does true broken does stays (inr m) = absurd (m.2 (broken refl).0)
 
-  replied_by : (MayBe : Result Value Refusal → Type 0) (is_broken : Bool) → MayBe (Err Refusals.Memory)
-      → (IsTrue is_broken → (result ≡ Err Refusals.Broken) × (after.is_broken ≡ is_broken)) → (is_broken ≡ false → MayBe result)
-      → (is_broken ≡ false → IsTrue after.is_broken ↔ (result ≡ Err Refusals.Disk)) → RespondsOrMemory told_by result told
-      → Replies told_by MayBe is_broken told after.is_broken
-  replied_by MayBe false memory broken may breaks (inl tells) = (result, tells, (may refl, breaks refl))
-  replied_by MayBe false memory broken may breaks (inr m) = (
-    Err Refusals.Memory,
-    m.0 ∙ sym (as_refusal Refusals.Memory),
-    (memory, ((λ some. absurd (m.1 ((breaks refl).0 some))), (λ is. cc))),
-  )
-  replied_by MayBe true memory broken may breaks (inl tells) =
-      let b = broken refl in (tells ∙ ap told_by b.0 ∙ as_refusal Refusals.Broken, b.1)
-  replied_by MayBe true memory broken may breaks (inr m) = absurd (m.2 (broken refl).0)
-
   -- what is done of the result, if out of memory is told in its place only if the history and the rows stay
   pub result_answered : (Does : RegisterHistory → RegisterHistory → Result Value Refusal → Type 0)
       (ByRows : RegisterRows → Result Value Refusal → RegisterRows → Type 0) (MayBe : Result Value Refusal → Type 0)
-      → MayBe (Err Refusals.Memory) → (before.is_broken ≡ false → MayBe result)
-      → (IsTrue before.is_broken → (result ≡ Err Refusals.Broken) × (after ≡ before))
+      → (before.is_broken ≡ false → MayBe result) → (IsTrue before.is_broken → (result ≡ Err Refusals.Broken) × (after ≡ before))
       → (before.is_broken ≡ false → IsTrue after.is_broken ↔ (result ≡ Err Refusals.Disk))
       → Leads g before after (Makes Does result)
       → ((s end : RegisterHistory) → told ≡ refusal_response None Refusals.Memory → Does s end result → end.accepted ≡ s.accepted)
@@ -129,52 +95,51 @@ module _ {S Value : Type 0} (g : Ghosts S) (before after : RegisterState S) (tol
       (λ _. RespondsRefusal old told new Refusals.Broken))
       (λ old new. TakesByRows told_by ByRows old told new)
       (λ old new. Replies told_by MayBe old told new)
-  result_answered Does ByRows MayBe memory may broken breaks leads stays rows_lead rows_stay clean tells = record {
-    clean = clean;
-    reply = inr (replied_by MayBe before.is_broken memory (λ yes. let b = broken yes in (b.0, ap (λ (r : RegisterState S). r.is_broken) b.1)) may breaks tells);
-    answer = λ now s at.
-        let end = leads now s at in
-        let calm : is_some s.in_doubt ≡ false → result ≢ Err Refusals.Disk → end.0.in_doubt ≡ None =
-        λ whole n. not_some end.0.in_doubt (λ some. n ((breaks (at.broken ∙ whole)).0 (end.1.broken ∙ some))) in (
-          end.0,
-          end.1,
-          elim (answered_by s end.0 (Does s end.0) (is_some s.in_doubt) (λ some. ((broken (at.broken ∙ some)).0, end.2.1 some))
-              (λ whole. end.2.0 (not_in_doubt s.in_doubt whole))
-              (λ whole m n. let none = not_in_doubt s.in_doubt whole in still s end.0 (stays s end.0 m (end.2.0 none)) none (calm whole n))
-              tells) [
-                | inl out ↦ inl out
-                | inr does ↦ inr (by_option ((r : Result Value Refusal) × (told ≡ told_by r) × Does s end.0 r) (RespondsRefusal s told end.0 Refusals.Broken) s.in_doubt does)
-              ],
-        );
-    rows = λ now t at.
-        let end = rows_lead now t at in (
-          end.0,
-          end.1,
-          answered_by t end.0 (λ r. ByRows t r end.0) t.is_broken (λ yes. ((broken (at.broken ∙ yes)).0, end.2.1 yes)) end.2.0
-              (λ whole m n.
-              let same = rows_stay t end.0 m (end.2.0 whole) in
-              let calm : end.0.is_broken ≡ false = not_so end.0.is_broken (λ yes. n ((breaks (at.broken ∙ whole)).0 (end.1.broken ∙ yes))) in
-              λ i. record { rows = same.0 i; last_number = same.1 i; is_broken = (calm ∙ sym whole) i })
-              tells,
-        );
-  }
+  result_answered Does ByRows MayBe may broken breaks leads stays rows_lead rows_stay clean tells =
+      let calm : before.is_broken ≡ false → result ≢ Err Refusals.Disk → after.is_broken ≡ false =
+      λ whole n. false_from_ne_true after.is_broken (λ yes. n ((breaks whole).0 yes)) in
+      record {
+        clean = clean;
+        reply = answered_by before.is_broken after.is_broken (λ r. MayBe r × (IsTrue after.is_broken ↔ (r ≡ Err Refusals.Disk))) before.is_broken
+            (λ yes. let b = broken yes in (b.0, ap (λ (r : RegisterState S). r.is_broken) b.1)) (λ whole. (may whole, breaks whole))
+            (λ whole m n. calm whole n ∙ sym whole) tells;
+        answer = λ now s at.
+            let end = leads now s at in (
+              end.0,
+              end.1,
+              by_option ((r : Result Value Refusal) × (told ≡ told_by r) × Does s end.0 r) (RespondsRefusal s told end.0 Refusals.Broken) s.in_doubt
+                  (answered_by s end.0 (Does s end.0) (is_some s.in_doubt) (λ some. ((broken (at.broken ∙ some)).0, end.2.1 some))
+                  (λ whole. end.2.0 (not_in_doubt s.in_doubt whole))
+                  (λ whole m n.
+                  let none = not_in_doubt s.in_doubt whole in
+                  let calm_end = not_in_doubt end.0.in_doubt (sym end.1.broken ∙ calm (at.broken ∙ whole) n) in
+                  still s end.0 (stays s end.0 m (end.2.0 none)) none calm_end) tells),
+            );
+        rows = λ now t at.
+            let end = rows_lead now t at in (
+              end.0,
+              end.1,
+              answered_by t end.0 (λ r. ByRows t r end.0) t.is_broken (λ yes. ((broken (at.broken ∙ yes)).0, end.2.1 yes)) end.2.0
+                  (λ whole m n.
+                  let same = rows_stay t end.0 m (end.2.0 whole) in
+                  let is : end.0.is_broken ≡ t.is_broken = sym end.1.broken ∙ calm (at.broken ∙ whole) n ∙ sym whole in
+                  λ i. record { rows = same.0 i; last_number = same.1 i; is_broken = is i })
+                  tells,
+            );
+      }
 
-  -- what only reads
-  read_breaks : (s : RegisterHistory) → s.in_doubt ≡ None → (b : Bool) → IsSome (left_at b s).in_doubt ↔ IsTrue b
-  read_breaks s none true = (λ _. refl, λ _. refl)
-  read_breaks s none false = (λ some. ap is_some (sym none) ∙ some, λ yes. ap is_some none ∙ yes)
+  -- what is read of a history is said of it, and the history stays
+  read_as : (Says : History → Result Value Refusal → Type 0) (s : RegisterHistory) → s.in_doubt ≡ None → (b : Bool) → Says s.accepted result
+      → IsTrue b ↔ (result ≡ Err Refusals.Disk) → ReadsAsHistory Says s.accepted result (left_at b s)
+  read_as Says s none true says breaks =
+      record { says = says; same = refl; breaks = (λ _. breaks.0 refl, λ _. refl); tried = ap (λ o. unwrap_or o s.accepted) none }
+  read_as Says s none false says breaks =
+      record { says = says; same = refl; breaks = rw none breaks; tried = ap (λ o. unwrap_or o s.accepted) none }
 
-  read_same : (s : RegisterHistory) (b : Bool) → (left_at b s).accepted ≡ s.accepted
-  read_same s true = refl
-  read_same s false = refl
-
-  read_tried : (s : RegisterHistory) → s.in_doubt ≡ None → (b : Bool) → unwrap_or (left_at b s).in_doubt (left_at b s).accepted ≡ s.accepted
-  read_tried s none true = ap (λ o. unwrap_or o s.accepted) none
-  read_tried s none false = ap (λ o. unwrap_or o s.accepted) none
-
-  read_stays : (s : RegisterHistory) → IsSome s.in_doubt → (d : Option History) → s.in_doubt ≡ d → left_at true s ≡ s
-  read_stays s some None is = absurd (let no = sym some ∙ ap is_some is in cc)
-  read_stays s some (Some t) is = λ i. record { accepted = s.accepted; in_doubt = (ap (λ o. Some (unwrap_or o s.accepted)) is ∙ sym is) i }
+  read_stays : (A : History) (d : Option History) (b : Bool) → IsSome d → IsTrue b
+      → ◌≡◌ {A = RegisterHistory} (left_at b (record { accepted = A; in_doubt = d })) (record { accepted = A; in_doubt = d })
+  read_stays A None b some is = absurd cc
+  read_stays A (Some t) b some is = rw is refl
 
   -- the rows stay
   rows_kept : {MayFail : Refusal → Type 0} → ReadsHistory g MayFail before after result → (t : RegisterRows) → ShowsAt g t before
@@ -183,37 +148,27 @@ module _ {S Value : Type 0} (g : Ghosts S) (before after : RegisterState S) (tol
     broken = refl;
     number = looks.nothing.number ∙ at.number;
     shows = λ calm.
-        let whole : before.is_broken ≡ false =
-        not_so before.is_broken (λ yes. true≢false (sym (ap (λ (r : RegisterState S). r.is_broken) (looks.broken yes).1 ∙ yes) ∙ calm)) in
+        let whole : before.is_broken ≡ false = false_from_ne_true before.is_broken (λ yes. absurd (cc (looks.broken yes).1)) in
         looks.nothing.rows t.rows (at.shows (sym at.broken ∙ whole));
   }
 
   -- a reading is answered as its result says, or with out of memory
   pub reading_answered : (Says : History → Result Value Refusal → Type 0) (SaysBy : RegisterRows → Result Value Refusal → Type 0)
       (MayBe : Result Value Refusal → Type 0) {MayFail : Refusal → Type 0}
-      → MayBe (Err Refusals.Memory) → (before.is_broken ≡ false → MayBe result) → ReadsHistory g MayFail before after result
+      → (before.is_broken ≡ false → MayBe result) → ReadsHistory g MayFail before after result
       → OfHistory g before after (λ A. Says A result)
       → OfShown g before after (λ t. SaysBy t result) → RespondsOrMemory told_by result told
       → AnswersReading g before told after told_by MayBe Says SaysBy
-  reading_answered Says SaysBy MayBe memory may looks says says_by =
-      result_answered (λ old new r. ReadsAsHistory Says old.accepted r new) (ReadsRows SaysBy) MayBe memory may looks.broken looks.breaks
+  reading_answered Says SaysBy MayBe may looks says says_by =
+      result_answered (λ old new r. ReadsAsHistory Says old.accepted r new) (ReadsRows SaysBy) MayBe may looks.broken looks.breaks
       (λ clean s at. (
         left_at after.is_broken s,
         looks.stands s at,
         (
-          (λ none.
-              let intact : before.is_broken ≡ false = at.broken ∙ ap is_some none in
-              let to = read_breaks s none after.is_broken in
-              let breaks = looks.breaks intact in
-              record {
-                says = says clean s.accepted (subst (λ (t : RegisterHistory). StandsAt g t before) (whole_is s none) at);
-                same = read_same s after.is_broken;
-                breaks = (λ some. breaks.0 (to.0 some), λ is. to.1 (breaks.1 is));
-                tried = read_tried s none after.is_broken;
-              }),
-          (λ some.
-              let yes : IsTrue after.is_broken = ap (λ (r : RegisterState S). r.is_broken) (looks.broken (at.broken ∙ some)).1 ∙ at.broken ∙ some in
-              subst (λ (b : Bool). left_at b s ≡ s) (sym yes) (read_stays s some s.in_doubt refl)),
+          (λ none. read_as Says s none after.is_broken
+              (says clean s.accepted (subst (λ (t : RegisterHistory). StandsAt g t before) (still (whole s.accepted) s refl refl none) at))
+              (looks.breaks (at.broken ∙ ap is_some none))),
+          (λ some. read_stays s.accepted s.in_doubt after.is_broken some (cc ((looks.broken (at.broken ∙ some)).1, at.broken))),
         ),
       ))
       (λ s end m does. does.same)
@@ -223,14 +178,9 @@ module _ {S Value : Type 0} (g : Ghosts S) (before after : RegisterState S) (tol
         (
           (λ whole.
               let intact : before.is_broken ≡ false = at.broken ∙ whole in
-              record {
-                says = says_by intact clean t at;
-                rows = refl;
-                number = refl;
-                breaks = looks.breaks intact;
-              }),
+              record { says = says_by intact clean t at; rows = refl; number = refl; breaks = looks.breaks intact }),
           (λ yes.
-              let same : after.is_broken ≡ t.is_broken = ap (λ (r : RegisterState S). r.is_broken) (looks.broken (at.broken ∙ yes)).1 ∙ at.broken in
+              let same : after.is_broken ≡ t.is_broken = cc ((looks.broken (at.broken ∙ yes)).1, at.broken) in
               λ i. record { rows = t.rows; last_number = t.last_number; is_broken = same i }),
         ),
       ))

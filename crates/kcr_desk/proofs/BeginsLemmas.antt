@@ -1,16 +1,10 @@
 -- What was written after a fault is a prefix of what the whole input asks for.
-use Rattle.std.proofs.Common.{◌≡◌, ℕ, List, [], ◌∷◌, ◌++◌, refl, sym, ap, ◌∙◌, subst, append_assoc, inl, inr}
-use Rattle.std.specs.Prelude.{true, MatchBool, Ok}
-use Rattle.std.specs.List.{flat_map}
-use Rattle.std.proofs.lemmas.List.{append-nil}
-use Rattle.httparse.specs.Grammar.{RequestHead}
-use Rattle.kcr_desk.specs.declared.head.Framing.{Framing}
-use Rattle.kcr_base.specs.declared.refusal.Refusal.TheVariants.{Cut}
-use Rattle.kcr_desk.specs.Framing.{is_head}
-use Rattle.kcr_desk.specs.Stream.{Ending, clean_end, refused, cut_off, AreMessages, framing_of}
-use Rattle.kcr_desk.specs.Texts.{answer, continue_text, fault_response}
-use Rattle.kcr_desk.specs.Run.{Exchange, exchange_text, messages_of, ending_text, output, Begins, IsNextOutput, nothing, continues, ends}
-use Rattle.kcr_desk.proofs.CutLemmas.{match_both, EndsBy, end_by, same_plan, message_unique, message_not_end, end_unique}
+use Rattle.kcr_desk.proofs.Common.{◌≡◌, ℕ, List, [], ◌∷◌, ◌++◌, refl, sym, ap, ◌∙◌, subst, append_assoc, inl, inr, true, MatchBool, Ok, flat_map}
+use Rattle.kcr_desk.proofs.Common.{append-nil, RequestHead, Framing, Cut, is_head, Ending, clean_end, refused, cut_off, AreMessages, framing_of}
+use Rattle.kcr_desk.proofs.Common.{continue_text, fault_response, Exchange, exchange_text, messages_of, ending_text, output, Begins, IsNextOutput}
+use Rattle.kcr_desk.proofs.Common.{nothing, continues, ends}
+use Rattle.kcr_desk.specs.Texts.{answer}
+use Rattle.kcr_desk.proofs.CutLemmas.{match_both, EndsBy, end_by, head_unique, message_unique, message_not_end, end_unique}
 
 -- front begins text
 abbrev pub Starts : List ℕ → List ℕ → Type 0
@@ -34,7 +28,8 @@ next_starts : (b next : List ℕ) (zs : List Exchange) (e : Ending) → IsNextOu
 next_starts b next zs e nothing cut = (output zs e, refl)
 next_starts b next [] e (continues h r has why) cut = continue_ends h r _ e why (end_by b h r e has cut)
 next_starts b next (z ∷ zs) e (continues {plan = p} h r has why) cut =
-    let same : p ≡ z.message.plan = cc (why, same_plan b h z.message.head r (z.message.body ++ cut.0) has cut.1.head, cut.1.plan) in
+    let heads = head_unique b h z.message.head r (z.message.body ++ cut.0) has cut.1.head in
+    let same : p ≡ z.message.plan = cc (why, ap framing_of heads.0, cut.1.plan) in
     let rest = answer (is_head z.message.head.method) z.message.plan.closes z.reply ++ (flat_map exchange_text zs ++ ending_text e) in
     (rest, ap (λ t. continue_text t ++ rest) same ∙ (simp append_assoc))
 next_starts b next [] e (ends f end') cut = ([], append-nil (ending_text f) ∙ ap ending_text (end_unique b f e end' cut))

@@ -1,15 +1,8 @@
 -- Connections one after the other.
-use Rattle.std.proofs.Common.{ℕ, ◌+◌, List, [], ◌∷◌, ◌++◌, refl, sym, subst, arith, length-append}
-use Rattle.std.specs.Prelude.{Result, Ok, Err}
-use Rattle.sqlite.specs.Store.{Ghosts}
-use Rattle.kcr_store.specs.Register.{RegisterState}
-use Rattle.kcr_desk.specs.Answers.{RegisterHistory, AreOfMachine, AreRegisters, IsAnswer, IsReply}
-use Rattle.kcr_desk.specs.Connections.{Connects, Ends, Leads, Runs}
-use Rattle.kcr_desk.specs.Run.{Request, Exchange, Run}
-use Rattle.kcr_desk.specs.Streams.{Streams}
-use Rattle.kcr_desk.specs.Texts.{ResponseValue}
-use Rattle.kcr_desk.specs.declared.fault.DeskFault.{DeskFault}
-use Rattle.kcr_desk.specs.declared.stream.Served.{Served}
+use Rattle.kcr_desk.proofs.Common.{ℕ, ◌+◌, List, [], ◌∷◌, ◌++◌, refl, sym, subst, arith, length-append, Result, Ok, Err, Ghosts, RegisterState}
+use Rattle.kcr_desk.proofs.Common.{RegisterHistory, AreOfMachine, AreRegisters, IsAnswer, IsReply, Connects, Ends, Runs, Request, Exchange, Run}
+use Rattle.kcr_desk.proofs.Common.{Streams, ResponseValue, DeskFault, Served}
+use Rattle.kcr_desk.specs.Connections.{Leads}
 use Rattle.kcr_desk.proofs.RegisterLemmas.{run_keeps, run_leads}
 
 module _ {S : Type 0} (step : S → Request → ResponseValue → S → Type 0) where
@@ -37,11 +30,7 @@ module _ {S : Type 0} (step : S → Request → ResponseValue → S → Type 0) 
 module _ {S : Type 0} (g : Ghosts S) where
   -- no connection was served
   pub connects_none : (a : RegisterState S) → Connects g a a 0
-  connects_none a = record {
-    answers = λ clean s at. (s, at, ([], refl, refl));
-    replies = ([], refl, refl);
-    clean = λ clean. clean;
-  }
+  connects_none a = record { answers = λ clean s at. (s, at, ([], refl, refl)); replies = ([], refl, refl); clean = λ clean. clean }
 
   -- one was served that was not read
   pub connects_unread : (a : RegisterState S) → Connects g a a 1

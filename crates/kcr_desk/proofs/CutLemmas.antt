@@ -1,11 +1,9 @@
 -- A stream is cut in one way only.
-use Rattle.std.proofs.Common.{◌≡◌, ℕ, ◌<◌, List, [], ◌∷◌, ◌++◌, length, take, drop, refl, sym, ap, ◌∙◌, subst, arith, length-append, ◌⊎◌, inl, inr}
-use Rattle.std.specs.Prelude.{Bool, true, false, MatchBool, Ok, Err}
-use Rattle.std.proofs.Math.Seq.{take-append_seam, drop-append_seam}
-use Rattle.httparse.specs.Grammar.{RequestHead}
-use Rattle.httparse.proofs.GrammarLemmas.{request_unique}
-use Rattle.kcr_desk.specs.Framing.{is_head}
-use Rattle.kcr_desk.specs.Stream.{HasHead, framing_of, Message, IsMessage, IsEnd, Ending, clean_end, refused, cut_off, is_blank_rest, no_head, fails, is_cut, AreMessages}
+use Rattle.kcr_desk.proofs.Common.{◌≡◌, ℕ, ◌<◌, List, [], ◌∷◌, ◌++◌, length, take, drop, refl, sym, ap, ◌∙◌, subst, arith, length-append, ◌⊎◌, inl}
+use Rattle.kcr_desk.proofs.Common.{inr, Bool, true, MatchBool, Ok, Err, take-append_seam, drop-append_seam, RequestHead, request_unique, is_head}
+use Rattle.kcr_desk.proofs.Common.{HasHead, framing_of, Message, IsMessage, IsEnd, Ending, clean_end, refused, cut_off, is_blank_rest, no_head, fails}
+use Rattle.kcr_desk.proofs.Common.{is_cut, AreMessages}
+use Rattle.std.specs.Prelude.{false}
 use Rattle.kcr_desk.proofs.HeadLemmas.{head_not_quiet}
 
 same_front : (a b x y : List ℕ) → length a ≡ length b → a ++ x ≡ b ++ y → (a ≡ b) × (x ≡ y)
@@ -17,10 +15,6 @@ same_front a b x y l e = (
 -- bytes begin with at most one head, and one rest stands behind it
 pub head_unique : (b : List ℕ) (h k : RequestHead) (r q : List ℕ) → HasHead b h r → HasHead b k q → (h ≡ k) × (r ≡ q)
 head_unique b h k r q x y = request_unique b h k r q x.reads y.reads
-
--- two heads of the same bytes ask for the same
-pub same_plan : (b : List ℕ) (h k : RequestHead) (r q : List ℕ) → HasHead b h r → HasHead b k q → framing_of h ≡ framing_of k
-same_plan b h k r q x y = ap framing_of (head_unique b h k r q x y).0
 
 -- bytes begin with at most one message, and one rest stands behind it
 pub message_unique : (b : List ℕ) (m n : Message) (r q : List ℕ) → IsMessage b m r → IsMessage b n q → (m ≡ n) × (r ≡ q)

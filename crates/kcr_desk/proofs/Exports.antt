@@ -1,38 +1,25 @@
 -- The requests of commands are messages, and a run over those of a register leads to the register.
-use Rattle.std.proofs.Common.{◌≡◌, ◌≢◌, ℕ, Bool, true, false, List, [], ◌∷◌, ◌++◌, length, map, codes, inl, inr, Option, Some, None, Result, Ok, Err, IsTrue, refl, sym, ap, ◌∙◌, subst, arith, append_assoc}
-use Rattle.std.specs.Prelude.{MatchResult, IsSome, ◌↔◌}
-use Rattle.std.specs.List.{AllByRecursion}
-use Rattle.std.proofs.lemmas.Bool.Decides.{nat_tests}
-use Rattle.std.proofs.lemmas.List.Elements.{All-weaker}
-use Rattle.httparse.specs.Grammar.{is_uri_byte}
-use Rattle.kcr_base.specs.declared.refusal.Refusal.{Refusal}
-use Rattle.kcr_base.specs.declared.refusal.Refusal.TheVariants.{Memory, Disk}
-use Rattle.kcr_history.specs.History.{History, pushed_onto, entry_of}
-use Rattle.kcr_history.specs.Machine.{Outcome, Accepts, Refuses, machine, IsOfMachine, IsRegister}
+use Rattle.kcr_desk.proofs.Common.{◌≡◌, ◌≢◌, ℕ, false, List, [], ◌∷◌, ◌++◌, length, map, codes, inl, inr, Some, IsTrue, refl, sym, ap, ◌∙◌, subst}
+use Rattle.kcr_desk.proofs.Common.{arith, append_assoc, IsSome, ◌↔◌, AllByRecursion, false_from_ne_true, nat_tests, All-weaker, is_uri_byte, Refusal}
+use Rattle.kcr_desk.proofs.Common.{Memory, Disk, History, pushed_onto, entry_of, Outcome, Accepts, Refuses, machine, IsOfMachine, IsRegister}
+use Rattle.kcr_desk.proofs.Common.{ReplyData, Command, Reply, of_machine, repeated, command_of, Post, RegisterHistory, IsAnswer, AppliesAsMachine}
+use Rattle.kcr_desk.proofs.Common.{refusal_response, reply_response, json_response, message_of, IsSendable, requests_text, HadNoFault, kept_reply}
+use Rattle.kcr_desk.proofs.Common.{commands_of, AreSendable, request_of, Exchange, messages_of, Run, IsMessage, AreMessages, Message, clean_end}
+use Rattle.kcr_desk.proofs.Common.{is_blank_rest, ResponseValue}
+use Rattle.std.proofs.Common.{Option, None, Result, Ok, Err}
 use Rattle.kcr_history.specs.Texts.{path_text, reply_text, command_text}
-use Rattle.kcr_history.specs.declared.commands.ReplyData.{ReplyData}
-use Rattle.kcr_history.specs.declared.commands.Command.{Command}
 use Rattle.kcr_history.specs.declared.commands.Entry.{Entry}
-use Rattle.kcr_history.specs.declared.commands.Reply.{Reply}
 use Rattle.kcr_base.specs.Same.{same_text}
 use Rattle.kcr_base.proofs.SameLemmas.{same-is, same-itself}
-use Rattle.kcr_history.proofs.Steps.{of_machine}
-use Rattle.kcr_laws.proofs.Accepted.{repeated}
 use Rattle.kcr_laws.proofs.Fixed.{accepted_fixed, never_both}
-use Rattle.kcr_wire.specs.Commands.{command_of}
 use Rattle.kcr_wire.specs.Methods.{method_of}
-use Rattle.kcr_wire.specs.declared.method.Method.{Method}
-use Rattle.kcr_wire.specs.declared.method.Method.TheVariants.{Post}
 use Rattle.kcr_wire.specs.Bodies.{body_text}
 use Rattle.kcr_wire.specs.Requests.{head_text, request_text}
 use Rattle.kcr_wire.proofs.RequestsAgain.{told_again}
 use Rattle.kcr_wire.proofs.Paths.{IsPathByte, path-utf8}
 use Rattle.kcr_wire.proofs.Targets.{act-path}
-use Rattle.kcr_desk.specs.Answers.{RegisterHistory, AnswersBy, IsAnswer, TakesCommand, RespondsUnread, AppliesAsMachine, refusal_response, reply_response, json_response}
-use Rattle.kcr_desk.specs.Export.{message_of, IsSendable, requests_text, whole, HadNoFault, kept_reply, commands_of, AreSendable}
-use Rattle.kcr_desk.specs.Run.{request_of, Exchange, messages_of, Run}
-use Rattle.kcr_desk.specs.Stream.{IsMessage, AreMessages, Message, clean_end, is_blank_rest}
-use Rattle.kcr_desk.specs.Texts.{ResponseValue}
+use Rattle.kcr_desk.specs.Export.{whole}
+use Rattle.kcr_desk.proofs.AnswerLemmas.{still}
 use Rattle.kcr_desk.proofs.Posted.{message}
 
 -- ---- requests are messages
@@ -66,10 +53,6 @@ posts : method_of (codes "POST") ≡ Post
 unfolding method_of
 posts = refl
 
--- not broken, and the history is this one
-whole-is : (A : History) (after : RegisterHistory) (in_doubt : Option History) → after.in_doubt ≡ in_doubt → in_doubt ≡ None → A ≡ after.accepted → after ≡ whole A
-whole-is A after in_doubt e none same = λ j. record { accepted = sym same j; in_doubt = (e ∙ none) j }
-
 not-in_doubt : (in_doubt : Option History) (r : Reply) → (IsSome in_doubt ↔ ◌≡◌ {A = Result Reply Refusal} (Ok r) (Err Disk)) → in_doubt ≡ None
 not-in_doubt None r breaks = refl
 not-in_doubt (Some A) r breaks = absurd (let both = breaks.0 refl in cc)
@@ -80,49 +63,41 @@ answered : {G : Type 0} (x : Command) (B : History) (told : ResponseValue) (afte
     → ((result : Result Reply Refusal) → told ≡ reply_response result → AppliesAsMachine B x result after → G) → G
 answered x B told after is no_memory (inl refused) next = absurd (no_memory refused.0)
 answered x B told after is no_memory (inr answers) next =
-    let path = path_text x.act in
-    let by_post : AnswersBy Post (whole B) (request_of (message_of x)) told after =
-    subst (λ (m : Method). AnswersBy m (whole B) (request_of (message_of x)) told after) posts answers in
-    let by_command : TakesCommand (whole B) told after x =
-    subst (λ (r : Result Command Refusal). MatchResult r (TakesCommand (whole B) told after) (RespondsUnread (whole B) path told after)) (told_again x is.key is.act) by_post in
-    next by_command.0 by_command.1 by_command.2
+    let by_command = rw (posts, told_again x is.key is.act) at answers in next by_command.0 by_command.1 by_command.2
 
--- an accepted command leads to the history with it, and gets its reply
-module _ (entry : Entry) (B : History) (step : machine B entry.command (Accepts entry.reply) (entry ∷ B)) where
+-- a command for which the machine has this outcome alone gets the entry's reply, and leads to this history
+module _ (entry : Entry) (B end : History)
+    (only : (outcome : Outcome) (after : History) → machine B entry.command outcome after → (outcome ≡ Accepts entry.reply) × (after ≡ end)) where
+  same-answer : (a : ReplyData) → Accepts a ≡ Accepts entry.reply → a ≡ entry.reply
+  same-answer a e = cc
+
   performed : (told : ResponseValue) (after : RegisterHistory) (result : Result Reply Refusal)
       → told ≢ refusal_response None Memory → told ≢ refusal_response None Disk
-      → told ≡ reply_response result → AppliesAsMachine B entry.command result after → (after ≡ whole (entry ∷ B)) × (told ≡ kept_reply entry)
+      → told ≡ reply_response result → AppliesAsMachine B entry.command result after → (after ≡ whole end) × (told ≡ kept_reply entry)
   performed told after (Ok reply) no_memory no_disk is p =
-      let fixed = accepted_fixed B entry.command entry.reply p.step.0 (entry ∷ B) after.accepted step p.step.1 in (
-        whole-is (entry ∷ B) after after.in_doubt refl (not-in_doubt after.in_doubt reply p.breaks) fixed.1,
-        is ∙ ap json_response (p.step.2 ∙ ap reply_text (sym fixed.0)),
+      let kept = only (Accepts p.step.0) after.accepted p.step.1 in (
+        still (whole end) after kept.1 refl (not-in_doubt after.in_doubt reply p.breaks),
+        is ∙ ap json_response (p.step.2 ∙ ap reply_text (same-answer p.step.0 kept.0)),
       )
   performed told after (Err refusal) no_memory no_disk is p =
       let memory : refusal ≢ Memory = λ e. no_memory (is ∙ ap (refusal_response None) e) in
       let disk : refusal ≢ Disk = λ e. no_disk (is ∙ ap (refusal_response None) e) in
-      absurd (never_both B entry.command entry.reply refusal (entry ∷ B) after.accepted step (p.step.1 memory disk))
-
--- a command that the register has changes nothing, and gets its kept reply
-module _ (entry : Entry) (B : History) (found : entry_of B entry.command.key ≡ Some entry) where
-  same-answer : (a : ReplyData) → Accepts a ≡ Accepts entry.reply → a ≡ entry.reply
-  same-answer a e = cc
-
-  again : (outcome : Outcome) (after : History) → machine B entry.command outcome after → (outcome ≡ Accepts entry.reply) × (after ≡ B)
-  again outcome after m = repeated B entry.command entry found (same-itself (command_text entry.command.act)) outcome after m
-
-  performed-again : (told : ResponseValue) (after : RegisterHistory) (result : Result Reply Refusal)
-      → told ≢ refusal_response None Memory → told ≢ refusal_response None Disk
-      → told ≡ reply_response result → AppliesAsMachine B entry.command result after → (after ≡ whole B) × (told ≡ kept_reply entry)
-  performed-again told after (Ok reply) no_memory no_disk is p =
-      let kept = again (Accepts p.step.0) after.accepted p.step.1 in (
-        whole-is B after after.in_doubt refl (not-in_doubt after.in_doubt reply p.breaks) (sym kept.1),
-        is ∙ ap json_response (p.step.2 ∙ ap reply_text (same-answer p.step.0 kept.0)),
-      )
-  performed-again told after (Err refusal) no_memory no_disk is p =
-      let memory : refusal ≢ Memory = λ e. no_memory (is ∙ ap (refusal_response None) e) in
-      let disk : refusal ≢ Disk = λ e. no_disk (is ∙ ap (refusal_response None) e) in
-      let kept = again (Refuses refusal) after.accepted (p.step.1 memory disk) in
+      let kept = only (Refuses refusal) after.accepted (p.step.1 memory disk) in
       absurd (let apart : Refuses refusal ≡ Accepts entry.reply = kept.0 in cc)
+
+  -- so a run's first exchange is answered, by the message of the command
+  one : (x : Exchange) (next : RegisterHistory) → IsSendable entry.command → x.message ≡ message_of entry.command → HadNoFault x
+      → IsAnswer (whole B) (request_of x.message) x.reply next → (next ≡ whole end) × (x.reply ≡ kept_reply entry)
+  one x next is same faults answer =
+      answered entry.command B x.reply next is faults.0 (subst (λ (m : Message). IsAnswer (whole B) (request_of m) x.reply next) same answer)
+      (λ result told p. performed x.reply next result faults.0 faults.1 told p)
+
+-- an accepted command leads to the history with it, and gets its reply
+stepped : (entry : Entry) (B : History) → machine B entry.command (Accepts entry.reply) (entry ∷ B)
+    → (outcome : Outcome) (after : History) → machine B entry.command outcome after → (outcome ≡ Accepts entry.reply) × (after ≡ entry ∷ B)
+stepped entry B step (Accepts answer) after m =
+    let fixed = accepted_fixed B entry.command entry.reply answer (entry ∷ B) after step m in (ap Accepts (sym fixed.0), sym fixed.1)
+stepped entry B step (Refuses refusal) after m = absurd (never_both B entry.command entry.reply refusal (entry ∷ B) after step m)
 
 -- ---- many
 
@@ -132,20 +107,6 @@ of-front (entry ∷ entries) B of = (of-front entries (entry ∷ B) of).1
 
 same-head : (x : Exchange) (xs : List Exchange) (m : Message) (ms : List Message) → messages_of (x ∷ xs) ≡ m ∷ ms → (x.message ≡ m) × (messages_of xs ≡ ms)
 same-head x xs m ms e = (let head : x.message ≡ m = cc in head, let tail : messages_of xs ≡ ms = cc in tail)
-
--- how a run's first exchange is answered, by the message of its command
-module _ (entry : Entry) (B : History) (x : Exchange) (next : RegisterHistory) (is : IsSendable entry.command) (same : x.message ≡ message_of entry.command)
-    (faults : HadNoFault x) (answer : IsAnswer (whole B) (request_of x.message) x.reply next) where
-  asked : IsAnswer (whole B) (request_of (message_of entry.command)) x.reply next
-  asked = subst (λ (m : Message). IsAnswer (whole B) (request_of m) x.reply next) same answer
-
-  one : machine B entry.command (Accepts entry.reply) (entry ∷ B) → (next ≡ whole (entry ∷ B)) × (x.reply ≡ kept_reply entry)
-  one step = answered entry.command B x.reply next is faults.0 asked (λ result told p.
-      performed entry B step x.reply next result faults.0 faults.1 told p)
-
-  one-again : entry_of B entry.command.key ≡ Some entry → (next ≡ whole B) × (x.reply ≡ kept_reply entry)
-  one-again found = answered entry.command B x.reply next is faults.0 asked (λ result told p.
-      performed-again entry B found x.reply next result faults.0 faults.1 told p)
 
 -- a run over requests of a register's next commands leads to that register, with the kept replies
 pub requests_lead : (entries : List Entry) (B : History) (xs : List Exchange) (after : RegisterHistory) → IsOfMachine (pushed_onto entries B) → AreSendable entries
@@ -157,7 +118,7 @@ requests_lead (entry ∷ entries) B [] after of each same faults run = absurd cc
 requests_lead (entry ∷ entries) B (x ∷ xs) after of each same faults run =
     let parts = same-head x xs (message_of entry.command) (map message_of (commands_of entries)) same in
     let step = (of-front entries (entry ∷ B) of).0 in
-    let first = one entry B x run.0 each.0 parts.0 faults.0 run.1 step in
+    let first = one entry B (entry ∷ B) (stepped entry B step) x run.0 each.0 parts.0 faults.0 run.1 in
     let rest = requests_lead entries (entry ∷ B) xs after of each.1 parts.1 faults.1 (subst (λ (s : RegisterHistory). Run IsAnswer s xs after) first.0 run.2) in
     (rest.0, λ j. first.1 j ∷ rest.1 j)
 
@@ -165,14 +126,9 @@ requests_lead (entry ∷ entries) B (x ∷ xs) after of each same faults run =
 
 -- an entry under a new key hides no other
 later-key : (f e : Entry) (D : History) → entry_of D f.command.key ≡ None → entry_of D e.command.key ≡ Some e → entry_of (f ∷ D) e.command.key ≡ Some e
-later-key f e D new found = by (same_text f.command.key e.command.key) refl
-  where
-    by : (b : Bool) → same_text f.command.key e.command.key ≡ b → entry_of (f ∷ D) e.command.key ≡ Some e
-    by true s =
-        let same : f.command.key ≡ e.command.key = same-is f.command.key e.command.key s in
-        let none : entry_of D e.command.key ≡ None = subst (λ key. entry_of D key ≡ None) same new in
-        absurd (let apart : ◌≡◌ {A = Option Entry} None (Some e) = sym none ∙ found in cc)
-    by false s = rw s found
+later-key f e D new found =
+    let apart : same_text f.command.key e.command.key ≡ false = false_from_ne_true _ (λ s. cc (same-is f.command.key e.command.key s)) in
+    rw apart found
 
 first-key : (e : Entry) (D : History) → entry_of (e ∷ D) e.command.key ≡ Some e
 first-key e D = rw (same-itself e.command.key) refl
@@ -203,7 +159,8 @@ run-again [] later B xs after found of each same faults run = requests_lead late
 run-again (entry ∷ entries) later B [] after found of each same faults run = absurd cc
 run-again (entry ∷ entries) later B (x ∷ xs) after found of each same faults run =
     let parts = same-head x xs (message_of entry.command) (map message_of (commands_of (entries ++ later))) same in
-    let first = one-again entry B x run.0 each.0 parts.0 faults.0 run.1 found.0 in
+    let kept = repeated B entry.command entry found.0 (same-itself (command_text entry.command.act)) in
+    let first = one entry B B kept x run.0 each.0 parts.0 faults.0 run.1 in
     let rest = run-again entries later B xs after found.1 of each.1 parts.1 faults.1 (subst (λ (s : RegisterHistory). Run IsAnswer s xs after) first.0 run.2) in
     (rest.0, λ j. first.1 j ∷ rest.1 j)
 

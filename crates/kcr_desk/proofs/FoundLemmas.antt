@@ -1,16 +1,8 @@
 -- From what a buffer shows to what the stream is.
-use Rattle.std.proofs.Common.{◌≡◌, ℕ, List, [], ◌++◌, refl, sym, ap, ◌∙◌, subst}
-use Rattle.std.specs.Prelude.{Option, Some, None, Err}
-use Rattle.std.specs.Io.KnownBytes.{prepend_known, IsAtEnd}
-use Rattle.std.proofs.lemmas.List.{append-nil}
-use Rattle.httparse.specs.Grammar.{RequestHead}
-use Rattle.httparse.specs.Spans.{span_bytes}
-use Rattle.httparse.specs.declared.spans.RequestSpans.{RequestSpans}
-use Rattle.kcr_base.specs.declared.refusal.Refusal.{Refusal}
-use Rattle.kcr_desk.specs.Framing.{is_head}
-use Rattle.kcr_desk.specs.Stream.{Ending, framing_of, IsEnd, refused, fails}
-use Rattle.kcr_desk.specs.Heads.{IsHeadAt, IsWhole}
-use Rattle.kcr_desk.specs.NextHead.{EndsAs}
+use Rattle.kcr_desk.proofs.Common.{◌≡◌, ℕ, List, [], ◌++◌, refl, sym, ap, ◌∙◌, subst, Option, None, Err, prepend_known, IsAtEnd, append-nil}
+use Rattle.kcr_desk.proofs.Common.{RequestHead, span_bytes, RequestSpans, Refusal, is_head, Ending, framing_of, IsEnd, refused, fails, IsHeadAt}
+use Rattle.kcr_desk.proofs.Common.{IsWhole, EndsAs}
+use Rattle.std.specs.Prelude.{Some}
 
 -- what is known of the stream: the buffer, and then the bytes that are unread
 pub known_split : (buf : List ℕ) (unread : Option (List ℕ)) (p : List ℕ) → prepend_known buf unread ≡ Some p

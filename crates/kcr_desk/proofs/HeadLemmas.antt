@@ -1,20 +1,16 @@
 -- What a try to read a head shows of all bytes that begin alike.
-use Rattle.std.proofs.Common.{◌≡◌, ℕ, ◌+◌, ◌-◌, ◌<◌, ◌≤◌, List, [], ◌∷◌, ◌++◌, length, take, drop, refl, sym, ap, ◌∙◌, subst, arith}
-use Rattle.std.proofs.Common.{append_assoc, length-append, length-drop}
+use Rattle.kcr_desk.proofs.Common.{rules, ◌≡◌, ℕ, ◌+◌, ◌-◌, ◌<◌, ◌≤◌, List, [], ◌∷◌, ◌++◌, length, take, drop, refl, sym, ap, ◌∙◌, subst, arith}
+use Rattle.kcr_desk.proofs.Common.{append_assoc, length-append, length-drop, append-nil, take-append-le, drop-append-le, nil_from_length, length-map}
+use Rattle.kcr_desk.proofs.Common.{length-take, All-nil, All-cons, take-append-add, LineEnd, lf, print_blank, RequestHead, ReadsRequest}
+use Rattle.kcr_desk.proofs.Common.{IsRequestHead, HasNoRequest, IsField, is_uri_byte, RequestOverflows, span_bytes, name_and_value, header_bytes}
+use Rattle.kcr_desk.proofs.Common.{IsRequestAt, IsRequestWithin, IsWithin, RequestSpans, ReadsRequest-append, print_request-append, HasNoHead}
+use Rattle.kcr_desk.proofs.Common.{IsBlankRest, IsHeadAt, IsWhole, IsHopeless}
 use Rattle.std.specs.Prelude.{codes, IsTrue}
-use Rattle.std.proofs.lemmas.List.{append-nil, take-append-le, drop-append-le, nil_from_length, length-map, length-take}
-use Rattle.std.proofs.lemmas.List.Elements.{All-nil, All-cons}
-use Rattle.std.proofs.Math.Seq.{take-append-add}
-use Rattle.httparse.specs.Grammar.{LineEnd, lf, print_blank, RequestHead, print_request, ReadsRequest, IsRequestHead, HasNoRequest}
-use Rattle.httparse.specs.Grammar.{IsField, is_token_byte, is_uri_byte}
-use Rattle.httparse.specs.Spans.{RequestOverflows, span_bytes, name_and_value, header_bytes, IsRequestAt, IsRequestWithin, IsWithin}
-use Rattle.httparse.specs.declared.spans.RequestSpans.{RequestSpans}
+use Rattle.httparse.specs.Grammar.{print_request}
+use Rattle.httparse.specs.Grammar.{is_token_byte}
 use Rattle.httparse.specs.declared.spans.HeaderSpan.{HeaderSpan}
 use Rattle.httparse.specs.declared.spans.Span.{Span}
-use Rattle.httparse.proofs.GrammarLemmas.{ReadsRequest-append, print_request-append}
 use Rattle.httparse.proofs.PieceLemmas.{Stops_token}
-use Rattle.kcr_desk.specs.Stream.{HasNoHead, IsBlankRest}
-use Rattle.kcr_desk.specs.Heads.{IsWhole, IsHopeless}
 use Rattle.kcr_desk.proofs.QuietLemmas.{blank_not_more}
 
 -- ---- a head is no quiet rest
@@ -86,10 +82,7 @@ none_is_no_head buf none h rest has = none h _ (short_front buf 8192 h rest has.
 
 quiet_alone : (buf more : List ℕ) → 8192 ≤ length buf → IsBlankRest (buf ++ more) → IsBlankRest buf
 quiet_alone buf more long quiet =
-    let short : length (buf ++ more) ≤ 8192 = quiet.short in
-    let none : length more ≡ 0 = omega (arith, length-append buf more, short) in
-    let e : buf ++ more ≡ buf = ap (λ (t : List ℕ). buf ++ t) (nil_from_length more none) ∙ append-nil buf in
-    subst IsBlankRest e quiet
+    let none : length more ≡ 0 = omega (arith, length-append buf more, quiet.short) in rw (nil_from_length more none, append-nil) at quiet
 
 -- a buffer of 8,192 bytes or more is hopeless if it has no head in these, and is no rest of empty lines
 pub full_hopeless : (buf : List ℕ) → HasNoRequest (take 8192 buf) → 8192 ≤ length buf → ¬ (IsBlankRest buf) → IsHopeless buf
@@ -131,22 +124,21 @@ whole_head front buf rest headers spans h e short room within at =
     omega (arith, same, length-take spans.headers headers, room) in
     let is_len : spans.len ≡ length (print_request h) = at.len in
     let inside : (s : Span) → IsWithin spans.len s → IsWithin (length front) s = λ s w. within_more s len w in
-    record {
-      at = λ more.
-          let split = more_behind front buf rest more e in
-          let reads : ReadsRequest (front ++ (rest ++ more)) h (drop spans.len (front ++ (rest ++ more))) =
-          subst (ReadsRequest (front ++ (rest ++ more)) h) (sym (drop-append-le spans.len front (rest ++ more) len))
-          (ReadsRequest-append front h (drop spans.len front) (rest ++ more) at.reads) in
-          let P : List ℕ → Type 0 = λ t. ReadsRequest t h (drop spans.len t) in
-          record {
-            head = record { reads = subst P (sym split) reads; short = omega arith; few = count };
-            method = ap (λ t. span_bytes t spans.method) split
-                ∙ span_more front (rest ++ more) spans.method (inside spans.method within.method) ∙ at.method;
-            path = ap (λ t. span_bytes t spans.path) split ∙ span_more front (rest ++ more) spans.path (inside spans.path within.path) ∙ at.path;
-          };
-      len = omega arith;
-      some = let p : 0 < length (print_request h) = request_some h at.reads.0 in omega arith;
-      short = omega arith;
-      method = within_more spans.method longer (inside spans.method within.method);
-      path = within_more spans.path longer (inside spans.path within.path);
-    }
+    let head_at : (more : List ℕ) → IsHeadAt (buf ++ more) spans h =
+    λ more.
+    let split = more_behind front buf rest more e in
+    let reads : ReadsRequest (front ++ (rest ++ more)) h (drop spans.len (front ++ (rest ++ more))) =
+    rw (drop-append-le spans.len front (rest ++ more) len) (ReadsRequest-append front h (drop spans.len front) (rest ++ more) at.reads) in
+    rw split (record {
+      head = record { reads = reads; short = omega arith; few = count };
+      method = span_more front (rest ++ more) spans.method (inside spans.method within.method) ∙ at.method;
+      path = span_more front (rest ++ more) spans.path (inside spans.path within.path) ∙ at.path;
+    }) in
+    let some = request_some h at.reads.0 in
+    search (
+      rules,
+      head_at,
+      some,
+      within_more spans.method longer (inside spans.method within.method),
+      within_more spans.path longer (inside spans.path within.path),
+    )

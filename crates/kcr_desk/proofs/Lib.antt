@@ -1,3 +1,4 @@
+mod Common
 pub mod MembersLemmas
 pub mod PlanLemmas
 pub mod QuietLemmas

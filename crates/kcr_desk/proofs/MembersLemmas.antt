@@ -1,8 +1,7 @@
 -- Members between commas.
-use Rattle.std.proofs.Common.{◌≡◌, ℕ, suc, zero, ◌<◌, ◌≢◌, List, [], ◌∷◌, length, take, drop, get_or, map, refl, ap, arith}
-use Rattle.std.proofs.lemmas.Bool.{eq-eqb, ne_eqb}
-use Rattle.httparse.specs.Grammar.{trim_ows}
-use Rattle.kcr_desk.specs.Members.{split_commas, members}
+use Rattle.kcr_desk.proofs.Common.{◌≡◌, ℕ, suc, zero, ◌<◌, ◌≢◌, List, [], ◌∷◌, length, take, drop, get_or, map, refl, ap, arith, eq-eqb, ne_eqb}
+use Rattle.kcr_desk.proofs.Common.{trim_ows, split_commas}
+use Rattle.kcr_desk.specs.Members.{members}
 
 -- the first piece ends at the first comma
 split_commas_at : (xs : List ℕ) (i : ℕ) → i < length xs → get_or xs i 0 ≡ 44 → ((k : ℕ) → k < i → get_or xs k 0 ≢ 44)

@@ -1,7 +1,6 @@
 -- How long the phrase of a status may be.
-use Rattle.std.proofs.Common.{◌≡◌, ℕ, zero, suc, ◌<◌, ◌≤◌, Bool, true, ◌&&◌, [], length, nat_lt, unwrap_or, arith, refl}
-use Rattle.std.proofs.lemmas.Bool.{ltb-true}
-use Rattle.std.proofs.lemmas.Bool.Decides.{Decides-below_and}
+use Rattle.kcr_desk.proofs.Common.{◌≡◌, ℕ, zero, suc, ◌<◌, ◌≤◌, ◌&&◌, [], length, nat_lt, arith, refl, ltb-true, Decides-below_and}
+use Rattle.std.proofs.Common.{Bool, true, unwrap_or}
 use Rattle.http.specs.StatusCode.{reason_phrase}
 use Rattle.kcr_desk.specs.Texts.{phrase_of}
 

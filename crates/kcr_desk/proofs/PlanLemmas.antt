@@ -1,10 +1,8 @@
 -- The tests on a head, one after the other.
-use Rattle.std.proofs.lemmas.Bool.Decides.{nat_tests}
-use Rattle.std.proofs.Common.{◌≡◌, ℕ, List, refl, arith}
-use Rattle.std.specs.Prelude.{Bool, not, Option, Err, codes, if◌then◌else◌}
-use Rattle.kcr_base.specs.declared.refusal.Refusal.TheVariants.{Host}
-use Rattle.kcr_desk.specs.Members.{some_has_member}
-use Rattle.kcr_desk.specs.Framing.{planned, measured, is_hosted, values_of, length_in, bounded_length, is_empty}
+use Rattle.kcr_desk.proofs.Common.{nat_tests, ◌≡◌, ℕ, List, refl, arith, Bool, Option, Err, if◌then◌else◌, Host, some_has_member, measured, is_hosted}
+use Rattle.kcr_desk.proofs.Common.{values_of, length_in, bounded_length, is_empty}
+use Rattle.std.specs.Prelude.{not, codes}
+use Rattle.kcr_desk.specs.Framing.{planned}
 
 -- a length that is too large is so too if it is counted as one more than the largest
 bounded_alike : (minor : ℕ) (coded closing expecting : Bool) (n : Option ℕ)

@@ -1,23 +1,19 @@
 -- A request with a path and a body is a whole message.
-use Rattle.std.proofs.Common.{◌≡◌, ℕ, ◌<◌, ◌≤◌, ◌&&◌, Bool, true, false, List, [], ◌∷◌, ◌++◌, length, reverse, codes, Ok, IsTrue, refl, sym, ap, arith, append_assoc, append-nil, length-append}
-use Rattle.std.proofs.lemmas.List.{length-reverse}
-use Rattle.std.specs.Prelude.{nat_lt, ◌^◌}
-use Rattle.std.specs.Char.{is_ascii_digit}
+use Rattle.kcr_desk.proofs.Common.{◌≡◌, ℕ, ◌<◌, ◌≤◌, false, List, [], ◌∷◌, ◌++◌, length, reverse, codes, IsTrue, refl, sym, ap, arith, append_assoc}
+use Rattle.kcr_desk.proofs.Common.{length-append, length-reverse, ◌^◌, is_ascii_digit, list_all, AllDigits, nat_tests, All-cons, All-weaker}
+use Rattle.kcr_desk.proofs.Common.{All-from_recursion, and_parts, lt-ltb, le-ltb, IsRequestHead, AllPass, IsField, is_uri_byte, is_value_byte}
+use Rattle.kcr_desk.proofs.Common.{trim_ows, skip_ows, is_ows, is_number, IsMessage, framing_of, posted_head, posted_message}
+use Rattle.std.proofs.Common.{true, Ok, append-nil}
+use Rattle.std.proofs.Math.Bool.{and-false}
+use Rattle.std.specs.Prelude.{nat_lt}
 use Rattle.std.specs.Fmt.{decimal}
-use Rattle.std.specs.List.{list_all}
 use Rattle.std.specs.Str.{IsUtf8}
-use Rattle.std.specs.Str.Parse.{AllDigits, digits_value}
-use Rattle.std.proofs.lemmas.Bool.Decides.{nat_tests}
 use Rattle.std.proofs.lemmas.Fmt.{decimal_is_IsNumeral, length-decimal-le}
-use Rattle.std.proofs.lemmas.List.Elements.{All-nil, All-cons, All-from_recursion}
 use Rattle.std.proofs.lemmas.List.Sums.{AllPass-from_list_all, list_all-from_AllPass}
 use Rattle.std.proofs.lemmas.Str.Parse.{digit_at}
-use Rattle.std.proofs.lemmas.Bool.{and_parts, lt-ltb, le-ltb}
-use Rattle.httparse.specs.Grammar.{IsRequestHead, print_request, AllPass, IsField, is_uri_byte, is_value_byte, is_token_byte, trim_ows, skip_ows, is_ows}
+use Rattle.httparse.specs.Grammar.{print_request, is_token_byte}
 use Rattle.httparse.proofs.TrimLemmas.{trim_ows_space, AllPass-reverse}
-use Rattle.kcr_desk.specs.Framing.{planned, is_number}
-use Rattle.kcr_desk.specs.Stream.{IsMessage, framing_of}
-use Rattle.kcr_desk.specs.Export.{posted_head, posted_message}
+use Rattle.kcr_desk.specs.Framing.{planned}
 use Rattle.kcr_wire.specs.Requests.{crlf, head_text}
 
 regroup : (p v c h l n : List ℕ) → ((p ++ v) ++ c) ++ ((h ++ (((l ++ n) ++ c) ++ [])) ++ c) ≡ ((p ++ (v ++ (c ++ (h ++ l)))) ++ n) ++ (c ++ c)
@@ -31,9 +27,6 @@ head-is path size =
 
 -- ---- the digits of a length
 
-some-digits : (n : ℕ) → n < 2 ^ 64 → (0 < length (decimal n)) × AllDigits 10 (decimal n)
-some-digits n fits = (decimal_is_IsNumeral n fits).0
-
 digit-tests : (text : List ℕ) → AllDigits 10 text → list_all is_ascii_digit text ≡ true
 digit-tests [] h = refl
 digit-tests (c ∷ cs) h =
@@ -43,7 +36,7 @@ digit-tests (c ∷ cs) h =
 
 length-number : (n : ℕ) → n < 2 ^ 64 → is_number (decimal n) ≡ true
 length-number n fits =
-    let digits = some-digits n fits in
+    let digits = (decimal_is_IsNumeral n fits).0 in
     rw (lt-ltb 0 (length (decimal n)) digits.0) (digit-tests (decimal n) digits.1)
 
 -- digits have no white space round them
@@ -61,27 +54,18 @@ digits-trim text some h =
 
 -- ---- what the fields ask for
 
-not-queue : (b : Bool) → (b && false) ≡ false
-not-queue true = refl
-not-queue false = refl
-
 planned-post : (path : List ℕ) (size : ℕ) → size ≤ 131072 → framing_of (posted_head path size) ≡ Ok (record { length = size; closes = false; expects_continue = false })
 unfolding planned
 planned-post path size small =
-    let digits = some-digits size (omega (arith, small)) in
-    let trimmed : trim_ows (32 ∷ decimal size) ≡ decimal size = digits-trim (decimal size) digits.0 (digit-tests (decimal size) digits.1) in
-    let value : digits_value 10 (decimal size) ≡ size = (decimal_is_IsNumeral size (omega (arith, small))).1 in
+    let numeral = decimal_is_IsNumeral size (omega (arith, small)) in
+    let trimmed : trim_ows (32 ∷ decimal size) ≡ decimal size = digits-trim (decimal size) numeral.0.0 (digit-tests (decimal size) numeral.0.1) in
     let few : nat_lt 131072 size ≡ false = le-ltb 131072 size small in
-    rw (trimmed, length-number size (omega (arith, small)), value, few, not-queue (nat_lt 0 size)) refl
+    rw (trimmed, length-number size (omega (arith, small)), numeral.1, few, and-false (nat_lt 0 size)) refl
 
 -- ---- the message
 
-digit-values : (text : List ℕ) → AllDigits 10 text → AllPass is_value_byte text
-digit-values [] h = All-nil (λ b. IsTrue (is_value_byte b))
-digit-values (c ∷ cs) h =
-    let here = digit_at (c ∷ cs) 0 h (omega arith) in
-    let test : is_value_byte c ≡ true = grind (arith, nat_tests) in
-    All-cons (λ b. IsTrue (is_value_byte b)) c cs test (digit-values cs h.1)
+value-byte : (b : ℕ) → IsTrue (is_ascii_digit b) → IsTrue (is_value_byte b)
+value-byte b h = grind (arith, nat_tests)
 
 -- each part is of its class
 head-parts : (path : List ℕ) (size : ℕ) → 0 < length path → AllPass is_uri_byte path → IsUtf8 path → size ≤ 131072 → IsRequestHead (posted_head path size)
@@ -99,7 +83,10 @@ head-parts path size some uri text small = record {
     (
       record {
         name = (omega arith, AllPass-from_list_all is_token_byte (codes "Content-Length") refl);
-        raw = All-cons (λ b. IsTrue (is_value_byte b)) 32 (decimal size) refl (digit-values (decimal size) (some-digits size (omega (arith, small))).1);
+        raw =
+            let tests = digit-tests (decimal size) (decimal_is_IsNumeral size (omega (arith, small))).0.1 in
+            All-cons (λ b. IsTrue (is_value_byte b)) 32 (decimal size) refl
+            (All-weaker _ _ value-byte (decimal size) (AllPass-from_list_all is_ascii_digit (decimal size) tests));
       },
       tt,
     ),

@@ -1,17 +1,14 @@
 -- Whole empty lines: the test decides, and no head begins so.
-use Rattle.std.proofs.Common.{◌≡◌, ℕ, Bool, true, false, not, cond, ◌&&◌, List, [], ◌∷◌, ◌++◌, refl, sym, ap, ◌∙◌, eqb}
-use Rattle.std.proofs.lemmas.Bool.{eqb-true, and_parts}
-use Rattle.std.specs.List.{list_all}
-use Rattle.std.proofs.lemmas.List.Folds.{list_all-append}
-use Rattle.httparse.specs.Grammar.{LineEnd, crlf, lf, print_blank}
+use Rattle.kcr_desk.proofs.Common.{◌≡◌, ℕ, false, not, cond, ◌&&◌, List, [], ◌∷◌, ◌++◌, refl, sym, ap, ◌∙◌, eqb, eqb-true, and_parts, list_all}
+use Rattle.kcr_desk.proofs.Common.{list_all-append, LineEnd, crlf, lf, print_blank, blank_from}
+use Rattle.std.proofs.Common.{Bool, true}
 use Rattle.httparse.specs.Pieces.{Stops, is_newline}
-use Rattle.kcr_desk.specs.BlankRest.{blank_from}
 
 -- the bytes, with the CR that stands before them
-abbrev with_cr : Bool → List ℕ → List ℕ
+abbrev pub with_cr : Bool → List ℕ → List ℕ
 with_cr cr bytes = cond cr (13 ∷ bytes) bytes
 
-abbrev Blanks : Bool → List ℕ → Type 0
+abbrev pub Blanks : Bool → List ℕ → Type 0
 Blanks cr bytes = (ends : List LineEnd) × (with_cr cr bytes ≡ print_blank ends)
 
 step : (b : ℕ) (bytes : List ℕ) → ((cr : Bool) → blank_from cr bytes ≡ true → Blanks cr bytes)
@@ -27,14 +24,11 @@ step b bytes rest false false true p q e =
 step b bytes rest true false true p q e = cc
 step b bytes rest cr false false p q e = cc
 
-blanks : (bytes : List ℕ) (cr : Bool) → blank_from cr bytes ≡ true → Blanks cr bytes
+-- bytes that pass the test are whole empty lines, with the CR that stands before them
+pub blanks : (bytes : List ℕ) (cr : Bool) → blank_from cr bytes ≡ true → Blanks cr bytes
 blanks [] false e = ([], refl)
 blanks [] true e = cc
 blanks (b ∷ bytes) cr e = step b bytes (blanks bytes) cr (eqb b 10) (eqb b 13) refl refl e
-
--- bytes that pass the test are whole empty lines
-pub blank_lines : (bytes : List ℕ) → blank_from false bytes ≡ true → (ends : List LineEnd) × (bytes ≡ print_blank ends)
-blank_lines bytes e = blanks bytes false e
 
 -- whole empty lines pass the test
 pub blank_from-print : (ends : List LineEnd) → blank_from false (print_blank ends) ≡ true

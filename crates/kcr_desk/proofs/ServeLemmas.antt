@@ -1,22 +1,13 @@
 -- The messages so far, and what is left of the stream.
-use Rattle.std.proofs.Common.{◌≡◌, ℕ, ◌+◌, ◌-◌, ◌≤◌, List, [], ◌∷◌, ◌++◌, length, take, drop, refl, sym, ap, ◌∙◌, subst, arith}
-use Rattle.std.proofs.Common.{append_assoc, length-append, length-drop}
-use Rattle.std.specs.Prelude.{Option, Some, Bool, true, false, MatchBool, slice_range}
-use Rattle.std.specs.List.{flat_map}
-use Rattle.std.specs.Io.KnownBytes.{Appends, prepend_known}
-use Rattle.std.proofs.lemmas.List.{append-nil, map-append, take-append-drop, take-append-le, drop-append-le, length-take-le, drop-drop}
+use Rattle.kcr_desk.proofs.Common.{◌≡◌, ℕ, ◌+◌, ◌-◌, ◌≤◌, List, [], ◌∷◌, ◌++◌, length, take, drop, refl, sym, ap, ◌∙◌, subst, arith, append_assoc}
+use Rattle.kcr_desk.proofs.Common.{length-append, length-drop, Option, Bool, true, MatchBool, slice_range, flat_map, Appends, prepend_known}
+use Rattle.kcr_desk.proofs.Common.{append-nil, map-append, take-append-drop, drop-append-le, length-take-le, drop-drop, RequestSpans, Framing, Stays}
+use Rattle.kcr_desk.proofs.Common.{is_head, Message, Ending, clean_end, HasHead, IsMessage, AreMessages, EndsAs, IsReady, ResponseValue}
+use Rattle.kcr_desk.proofs.Common.{continue_text, Request, request_of, Exchange, Run, exchange_text, messages_of, ending_text, Begins, IsServed}
+use Rattle.kcr_desk.proofs.Common.{IsServedInPart, nothing, BreaksItem, request_of_buffer, IsQueued, WritesPrefix}
+use Rattle.std.specs.Prelude.{Some, false}
 use Rattle.std.proofs.lemmas.Grind.{flat_map-append}
-use Rattle.httparse.specs.declared.spans.RequestSpans.{RequestSpans}
-use Rattle.kcr_desk.specs.declared.head.Framing.{Framing}
-use Rattle.kcr_desk.specs.Input.{Stays}
-use Rattle.kcr_desk.specs.Framing.{is_head}
-use Rattle.kcr_desk.specs.Stream.{Message, Ending, clean_end, HasHead, IsMessage, AreMessages}
-use Rattle.kcr_desk.specs.NextHead.{EndsAs, IsReady}
-use Rattle.kcr_desk.specs.Texts.{ResponseValue, answer, continue_text}
-use Rattle.kcr_desk.specs.Run.{Request, request_of, Exchange, Run, exchange_text, messages_of, ending_text, Begins, IsServed, IsServedInPart, nothing}
-use Rattle.kcr_desk.specs.NextItem.{BreaksItem, request_of_buffer}
-use Rattle.kcr_desk.specs.Output.{IsQueued}
-use Rattle.kcr_print.specs.Written.{WritesPrefix}
+use Rattle.kcr_desk.specs.Texts.{answer}
 use Rattle.kcr_desk.proofs.FoundLemmas.{known_split, head_here}
 use Rattle.kcr_desk.proofs.WaitingLemmas.{gathered_nothing, with_more, sent_whole, sent_front, sent_on}
 use Rattle.kcr_desk.proofs.TurnLemmas.{breaks_ending}
@@ -53,7 +44,7 @@ serving_first step input contents s held queue none_held none_waits = record {
   exchanges = [];
   front = λ bytes is. (bytes, ap (λ l. prepend_known l input) none_held ∙ ap (prepend_known []) is, refl);
   run = refl;
-  written = subst (IsQueued contents contents []) (sym none_waits) (gathered_nothing contents []);
+  written = rw none_waits (gathered_nothing contents []);
   requests = refl;
 }
 
@@ -94,10 +85,8 @@ split_body : (buf u : List ℕ) (at n : ℕ) → at + n ≤ length buf
 split_body buf u at n fits =
     let room : n ≤ length (drop at buf) = simp length-drop (omega arith) in
     let le : at ≤ length buf = omega arith in
-    sym (take-append-drop n (drop at (buf ++ u)))
-    ∙ ap (λ t. take n t ++ drop n (drop at (buf ++ u))) (drop-append-le at buf u le)
-    ∙ ap (λ t. t ++ drop n (drop at (buf ++ u))) (take-append-le n (drop at buf) u room ∙ sym (body_of buf at n))
-    ∙ ap (λ t. slice_range buf at (at + n) ++ t) (drop-drop n at (buf ++ u))
+    rw (body_of buf at n, ← (drop-drop n at (buf ++ u)), drop-append-le at buf u le, drop-append-le n (drop at buf) u room)
+    (sym (ap (λ t. t ++ u) (take-append-drop n (drop at buf))) ∙ append_assoc (take n (drop at buf)) (drop n (drop at buf)) u)
 
 -- a buffer that is ready, before whatever bytes are unread, begins with its message
 pub message_is : (buf u : List ℕ) (spans : RequestSpans) (plan : Framing) (is : IsReady buf spans plan)
@@ -125,9 +114,6 @@ module _ {S : Type 0} {step : S → Request → ResponseValue → S → Type 0} 
   abbrev messages : List Message
   messages = messages_of so_far.exchanges
 
-  abbrev texts : List ℕ
-  texts = flat_map exchange_text so_far.exchanges
-
   -- a stream that ended is served whole if all that waits is written
   pub ended_served : (e : Ending) (c d : Option (List ℕ)) {v : List ℕ} → EndsAs left e → IsQueued b c (w ++ ending_text e) v
       → Appends c d v → IsServed step input a d before now n
@@ -135,8 +121,7 @@ module _ {S : Type 0} {step : S → Request → ResponseValue → S → Type 0} 
     exchanges = so_far.exchanges;
     ending = e;
     cut = λ bytes is.
-        let f = so_far.front bytes is in
-        subst (λ t. AreMessages bytes t e) (append-nil messages) (cut_from_front e bytes messages f.0 [] f.2 (end f.0 f.1));
+        let f = so_far.front bytes is in rw append-nil at (cut_from_front e bytes messages f.0 [] f.2 (end f.0 f.1));
     run = so_far.run;
     written = sent_whole d (sent_on (with_more (ending_text e) so_far.written) gathered) written;
     requests = so_far.requests;
@@ -148,9 +133,7 @@ module _ {S : Type 0} {step : S → Request → ResponseValue → S → Type 0} 
     exchanges = so_far.exchanges;
     next = breaks.next;
     begins = λ bytes is.
-        let f = so_far.front bytes is in
-        subst (λ t. Begins bytes t breaks.next) (append-nil messages)
-        (begins_from_front breaks.next bytes messages f.0 [] f.2 (breaks.is_next f.0 f.1));
+        let f = so_far.front bytes is in rw append-nil at (begins_from_front breaks.next bytes messages f.0 [] f.2 (breaks.is_next f.0 f.1));
     run = so_far.run;
     written = sent_front c (with_more breaks.next so_far.written) breaks.written;
   }
@@ -193,7 +176,7 @@ module _ {S : Type 0} {step : S → Request → ResponseValue → S → Type 0} 
         let k = known_split buf unread f.0 (stays f.0 f.1) in
         (k.0, k.1, subst (IsFront bytes messages) (sym k.2) f.2, message_is buf k.0 spans plan is)
 
-    all_texts : (texts ++ continue_text plan) ++ this_answer ≡ flat_map exchange_text exchanges_then
+    all_texts : (flat_map exchange_text so_far.exchanges ++ continue_text plan) ++ this_answer ≡ flat_map exchange_text exchanges_then
     all_texts =
         let at = head_here buf spans is.front.head is.front.whole in rw at.method (simp (flat_map-append, append-nil, append_assoc))
 
@@ -229,9 +212,8 @@ module _ {S : Type 0} {step : S → Request → ResponseValue → S → Type 0} 
       ending = clean_end;
       cut = λ bytes known.
           let r = rest_then bytes known in
-          let P : Bool → Type 0 = λ v. MatchBool v ((◌≡◌ {A = List Message} [] []) × (clean_end ≡ clean_end)) (AreMessages (behind r.0) [] clean_end) in
           rw map-append (cut_from_front clean_end bytes messages (buf ++ r.0) (exchange.message ∷ []) r.2
-          (behind r.0, r.3, subst P (sym closed) (refl, refl)));
+          (behind r.0, r.3, simp closed (refl, refl)));
       run = run_then;
       written = rw append-nil (sent_whole e (sent_on answered gathered) written);
       requests = count_then;

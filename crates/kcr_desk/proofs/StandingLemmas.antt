@@ -1,20 +1,8 @@
 -- From runs over registers to runs over their histories.
-use Rattle.std.proofs.Common.{◌≡◌, ◌+◌, ◌<◌, ◌⊎◌, ℕ, List, [], ◌∷◌, refl, ap, subst, sym}
-use Rattle.std.specs.Prelude.{Option, IsErrOf, Result, Ok, Err, IfErr}
-use Rattle.kcr_base.specs.Counted.{failures_of, nonempty_reads_of}
-use Rattle.sqlite.specs.Held.{state}
-use Rattle.sqlite.specs.State.{HasCleanDisk}
-use Rattle.sqlite.specs.Store.{Ghosts}
-use Rattle.kcr_store.specs.Register.{RegisterState, ShowsAt, StandsAt}
-use Rattle.kcr_store.specs.Calls.{Leads, RowsLead}
-use Rattle.kcr_desk.specs.declared.fault.DeskFault.{DeskFault}
+use Rattle.kcr_desk.proofs.Common.{◌≡◌, ◌+◌, ◌<◌, ◌⊎◌, List, [], ◌∷◌, refl, ap, subst, sym, rules, IsErrOf, Result, Ok, Err, IfErr, failures_of}
+use Rattle.kcr_desk.proofs.Common.{nonempty_reads_of, state, HasCleanDisk, Ghosts, RegisterState, DeskFault, Served, Answers, IsReply, Ends, Request}
+use Rattle.kcr_desk.proofs.Common.{Exchange, Run, request_of, Streams, BreaksStream, ResponseValue}
 use Rattle.kcr_desk.specs.declared.fault.DeskFault.TheVariants.{Read, Write, Memory}
-use Rattle.kcr_desk.specs.declared.stream.Served.{Served}
-use Rattle.kcr_desk.specs.Answers.{Answers, IsAnswer, IsAnswerByRows, IsReply}
-use Rattle.kcr_desk.specs.Connections.{Ends}
-use Rattle.kcr_desk.specs.Run.{Request, Exchange, Run, IsServed, IsServedInPart, request_of}
-use Rattle.kcr_desk.specs.Streams.{Streams, BreaksStream}
-use Rattle.kcr_desk.specs.Texts.{ResponseValue}
 
 module _ {S : Type 0} (g : Ghosts S) where
   abbrev is_clean : RegisterState S → Type 0
@@ -49,39 +37,10 @@ module _ {S Stand : Type 0} (g : Ghosts S) (Stands : Stand → RegisterState S �
     pub ends_moved : {R W : Type 0} (s : Streams R W) (before after : RegisterState S) (result : Result Served DeskFault)
         → Ends (Answers g) s before after result → Moves before after (λ stand end. Ends step s stand end result)
     ends_moved s before after (Ok served) ends clean stand at =
-        let run = run_moves before after ends.exchanges ends.run clean stand at in (
-          run.0,
-          run.1,
-          record {
-            exchanges = ends.exchanges;
-            ending = ends.ending;
-            cut = ends.cut;
-            run = run.2;
-            written = ends.written;
-            requests = ends.requests;
-          },
-        )
+        let run = run_moves before after ends.exchanges ends.run clean stand at in (run.0, run.1, search (rules, ends, run))
     ends_moved s before after (Err fault) ends clean stand at =
         let run = run_moves before after ends.exchanges ends.run clean stand at in
-        (run.0, run.1, record { exchanges = ends.exchanges; next = ends.next; begins = ends.begins; run = run.2; written = ends.written })
-
--- a stream that was served by these steps was so by others, if these lead as those do
-module _ {S R : Type 0} {step : S → Request → ResponseValue → S → Type 0} {other : R → Request → ResponseValue → R → Type 0} {input a b : Option (List ℕ)}
-    {before after : S} {first last : R} (leads : (xs : List Exchange) → Run step before xs after → Run other first xs last) where
-  -- a stream that was served whole by these steps was so by the others
-  pub served_by : {count : ℕ} → IsServed step input a b before after count → IsServed other input a b first last count
-  served_by s = record {
-    exchanges = s.exchanges;
-    ending = s.ending;
-    cut = s.cut;
-    run = leads s.exchanges s.run;
-    written = s.written;
-    requests = s.requests;
-  }
-
-  -- a stream that was served in part by these steps was so by the others
-  pub broken_by : IsServedInPart step input a b before after → IsServedInPart other input a b first last
-  broken_by s = record { exchanges = s.exchanges; next = s.next; begins = s.begins; run = leads s.exchanges s.run; written = s.written }
+        (run.0, run.1, search (rules, ends, run))
 
 -- the run of a stream that was served whole or in part
 pub ran : {S R W : Type 0} (step : S → Request → ResponseValue → S → Type 0) (s : Streams R W) (before after : S) (result : Result Served DeskFault)
@@ -93,18 +52,8 @@ ran step s before after (Err fault) ends = (ends.exchanges, ends.run)
 pub ends_by : {S T R W : Type 0} (step : S → Request → ResponseValue → S → Type 0) (other : T → Request → ResponseValue → T → Type 0) (s : Streams R W)
     (before after : S) (first last : T) (result : Result Served DeskFault) → ((xs : List Exchange) → Run step before xs after → Run other first xs last)
     → Ends step s before after result → Ends other s first last result
-ends_by step other s before after first last (Ok served) leads ends = served_by leads ends
-ends_by step other s before after first last (Err fault) leads ends = broken_by leads ends
-
--- a stream that a register ended: from whatever history it stood at, by the machine
-pub ends_answered : {S R W : Type 0} (g : Ghosts S) (s : Streams R W) (before after : RegisterState S) (result : Result Served DeskFault)
-    → Ends (Answers g) s before after result → Leads g before after (λ stand end. Ends IsAnswer s stand end result)
-ends_answered g = ends_moved g (StandsAt g) IsAnswer (λ a b asked told answers. answers.answer)
-
--- and by whatever rows it showed
-pub ends_by_rows : {S R W : Type 0} (g : Ghosts S) (s : Streams R W) (before after : RegisterState S) (result : Result Served DeskFault)
-    → Ends (Answers g) s before after result → RowsLead g before after (λ t end. Ends IsAnswerByRows s t end result)
-ends_by_rows g = ends_moved g (ShowsAt g) IsAnswerByRows (λ a b asked told answers. answers.rows)
+ends_by step other s before after first last (Ok served) leads ends = search (rules, ends, leads)
+ends_by step other s before after first last (Err fault) leads ends = search (rules, ends, leads)
 
 -- what the counts of the reader and of the writer tell of a fault
 pub broken_stream : {T R W : Type 0} (s : Streams R W) (result : Result T DeskFault)

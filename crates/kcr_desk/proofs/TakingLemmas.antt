@@ -1,11 +1,7 @@
 -- What a loop that takes bytes in keeps.
-use Rattle.std.proofs.Common.{◌≡◌, ◌≤◌, ◌+◌, ◌*◌, ◌++◌, List, ℕ, length, sym, ap, ◌∙◌, append_assoc}
-use Rattle.std.specs.Prelude.{Option, Some, None}
-use Rattle.std.specs.Io.KnownBytes.{prepend_known, Consumes}
-use Rattle.kcr_base.specs.Counted.{inner_of, failures_of, nonempty_reads_of}
-use Rattle.kcr_base.specs.declared.counted.Counted.{Counted}
-use Rattle.kcr_desk.specs.Input.{Stays, unread, left}
-use Rattle.kcr_desk.specs.Output.{IsQueued}
+use Rattle.kcr_desk.proofs.Common.{◌≡◌, ◌≤◌, ◌+◌, ◌*◌, ◌++◌, List, ℕ, length, sym, ap, ◌∙◌, append_assoc, Option, None, prepend_known, Consumes}
+use Rattle.kcr_desk.proofs.Common.{inner_of, failures_of, nonempty_reads_of, Counted, Stays, unread, left, IsQueued}
+use Rattle.std.specs.Prelude.{Some}
 use Rattle.kcr_desk.specs.declared.input_buffer.InputBuffer.{InputBuffer}
 
 -- no read and no write failed so far, and each read that gave a byte is counted

@@ -1,34 +1,17 @@
 -- One turn of the desk.
-use Rattle.std.proofs.Common.{◌≡◌, ℕ, ◌+◌, ◌<◌, ◌≤◌, List, [], ◌++◌, length, drop, sym, subst, arith, append_assoc, length-append, length-drop}
-use Rattle.std.specs.Prelude.{Option}
-use Rattle.std.specs.Io.KnownBytes.{prepend_known, IsAtEnd}
-use Rattle.std.proofs.lemmas.List.{append-nil}
-use Rattle.httparse.specs.Spans.{span_bytes}
-use Rattle.httparse.specs.declared.spans.RequestSpans.{RequestSpans}
-use Rattle.kcr_desk.specs.declared.head.Framing.{Framing}
-use Rattle.kcr_desk.specs.Input.{Stays}
-use Rattle.kcr_desk.specs.Framing.{is_head}
-use Rattle.kcr_desk.specs.Stream.{Ending, cut_off, is_cut}
-use Rattle.kcr_desk.specs.Heads.{IsWhole, IsHeadAt}
-use Rattle.kcr_desk.specs.NextHead.{EndsAs, HasFraming}
-use Rattle.kcr_desk.specs.Texts.{continue_text}
-use Rattle.kcr_desk.specs.Run.{ending_text, IsNextOutput, nothing, continues, ends}
+use Rattle.kcr_desk.proofs.Common.{rules, ◌≡◌, ℕ, ◌+◌, ◌<◌, ◌≤◌, List, [], ◌++◌, length, drop, subst, arith, append_assoc, length-append, length-drop}
+use Rattle.kcr_desk.proofs.Common.{Option, prepend_known, IsAtEnd, append-nil, span_bytes, RequestSpans, Framing, Stays, is_head, Ending, cut_off}
+use Rattle.kcr_desk.proofs.Common.{is_cut, IsWhole, IsHeadAt, EndsAs, HasFraming, continue_text, ending_text, IsNextOutput, nothing, continues, ends}
+use Rattle.kcr_desk.proofs.Common.{Ended, IsNextItem, BreaksItem, IsQueued, WritesPrefix}
 use Rattle.kcr_desk.specs.declared.stream.NextItem.{NextItem}
-use Rattle.kcr_desk.specs.declared.stream.NextItem.TheVariants.{Message, Ended}
-use Rattle.kcr_desk.specs.NextItem.{IsNextItem, BreaksItem}
-use Rattle.kcr_desk.specs.Output.{IsQueued}
-use Rattle.kcr_print.specs.Written.{WritesPrefix}
+use Rattle.kcr_desk.specs.declared.stream.NextItem.TheVariants.{Message}
 use Rattle.kcr_desk.proofs.FoundLemmas.{known_split, ends_here, head_here}
 use Rattle.kcr_desk.proofs.HeadLemmas.{within_more}
 use Rattle.kcr_desk.proofs.WaitingLemmas.{with_more, sent_front, sent_on}
 
 -- a fault that comes while the answers that wait are written breaks the turn
 pub breaks_at_once : (left a b : Option (List ℕ)) {w : List ℕ} → WritesPrefix a b w → BreaksItem left a b w
-breaks_at_once left a b {w} front = record {
-  next = [];
-  is_next = λ bytes e. nothing;
-  written = subst (WritesPrefix a b) (sym (append-nil w)) front;
-}
+breaks_at_once left a b front = record { next = []; is_next = λ bytes e. nothing; written = rw append-nil front }
 
 -- an end of a stream is one by all that was known of it before
 pub ends_before : (old new : Option (List ℕ)) (e : Ending) → Stays old new → EndsAs new e → EndsAs old e
@@ -60,11 +43,8 @@ turn_later {old} {left} buf c u stays so_far Ended is =
 -- a fault after some of the answers were written breaks the turn as it was at its start
 pub breaks_later : {old left a b : Option (List ℕ)} {w v : List ℕ} (c : Option (List ℕ)) → Stays old left → IsQueued a b w v
     → BreaksItem left b c v → BreaksItem old a c w
-breaks_later c stays so_far breaks = record {
-  next = breaks.next;
-  is_next = λ bytes is. breaks.is_next bytes (stays bytes is);
-  written = sent_front c (with_more breaks.next so_far) breaks.written;
-}
+breaks_later c stays so_far breaks =
+    let written = sent_front c (with_more breaks.next so_far) breaks.written in search (rules, breaks.is_next, stays, written)
 
 -- a head that more follows
 pub plan_more : {buf new : List ℕ} {spans : RequestSpans} {plan : Framing} (more : List ℕ) → HasFraming buf spans plan → new ≡ buf ++ more
@@ -72,15 +52,10 @@ pub plan_more : {buf new : List ℕ} {spans : RequestSpans} {plan : Framing} (mo
 plan_more {buf} {new} {spans} {plan} more has e =
     let w = has.whole in
     let longer : length buf ≤ length (buf ++ more) = simp length-append (omega arith) in
-    let whole : IsWhole (buf ++ more) spans has.head = record {
-      at = λ later. subst (λ t. IsHeadAt t spans has.head) (simp append_assoc) (w.at (more ++ later));
-      len = let l : spans.len ≤ length buf = w.len in omega arith;
-      some = w.some;
-      short = w.short;
-      method = within_more spans.method longer w.method;
-      path = within_more spans.path longer w.path;
-    } in
-    subst (λ t. HasFraming t spans plan) (sym e) (record { head = has.head; whole = whole; planned = has.planned; fits = has.fits })
+    let at : (later : List ℕ) → IsHeadAt ((buf ++ more) ++ later) spans has.head = λ later. rw append_assoc (w.at (more ++ later)) in
+    let whole : IsWhole (buf ++ more) spans has.head =
+    search (rules, at, w, within_more spans.method longer w.method, within_more spans.path longer w.path) in
+    rw e (record { head = has.head; whole = whole; planned = has.planned; fits = has.fits })
 
 -- a stream whose body is shorter than its head asks for ends cut off
 pub cut_ends : {buf : List ℕ} {spans : RequestSpans} {plan : Framing} (unread : Option (List ℕ)) → HasFraming buf spans plan

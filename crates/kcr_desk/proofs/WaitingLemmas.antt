@@ -1,12 +1,7 @@
 -- Answers that wait, and are written one after the other.
-use Rattle.std.proofs.Common.{◌≡◌, ℕ, List, [], ◌++◌, length, refl, sym, ap, ◌∙◌, subst, append_assoc}
-use Rattle.std.specs.Prelude.{Option, Result, Ok, Err, MatchResult}
-use Rattle.std.specs.Io.KnownBytes.{Appends}
-use Rattle.std.proofs.lemmas.List.{append-nil}
-use Rattle.std.proofs.Math.Seq.{take-length}
-use Rattle.kcr_desk.specs.Output.{IsQueued}
-use Rattle.kcr_print.specs.Written.{WritesPrefix, Writes}
-use Rattle.kcr_print.proofs.WrittenLemmas.{appends_both, appends_nothing, front_both}
+use Rattle.kcr_desk.proofs.Common.{◌≡◌, ℕ, List, [], ◌++◌, length, refl, sym, ap, ◌∙◌, subst, append_assoc, Option, Result, MatchResult, Appends}
+use Rattle.kcr_desk.proofs.Common.{append-nil, MatchResult-weaker, take-length, IsQueued, WritesPrefix, Writes, appends_both, appends_nothing}
+use Rattle.kcr_desk.proofs.Common.{front_both}
 
 -- at first nothing is sent, and all waits
 pub gathered_nothing : (a : Option (List ℕ)) (w : List ℕ) → IsQueued a a w w
@@ -23,11 +18,6 @@ with_more {x = x} {w = w} y p = record {
   written = p.written;
   rest = let e : (p.sent ++ w) ++ y ≡ x ++ y = ap (λ t. t ++ y) p.rest in simp append_assoc at e;
 }
-
--- more behind two texts is more behind what waits of them
-pub with_more_behind : {a b : Option (List ℕ)} {w : List ℕ} (x y z : List ℕ) → IsQueued a b (x ++ y) w → IsQueued a b (x ++ (y ++ z)) (w ++ z)
-with_more_behind {a} {b} {w} x y z p =
-    let e : (x ++ y) ++ z ≡ x ++ (y ++ z) = simp append_assoc in subst (λ t. IsQueued a b t (w ++ z)) e (with_more z p)
 
 -- what waits is written
 pub sent_whole : {a b : Option (List ℕ)} (c : Option (List ℕ)) {x w : List ℕ} → IsQueued a b x w → Appends b c w → Appends a c x
@@ -52,10 +42,8 @@ EnqueuesTo r a b x w = MatchResult r (λ _. IsQueued a b x w) (λ _. WritesPrefi
 -- likewise after Ok, and after a fault
 pub gathers_on : {T E : Type 0} (r : Result T E) {a b : Option (List ℕ)} (c : Option (List ℕ)) {x w : List ℕ} (v : List ℕ)
     → IsQueued a b x w → EnqueuesTo r b c w v → EnqueuesTo r a c x v
-gathers_on (Ok t) c v p q = sent_on p q
-gathers_on (Err e) c v p q = sent_front c p q
+gathers_on r c v p q = MatchResult-weaker r q (λ _. sent_on p) (λ _. sent_front c p)
 
 -- if nothing waits behind it all was written
 pub gathers_written : {T E : Type 0} (r : Result T E) (a b : Option (List ℕ)) (x : List ℕ) → Writes r a b x → EnqueuesTo r a b x []
-gathers_written (Ok v) a b x p = record { sent = x; written = p; rest = append-nil x }
-gathers_written (Err e) a b x p = p
+gathers_written r a b x p = MatchResult-weaker r p (λ _ written. record { sent = x; written = written; rest = append-nil x }) (λ _ front. front)

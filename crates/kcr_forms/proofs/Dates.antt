@@ -1,21 +1,13 @@
 -- Days and moments with one text are one.
-use Rattle.std.proofs.Common.{◌≡◌, ℕ, ◌+◌, ◌/◌, ◌%◌, ◌≤◌, List, [], ◌∷◌, ◌++◌, get_or, refl, sym, ap, subst, ◌∙◌, arith, pos, rules}
-use Rattle.std.proofs.lemmas.List.Elements.{All-append, All-from_recursion}
+use Rattle.std.proofs.Common.{◌≡◌, ℕ, ◌/◌, ◌%◌, ◌≤◌, [], ◌∷◌, ◌++◌, refl, sym, subst, ◌∙◌, arith, pos, rules}
+use Rattle.std.proofs.lemmas.List.Elements.{All-from_recursion}
 use Rattle.kcr_base.specs.Day.{IsDay, IsDayOf, date_text, day_text}
 use Rattle.kcr_base.specs.Moment.{IsMoment, clock_text, moment_text}
 use Rattle.kcr_base.proofs.DayLemmas.{date_of_number, parts_of_day, moment_parts, day_of_moment}
 use Rattle.kcr_forms.proofs.Readers.{AtLeast}
 
--- two digits tell the number
-tens-same : (a b : ℕ) → 48 + a / 10 ≡ 48 + b / 10 → 48 + a % 10 ≡ 48 + b % 10 → a ≡ b
-tens-same a b high low = omega (arith, high, low)
-
 date-same : (y m d z n e : ℕ) → date_text y m d ≡ date_text z n e → (y ≡ z) × (m ≡ n) × (d ≡ e)
-date-same y m d z n e same =
-    let at : (i : ℕ) → get_or (date_text y m d) i 0 ≡ get_or (date_text z n e) i 0 = λ i. ap (λ (t : List ℕ). get_or t i 0) same in
-    let century : y / 100 ≡ z / 100 = tens-same (y / 100) (z / 100) (at 0) (at 1) in
-    let year : y % 100 ≡ z % 100 = tens-same (y % 100) (z % 100) (at 2) (at 3) in
-    (omega (arith, century, year), tens-same m n (at 5) (at 6), tens-same d e (at 8) (at 9))
+date-same y m d z n e same = (grind (arith, same), grind (arith, same), grind (arith, same))
 
 -- a date has one number
 same-number : (y m d a b : ℕ) → IsDayOf y m d a → IsDayOf y m d b → a ≡ b
@@ -32,12 +24,7 @@ day-same m n is_m is_n e =
     same-number _ _ _ m n (subst (λ (date : ℕ × ℕ × ℕ). IsDayOf date.0 date.1 date.2 m) (λ j. (parts.0 j, parts.1 j, parts.2 j)) a) b
 
 clock-same : (s t : ℕ) → 84 ∷ clock_text s ++ 90 ∷ [] ≡ 84 ∷ clock_text t ++ 90 ∷ [] → s ≡ t
-clock-same s t same =
-    let at : (i : ℕ) → get_or (84 ∷ clock_text s ++ 90 ∷ []) i 0 ≡ get_or (84 ∷ clock_text t ++ 90 ∷ []) i 0 = λ i. ap (λ (x : List ℕ). get_or x i 0) same in
-    let hour : s / 3600 ≡ t / 3600 = tens-same (s / 3600) (t / 3600) (at 1) (at 2) in
-    let minute : s / 60 % 60 ≡ t / 60 % 60 = tens-same (s / 60 % 60) (t / 60 % 60) (at 4) (at 5) in
-    let second : s % 60 ≡ t % 60 = tens-same (s % 60) (t % 60) (at 7) (at 8) in
-    omega (arith, hour, minute, second)
+clock-same s t same = grind (arith, same)
 
 -- moments with one text are one
 pub moment-same : (s t : ℕ) → IsMoment s → IsMoment t → moment_text s ≡ moment_text t → s ≡ t
@@ -58,6 +45,4 @@ day-printing n = All-from_recursion (λ b. 32 ≤ b) (day_text n) (search (rules
 -- nor has a moment's
 pub moment-printing : (n : ℕ) → AtLeast 32 (moment_text n)
 unfolding moment_text day_text
-moment-printing n =
-    All-append (λ b. 32 ≤ b) (day_text (n / 86400)) (84 ∷ clock_text (n % 86400) ++ 90 ∷ []) (day-printing (n / 86400))
-    (All-from_recursion (λ b. 32 ≤ b) (84 ∷ clock_text (n % 86400) ++ 90 ∷ []) (search (rules, arith)))
+moment-printing n = All-from_recursion (λ b. 32 ≤ b) (moment_text n) (search (rules, arith))

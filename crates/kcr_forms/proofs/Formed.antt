@@ -1,18 +1,19 @@
 -- The readers of the forms read the texts of their values and no others.
-use Rattle.std.proofs.Common.{◌≡◌, ℕ, ◌+◌, ◌-◌, ◌*◌, ◌≤◌, ◌<◌, ◌⊎◌, Bool, true, false, cond, ◌&&◌, eqb, nat_le, List, [], ◌∷◌, if◌then◌else◌, suc}
-use Rattle.std.proofs.Common.{length, get_or, codes, Option, Some, option_map, IfSome, refl, sym, ap, ◌∙◌, arith, All}
+use Rattle.std.proofs.Common.{◌≡◌, ℕ, ◌+◌, ◌-◌, ◌*◌, ◌≤◌, ◌<◌, ◌⊎◌, Bool, true, false, ◌&&◌, eqb, nat_le, List, [], ◌∷◌}
+use Rattle.std.proofs.Common.{length, codes, Option, Some, IfSome, refl, sym, ap, ◌∙◌, arith, All}
 use Rattle.std.specs.Bool.{⊤}
 use Rattle.std.specs.Fmt.{decimal}
 use Rattle.std.specs.Int.Digits.{digits_of}
 use Rattle.std.specs.List.{AllByRecursion, find, list_all, range_with_len}
 use Rattle.std.specs.Str.{IsUtf8, is_utf8}
 use Rattle.std.specs.Cmp.Lexicographic.{same_text as equal_texts}
-use Rattle.std.proofs.lemmas.Bool.{leb-true, and_parts}
+use Rattle.std.proofs.lemmas.Bool.{cond_both, false_from_ne_true}
 use Rattle.std.proofs.lemmas.Fmt.{decimal_injective, decimal-digits_of, IsAscii-decimal}
-use Rattle.std.proofs.lemmas.List.Elements.{All-get_or, All-nil, All-weaker, All-map, All-append, All-head, All-tail, All-from_recursion}
+use Rattle.std.proofs.lemmas.List.Elements.{All-nil, All-weaker, All-map, All-append, All-head, All-tail, All-from_recursion, recursion_from_All}
 use Rattle.std.proofs.lemmas.List.Sums.{AllPass-from_list_all}
 use Rattle.std.proofs.lemmas.Str.{IsUtf8-from_ascii, IsUtf8-from_is_utf8}
 use Rattle.std.proofs.lemmas.List.Splits.{slice_split_none, slice_split_at}
+use Rattle.std.proofs.lemmas.Bool.Decides.{nat_tests}
 use Rattle.kcr_base.specs.Same.{same_text}
 use Rattle.kcr_base.specs.Day.{IsDay, day_text}
 use Rattle.kcr_base.specs.Facility.{facility_text}
@@ -24,19 +25,9 @@ use Rattle.kcr_base.specs.Reads.{HasText, ReadsText}
 use Rattle.kcr_base.specs.Place.{IsPlace, place_text}
 use Rattle.kcr_base.specs.Role.{role_text}
 use Rattle.kcr_base.specs.Serial.{IsDigit, IsSerial}
-use Rattle.kcr_base.specs.declared.place.Facility.{Facility}
 use Rattle.kcr_base.specs.declared.place.Facility.TheVariants.{East, West}
 use Rattle.kcr_base.specs.declared.place.Place.{Place}
-use Rattle.kcr_base.specs.declared.place.Role.{Role}
 use Rattle.kcr_base.specs.declared.place.Role.TheVariants.{Ca, Iw, Sa, Ssc1, Ssc2, Rkos, Sw}
-use Rattle.kcr_custody.specs.declared.SafeNumber.{SafeNumber}
-use Rattle.kcr_custody.specs.declared.SafeNumber.TheVariants.{One, Two}
-use Rattle.kcr_custody.specs.declared.Destination.{Destination}
-use Rattle.kcr_custody.specs.declared.Destination.TheVariants.{SafeOne, DepositBox}
-use Rattle.kcr_room.specs.declared.Way.{Way}
-use Rattle.kcr_room.specs.declared.Way.TheVariants.{Enter, Leave}
-use Rattle.kcr_room.specs.Room.{way_text}
-use Rattle.kcr_history.specs.Texts.{safe_text, truth_text, listed}
 use Rattle.kcr_base.specs.Forms.{by_text, number_by_text, initials_of, serial_of, line_of, day_of}
 use Rattle.kcr_base.specs.Forms.{is_initials, is_serial, is_line}
 use Rattle.kcr_base.specs.Forms.{moment_of, ceremony_of, box_of, step_of, role_of, facility_of, places, place_of, script_of}
@@ -45,9 +36,15 @@ use Rattle.kcr_base.specs.declared.limits.TheConstants.{MAX_BOX}
 use Rattle.kcr_base.proofs.FormLemmas.{initials-read, serial-read, line-read, script-read, initials-from, serial-from, line-from}
 use Rattle.kcr_base.proofs.TextLemmas.{number-read, each-range}
 use Rattle.kcr_base.proofs.ValueLemmas.{day-read, moment-read, place-read, each-place, one_place}
+use Rattle.kcr_custody.specs.declared.SafeNumber.TheVariants.{One, Two}
+use Rattle.kcr_custody.specs.declared.Destination.{Destination}
+use Rattle.kcr_custody.specs.declared.Destination.TheVariants.{SafeOne, DepositBox}
 use Rattle.kcr_custody.specs.Destinations.{IsDestination, destination_text, destination_of}
 use Rattle.kcr_custody.proofs.DestinationLemmas.{number-no_word}
+use Rattle.kcr_room.specs.declared.Way.TheVariants.{Enter, Leave}
+use Rattle.kcr_room.specs.Room.{way_text}
 use Rattle.kcr_room.specs.Forms.{way_of}
+use Rattle.kcr_history.specs.Texts.{safe_text, truth_text, listed}
 use Rattle.kcr_forms.specs.Forms.{safe_of, truth_of}
 use Rattle.kcr_forms.specs.Lines.{each_of, between_commas}
 use Rattle.kcr_forms.proofs.Cutting.{Lacks}
@@ -62,10 +59,9 @@ is_plain b = nat_le 32 b && nat_le b 127
 -- a text that is printing ASCII by a test
 plain : (text : List ℕ) → list_all is_plain text ≡ true → AtLeast 32 text × IsUtf8 text
 plain text test =
-    let each = AllPass-from_list_all is_plain text test in
-    let bounds : (b : ℕ) → is_plain b ≡ true → (nat_le 32 b ≡ true) × (nat_le b 127 ≡ true) = λ b h. and_parts (nat_le 32 b) (nat_le b 127) h in (
-      All-weaker (λ b. is_plain b ≡ true) (λ b. 32 ≤ b) (λ b h. leb-true 32 b (bounds b h).0) text each,
-      ascii-utf8 text (All-weaker (λ b. is_plain b ≡ true) (λ b. b < 128) (λ b h. omega (arith, leb-true b 127 (bounds b h).1)) text each),
+    let each = AllPass-from_list_all is_plain text test in (
+      All-weaker (λ b. is_plain b ≡ true) (λ b. 32 ≤ b) (λ b h. grind (arith, nat_tests, h)) text each,
+      ascii-utf8 text (All-weaker (λ b. is_plain b ≡ true) (λ b. b < 128) (λ b h. grind (arith, nat_tests, h)) text each),
     )
 
 initials-at_least : (text : List ℕ) → IsInitials text → AtLeast 65 text
@@ -80,24 +76,11 @@ number-at_least limit n few is = rw (decimal-digits_of n (omega (arith, is.from)
 
 -- ---- values that are found by their texts
 
--- what is found is in the list
-find-at : {X : Type 0} (test : X → Bool) (xs : List X) (v : X) → find test xs ≡ Some v → (i : ℕ) × (i < length xs) × (get_or xs i v ≡ v)
-find-at test [] v e = cc
-find-at {X} test (x ∷ xs) v e = by (test x) refl (find-at test xs v)
-  where
-    by : (b : Bool) → test x ≡ b → (find test xs ≡ Some v → (i : ℕ) × (i < length xs) × (get_or xs i v ≡ v))
-        → (i : ℕ) × (i < length (x ∷ xs)) × (get_or (x ∷ xs) i v ≡ v)
-    by true t rest = let first : Some x ≡ Some v = rw t at e in let same : x ≡ v = cc in (0, omega arith, same)
-    by false t rest = let r = rest (rw t at e) in (suc r.0, omega (arith, r.1), r.2)
-
 -- what is found among values is one
 found-one : {V : Type 0} (IsValue : V → Type 0) (test : V → Bool) (values : List V) → AllByRecursion IsValue values → IfSome (find test values) IsValue
 found-one IsValue test [] each = tt
-found-one IsValue test (x ∷ xs) each = by (test x) (found-one IsValue test xs each.1)
-  where
-    by : (b : Bool) → IfSome (find test xs) IsValue → IfSome (cond b (Some x) (find test xs)) IsValue
-    by true rest = each.0
-    by false rest = rest
+found-one IsValue test (x ∷ xs) each =
+    cond_both (test x) (Some x) (find test xs) (λ o. IfSome o IsValue) (λ _. each.0) (λ _. found-one IsValue test xs each.1)
 
 -- the same of numbers from one to another
 number-found : (IsValue : ℕ → Type 0) (text_of : ℕ → List ℕ) (low high : ℕ) → ((n : ℕ) → low ≤ n → n ≤ high → IsValue n)
@@ -121,9 +104,8 @@ again-by {text_of = text_of} reads same v is = sym (reads (text_of v) (Some v) (
 text-passes : {V : Type 0} {IsValue : V → Type 0} (text_of : V → List ℕ) (values : List V) → Reads IsValue text_of (by_text text_of values)
     → (test : List ℕ → Bool) → list_all (λ v. test (text_of v)) values ≡ true → (v : V) → IsValue v → test (text_of v) ≡ true
 text-passes text_of values again test all v is =
-    let at = (find-at (λ w. same_text (text_of w) (text_of v)) values v (again v is)) in
-    let passes = All-get_or (λ w. test (text_of w) ≡ true) values at.0 v at.1 (AllPass-from_list_all (λ w. test (text_of w)) values all) in
-    rw at.2 at passes
+    rw (again v is) at (found-one (λ w. test (text_of w) ≡ true) (λ w. same_text (text_of w) (text_of v)) values
+    (recursion_from_All _ values (AllPass-from_list_all (λ w. test (text_of w)) values all)))
 
 -- listed values whose texts are printing ASCII
 texts-value : {V : Type 0} {IsValue : V → Type 0} (text_of : V → List ℕ) (values : List V) → Reads IsValue text_of (by_text text_of values)
@@ -135,28 +117,23 @@ texts-value {IsValue = IsValue} text_of values again each all = record {
   utf8 = λ v is. (plain (text_of v) (text-passes text_of values again (list_all is_plain) all v is)).1;
 }
 
-day-found : (text : List ℕ) → IfSome (day_of text) IsDay
-unfolding day_of
-day-found = number-found IsDay day_text 10957 47481 (λ n low high. record { from = low; until = omega (arith, high) })
-
 -- the reader of days
 pub days : Value IsDay day_text day_of
+unfolding day_of
 days = record {
   again = again-by day-read day-same;
-  found = day-found;
+  found = number-found IsDay day_text 10957 47481 (λ n low high. record { from = low; until = omega (arith, high) });
   printing = λ v _. day-printing v;
   utf8 = λ v is. ascii-utf8 (day_text v) (day_ascii v is);
 }
 
-moment-found : (text : List ℕ) → IfSome (moment_of text) IsMoment
-unfolding moment_of
-moment-found = number-found IsMoment moment_text (10957 * 86400) (47481 * 86400 + 86399) (λ n low high. record { from = low; until = omega (arith, high) })
-
 -- the reader of moments
 pub moments : Value IsMoment moment_text moment_of
+unfolding moment_of
 moments = record {
   again = again-by moment-read moment-same;
-  found = moment-found;
+  found = number-found IsMoment moment_text (10957 * 86400) (47481 * 86400 + 86399)
+      (λ n low high. record { from = low; until = omega (arith, high) });
   printing = λ v _. moment-printing v;
   utf8 = λ v is. ascii-utf8 (moment_text v) (moment_ascii v is);
 }
@@ -186,44 +163,27 @@ pub steps : Value (IsNumber 400) decimal step_of
 unfolding step_of
 steps = decimals 400 (omega arith)
 
-role-again : (v : Role) → role_of (role_text v) ≡ Some v
-unfolding role_of
-role-again Ca = refl
-role-again v = refl
-
 -- the reader of roles
 pub roles : Value (λ _. ⊤) role_text role_of
 unfolding role_of
 roles =
     let all = Ca ∷ Iw ∷ Sa ∷ Ssc1 ∷ Ssc2 ∷ Rkos ∷ Sw ∷ [] in
-    texts-value role_text all (λ v _. role-again v) (each-known all) refl
+    texts-value role_text all (λ v _. grind arith) (each-known all) refl
 
 -- the reader of facilities
 pub facilities : Value (λ _. ⊤) facility_text facility_of
 unfolding facility_of
-facilities = texts-value facility_text (East ∷ West ∷ []) (λ v _. again v) (each-known (East ∷ West ∷ [])) refl
-  where
-    again : (v : Facility) → facility_of (facility_text v) ≡ Some v
-    again East = refl
-    again West = refl
+facilities = texts-value facility_text (East ∷ West ∷ []) (λ v _. grind arith) (each-known (East ∷ West ∷ [])) refl
 
 -- the reader of ways into the room and out of it
 pub ways : Value (λ _. ⊤) way_text way_of
 unfolding way_of
-ways = texts-value way_text (Enter ∷ Leave ∷ []) (λ v _. again v) (each-known (Enter ∷ Leave ∷ [])) refl
-  where
-    again : (v : Way) → way_of (way_text v) ≡ Some v
-    again Enter = refl
-    again Leave = refl
+ways = texts-value way_text (Enter ∷ Leave ∷ []) (λ v _. grind arith) (each-known (Enter ∷ Leave ∷ [])) refl
 
 -- the reader of safes' numbers
 pub safes : Value (λ _. ⊤) safe_text safe_of
 unfolding safe_of
-safes = texts-value safe_text (One ∷ Two ∷ []) (λ v _. again v) (each-known (One ∷ Two ∷ [])) refl
-  where
-    again : (v : SafeNumber) → safe_of (safe_text v) ≡ Some v
-    again One = refl
-    again Two = refl
+safes = texts-value safe_text (One ∷ Two ∷ []) (λ v _. grind arith) (each-known (One ∷ Two ∷ [])) refl
 
 -- the reader of places
 pub places-read : Value IsPlace place_text place_of
@@ -237,51 +197,35 @@ place-passes = text-passes place_text places places-read.again
 
 -- ---- texts that are their own value
 
-initials-found : (text : List ℕ) → IfSome (initials_of text) IsInitials
-unfolding initials_of
-initials-found text = tested IsInitials (is_initials text) text (initials-from text)
-
 -- the reader of initials
 pub initials : Value IsInitials (λ text. text) initials_of
+unfolding initials_of
 initials = record {
   again = λ v is. sym (initials-read (Some v) v (is, refl));
-  found = initials-found;
+  found = λ text. tested IsInitials (is_initials text) text (initials-from text);
   printing = λ v is. at_least-less 65 32 v (omega arith) (initials-at_least v is);
   utf8 = λ v is. ascii-utf8 v (All-weaker IsCapital (λ b. b < 128) (λ b h. omega (arith, h.1)) v is.capitals);
 }
 
-serial-found : (text : List ℕ) → IfSome (serial_of text) IsSerial
-unfolding serial_of
-serial-found text = tested IsSerial (is_serial text) text (serial-from text)
-
 -- the reader of bags' serials and of items' codes
 pub serials : Value IsSerial (λ text. text) serial_of
+unfolding serial_of
 serials = record {
   again = λ v is. sym (serial-read (Some v) v (is, refl));
-  found = serial-found;
+  found = λ text. tested IsSerial (is_serial text) text (serial-from text);
   printing = λ v is. at_least-less 48 32 v (omega arith) (serial-at_least v is);
   utf8 = λ v is. ascii-utf8 v (All-weaker (λ b. IsCapital b ⊎ IsDigit b) (λ b. b < 128) (λ b h. grind arith) v is.each);
 }
 
-line-found : (limit : ℕ) (text : List ℕ) → IfSome (line_of limit text) (IsLine limit)
+-- the reader of lines, as of names and remarks
+pub lines-read : (limit : ℕ) → Value (IsLine limit) (λ text. text) (line_of limit)
 unfolding line_of
-line-found limit text = tested (IsLine limit) (is_line limit text) text (line-from limit text)
-
-lines-read : (limit : ℕ) → Value (IsLine limit) (λ text. text) (line_of limit)
 lines-read limit = record {
   again = λ v is. sym (line-read limit (Some v) v (is, refl));
-  found = line-found limit;
+  found = λ text. tested (IsLine limit) (is_line limit text) text (line-from limit text);
   printing = λ v is. All-weaker IsPrinting (λ b. 32 ≤ b) (λ b h. h.0) v is.printing;
   utf8 = λ v is. is.text;
 }
-
--- the reader of names
-pub names : Value (IsLine 120) (λ text. text) (line_of 120)
-names = lines-read 120
-
--- the reader of remarks
-pub remarks : Value (IsLine 1000) (λ text. text) (line_of 1000)
-remarks = lines-read 1000
 
 -- a script is read again from its text
 pub scripts : Reads IsUtf8 (λ text. text) script_of
@@ -295,22 +239,17 @@ script-found text = tested IsUtf8 (is_utf8 text) text (IsUtf8-from_is_utf8 text)
 -- the reader of truth values
 pub truths : Value (λ _. ⊤) truth_text truth_of
 unfolding truth_of
-truths = texts-value truth_text (true ∷ false ∷ []) (λ v _. again v) (each-known (true ∷ false ∷ [])) refl
-  where
-    again : (v : Bool) → truth_of (truth_text v) ≡ Some v
-    again true = refl
-    again false = refl
+truths = texts-value truth_text (true ∷ false ∷ []) (λ v _. grind arith) (each-known (true ∷ false ∷ [])) refl
 
 -- ---- where a bag is put
 
 destination-again : (v : Destination) → IsDestination v → destination_of (destination_text v) ≡ Some v
 unfolding destination_of
 destination-again SafeOne is = refl
-destination-again (DepositBox n) is = by (same_text (decimal n) (codes "safe1")) refl
-  where
-    by : (b : Bool) → same_text (decimal n) (codes "safe1") ≡ b → destination_of (destination_text (DepositBox n)) ≡ Some (DepositBox n)
-    by true e = absurd (number-no_word n is (equal_texts (decimal n) (codes "safe1") (sym e)))
-    by false e = rw (e, boxes.again n is) refl
+destination-again (DepositBox n) is =
+    let other = false_from_ne_true (same_text (decimal n) (codes "safe1"))
+    (λ e. number-no_word n is (equal_texts (decimal n) (codes "safe1") (sym e))) in
+    rw (other, boxes.again n is) refl
 
 destination-plain : (v : Destination) → IsDestination v → AtLeast 32 (destination_text v) × IsUtf8 (destination_text v)
 destination-plain SafeOne is = plain (codes "safe1") refl
@@ -318,11 +257,9 @@ destination-plain (DepositBox n) is = (boxes.printing n is, boxes.utf8 n is)
 
 destination-found : (text : List ℕ) → IfSome (destination_of text) IsDestination
 unfolding destination_of
-destination-found text = by (same_text text (codes "safe1"))
-  where
-    by : (b : Bool) → IfSome (if b then Some SafeOne else option_map DepositBox (box_of text)) IsDestination
-    by true = tt
-    by false = mapped (IsNumber MAX_BOX) IsDestination DepositBox (λ n is. is) (box_of text) (boxes.found text)
+destination-found text =
+    cond_both (same_text text (codes "safe1")) (Some SafeOne) _ (λ o. IfSome o IsDestination) (λ _. tt)
+    (λ _. mapped (IsNumber MAX_BOX) IsDestination DepositBox (λ n is. is) (box_of text) (boxes.found text))
 
 -- the reader of destinations of bags
 pub destinations : Value IsDestination destination_text destination_of

@@ -1,14 +1,13 @@
 -- A source that gives the members of an act gives the act. A source that reads each member by its form gives acts of values.
-use Rattle.std.proofs.Common.{◌≡◌, ℕ, List, [], ◌∷◌, ◌++◌, Option, Some, None, option_and_then, Result, Ok, IfSome, IfOk, refl, sym, ap, ◌∙◌, subst}
-use Rattle.std.specs.Option.{option_map_or}
+use Rattle.std.proofs.Common.{◌≡◌, ℕ, List, [], ◌∷◌, ◌++◌, Option, Some, None, option_and_then, Result, Ok, IfSome, IfOk, refl, sym, ap, ◌∙◌}
 use Rattle.kcr_base.specs.Number.{IsNumber}
 use Rattle.kcr_base.specs.declared.refusal.Member.{Member}
 use Rattle.kcr_base.specs.declared.refusal.Refusal.{Refusal}
 use Rattle.kcr_history.specs.Texts.{MemberValue, Whole, members_of, value_text}
 use Rattle.kcr_history.specs.declared.commands.Act.{Act}
 use Rattle.kcr_forms.specs.Acts.{IsAct}
-use Rattle.kcr_forms.specs.Forms.{ceremony_of, truth_of, number_of, listed_of}
-use Rattle.kcr_forms.specs.Lines.{each_of, between_commas, lines, on_line}
+use Rattle.kcr_forms.specs.Forms.{ceremony_of, number_of, listed_of}
+use Rattle.kcr_forms.specs.Lines.{each_of, lines}
 use Rattle.kcr_forms.specs.OrMemory.{and_then}
 use Rattle.kcr_forms.specs.Posts.{next, last, act_by, act_of_shape, posted_act}
 use Rattle.kcr_forms.specs.Reading.{Reading, formed}
@@ -35,8 +34,7 @@ module _ {S : Type 0} (r : Reading S) where
   members-given [] make given s g = refl
   members-given (m ∷ []) make given s g = ap (λ v. and_then (formed m.0 v) (λ v. Ok (make v))) g
   members-given (m ∷ n ∷ ms) make given s g =
-      ap (λ v. and_then (formed m.0 v) (λ v. act_by r (n ∷ ms) (make v) (r.rest s))) g.0
-      ∙ members-given (n ∷ ms) (make given.0.value) given.1 (r.rest s) g.1
+      rw g.0 (members-given (n ∷ ms) (make given.0.value) given.1 (r.rest s) g.1)
 
   -- such a source gives the act that the values make
   pub act-given : (of : Shape) (given : AllGiven (members_in of)) (s : S) → Gives r (members_in of) given s → act_of_shape r of s ≡ Ok (made_by of given)
@@ -46,8 +44,8 @@ module _ {S : Type 0} (r : Reading S) where
 pub codes-again : (most : ℕ) (read : List ℕ → Option (List ℕ)) (list : List (List ℕ)) → IsAgain (shapes.Codes most read) list
     → option_and_then (listed_of most (λ texts. texts)) (each_of read list) ≡ Some list
 codes-again most read list is =
-    ap (option_and_then (listed_of most (λ texts. texts))) (each-again (λ code. read code ≡ Some code) read (λ code same. same) list is.1)
-    ∙ sym (listed_new most (λ texts. texts) list (Some list) (is.0, refl))
+    rw (each-again (λ code. read code ≡ Some code) read (λ code same. same) list is.1)
+    (sym (listed_new most (λ texts. texts) list (Some list) (is.0, refl)))
 
 -- ---- the lines of a text give the values that it tells
 
@@ -68,25 +66,17 @@ module _ {m : Member × Form} {ms : List (Member × Form)} where
   one-line shapes.Truth v = no-feed truths v.value tt
   one-line (shapes.Codes most read) v = v.stands.0
 
-  module _ (rest : List ℕ) (form : Form) (v : Given (m ∷ ms) form) where
-    cut : split_at_byte 10 (value_text (told_as form v.value) ++ 10 ∷ rest) ≡ Some (value_text (told_as form v.value), rest)
-    cut = cut-again 10 (value_text (told_as form v.value)) rest (one-line form v)
-
-    on : {V : Type 0} (read : List ℕ → Option V) → on_line read (value_text (told_as form v.value) ++ 10 ∷ rest) ≡ read (value_text (told_as form v.value))
-    on read = ap (option_and_then (λ (p : List ℕ × List ℕ). read p.0)) cut
-
-    left : lines.rest (value_text (told_as form v.value) ++ 10 ∷ rest) ≡ rest
-    left = ap (λ o. option_map_or (λ (p : List ℕ × List ℕ). p.1) o (value_text (told_as form v.value) ++ 10 ∷ rest)) cut
+  cut : (rest : List ℕ) (form : Form) (v : Given (m ∷ ms) form)
+      → split_at_byte 10 (value_text (told_as form v.value) ++ 10 ∷ rest) ≡ Some (value_text (told_as form v.value), rest)
+  cut rest form v = cut-again 10 (value_text (told_as form v.value)) rest (one-line form v)
 
   line-next : (name : Member) (rest : List ℕ) (form : Form) (v : Given (m ∷ ms) form)
       → next lines name form (value_text (told_as form v.value) ++ 10 ∷ rest) ≡ Some v.value
-  line-next _ rest (shapes.Text text_of read) v = on rest (shapes.Text text_of read) v read ∙ v.again.0
-  line-next _ rest shapes.Number v = on rest shapes.Number v (number_of 9999) ∙ number-line v.value v.again
-  line-next _ rest shapes.Truth v = on rest shapes.Truth v truth_of ∙ truths.again v.value tt
+  line-next _ rest (shapes.Text text_of read) v = rw (cut rest (shapes.Text text_of read) v) v.again.0
+  line-next _ rest shapes.Number v = rw (cut rest shapes.Number v) (number-line v.value v.again)
+  line-next _ rest shapes.Truth v = rw (cut rest shapes.Truth v) (truths.again v.value tt)
   line-next _ rest (shapes.Codes most read) v =
-      let make = option_and_then (listed_of most (λ texts. texts)) in
-      on rest (shapes.Codes most read) v (λ line. make (each_of read (between_commas line)))
-      ∙ ap (λ list. make (each_of read list)) (pieces v.value v.again.0.at_least_one v.stands.1) ∙ codes-again most read v.value v.again
+      rw (cut rest (shapes.Codes most read) v, pieces v.value v.again.0.at_least_one v.stands.1) (codes-again most read v.value v.again)
 
 line-last : (name : Member) (form : Form) (v : Given [] form) → last lines name form (value_text (told_as form v.value)) ≡ Some v.value
 line-last _ (shapes.Text text_of read) v = v.again.0
@@ -97,15 +87,14 @@ lines-give [] given = tt
 lines-give (m ∷ []) given = line-last m.0 m.1 given.0
 lines-give (m ∷ n ∷ ms) given =
     let rest = lines_text (told (n ∷ ms) given.1) in
-    (line-next m.0 rest m.1 given.0, subst (Gives lines (n ∷ ms) given.1) (sym (left rest m.1 given.0)) (lines-give (n ∷ ms) given.1))
+    (line-next m.0 rest m.1 given.0, rw (cut rest m.1 given.0) (lines-give (n ∷ ms) given.1))
 
 -- the lines of an act give the act
 pub lines-told : (does : Act) → IsAct does → posted_act lines (post_of does) (lines_text (members_of does)) ≡ Ok does
 lines-told does is =
     let has = shaped does is in
     let of = shape (post_of does) in
-    ap (λ ms. posted_act lines (post_of does) (lines_text ms)) has.2
-    ∙ act-given lines of has.0 (lines_text (told (members_in of) has.0)) (lines-give (members_in of) has.0) ∙ ap Ok has.1
+    rw has.2 (act-given lines of has.0 (lines_text (told (members_in of) has.0)) (lines-give (members_in of) has.0) ∙ ap Ok has.1)
 
 -- ---- a source that reads each member by its form
 

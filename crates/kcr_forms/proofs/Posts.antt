@@ -1,8 +1,7 @@
 -- The path of each act, and its members as values of the path's shape.
-use Rattle.std.proofs.Common.{◌≡◌, ℕ, Bool, true, false, List, [], ◌∷◌, map, codes, Option, Some, All, IfSome, not, true≢false, refl, sym, subst}
+use Rattle.std.proofs.Common.{arith, ◌≡◌, ℕ, Bool, true, false, List, [], ◌∷◌, map, codes, Option, Some, All, IfSome, true≢false, refl, sym, subst}
 use Rattle.std.specs.Bool.{⊤}
 use Rattle.std.specs.Str.{IsUtf8}
-use Rattle.std.proofs.lemmas.Bool.{and_parts, not-true}
 use Rattle.std.proofs.lemmas.List.Elements.{All-weaker}
 use Rattle.kcr_base.specs.Initials.{IsInitials}
 use Rattle.kcr_base.specs.Lists.{IsListed, is_among, are_apart}
@@ -28,7 +27,7 @@ use Rattle.kcr_forms.specs.declared.post.PlacePath.TheVariants.{Replacement, Rel
 use Rattle.kcr_forms.specs.declared.post.CeremonyPath.TheVariants.{Opening, Closing, Sheet, Exceptions}
 use Rattle.kcr_forms.specs.declared.post.BagPath.TheVariants.{Seal, Take, Put, Cut}
 use Rattle.kcr_forms.proofs.Cutting.{Lacks}
-use Rattle.kcr_forms.proofs.Formed.{days, moments, roles, facilities, ways, places-read, initials, serials, names, remarks, scripts, script-found, destinations}
+use Rattle.kcr_forms.proofs.Formed.{days, moments, roles, facilities, ways, places-read, initials, serials, lines-read, scripts, script-found, destinations}
 use Rattle.kcr_forms.proofs.Formed.{codes-feed, initials-lack, items-lack}
 use Rattle.kcr_forms.proofs.Readers.{Value, no-feed}
 
@@ -116,9 +115,7 @@ is_shape (m ∷ ms) = are_apart (codes "key" ∷ names_of (m ∷ ms))
 pub shape-parts : (members : List (Member × Form)) → is_shape members ≡ true
     → (is_among (names_of members) (codes "key") ≡ false) × (are_apart (names_of members) ≡ true)
 shape-parts [] e = absurd (true≢false (sym e))
-shape-parts (m ∷ ms) e =
-    let parts = and_parts (not (is_among (names_of (m ∷ ms)) (codes "key"))) (are_apart (names_of (m ∷ ms))) e in
-    (not-true (is_among (names_of (m ∷ ms)) (codes "key")) parts.0, parts.1)
+shape-parts (m ∷ ms) e = grind (arith, e)
 
 -- ---- values of their forms
 
@@ -153,7 +150,7 @@ HasShape does s =
 
 -- they are values of the shape of its path
 pub shaped : (does : Act) → IsAct does → HasShape does (shape (post_of does))
-shaped (act.Enter who name) is = ((next initials who is.0, (last names name is.1, tt)), refl, refl, refl)
+shaped (act.Enter who name) is = ((next initials who is.0, (last (lines-read 120) name is.1, tt)), refl, refl, refl)
 shaped (act.Train who role since until) is = ((next roles role tt, (next days since is.1, (last days until is.2, tt))), refl, refl, refl)
 shaped (act.Withdraw who role day) is = ((next roles role tt, (last days day is.1, tt)), refl, refl, refl)
 shaped (act.Appoint place who day) is = ((next places-read place is.0, (next initials who is.1, (last days day is.2, tt))), refl, refl, refl)
@@ -163,17 +160,14 @@ shaped (act.AddBox facility box place) is = ((next facilities facility tt, (next
 shaped (act.Ceremony ceremony at (deed.AddItem item)) is = ((next_number ceremony is.0, (next serials item is.1, (last moments at is.2, tt))), refl, refl, refl)
 shaped (act.Plan ceremony facility day script) is =
     ((next_number ceremony is.0, (next facilities facility tt, (next days day is.1, (record { value = script; again = (scripts script is.2, is.2); stands = tt }, tt)))), refl, refl, refl)
-shaped (act.Ceremony ceremony at deed.Open) is = ((last moments at is.2, tt), refl, refl, refl)
-shaped (act.Ceremony ceremony at deed.Close) is = ((last moments at is.2, tt), refl, refl, refl)
 shaped (act.Ceremony ceremony at (deed.RecordSheet way who)) is =
     ((next ways way tt, (several initials initials-lack 32 who is.1.listed is.1.each, (last moments at is.2, tt))), refl, refl, refl)
-shaped (act.Ceremony ceremony at (deed.Sign step)) is = ((last moments at is.2, tt), refl, refl, refl)
-shaped (act.Ceremony ceremony at (deed.RecordException text pass)) is = ((next remarks text is.1, (truth pass, (last moments at is.2, tt))), refl, refl, refl)
+shaped (act.Ceremony ceremony at (deed.RecordException text pass)) is =
+    ((next (lines-read 1000) text is.1, (truth pass, (last moments at is.2, tt))), refl, refl, refl)
 shaped (act.Ceremony ceremony at (deed.SetSafe safe state person)) is = ((truth state, (next initials person is.1, (last moments at is.2, tt))), refl, refl, refl)
 shaped (act.Ceremony ceremony at (deed.Seal serial items)) is = ((several serials items-lack 64 items is.1.1.listed is.1.1.each, (last moments at is.2, tt)), refl, refl, refl)
-shaped (act.Ceremony ceremony at (deed.Take serial)) is = ((last moments at is.2, tt), refl, refl, refl)
 shaped (act.Ceremony ceremony at (deed.Put serial to)) is = ((next destinations to is.1.1, (last moments at is.2, tt)), refl, refl, refl)
-shaped (act.Ceremony ceremony at (deed.Cut serial)) is = ((last moments at is.2, tt), refl, refl, refl)
+shaped (act.Ceremony ceremony at deed) is = ((last moments at is.2, tt), refl, refl, refl)
 
 -- ---- what is read
 
@@ -219,7 +213,7 @@ module _ {V : Type 0} {IsValue : V → Type 0} {text_of : V → List ℕ} {read 
 
 -- what is read behind a path of values makes an act of values
 pub parts-made : (p : Post) → IsPost p → EachOf (shape p)
-parts-made (post.Collection People) is = λ who w name n. (of initials who w, of names name n)
+parts-made (post.Collection People) is = λ who w name n. (of initials who w, of (lines-read 120) name n)
 parts-made (post.Collection Custodians) is = λ place p who w day d. (of places-read place p, of initials who w, of days day d)
 parts-made (post.Collection Boxes) is = λ facility _ box b place p. (b, of places-read place p)
 parts-made (post.Collection Items) is = λ n i item s at a. (i, of serials item s, of moments at a)
@@ -228,13 +222,11 @@ parts-made (post.Person who Roles) is = λ role _ since s until u. (is, of days 
 parts-made (post.Person who Withdrawals) is = λ role _ day d. (is, of days day d)
 parts-made (post.Place place Replacement) is = λ who w day d. (is, of initials who w, of days day d)
 parts-made (post.Place place Release) is = λ day d. (is, of days day d)
-parts-made (post.Ceremony n Opening) is = λ at a. (is, tt, of moments at a)
-parts-made (post.Ceremony n Closing) is = λ at a. (is, tt, of moments at a)
 parts-made (post.Ceremony n Sheet) is = λ way _ who w at a. (is, record { listed = w.0; each = each-of initials who w.1 }, of moments at a)
-parts-made (post.Ceremony n Exceptions) is = λ text t pass _ at a. (is, of remarks text t, of moments at a)
+parts-made (post.Ceremony n Exceptions) is = λ text t pass _ at a. (is, of (lines-read 1000) text t, of moments at a)
+parts-made (post.Ceremony n path) is = λ at a. (is, tt, of moments at a)
 parts-made (post.Signature n step) is = λ at a. (is.0, is.1, of moments at a)
 parts-made (post.Safe n safe) is = λ state _ by b at a. (is, of initials by b, of moments at a)
 parts-made (post.Bag n serial Seal) is = λ items i at a. (is.0, (is.1, record { listed = i.0; each = each-of serials items i.1 }), of moments at a)
-parts-made (post.Bag n serial Take) is = λ at a. (is.0, is.1, of moments at a)
 parts-made (post.Bag n serial Put) is = λ to t at a. (is.0, (is.1, of destinations to t), of moments at a)
-parts-made (post.Bag n serial Cut) is = λ at a. (is.0, is.1, of moments at a)
+parts-made (post.Bag n serial path) is = λ at a. (is.0, is.1, of moments at a)

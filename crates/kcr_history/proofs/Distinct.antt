@@ -1,16 +1,6 @@
 -- No training is entered twice.
-use Rattle.std.proofs.Common.{◌≡◌, [], ◌∷◌, None, ◌∙◌, arith, false}
-use Rattle.std.specs.List.{cons_option}
-use Rattle.kcr_base.proofs.RowsLemmas.{Apart}
-use Rattle.kcr_people.specs.declared.Training.{Training}
-use Rattle.kcr_people.specs.People.{same_training}
-use Rattle.kcr_history.specs.declared.commands.Act.{Act}
-use Rattle.kcr_history.specs.declared.commands.Act.TheVariants.{Train}
-use Rattle.kcr_history.specs.History.{History, has_command}
-use Rattle.kcr_history.specs.Training.{is_training}
-use Rattle.kcr_history.specs.Tables.{trainings, training_row}
-use Rattle.kcr_history.specs.Conditions.{fault}
-use Rattle.kcr_history.specs.Machine.{IsRegister}
+use Rattle.kcr_history.proofs.Common.{◌≡◌, [], ◌∷◌, None, ◌∙◌, arith, false, cons_option, Apart, Training, same_training, Act, Train, History}
+use Rattle.kcr_history.proofs.Common.{has_command, is_training, trainings, training_row, fault, IsRegister}
 use Rattle.kcr_history.proofs.Steps.{took}
 use Rattle.kcr_history.proofs.Words.{is_training-trainings}
 

@@ -1,16 +1,10 @@
 -- Texts with commas between them, one text after the other; the texts of replies and refusals, piece by piece.
 use denote.Shadow.{shadow}
 use denote.Text.{Utf8}
-use Rattle.std.proofs.Common.{◌≡◌, ℕ, zero, suc, ◌+◌, ◌<◌, List, [], ◌∷◌, ◌++◌, map, take, length, get_or, codes, refl, sym, ap, ◌∙◌}
-use Rattle.std.proofs.Common.{append_assoc, append-nil, add-one, arith}
-use Rattle.std.specs.Prelude.{Result, Ok, Err, IfOk}
-use Rattle.std.specs.Fmt.{decimal}
-use Rattle.std.specs.List.{join_with_byte, flat_map}
-use Rattle.std.proofs.lemmas.List.{map_more, get_or_default}
+use Rattle.kcr_history.proofs.Common.{◌≡◌, ℕ, zero, suc, ◌+◌, ◌<◌, List, [], ◌∷◌, ◌++◌, map, take, length, get_or, codes, refl, sym, ap, ◌∙◌}
+use Rattle.kcr_history.proofs.Common.{append_assoc, append-nil, add-one, arith, Result, Ok, Err, IfOk, decimal, join_with_byte, flat_map, map_more}
+use Rattle.kcr_history.proofs.Common.{get_or_default, Refusal, quoted, member, object, refusal_text}
 use Rattle.std.proofs.lemmas.List.Concat.{flat_map-append}
-use Rattle.kcr_base.specs.declared.refusal.Refusal.{Refusal}
-use Rattle.kcr_history.specs.Json.{quoted, member, object}
-use Rattle.kcr_history.specs.Refusals.{refusal_text}
 
 -- what stands between a list and the next text: a comma if the list is not empty
 abbrev pub separator : {X : Type 0} → List X → List ℕ

@@ -1,7 +1,5 @@
 -- The greatest of some numbers, one after the other.
-use Rattle.std.proofs.Common.{◌≡◌, ℕ, Option, Some, None, arith}
-use Rattle.std.proofs.lemmas.Bool.Decides.{nat_tests}
-use Rattle.kcr_history.specs.History.{max_with, max_option}
+use Rattle.kcr_history.proofs.Common.{◌≡◌, ℕ, Option, Some, None, arith, nat_tests, max_with, max_option}
 
 -- the greater of two numbers that may be there
 abbrev pub greater : Option ℕ → Option ℕ → Option ℕ

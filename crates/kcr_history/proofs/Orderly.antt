@@ -1,24 +1,10 @@
 -- The appointments of a register: each begins if the older ones of its place and of its person have ended. So the holder by rows is the
 -- holder by history.
-use Rattle.std.proofs.Common.{◌≡◌, ℕ, ◌<◌, Bool, true, false, cond, ◌&&◌, nat_le, List, [], ◌∷◌, map, find, Option, Some, None, option_map, is_none}
-use Rattle.std.proofs.Common.{refl, ◌∙◌, subst, arith}
-use Rattle.std.specs.Prelude.{unwrap_or}
-use Rattle.std.specs.List.{list_all}
-use Rattle.std.proofs.lemmas.Bool.{true≢false, leb-true, leb-false, and_parts}
-use Rattle.kcr_base.specs.Rows.{option_or}
-use Rattle.kcr_base.specs.Same.{same_place}
-use Rattle.kcr_base.specs.declared.place.Place.{Place}
-use Rattle.kcr_base.proofs.ListLemmas.{find-none}
-use Rattle.kcr_base.proofs.SameLemmas.{place-same}
-use Rattle.kcr_people.specs.declared.Appointment.{Appointment}
-use Rattle.kcr_people.specs.People.{lasts, open_row_by, begins_too_late, place_held_from_by, person_holds_from_by, holder_by, holds}
-use Rattle.kcr_history.specs.declared.commands.Act.{Act}
-use Rattle.kcr_history.specs.declared.commands.Act.TheVariants.{Appoint, Replace, Release}
-use Rattle.kcr_history.specs.History.{History, last_value_of_acts}
-use Rattle.kcr_history.specs.Training.{holder, holder_effect}
-use Rattle.kcr_history.specs.Tables.{appointments, appointments_after, ended}
-use Rattle.kcr_history.specs.Conditions.{fault}
-use Rattle.kcr_history.specs.Machine.{IsRegister}
+use Rattle.kcr_history.proofs.Common.{◌≡◌, ℕ, ◌<◌, true, false, ◌&&◌, nat_le, List, [], ◌∷◌, map, Option, Some, None, is_none, refl, subst, arith}
+use Rattle.kcr_history.proofs.Common.{unwrap_or, list_all, true≢false, leb-true, leb-false, and_parts, option_or, same_place, Place, find-none}
+use Rattle.kcr_history.proofs.Common.{place-same, Appointment, lasts, open_row_by, begins_too_late, place_held_from_by, holder_by, holds, Act}
+use Rattle.kcr_history.proofs.Common.{Appoint, Replace, Release, History, last_value_of_acts, holder, holder_effect, appointments, appointments_after}
+use Rattle.kcr_history.proofs.Common.{ended, fault, IsRegister}
 use Rattle.kcr_history.proofs.Stacked.{stacked, in_turn, closing, stacked-ended, in_turn-ended, free-ended, lasts-ended, find-ended, free-none}
 use Rattle.kcr_history.proofs.Steps.{took}
 
@@ -45,9 +31,7 @@ released : (A : History) (place : Place) (day : ℕ) → fault A (Release place 
 released A place day f o = ends (appointments A) place day o (grind arith) (grind arith)
 
 orderly_after : (A : History) (act : Act) → fault A act ≡ None → IsOrderly (appointments A) → IsOrderly (appointments_after act (appointments A))
-orderly_after A (Appoint place who day) f o =
-    let free : place_held_from_by (appointments A) place day ≡ false = grind arith in
-    (rw (free, o.0), o.1)
+orderly_after A (Appoint place who day) f o = (grind (arith, o.0), o.1)
 orderly_after A (Replace place who day) f o =
     let e = ends (appointments A) place day o (grind arith) (grind arith) in
     (rw (e.0, e.1.0), e.1.1)
@@ -62,12 +46,9 @@ orderly (entry ∷ A) h = orderly_after A entry.command.act (took A entry h.0).n
 -- THE APPOINTMENTS OF A PERSON
 
 turn_after : (A : History) (act : Act) → fault A act ≡ None → in_turn (appointments A) ≡ true → in_turn (appointments_after act (appointments A)) ≡ true
-turn_after A (Appoint place who day) f t =
-    let free : person_holds_from_by (appointments A) who day ≡ false = grind arith in
-    rw (free, t)
+turn_after A (Appoint place who day) f t = grind (arith, t)
 turn_after A (Replace place who day) f t =
-    let free : person_holds_from_by (appointments A) who day ≡ false = grind arith in
-    rw (free-ended place day who day (appointments A) free, in_turn-ended place day (appointments A) t)
+    grind (arith, t, free-ended place day who day (appointments A), in_turn-ended place day (appointments A))
 turn_after A (Release place day) f t = in_turn-ended place day (appointments A) t
 turn_after A act f t = t
 
@@ -78,46 +59,19 @@ turns (entry ∷ A) h = turn_after A entry.command.act (took A entry h.0).no_fau
 
 -- THE HOLDER
 
--- what is said of the place, or what was said before
-abbrev told_holder : Option (Option (List ℕ)) → Option (Option (List ℕ)) → Option (List ℕ)
-told_holder now before = unwrap_or (option_or now before) None
-
--- the row of a command that puts somebody in the place, before the older rows
-first-row : (b : Bool) (new : Appointment) (older : Option Appointment) (said : Option (Option (List ℕ)))
-    → option_map (λ row. row.who) older ≡ unwrap_or said None
-    → option_map (λ row. row.who) (cond (b && true) (Some new) older) ≡ told_holder (cond b (Some (Some new.who)) None) said
-first-row b new older said h = grind arith
-
 holder_after : (A : History) (act : Act) (place : Place) (d : ℕ) → fault A act ≡ None → IsOrderly (appointments A)
     → holder_by (appointments A) place d ≡ holder A place d
-    → holder_by (appointments_after act (appointments A)) place d ≡ told_holder (holder_effect place d act) (last_value_of_acts (holder_effect place d) A)
-holder_after A (Appoint at who since) place d f o ih =
-    first-row (same_place at place && nat_le since d) (record { place = at; who = who; since = since; until = None })
-    (find (holds place d) (appointments A)) (last_value_of_acts (holder_effect place d) A) ih
-holder_after A (Replace at who since) place d f o ih =
-    by_word (same_place at place && nat_le since d) refl
-  where
-    by_word : (b : Bool) → (same_place at place && nat_le since d) ≡ b
-        → option_map (λ row. row.who)
-        (cond (b && true) (Some (record { place = at; who = who; since = since; until = None }))
-        (find (holds place d) (map (ended at since) (appointments A))))
-        ≡ told_holder (cond b (Some (Some who)) None) (last_value_of_acts (holder_effect place d) A)
-    by_word true e = refl
-    by_word false e = find-ended at place since d (appointments A) e ∙ ih
+    → holder_by (appointments_after act (appointments A)) place d
+    ≡ unwrap_or (option_or (holder_effect place d act) (last_value_of_acts (holder_effect place d) A)) None
+holder_after A (Appoint at who since) place d f o ih = grind (arith, ih)
+holder_after A (Replace at who since) place d f o ih = grind (arith, ih, find-ended at place since d (appointments A))
 holder_after A (Release at since) place d f o ih =
-    by_word (same_place at place && nat_le since d) refl
-  where
-    by_word : (b : Bool) → (same_place at place && nat_le since d) ≡ b
-        → holder_by (map (ended at since) (appointments A)) place d ≡ told_holder (cond b (Some None) None) (last_value_of_acts (holder_effect place d) A)
-    by_word true e =
-        let q = and_parts (same_place at place) (nat_le since d) e in
-        let free = (released A at since f o).0 in
-        let rows = map (ended at since) (appointments A) in
-        let here : place_held_from_by rows place since ≡ false =
-        subst (λ p. place_held_from_by rows p since ≡ false) (place-same at place q.0) free
-        in
-        rw (find-none (holds place d) rows (free-none place since d rows (leb-true since d q.1) here))
-    by_word false e = find-ended at place since d (appointments A) e ∙ ih
+    let rows = map (ended at since) (appointments A) in
+    let gone = λ (e : (same_place at place && nat_le since d) ≡ true).
+    let q = and_parts (same_place at place) (nat_le since d) e in
+    let free = subst (λ p. place_held_from_by rows p since ≡ false) (place-same at place q.0) (released A at since f o).0 in
+    find-none (holds place d) rows (free-none place since d rows (leb-true since d q.1) free) in
+    grind (arith, ih, gone, find-ended at place since d (appointments A))
 holder_after A act place d f o ih = ih
 
 -- the holder by the rows of a register is the holder by its history

@@ -1,11 +1,8 @@
 -- Rows that are put one after the other on older ones.
-use Rattle.std.proofs.Common.{◌≡◌, Bool, ◌||◌, List, [], ◌∷◌, ◌++◌, map, filter, refl, sym, ◌∙◌, arith, subst}
-use Rattle.std.specs.List.{list_any}
-use Rattle.std.specs.List.Sorted.{IsPermutation}
+use Rattle.kcr_history.proofs.Common.{◌≡◌, Bool, ◌||◌, List, [], ◌∷◌, ◌++◌, map, filter, refl, sym, ◌∙◌, arith, subst, list_any, IsPermutation}
+use Rattle.kcr_history.proofs.Common.{list_any-append, IsPermutation-refl, IsPermutation-sym, IsPermutation-trans, IsPermutation-middle}
+use Rattle.kcr_history.proofs.Common.{list_any-IsPermutation, pushed_onto}
 use Rattle.std.proofs.lemmas.List.{append-nil}
-use Rattle.std.proofs.lemmas.List.Folds.{list_any-append}
-use Rattle.std.proofs.lemmas.List.Sorted.{IsPermutation-refl, IsPermutation-sym, IsPermutation-trans, IsPermutation-middle, list_any-IsPermutation}
-use Rattle.kcr_history.specs.History.{pushed_onto}
 
 -- a list pushed onto another gives the elements of both
 pub pushed-order : {X : Type 0} (xs ys : List X) → IsPermutation (xs ++ ys) (pushed_onto xs ys)

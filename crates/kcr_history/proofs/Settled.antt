@@ -1,31 +1,18 @@
 -- The settled day by the rows of marks, in any order, is the settled day by history.
-use Rattle.std.proofs.Common.{◌≡◌, ℕ, Bool, true, false, cond, ◌||◌, eqb, List, [], ◌∷◌, map, filter, Option, Some, None, option_map, is_some, refl}
-use Rattle.std.proofs.Common.{ap, ◌∙◌, arith}
-use Rattle.std.specs.Prelude.{unwrap_or}
-use Rattle.std.specs.List.{list_any, list_all, filter_map, cons_option}
-use Rattle.std.specs.List.Sorted.{IsPermutation}
-use Rattle.std.proofs.lemmas.List.Sorted.{IsPermutation-map}
-use Rattle.std.proofs.lemmas.Bool.{false≢true, and_parts, and_from, or_right, eq-eqb}
+use Rattle.kcr_history.proofs.Common.{◌≡◌, ℕ, Bool, true, ◌||◌, eqb, List, [], ◌∷◌, map, filter, Option, Some, None, option_map, is_some, refl, ap}
+use Rattle.kcr_history.proofs.Common.{◌∙◌, arith, list_any, list_all, filter_map, cons_option, IsPermutation, IsPermutation-map, false≢true, and_from}
+use Rattle.kcr_history.proofs.Common.{or_right, eq-eqb, Shuffled, nothing, under, flipped, after, shuffled, all-more, Act, Ceremony, History}
+use Rattle.kcr_history.proofs.Common.{values_of_acts, greatest, max_with, marked_moment, mark, opened_number, settled, marks, mark_row}
 use Rattle.kcr_base.specs.Days.{day_of}
-use Rattle.kcr_base.proofs.RowsLemmas.{Shuffled, nothing, under, flipped, after, shuffled}
-use Rattle.kcr_base.proofs.ListLemmas.{all-more}
-use Rattle.kcr_history.specs.declared.commands.Act.{Act}
-use Rattle.kcr_history.specs.declared.commands.Act.TheVariants.{Ceremony}
 use Rattle.kcr_history.specs.declared.commands.Deed.TheVariants.{Open}
 use Rattle.kcr_history.specs.declared.row_types.MarkRow.{MarkRow}
-use Rattle.kcr_history.specs.History.{History, values_of_acts, greatest, max_with}
-use Rattle.kcr_history.specs.Ceremonies.{marked_moment, mark, opened_number, settled}
-use Rattle.kcr_history.specs.Tables.{marks, mark_row}
 
 -- THE GREATEST OF A LIST IN ANY ORDER
 
 greatest-shuffled : {xs ys : List ℕ} → Shuffled xs ys → greatest ys ≡ greatest xs
 greatest-shuffled nothing = refl
 greatest-shuffled (under x xs ys s) = ap (λ rest. Some (max_with x rest)) (greatest-shuffled s)
-greatest-shuffled (flipped x y xs) = turned (greatest xs)
-  where
-    turned : (rest : Option ℕ) → Some (max_with y (Some (max_with x rest))) ≡ Some (max_with x (Some (max_with y rest)))
-    turned rest = grind arith
+greatest-shuffled (flipped x y xs) = grind arith
 greatest-shuffled (after xs ys zs s t) = greatest-shuffled t ∙ greatest-shuffled s
 
 -- the same numbers in any order have the same greatest
@@ -40,10 +27,7 @@ has_mark A ceremony = list_any (λ m. eqb m.0 ceremony) (values_of_acts marked_m
 some_mark : (ceremony : ℕ) (ms : List (ℕ × ℕ)) → list_any (λ m. eqb m.0 ceremony) ms ≡ true
     → is_some (greatest (map (λ m. m.1) (filter (λ m. eqb m.0 ceremony) ms))) ≡ true
 some_mark ceremony [] h = absurd (false≢true h)
-some_mark ceremony (m ∷ ms) h =
-    (elim (eqb m.0 ceremony) as (λ b. (b || list_any (λ m. eqb m.0 ceremony) ms) ≡ true
-    → is_some (greatest (map (λ m. m.1) (cond b (m ∷ filter (λ m. eqb m.0 ceremony) ms) (filter (λ m. eqb m.0 ceremony) ms)))) ≡ true)
-    [ true ↦ λ _. refl | false ↦ some_mark ceremony ms ]) h
+some_mark ceremony (m ∷ ms) h = grind (arith, some_mark ceremony ms)
 
 all_more : (o : Option (ℕ × ℕ)) (ms : List (ℕ × ℕ)) (cs : List ℕ) → list_all (λ c. list_any (λ m. eqb m.0 c) ms) cs ≡ true
     → list_all (λ c. list_any (λ m. eqb m.0 c) (cons_option o ms)) cs ≡ true
@@ -64,12 +48,7 @@ opened_marked (entry ∷ A) = marked_after entry.command.act (values_of_acts mar
 -- the moments of the rows are the marks
 row_marks : (A : History) (cs : List ℕ) → list_all (has_mark A) cs ≡ true → map (λ row. row.at) (map (mark_row A) cs) ≡ filter_map (mark A) cs
 row_marks A [] h = refl
-row_marks A (c ∷ cs) h =
-    let p = and_parts (has_mark A c) (list_all (has_mark A) cs) h in
-    by_mark (mark A c) _ _ (some_mark c (values_of_acts marked_moment A) p.0) (row_marks A cs p.1)
-  where
-    by_mark : (o : Option ℕ) (ms ns : List ℕ) → is_some o ≡ true → ms ≡ ns → (unwrap_or o 0 ∷ ms) ≡ cons_option o ns
-    by_mark o ms ns e h = grind arith
+row_marks A (c ∷ cs) h = grind (arith, some_mark c (values_of_acts marked_moment A), row_marks A cs)
 
 -- the settled day is the day of the greatest moment among the rows of marks, in any order
 pub settled-rows : (A : History) (rows : List MarkRow) → IsPermutation (marks A) rows → option_map day_of (greatest (map (λ row. row.at) rows)) ≡ settled A

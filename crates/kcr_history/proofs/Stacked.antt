@@ -1,19 +1,11 @@
 -- The appointments of one place, and those of one person: each begins if the older ones have ended.
-use Rattle.std.proofs.Common.{◌≡◌, ℕ, ◌<◌, ◌≤◌, Bool, true, false, cond, not, ◌&&◌, nat_le, eqb, List, [], ◌∷◌, map, find, Option, Some, None}
-use Rattle.std.proofs.Common.{option_map, is_none, refl, sym, ap, ◌∙◌, arith, subst, inl, inr}
-use Rattle.std.specs.List.{list_any, list_all, AllByRecursion}
-use Rattle.std.proofs.lemmas.Bool.{both_ways, leb-false, eq-eqb, not-true, not_from_false, and_left, and_parts, and_from, or_from, or_left, or_right}
-use Rattle.std.proofs.lemmas.Bool.{false_from_ne_true, or_parts}
-use Rattle.std.proofs.lemmas.Bool.Decides.{nat_tests}
-use Rattle.kcr_base.specs.Same.{same_place, same_text}
-use Rattle.kcr_base.specs.declared.place.Place.{Place}
-use Rattle.kcr_people.specs.declared.Appointment.{Appointment}
-use Rattle.kcr_base.specs.Rows.{put}
-use Rattle.kcr_base.proofs.ListLemmas.{any-map, find-cases}
-use Rattle.kcr_base.proofs.SameLemmas.{place-same, place-itself}
-use Rattle.kcr_people.specs.People.{lasts, lasts_beyond, ends_after, place_held_from_by, person_holds_from_by, open_row_by, is_open_ended, holds, holder_by}
+use Rattle.kcr_history.proofs.Common.{◌≡◌, ℕ, ◌<◌, ◌≤◌, Bool, true, false, cond, not, ◌&&◌, nat_le, eqb, List, [], ◌∷◌, map, Option, Some, None}
+use Rattle.kcr_history.proofs.Common.{is_none, refl, sym, ap, ◌∙◌, arith, subst, inl, inr, list_any, list_all, AllByRecursion, both_ways, eq-eqb}
+use Rattle.kcr_history.proofs.Common.{not-true, and_left, and_parts, and_from, or_left, or_right, false_from_ne_true, or_parts, nat_tests, same_place}
+use Rattle.kcr_history.proofs.Common.{same_text, Place, Appointment, put, any-map, find-cases, place-same, place-itself, lasts, lasts_beyond}
+use Rattle.kcr_history.proofs.Common.{ends_after, place_held_from_by, person_holds_from_by, open_row_by, is_open_ended, holds, holder_by, ended}
+use Rattle.kcr_history.proofs.Common.{end_at}
 use Rattle.kcr_history.specs.Changes.{same_appointment}
-use Rattle.kcr_history.specs.Tables.{ended, end_at}
 
 -- LISTS OF WHICH NO ROW PASSES A TEST
 
@@ -67,9 +59,7 @@ ended-still of place day first rows h =
 pub stacked-ended : (place : Place) (day : ℕ) (rows : List Appointment) → stacked rows ≡ true → stacked (map (ended place day) rows) ≡ true
 stacked-ended place day [] s = refl
 stacked-ended place day (row ∷ rows) s =
-    let o = older row rows s in
-    and_from _ (stacked (map (ended place day) rows)) (not_from_false _ (ended-still (λ p who. same_place p row.place) place day row.since rows o.0))
-    (stacked-ended place day rows o.1)
+    grind (arith, ended-still (λ p who. same_place p row.place) place day row.since rows, stacked-ended place day rows)
 
 -- the same of a person: when a row was put, the person held no place from its first day on
 abbrev pub in_turn : List Appointment → Bool
@@ -84,22 +74,13 @@ free-ended place day who first rows h = ended-still (λ p other. same_text other
 -- rows that are in turn stay so if an appointment gets an end
 pub in_turn-ended : (place : Place) (day : ℕ) (rows : List Appointment) → in_turn rows ≡ true → in_turn (map (ended place day) rows) ≡ true
 in_turn-ended place day [] t = refl
-in_turn-ended place day (row ∷ rows) t =
-    let p = and_parts (not (person_holds_from_by rows row.who row.since)) (in_turn rows) t in
-    and_from _ (in_turn (map (ended place day) rows)) (not_from_false _ (free-ended place day row.who row.since rows (not-true _ p.0)))
-    (in_turn-ended place day rows p.1)
+in_turn-ended place day (row ∷ rows) t = grind (arith, free-ended place day row.who row.since rows, in_turn-ended place day rows)
 
 -- if the place has no holder from the day on, no row of the place begins on it
 pub no_begin : (place : Place) (day : ℕ) (rows : List Appointment) → list_all lasts rows ≡ true → place_held_from_by rows place day ≡ false
     → list_any (λ row. same_place row.place place && eqb row.since day) rows ≡ false
 no_begin place day [] l h = refl
-no_begin place day (row ∷ rows) l h =
-    let p = or_parts (same_place row.place place && lasts_beyond day row) (place_held_from_by rows place day) h in
-    let q = and_parts (lasts row) (list_all lasts rows) l in
-    or_from _ _ (one (same_place row.place place) row.until row.since q.0 p.0) (no_begin place day rows q.1 p.1)
-  where
-    one : (s : Bool) (u : Option ℕ) (since : ℕ) → ends_after u since ≡ true → (s && ends_after u day) ≡ false → (s && eqb since day) ≡ false
-    one s u since l h = grind (arith, nat_tests)
+no_begin place day (row ∷ rows) l h = grind (arith, nat_tests, no_begin place day rows)
 
 -- THE OPEN ROW
 
@@ -137,28 +118,18 @@ pub closing : (place : Place) (day : ℕ) (r : Appointment) (rows : List Appoint
     → place_held_from_by (map (ended place day) rows) place day ≡ false
 closing place day r rows s h l = let it = opened place r rows s h in subst (λ p. place_held_from_by (map (ended p day) rows) p day ≡ false) it.0 (closed it.1)
   where
-    now : (s : Bool) (u : Option ℕ) → is_none u ≡ true → (s && ends_after (end_at s u day) day) ≡ false
-    now s u e = grind (arith, nat_tests)
-
     closed : {rows : List Appointment} → IsOpen r rows → place_held_from_by (map (ended r.place day) rows) r.place day ≡ false
-    closed (here rows e free) = or_from _ _ (now (same_place r.place r.place) r.until e) (later_free r.place r.since day rows (omega arith) free)
-    closed (below row rows apart o) = or_from (same_place row.place r.place && lasts_beyond day (ended r.place day row)) _ (and_left _ _ apart) (closed o)
+    closed (here rows e free) = grind (arith, nat_tests, later_free r.place r.since day rows (omega arith) free)
+    closed (below row rows apart o) = grind (arith, apart, closed o)
 
 -- each row lasts beyond its first day, and still does if the open one ends after its own first day
 pub lasts-ended : (place : Place) (day : ℕ) (r : Appointment) (rows : List Appointment) → stacked rows ≡ true → list_all lasts rows ≡ true
     → open_row_by rows place ≡ Some r → r.since < day → list_all lasts (map (ended place day) rows) ≡ true
 lasts-ended place day r rows s t h l = let it = opened place r rows s h in subst (λ p. list_all lasts (map (ended p day) rows) ≡ true) it.0 (still it.1 t)
   where
-    longer : (s : Bool) (u : Option ℕ) → ends_after u r.since ≡ true → ends_after (end_at s u day) r.since ≡ true
-    longer s u e = grind (arith, nat_tests)
-
     still : {rows : List Appointment} → IsOpen r rows → list_all lasts rows ≡ true → list_all lasts (map (ended r.place day) rows) ≡ true
-    still (here rows e free) t =
-        let q = and_parts (lasts r) (list_all lasts rows) t in
-        and_from (lasts (ended r.place day r)) _ (longer (same_place r.place r.place) r.until q.0) (rw (past-same r.place r.since day rows free) q.1)
-    still (below row rows apart o) t =
-        let q = and_parts (lasts row) (list_all lasts rows) t in
-        and_from (lasts (ended r.place day row)) _ (rw (end-other (same_place row.place r.place) row.until day apart) q.0) (still o q.1)
+    still (here rows e free) t = grind (arith, nat_tests, past-same r.place r.since day rows free)
+    still (below row rows apart o) t = grind (arith, apart, still o)
 
 -- the row with its end under its key is the list with the end
 pub put-ended : (place : Place) (day : ℕ) (r : Appointment) (rows : List Appointment) → stacked rows ≡ true → list_all lasts rows ≡ true
@@ -200,10 +171,7 @@ IsOnly place r row = is_open_ended place row ≡ true → row ≡ r
 
 none-stands : (r : Appointment) (first : ℕ) (rows : List Appointment) → place_held_from_by rows r.place first ≡ false → AllByRecursion (IsOnly r.place r) rows
 none-stands r first [] h = tt
-none-stands r first (row ∷ rows) h =
-    let p = or_parts (same_place row.place r.place && lasts_beyond first row) (place_held_from_by rows r.place first) h in
-    let one : (s : Bool) (u : Option ℕ) → (s && ends_after u first) ≡ false → (s && is_none u) ≡ true → ⊥ = λ s u e q. grind arith in
-    (λ q. absurd (one (same_place row.place r.place) row.until p.0 q), none-stands r first rows p.1)
+none-stands r first (row ∷ rows) h = (λ q. grind arith, none-stands r first rows (grind arith))
 
 -- the open row of a place is its only row without an end
 pub only-one : (place : Place) (r : Appointment) (rows : List Appointment) → stacked rows ≡ true → open_row_by rows place ≡ Some r
@@ -219,23 +187,13 @@ only-one place r rows s h = let it = opened place r rows s h in subst (λ p. All
 -- an end by a command that says nothing of the place on day d leaves what the row says of it
 holds-ended : (at place : Place) (since d : ℕ) (row : Appointment) → (same_place at place && nat_le since d) ≡ false
     → holds place d (ended at since row) ≡ holds place d row
-holds-ended at place since d row h =
-    by_places (same_place row.place place) (same_place row.place at) (nat_le row.since d) row.until
-    (λ p q. let here : same_place at place ≡ true = rw (sym (place-same row.place at q) ∙ place-same row.place place p) (place-itself place) in
-    leb-false since d (rw here at h))
-  where
-    by_places : (s t b : Bool) (u : Option ℕ) → (s ≡ true → t ≡ true → d < since) → ((s && b) && ends_after (end_at t u since) d) ≡ ((s && b) && ends_after u d)
-    by_places s t b u f = grind (arith, nat_tests)
+holds-ended at place since d row h = grind (arith, nat_tests, place-same row.place place, place-same row.place at, place-itself place)
 
 -- an end of another place, or on a later day, leaves who holds the place on the day
 pub find-ended : (at place : Place) (since d : ℕ) (rows : List Appointment) → (same_place at place && nat_le since d) ≡ false
     → holder_by (map (ended at since) rows) place d ≡ holder_by rows place d
 find-ended at place since d [] h = refl
-find-ended at place since d (row ∷ rows) h =
-    rw (holds-ended at place since d row h) (elim (holds place d row) as (λ b.
-    option_map (λ row. row.who) (cond b (Some (ended at since row)) (find (holds place d) (map (ended at since) rows)))
-    ≡ option_map (λ row. row.who) (cond b (Some row) (find (holds place d) rows)))
-    [ true ↦ refl | false ↦ find-ended at place since d rows h ])
+find-ended at place since d (row ∷ rows) h = grind (arith, holds-ended at place since d row h, find-ended at place since d rows h)
 
 -- a place that is free from a day on has no holder on a later one
 pub free-none : (place : Place) (since d : ℕ) (rows : List Appointment) → since ≤ d → place_held_from_by rows place since ≡ false

@@ -1,22 +1,16 @@
 -- What an accepted entry tells of the history before it.
-use Rattle.std.proofs.Common.{◌≡◌, ℕ, ◌+◌, List, [], ◌∷◌, length, Option, Some, None, refl, ap, arith, inl, inr, MatchOption}
+use Rattle.kcr_history.proofs.Common.{◌≡◌, ℕ, ◌+◌, List, [], ◌∷◌, length, Option, Some, None, refl, ap, arith, inl, inr, MatchOption, Refusal, Act}
+use Rattle.kcr_history.proofs.Common.{History, entry_of, mark, fault, is_full, by_history, status, no_ceremony_refusal, not_open_refusal, keys}
+use Rattle.kcr_history.proofs.Common.{greatest_number, Accepts, SeatRequest, seat_request, reply_to, with_command, DecidesNew, DecidesRepeat, seats}
+use Rattle.kcr_history.proofs.Common.{IsAcceptedWith, machine, IsOfMachine, IsReplyTo, CanFollow, IsRegister}
 use Rattle.kcr_base.specs.Refuse.{when, before_mark_refusal, not_after_mark_refusal}
-use Rattle.kcr_base.specs.declared.refusal.Refusal.{Refusal}
 use Rattle.kcr_base.specs.declared.refusal.Refusal.TheVariants.{Full}
 use Rattle.kcr_base.proofs.RefuseLemmas.{NoneHolds, none_holds}
 use Rattle.kcr_custody.specs.Custody.{not_ready_refusal}
 use Rattle.kcr_custody.specs.declared.CeremonyStatus.{CeremonyStatus}
-use Rattle.kcr_history.specs.declared.commands.Act.{Act}
 use Rattle.kcr_history.specs.declared.commands.ReplyData.{ReplyData}
 use Rattle.kcr_history.specs.declared.commands.Command.{Command}
 use Rattle.kcr_history.specs.declared.commands.Entry.{Entry}
-use Rattle.kcr_history.specs.History.{History, entry_of}
-use Rattle.kcr_history.specs.Ceremonies.{mark}
-use Rattle.kcr_history.specs.Conditions.{fault, is_full, by_history, status, no_ceremony_refusal, not_open_refusal}
-use Rattle.kcr_history.specs.Tables.{keys}
-use Rattle.kcr_history.specs.Views.{greatest_number}
-use Rattle.kcr_history.specs.Machine.{Accepts, SeatRequest, seat_request, reply_to, with_command, DecidesNew, DecidesRepeat, seats, IsAcceptedWith, machine}
-use Rattle.kcr_history.specs.Machine.{IsOfMachine, IsReplyTo, CanFollow, IsRegister}
 
 -- CONDITIONS OF A HISTORY that several kinds of acts have
 
@@ -112,13 +106,9 @@ number_of_reply A act people = grind arith
 pub numbers : (A : History) (entry : Entry) → IsRegister (entry ∷ A) → entry.reply.accepted ≡ length (entry ∷ A)
 numbers A entry h =
     let t = took A entry h.0 in
-    let e : entry.reply.accepted ≡ length A + 1 = rw t.reply (number_of_reply A entry.command.act t.people) in
-    omega arith
+    grind (arith, t.reply, number_of_reply A entry.command.act t.people)
 
 -- the greatest number in the table of keys is how many have been accepted
 pub greatest-keys : (A : History) → IsRegister A → greatest_number (keys A) ≡ length A
 greatest-keys [] h = refl
-greatest-keys (entry ∷ A) h =
-    let number : entry.reply.accepted ≡ length (entry ∷ A) = numbers A entry h in
-    let below : greatest_number (keys A) ≡ length A = greatest-keys A h.1 in
-    omega arith
+greatest-keys (entry ∷ A) h = grind (arith, numbers A entry h, greatest-keys A h.1)

@@ -1,5 +1,5 @@
 -- The greatest number of a step among seatings.
-use Rattle.std.proofs.Common.{◌≡◌, ℕ, List, [], ◌∷◌, map, fold, max, arith}
+use Rattle.kcr_history.proofs.Common.{◌≡◌, ℕ, List, [], ◌∷◌, map, fold, max, arith}
 use Rattle.kcr_history.specs.declared.row_types.SeatingRow.{SeatingRow}
 
 -- 0 if there is no seating

@@ -1,26 +1,15 @@
 -- Training by rows, with the withdrawals that bear on it, is training by history.
-use Rattle.std.proofs.Common.{◌≡◌, ℕ, Bool, true, false, cond, not, ◌||◌, ◌&&◌, nat_le, subst, List, [], ◌∷◌, filter, Option, Some, None, refl, sym, ◌∙◌, arith}
-use Rattle.std.specs.Prelude.{unwrap_or}
-use Rattle.std.specs.List.{list_any, list_all, cons_option}
-use Rattle.std.proofs.lemmas.Bool.{both_ways, and_left, and_parts, and_from, or_from, or_left, or_right, false_from_ne_true}
-use Rattle.std.proofs.lemmas.List.Folds.{list_all-map}
-use Rattle.kcr_base.specs.Rows.{option_or}
-use Rattle.kcr_base.specs.Same.{same_text, same_role}
+use Rattle.kcr_history.proofs.Common.{◌≡◌, ℕ, Bool, true, false, ◌&&◌, nat_le, subst, List, [], ◌∷◌, filter, None, refl, sym, ◌∙◌, arith, unwrap_or}
+use Rattle.kcr_history.proofs.Common.{list_any, list_all, cons_option, both_ways, and_left, and_parts, and_from, or_from, or_left, or_right}
+use Rattle.kcr_history.proofs.Common.{false_from_ne_true, list_all-map, option_or, all-more, Training, is_of, is_withdrawn_by, trained_by}
+use Rattle.kcr_history.proofs.Common.{same_training, ends_from, withdrawal_of, withdrawn_rows, Act, Train, Withdraw, History, has_command}
+use Rattle.kcr_history.proofs.Common.{last_value_of_acts, trained, training_effect, is_training, trainings, training_row, withdrawals}
+use Rattle.kcr_history.proofs.Common.{withdrawals_after, fault, IsRegister}
 use Rattle.kcr_base.specs.declared.place.Role.{Role}
-use Rattle.kcr_base.proofs.ListLemmas.{all-more}
-use Rattle.kcr_people.specs.declared.Training.{Training}
 use Rattle.kcr_people.specs.declared.Withdrawal.{Withdrawal}
 use Rattle.kcr_people.specs.Laws.{same_withdrawn}
-use Rattle.kcr_people.specs.People.{is_of, is_withdrawn_by, covers, trained_by, same_training, ends_from, withdrawal_of, withdrawn_rows}
 use Rattle.kcr_custody.proofs.Puts.{all_put_all}
 use Rattle.kcr_people.proofs.Withdrawn.{trained-after, is_of-true, is_of-own}
-use Rattle.kcr_history.specs.declared.commands.Act.{Act}
-use Rattle.kcr_history.specs.declared.commands.Act.TheVariants.{Train, Withdraw}
-use Rattle.kcr_history.specs.History.{History, has_command, last_value_of_acts}
-use Rattle.kcr_history.specs.Training.{trained, training_effect, is_training}
-use Rattle.kcr_history.specs.Tables.{trainings, training_row, withdrawals, withdrawals_after}
-use Rattle.kcr_history.specs.Conditions.{fault}
-use Rattle.kcr_history.specs.Machine.{IsRegister}
 use Rattle.kcr_history.proofs.Stacked.{none-weaker}
 use Rattle.kcr_history.proofs.Steps.{took}
 use Rattle.kcr_history.proofs.Words.{is_training-trainings}
@@ -82,15 +71,10 @@ trained_after : (A : History) (act : Act) (who : List ℕ) (role : Role) (day : 
 trained_after A (Train p r since until) who role day f ih =
     let new : Training = record { who = p; role = r; since = since; until = until } in
     let absent : has_command (is_training p r since until) A ≡ false = grind arith in
-    rw (not_withdrawn new day (trainings A) (withdrawals A) (is_training-trainings A new ∙ absent) (rooted A)) (by_cover (covers who role day new) _ _ ih)
-  where
-    by_cover : (b t : Bool) (said : Option Bool) → t ≡ unwrap_or said false → ((b && true) || t) ≡ unwrap_or (option_or (cond b (Some true) None) said) false
-    by_cover b t said e = grind arith
+    let fresh = not_withdrawn new day (trainings A) (withdrawals A) (is_training-trainings A new ∙ absent) (rooted A) in
+    grind (arith, ih, fresh)
 trained_after A (Withdraw p r from) who role day f ih =
-    trained-after (trainings A) (withdrawals A) p r from who role day ∙ by_test (same_text who p && same_role role r && nat_le from day) _ _ ih
-  where
-    by_test : (b t : Bool) (said : Option Bool) → t ≡ unwrap_or said false → (t && not b) ≡ unwrap_or (option_or (cond b (Some false) None) said) false
-    by_test b t said e = grind arith
+    grind (arith, ih, trained-after (trainings A) (withdrawals A) p r from who role day)
 trained_after A act who role day f ih = ih
 
 -- by the rows of a register somebody is trained if and only if the history says so

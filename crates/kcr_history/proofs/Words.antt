@@ -1,20 +1,9 @@
 -- The words on the rows of a history's tables are the words on the history.
-use Rattle.std.proofs.Common.{◌≡◌, ℕ, Bool, true, false, cond, ◌||◌, List, [], ◌∷◌, map, Option, Some, option_map, refl, ap, ◌∙◌, arith, eqb, is_some}
-use Rattle.std.specs.List.{list_any, cons_option}
-use Rattle.kcr_base.specs.Rows.{option_or}
-use Rattle.kcr_base.specs.Same.{same_text}
-use Rattle.kcr_base.specs.declared.place.Place.{Place}
-use Rattle.kcr_people.specs.declared.Appointment.{Appointment}
-use Rattle.kcr_people.specs.declared.Person.{Person}
-use Rattle.kcr_people.specs.declared.Training.{Training}
-use Rattle.kcr_people.specs.People.{is_person_by, ever_trained_by, ever_put_by, same_training}
-use Rattle.kcr_history.specs.declared.commands.Act.{Act}
-use Rattle.kcr_history.specs.declared.commands.Act.TheVariants.{Appoint, Replace, Release, Plan}
-use Rattle.kcr_history.specs.History.{History, values_of_acts, has_command, entry_of}
-use Rattle.kcr_history.specs.Training.{enters, is_person, trains_person, ever_trained, is_training, puts, was_custodian}
-use Rattle.kcr_history.specs.Tables.{people, person_row, trainings, training_row, appointments, appointments_after, ended, keys, key_row, planned_number}
-use Rattle.kcr_history.specs.Views.{row_of_key}
-use Rattle.kcr_history.specs.Ceremonies.{Planned, planned_as, plan_of, is_ceremony}
+use Rattle.kcr_history.proofs.Common.{◌≡◌, ℕ, Bool, ◌||◌, List, [], ◌∷◌, map, Option, option_map, refl, ap, ◌∙◌, arith, eqb, is_some, list_any}
+use Rattle.kcr_history.proofs.Common.{cons_option, option_or, same_text, Place, Appointment, Training, is_person_by, ever_trained_by, ever_put_by}
+use Rattle.kcr_history.proofs.Common.{same_training, Act, History, values_of_acts, has_command, entry_of, enters, is_person, trains_person}
+use Rattle.kcr_history.proofs.Common.{ever_trained, is_training, puts, was_custodian, people, person_row, trainings, training_row, appointments}
+use Rattle.kcr_history.proofs.Common.{appointments_after, ended, keys, key_row, planned_number, row_of_key, Planned, planned_as, plan_of, is_ceremony}
 
 -- some row of the commands passes a test if some command says so
 some_row : {X : Type 0} (row_of : Act → Option X) (test : X → Bool) (says : Act → Bool)
@@ -25,27 +14,17 @@ some_row row_of test says one (entry ∷ A) = one entry.command.act (values_of_a
 
 -- a person has a row if and only if a command entered the person
 pub is_person-people : (A : History) (who : List ℕ) → is_person_by (people A) who ≡ is_person A who
-is_person-people A who = some_row person_row (λ row. same_text row.who who) (enters who) entered A
-  where
-    entered : (act : Act) (rows : List Person) → is_person_by (cons_option (person_row act) rows) who ≡ (enters who act || is_person_by rows who)
-    entered act rows = grind arith
+is_person-people A who = some_row person_row (λ row. same_text row.who who) (enters who) (λ act rows. grind arith) A
 
 -- a person has a training's row if and only if a command trained the person
 pub ever_trained-trainings : (A : History) (who : List ℕ) → ever_trained_by (trainings A) who ≡ ever_trained A who
-ever_trained-trainings A who = some_row training_row (λ row. same_text row.who who) (trains_person who) told A
-  where
-    told : (act : Act) (rows : List Training) → ever_trained_by (cons_option (training_row act) rows) who ≡ (trains_person who act || ever_trained_by rows who)
-    told act rows = grind arith
+ever_trained-trainings A who = some_row training_row (λ row. same_text row.who who) (trains_person who) (λ act rows. grind arith) A
 
 -- the very same training
 pub is_training-trainings : (A : History) (row : Training)
     → list_any (same_training row) (trainings A) ≡ has_command (is_training row.who row.role row.since row.until) A
-is_training-trainings A row = some_row training_row (same_training row) (is_training row.who row.role row.since row.until) entered A
-  where
-    entered : (act : Act) (rows : List Training)
-        → list_any (same_training row) (cons_option (training_row act) rows)
-        ≡ (is_training row.who row.role row.since row.until act || list_any (same_training row) rows)
-    entered act rows = grind arith
+is_training-trainings A row =
+    some_row training_row (same_training row) (is_training row.who row.role row.since row.until) (λ act rows. grind arith) A
 
 -- an end changes no person
 ever_put-ended : (who : List ℕ) (place : Place) (day : ℕ) (rows : List Appointment) → ever_put_by (map (ended place day) rows) who ≡ ever_put_by rows who
@@ -53,10 +32,7 @@ ever_put-ended who place day [] = refl
 ever_put-ended who place day (row ∷ rows) = ap (λ b. same_text row.who who || b) (ever_put-ended who place day rows)
 
 ever_put_after : (who : List ℕ) (act : Act) (rows : List Appointment) → ever_put_by (appointments_after act rows) who ≡ (puts who act || ever_put_by rows who)
-ever_put_after who (Appoint place p day) rows = refl
-ever_put_after who (Replace place p day) rows = ap (λ b. same_text p who || b) (ever_put-ended who place day rows)
-ever_put_after who (Release place day) rows = ever_put-ended who place day rows
-ever_put_after who act rows = refl
+ever_put_after who act rows = grind (arith, ever_put-ended who)
 
 -- a person has an appointment's row if and only if the person was ever a custodian
 pub ever_put-appointments : (A : History) (who : List ℕ) → ever_put_by (appointments A) who ≡ was_custodian A who
@@ -67,19 +43,12 @@ ever_put-appointments (entry ∷ A) who =
 -- the row of a key is that of its entry
 pub row_of_key-keys : (A : History) (key : List ℕ) → row_of_key key (keys A) ≡ option_map key_row (entry_of A key)
 row_of_key-keys [] key = refl
-row_of_key-keys (entry ∷ A) key =
-    ap (λ o. cond (same_text entry.command.key key) (Some (key_row entry)) o) (row_of_key-keys A key)
-    ∙ by_test (same_text entry.command.key key)
-  where
-    by_test : (b : Bool) → cond b (Some (key_row entry)) (option_map key_row (entry_of A key)) ≡ option_map key_row (cond b (Some entry) (entry_of A key))
-    by_test true = refl
-    by_test false = refl
+row_of_key-keys (entry ∷ A) key = grind (arith, row_of_key-keys A key)
 
 -- a ceremony has a row if it was planned
 planned_after : (act : Act) (c : ℕ) (numbers : List ℕ) (plan : Option Planned) → list_any (λ k. eqb k c) numbers ≡ is_some plan
     → list_any (λ k. eqb k c) (cons_option (planned_number act) numbers) ≡ is_some (option_or (planned_as c act) plan)
-planned_after (Plan number facility day script) c numbers plan ih = grind arith
-planned_after act c numbers plan ih = ih
+planned_after act c numbers plan ih = grind (arith, ih)
 
 -- a number is among those planned if and only if it is a ceremony's
 pub planned-number : (A : History) (c : ℕ) → list_any (λ k. eqb k c) (values_of_acts planned_number A) ≡ is_ceremony A c

@@ -1,5 +1,4 @@
 mod Commas
 pub mod EntryLemmas
-mod Initials
 mod ReplyLemmas
 mod SeatedLemmas

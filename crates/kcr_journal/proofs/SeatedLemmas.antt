@@ -61,9 +61,7 @@ rows-of who t (row ∷ rows) all = rows-by who t row (filter (is_of who t) rows)
 
 by-row : (who : List ℕ) (c t : ℕ) (last : Option SheetRow) → IfRow (IsRowOf who t) last → last_enters c last ≡ true → IsInitials who
 by-row who c t None h e = absurd (false≢true e)
-by-row who c t (Some row) h e =
-    let same : row.who ≡ who = same-is row.who who (and_parts (same_text row.who who) (nat_le row.at t) h.0).0 in
-    subst IsInitials same h.1
+by-row who c t (Some row) h e = subst IsInitials (same-is row.who who (and_parts (same_text row.who who) (nat_le row.at t) h.0).0) h.1
 
 in-room : (A : History) → AreValues A → (who : List ℕ) (c t : ℕ) → is_in A who c t ≡ true → IsInitials who
 in-room A values who c t is = by-row who c t _ (last-of (IsRowOf who t) None _ tt (rows-of who t (sheet A) (sheet-rows A values))) is

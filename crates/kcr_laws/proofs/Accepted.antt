@@ -1,17 +1,8 @@
 -- What holds of every register, entry by entry, and what a step of the machine keeps.
-use Rattle.std.proofs.Common.{◌≡◌, ℕ, true, List, [], ◌∷◌, Option, Some, None, MatchOption, inl, inr}
-use Rattle.kcr_base.specs.declared.refusal.Refusal.{Refusal}
-use Rattle.kcr_history.specs.declared.commands.Act.{Act}
-use Rattle.kcr_history.specs.declared.commands.ReplyData.{ReplyData}
-use Rattle.kcr_history.specs.declared.commands.Command.{Command}
-use Rattle.kcr_history.specs.declared.commands.Entry.{Entry}
-use Rattle.kcr_history.specs.History.{History, entry_of}
-use Rattle.kcr_history.specs.Texts.{same_command}
-use Rattle.kcr_history.specs.Conditions.{fault}
-use Rattle.kcr_history.specs.Machine.{Outcome, Accepts, Refuses, SeatRequest, seat_request, reply_to, with_command, IsAcceptedWith, seats, DecidesNew, DecidesRepeat, machine}
-use Rattle.kcr_history.specs.Machine.{IsOfMachine, CanFollow, IsRegister}
-use Rattle.kcr_history.proofs.Steps.{follows}
-use Rattle.kcr_laws.specs.Runs.{AreSteps, AreAnswered, new_command}
+use Rattle.kcr_laws.proofs.Common.{◌≡◌, ℕ, true, List, [], ◌∷◌, Option, Some, None, MatchOption, inl, inr, Refusal, Act, ReplyData, Command, Entry}
+use Rattle.kcr_laws.proofs.Common.{History, entry_of, same_command, fault, Outcome, Accepts, Refuses, SeatRequest, seat_request, reply_to}
+use Rattle.kcr_laws.proofs.Common.{with_command, IsAcceptedWith, seats, DecidesNew, DecidesRepeat, machine, IsOfMachine, CanFollow, IsRegister}
+use Rattle.kcr_laws.proofs.Common.{follows, AreSteps, AreAnswered, new_command}
 
 -- equal outcomes that refuse have the same refusal
 pub same_refusal : (r q : Refusal) → Refuses r ≡ Refuses q → r ≡ q

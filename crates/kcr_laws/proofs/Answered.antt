@@ -1,15 +1,7 @@
 -- The machine has a step for every command.
-use Rattle.std.proofs.Common.{suc, map, Option, Some, None, MatchOption, inl, inr, refl}
-use Rattle.std.specs.Prelude.{if◌then◌else◌}
-use Rattle.kcr_base.specs.declared.refusal.Refusal.{Refusal}
-use Rattle.kcr_base.specs.declared.refusal.Refusal.TheVariants.{Key, Short}
-use Rattle.kcr_history.specs.declared.commands.ReplyData.{ReplyData}
-use Rattle.kcr_history.specs.declared.commands.Command.{Command}
-use Rattle.kcr_history.specs.declared.commands.Entry.{Entry}
-use Rattle.kcr_history.specs.History.{History, entry_of}
-use Rattle.kcr_history.specs.Texts.{same_command}
-use Rattle.kcr_history.specs.Conditions.{fault}
-use Rattle.kcr_history.specs.Machine.{Outcome, Accepts, Refuses, SeatRequest, seat_request, reply_to, with_command, IsAcceptedWith, seats, DecidesNew, DecidesRepeat, machine}
+use Rattle.kcr_laws.proofs.Common.{suc, map, Option, Some, None, MatchOption, inl, inr, refl, if◌then◌else◌, Refusal, Key, Short, ReplyData, Command}
+use Rattle.kcr_laws.proofs.Common.{Entry, History, entry_of, same_command, fault, Outcome, Accepts, Refuses, SeatRequest, seat_request, reply_to}
+use Rattle.kcr_laws.proofs.Common.{with_command, IsAcceptedWith, seats, DecidesNew, DecidesRepeat, machine}
 use Rattle.kcr_laws.proofs.Firsts.{first_or_none}
 use Rattle.kcr_laws.proofs.Shortages.{seating_or_least}
 

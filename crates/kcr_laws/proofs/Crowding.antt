@@ -1,27 +1,13 @@
 -- When a room would be too full, and when somebody would be alone in it.
-use Rattle.std.proofs.Common.{◌≡◌, ℕ, Bool, true, false, not, ◌==◌, nat_lt, nat_le, List, [], ◌∷◌, find, Option, Some, None, option_map, refl, ap}
-use Rattle.std.proofs.Common.{inl, inr, arith}
-use Rattle.std.proofs.lemmas.Bool.{both_ways, ltb-true, lt-ltb, eqb-true, eqb-false, eq-eqb, cases_order}
-use Rattle.kcr_base.specs.Refuse.{when, unknown_people_refusal, not_after_mark_refusal}
-use Rattle.kcr_base.specs.declared.refusal.Refusal.{Refusal}
-use Rattle.kcr_base.specs.declared.refusal.Refusal.TheVariants.{Unknown, Late, Turn, Crowd, Lone, Full}
+use Rattle.kcr_laws.proofs.Common.{◌≡◌, ℕ, true, false, not, ◌==◌, nat_lt, nat_le, List, [], ◌∷◌, find, Option, Some, None, option_map, refl, ap, inl}
+use Rattle.kcr_laws.proofs.Common.{inr, arith, both_ways, true_from_ne_false, ltb-true, lt-ltb, eqb-true, eqb-false, eq-eqb, cases_order, when}
+use Rattle.kcr_laws.proofs.Common.{unknown_people_refusal, not_after_mark_refusal, Refusal, Unknown, Late, Turn, Crowd, Lone, Full, SheetRow, Way}
+use Rattle.kcr_laws.proofs.Common.{is_out_of_turn_by, IsFirstMoment, IsEver, headcount_by, stays_by, first_lone_in_by, is_crowded_in_by, Ceremony}
+use Rattle.kcr_laws.proofs.Common.{RecordSheet, History, is_person, mark, sheet, sheet_after, fault, is_full, named_twice_refusal, first_twice}
+use Rattle.kcr_laws.proofs.Common.{out_of_turn_refusal, crowd_refusal, lone_room_refusal, is_overfull, no_ceremony, not_open, not_later}
+use Rattle.kcr_laws.proofs.Common.{IsEverCrowded, IsFirstAlone, IsNeverAlone}
 use Rattle.kcr_base.specs.declared.refusal.Thing.TheVariants as Things
-use Rattle.kcr_room.specs.declared.SheetRow.{SheetRow}
-use Rattle.kcr_room.specs.declared.Way.{Way}
-use Rattle.kcr_room.specs.Requests.{is_out_of_turn_by}
-use Rattle.kcr_room.specs.Moments.{IsFirstMoment, IsEver}
-use Rattle.kcr_room.specs.Room.{headcount_by}
-use Rattle.kcr_room.specs.Stays.{stays_by, first_lone_in_by, is_crowded_in_by}
 use Rattle.kcr_room.proofs.Moments.{first_lone-is_first, first_lone-by_rows, crowded-is_ever, crowded-by_rows}
-use Rattle.kcr_history.specs.declared.commands.Act.TheVariants.{Ceremony}
-use Rattle.kcr_history.specs.declared.commands.Deed.TheVariants.{RecordSheet}
-use Rattle.kcr_history.specs.History.{History}
-use Rattle.kcr_history.specs.Training.{is_person}
-use Rattle.kcr_history.specs.Ceremonies.{mark}
-use Rattle.kcr_history.specs.Room.{sheet, sheet_after}
-use Rattle.kcr_history.specs.Conditions.{fault, is_full, named_twice_refusal, first_twice, out_of_turn_refusal, crowd_refusal, lone_room_refusal, is_overfull}
-use Rattle.kcr_history.proofs.Steps.{no_ceremony, not_open, not_later}
-use Rattle.kcr_laws.specs.Conditions.{IsEverCrowded, IsFirstAlone, IsNeverAlone}
 use Rattle.kcr_laws.proofs.Refused.{kind, IsOther, AreOther, other_when, other_of_some, of_the_one}
 
 -- MORE THAN 128
@@ -33,19 +19,16 @@ ever rows c = crowded-by_rows rows c (is_crowded_in_by (stays_by rows) c) (crowd
 -- if rows are refused for a crowd, at some moment more than 128 people are in the room
 pub crowd_told : (rows : List SheetRow) (c : ℕ) → crowd_refusal rows c ≡ Some Crowd → IsEverCrowded rows c
 crowd_told rows c h =
-    let e = rw (told (is_crowded_in_by (stays_by rows) c) h) at (ever rows c) in
+    let crowded : is_crowded_in_by (stays_by rows) c ≡ true = grind arith in
+    let e = rw crowded at (ever rows c) in
     (e.0, ltb-true 128 (headcount_by rows c e.0) e.1)
-  where
-    told : (b : Bool) → when b Crowd ≡ Some Crowd → b ≡ true
-    told b g = grind arith
 
 -- if at some moment more than 128 people are in the room, the rows are refused for a crowd
 pub crowd_holds : (rows : List SheetRow) (c : ℕ) → IsEverCrowded rows c → crowd_refusal rows c ≡ Some Crowd
-crowd_holds rows c (t, l) = by_test (is_crowded_in_by (stays_by rows) c) (ever rows c)
-  where
-    by_test : (b : Bool) → IsEver (λ u. nat_lt 128 (headcount_by rows c u)) b → when b Crowd ≡ Some Crowd
-    by_test true e = refl
-    by_test false e = absurd (both_ways (nat_lt 128 (headcount_by rows c t)) (e t) (lt-ltb 128 (headcount_by rows c t) l))
+crowd_holds rows c (t, l) =
+    let some = λ (e : is_crowded_in_by (stays_by rows) c ≡ false).
+    both_ways (nat_lt 128 (headcount_by rows c t)) ((rw e at (ever rows c)) t) (lt-ltb 128 (headcount_by rows c t) l) in
+    rw (true_from_ne_false (is_crowded_in_by (stays_by rows) c) some)
 
 -- EXACTLY ONE
 
@@ -104,11 +87,10 @@ others_before : (A : History) (c : ℕ) (way : Way) (people : List (List ℕ)) (
     → AreOther r rest
     → AreOther r (before_room A c way people at rest)
 others_before A c way people at rest r e others =
+    let turn = other_of_some r Turn (λ who. e) in
     let unknown = other_of_some r (λ who. Unknown (Things.Person who)) (λ who. e) (find (λ who. not (is_person A who)) people) in
-    let turn = other_of_some r Turn (λ who. e) in (
-      other_when r _ _ e,
-      (unknown, (other_when r _ _ e, (not_late (mark A c), (turn (first_twice people), (turn (find (is_out_of_turn_by (sheet A) c way at) people), others))))),
-    )
+    let out = turn (find (is_out_of_turn_by (sheet A) c way at) people) in
+    (other_when r _ _ e, (unknown, (other_when r _ _ e, (not_late (mark A c), (turn (first_twice people), (out, others))))))
   where
     not_late : (m : Option ℕ) → IsOther r (not_after_mark_refusal at m)
     not_late None = tt

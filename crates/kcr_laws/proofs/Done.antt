@@ -1,22 +1,10 @@
 -- Each step of a ceremony is signed or passed once, and in order.
-use Rattle.std.proofs.Common.{◌≡◌, ℕ, suc, Bool, true, false, cond, ◌&&◌, nat_le, List, [], ◌∷◌, filter, length, Option, Some, None, refl, sym, ap}
-use Rattle.std.proofs.Common.{◌∙◌, arith, inl, inr}
+use Rattle.kcr_laws.proofs.Common.{◌≡◌, ℕ, suc, Bool, true, false, cond, ◌&&◌, nat_le, List, [], ◌∷◌, filter, length, Option, Some, None, refl, sym}
+use Rattle.kcr_laws.proofs.Common.{ap, ◌∙◌, arith, inl, inr, lt-leb, eqb-true, and_right, cases_Bool, nat_tests, option_or, none-there, Act, Ceremony}
+use Rattle.kcr_laws.proofs.Common.{Sign, RecordException, Entry, History, does_step, steps_done, next_step, fault, reply_to, IsRegister, step_done}
+use Rattle.kcr_laws.proofs.Common.{step_result, took}
 use Rattle.std.specs.Prelude.{is_some, ◌==◌}
-use Rattle.std.proofs.lemmas.Bool.{lt-leb, eqb-true, and_right, cases_Bool}
-use Rattle.std.proofs.lemmas.Bool.Decides.{nat_tests}
-use Rattle.kcr_base.specs.Rows.{option_or}
-use Rattle.kcr_base.proofs.ListLemmas.{none-there}
-use Rattle.kcr_history.specs.declared.commands.Act.{Act}
-use Rattle.kcr_history.specs.declared.commands.Act.TheVariants.{Ceremony}
-use Rattle.kcr_history.specs.declared.commands.Deed.TheVariants.{Sign, RecordException}
-use Rattle.kcr_history.specs.declared.commands.Entry.{Entry}
 use Rattle.kcr_history.specs.declared.row_types.StepState.TheVariants.{Signed, Passed}
-use Rattle.kcr_history.specs.History.{History}
-use Rattle.kcr_history.specs.Ceremonies.{does_step, steps_done, next_step}
-use Rattle.kcr_history.specs.Conditions.{fault}
-use Rattle.kcr_history.specs.Machine.{reply_to, IsRegister}
-use Rattle.kcr_history.specs.Tables.{step_done, step_result}
-use Rattle.kcr_history.proofs.Steps.{took}
 
 abbrev pub one_more : Bool → ℕ → ℕ
 one_more true n = suc n

@@ -1,22 +1,10 @@
 -- What is answered is fixed, apart from which of several least shortages is named.
-use Rattle.std.proofs.Common.{◌≡◌, ◌≢◌, ℕ, suc, true, List, [], ◌∷◌, map, Option, Some, None, MatchOption, ◌⊎◌, inl, inr, sym, ap, ◌∙◌, arith}
-use Rattle.std.proofs.lemmas.Bool.{false≢true, both_ways, cases_Bool}
-use Rattle.std.proofs.lemmas.Cmp.{lists_equiv, nat_list_eq_equiv}
-use Rattle.kcr_base.specs.declared.refusal.Refusal.{Refusal}
-use Rattle.kcr_base.specs.declared.refusal.Refusal.TheVariants.{Short}
-use Rattle.kcr_base.proofs.SameLemmas.{same-turned}
-use Rattle.kcr_room.proofs.Orders.{before-turned}
-use Rattle.kcr_script.specs.declared.seat.Seat.{Seat}
-use Rattle.kcr_history.specs.declared.commands.ReplyData.{ReplyData}
-use Rattle.kcr_history.specs.declared.commands.Command.{Command}
-use Rattle.kcr_history.specs.declared.commands.Entry.{Entry}
-use Rattle.kcr_history.specs.History.{History, entry_of}
-use Rattle.kcr_history.specs.Seating.{comes_first, IsFirst}
-use Rattle.kcr_history.specs.Conditions.{fault}
-use Rattle.kcr_history.specs.Machine.{Outcome, Accepts, Refuses, SeatRequest, seat_request, reply_to, with_command, IsAcceptedWith, seats, DecidesNew, DecidesRepeat, machine}
+use Rattle.kcr_laws.proofs.Common.{◌≡◌, ◌≢◌, ℕ, suc, true, List, [], ◌∷◌, map, Option, Some, None, MatchOption, ◌⊎◌, inl, inr, sym, ap, ◌∙◌, arith}
+use Rattle.kcr_laws.proofs.Common.{false≢true, both_ways, cases_Bool, lists_equiv, nat_list_eq_equiv, Refusal, Short, same-turned, before-turned}
+use Rattle.kcr_laws.proofs.Common.{Seat, ReplyData, Command, Entry, History, entry_of, comes_first, IsFirst, fault, Outcome, Accepts, Refuses}
+use Rattle.kcr_laws.proofs.Common.{SeatRequest, seat_request, reply_to, IsAcceptedWith, seats, DecidesNew, DecidesRepeat, machine, same_reply}
 use Rattle.kcr_laws.proofs.Trials.{same_people, people-are}
 use Rattle.kcr_laws.proofs.Accepted.{same_refusal, other_outcome}
-use Rattle.kcr_history.proofs.Steps.{same_reply}
 use Rattle.kcr_laws.proofs.Halves.{one_half}
 
 -- of two lists at most one comes first
@@ -47,8 +35,7 @@ alike A x o p B C h k = by_entry (entry_of A x.key) (fault A x.act) h k
     by_sitting None f g = inl (f.0 ∙ sym g.0, f.1 ∙ sym g.1)
     by_sitting (Some s) (inl v) (inl w) =
         let same : v.0 ≡ w.0 = first_unique A s.ceremony s.at s.seats v.0 w.0 v.1 w.1 in
-        let answers : reply_to A x.act (Some v.0) ≡ reply_to A x.act (Some w.0) = ap (λ people. reply_to A x.act (Some people)) same in
-        inl (v.2.0 ∙ ap Accepts answers ∙ sym w.2.0, v.2.1 ∙ ap (with_command A x) answers ∙ sym w.2.1)
+        inl (cc (same, v.2.0, w.2.0), cc (same, v.2.1, w.2.1))
     by_sitting (Some s) (inl v) (inr w) = absurd (one_half A s.ceremony s.at s.seats v.0 w.0 v.1.seating w.1.short)
     by_sitting (Some s) (inr v) (inl w) = absurd (one_half A s.ceremony s.at s.seats w.0 v.0 w.1.seating v.1.short)
     by_sitting (Some s) (inr v) (inr w) = inr (map suc v.0, map suc w.0, v.2.0, w.2.0)

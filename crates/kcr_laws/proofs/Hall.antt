@@ -1,12 +1,8 @@
 -- Of some seats and people either each seat gets a person of its own who fits it, or fewer people fit some of the seats than
 -- those are: the theorem of Philip Hall, by one person after the other.
-use Rattle.std.proofs.Common.{◌≡◌, ℕ, ◌+◌, ◌<◌, ◌≤◌, Bool, true, false, cond, not, ◌||◌, ◌&&◌, ◌==◌, nat_lt, List, [], ◌∷◌, ◌⊎◌, inl, inr, refl, ap, arith}
-use Rattle.std.specs.List.{list_any}
-use Rattle.std.proofs.lemmas.Bool.{false≢true, both_ways, and_parts, or_cases, or_left, or_right, not-true, cases_Bool, false_from_ne_true, eq-eqb}
-use Rattle.std.proofs.lemmas.Bool.{ltb-true, ltb-false}
-use Rattle.std.proofs.lemmas.Bool.Decides.{nat_tests}
-use Rattle.kcr_base.specs.Same.{same_text}
-use Rattle.kcr_base.proofs.SameLemmas.{same-itself}
+use Rattle.kcr_laws.proofs.Common.{◌≡◌, ℕ, ◌+◌, ◌<◌, ◌≤◌, Bool, true, false, cond, not, ◌||◌, ◌&&◌, ◌==◌, List, [], ◌∷◌, ◌⊎◌, inl, inr, refl, ap}
+use Rattle.kcr_laws.proofs.Common.{arith, list_any, false≢true, both_ways, and_parts, or_cases, or_left, or_right, not-true, cases_Bool}
+use Rattle.kcr_laws.proofs.Common.{false_from_ne_true, eq-eqb, nat_tests, same_text, same-itself}
 
 -- SETS OF SEATS
 
@@ -44,13 +40,10 @@ pub some_from : (test : ℕ → Bool) (is : List ℕ) (i : ℕ) → is_one i is 
 some_from test [] i h e = cc
 some_from test (j ∷ is) i h e = grind (arith, nat_tests, some_from test is i)
 
-bit_parts : (a b : Bool) → bit (a || b) + bit (a && b) ≡ bit a + bit b
-bit_parts a b = grind arith
-
 -- as many are in either and in both as in the one and in the other
 count_parts : (is : List ℕ) (s t : ℕ → Bool) → count is (either s t) + count is (both s t) ≡ count is s + count is t
 count_parts [] s t = refl
-count_parts (i ∷ is) s t = omega (arith, bit_parts (s i) (t i), count_parts is s t)
+count_parts (i ∷ is) s t = grind (arith, count_parts is s t)
 
 some_counts : (is : List ℕ) (s : ℕ → Bool) → list_any s is ≡ true → 0 < count is s
 some_counts [] s h = cc
@@ -86,14 +79,10 @@ module _ (all : List ℕ) (fits : ℕ → List ℕ → Bool) where
   abbrev pub OneOfTwo : List (List ℕ) → (ℕ → Bool) → Type 0
   OneOfTwo people need = ((w : ℕ → List ℕ) × IsAssigned people need w) ⊎ ((s : ℕ → Bool) × IsScarce people need s)
 
-  bits_most : (e b s t : Bool) → (e ≡ true → (s || t) ≡ true) → (b ≡ true → s ≡ true) → (b ≡ true → t ≡ true) → bit e + bit b ≤ bit s + bit t
-  bits_most e b s t f g h = grind arith
-
   -- who fits a seat of either set fits one of the one or of the other; who fits one of both fits one of each
   takes_most : (s t : ℕ → Bool) (who : List ℕ) → bit (takes (either s t) who) + bit (takes (both s t) who) ≤ bit (takes s who) + bit (takes t who)
   takes_most s t who =
-      bits_most (takes (either s t) who) (takes (both s t) who) (takes s who) (takes t who) (split all)
-      (part s (λ i h. (and_parts (s i) (t i) h).0) all) (part t (λ i h. (and_parts (s i) (t i) h).1) all)
+      grind (arith, split all, part s (λ i h. (and_parts (s i) (t i) h).0) all, part t (λ i h. (and_parts (s i) (t i) h).1) all)
     where
       split : (is : List ℕ) → list_any (λ i. (s i || t i) && fits i who) is ≡ true
           → (list_any (λ i. s i && fits i who) is || list_any (λ i. t i && fits i who) is) ≡ true
@@ -112,13 +101,7 @@ module _ (all : List ℕ) (fits : ℕ → List ℕ → Bool) where
   -- of two sets that are scarce both together are so by two, or what they share is scarce
   two_scarce : (s t : ℕ → Bool) (people : List (List ℕ)) → takers s people < count all s → takers t people < count all t
       → (takers (both s t) people < count all (both s t)) ⊎ (takers (either s t) people + 1 < count all (either s t))
-  two_scarce s t people f g = elim (cases_Bool (nat_lt (takers (both s t) people) (count all (both s t)))) [
-    | inl e ↦ inl (ltb-true (takers (both s t) people) (count all (both s t)) e)
-    | inr e ↦ inr (omega (arith, ltb-false (takers (both s t) people) (count all (both s t)) e, takers_most s t people, count_parts all s t, f, g))
-  ]
-
-  bit_one : (b : Bool) → bit b ≤ 1
-  bit_one b = grind arith
+  two_scarce s t people f g = grind (arith, takers_most s t people, count_parts all s t)
 
   -- ONE PERSON MORE
 
@@ -140,21 +123,16 @@ module _ (all : List ℕ) (fits : ℕ → List ℕ → Bool) where
 
   module _ (p : List ℕ) (people : List (List ℕ)) (need : ℕ → Bool) (k : ℕ) (w : ℕ → List ℕ)
       (alone : list_any (same_text p) people ≡ false) (f : fits k p ≡ true) (a : IsAssigned people (without k need) w) where
-    given_fit : (i : ℕ) → is_one i all ≡ true → need i ≡ true → fits i (given k p w i) ≡ true
-    given_fit i o n = grind (arith, nat_tests, a.fit i o)
-
-    given_there : (i : ℕ) → is_one i all ≡ true → need i ≡ true → list_any (same_text (given k p w i)) (p ∷ people) ≡ true
-    given_there i o n = grind (arith, nat_tests, a.there i o, same-itself p)
-
     -- the person has no other seat
     no_other : (j : ℕ) → is_one j all ≡ true → need j ≡ true → (j == k) ≡ false → p ≡ w j → ⊥
     no_other j o n e q = grind (arith, a.there j o)
 
-    given_apart : (i j : ℕ) → is_one i all ≡ true → is_one j all ≡ true → need i ≡ true → need j ≡ true → given k p w i ≡ given k p w j → i ≡ j
-    given_apart i j o u n m q = grind (arith, nat_tests, a.apart i j o u, no_other i o n, no_other j u m)
-
     give : IsAssigned (p ∷ people) need (given k p w)
-    give = record { fit = given_fit; there = given_there; apart = given_apart }
+    give = record {
+      fit = λ i o n. grind (arith, nat_tests, a.fit i o);
+      there = λ i o n. grind (arith, nat_tests, a.there i o, same-itself p);
+      apart = λ i j o u n m q. grind (arith, nat_tests, a.apart i j o u, no_other i o n, no_other j u m);
+    }
 
   -- the seat k, which the person fits, is taken out of the scarce set, or the person gets it, or a set is scarce by two
   clear_one : (p : List ℕ) (people : List (List ℕ)) (need : ℕ → Bool) (k : ℕ) (seen : List ℕ) (s : ℕ → Bool) → list_any (same_text p) people ≡ false
@@ -162,15 +140,15 @@ module _ (all : List ℕ) (fits : ℕ → List ℕ → Bool) where
       → IsClear people need p seen s → OneOfTwo people (without k need) → OneOfTwo (p ∷ people) need ⊎ ((t : ℕ → Bool) × IsClear people need p (k ∷ seen) t)
   clear_one p people need k seen s alone f c (inl a) = inl (inl (given k p a.0, give p people need k a.0 alone f a.1))
   clear_one p people need k seen s alone f c (inr (t, d)) = elim (two_scarce s t people c.scarce.few d.few) [
-    | inl few ↦ inr (both s t, record { scarce = record { part = λ i h. c.scarce.part i (and_parts (s i) (t i) h).0; few = few }; clear = cleared })
-    | inr few ↦ inl (inr (either s t, record { part = needed; few = omega (arith, few, bit_one (takes (either s t) p)) }))
+    | inl few ↦ inr (
+      both s t,
+      record {
+        scarce = record { part = λ i h. c.scarce.part i (and_parts (s i) (t i) h).0; few = few };
+        clear = λ i o h. grind (arith, nat_tests, c.clear i, d.part i);
+      },
+    )
+    | inr few ↦ inl (inr (either s t, record { part = λ i h. grind (arith, c.scarce.part i, d.part i); few = grind (arith, few) }))
   ]
-    where
-      needed : (i : ℕ) → either s t i ≡ true → need i ≡ true
-      needed i h = grind (arith, c.scarce.part i, d.part i)
-
-      cleared : (i : ℕ) → is_one i (k ∷ seen) ≡ true → both s t i ≡ true → fits i p ≡ false
-      cleared i o h = grind (arith, nat_tests, c.clear i, d.part i)
 
   -- so for one seat after the other
   clear_all : (p : List ℕ) (people : List (List ℕ)) (need : ℕ → Bool) (seen : List ℕ) → list_any (same_text p) people ≡ false
@@ -184,12 +162,9 @@ module _ (all : List ℕ) (fits : ℕ → List ℕ → Bool) where
     | inl done ↦ inl done
     | inr (s, c) ↦ elim (cases_Bool (s k && fits k p)) [
       | inl e ↦ clear_one p people need k seen s alone (and_parts (s k) (fits k p) e).1 c (hall (without k need))
-      | inr e ↦ inr (s, record { scarce = c.scarce; clear = kept s c e })
+      | inr e ↦ inr (s, record { scarce = c.scarce; clear = λ i o h. grind (arith, nat_tests, c.clear i, e) })
     ]
   ]
-    where
-      kept : (s : ℕ → Bool) → IsClear people need p seen s → (s k && fits k p) ≡ false → (i : ℕ) → is_one i (k ∷ seen) ≡ true → s i ≡ true → fits i p ≡ false
-      kept s c e i o h = grind (arith, nat_tests, c.clear i)
 
   -- a scarce set of the others none of whose seats the person fits is scarce still
   still_scarce : (p : List ℕ) (people : List (List ℕ)) (need s : ℕ → Bool) → IsClear people need p all s → IsScarce (p ∷ people) need s

@@ -1,16 +1,9 @@
 -- Where there is a seating nothing is short: of the two halves of the machine's answer at most one is possible.
-use Rattle.std.proofs.Common.{◌≡◌, ℕ, zero, suc, ◌<◌, ◌≤◌, Bool, true, false, not, ◌&&◌, ◌==◌, nat_le, nat_lt, List, [], ◌∷◌, filter, length, get_or, arith}
-use Rattle.std.specs.List.{list_any}
-use Rattle.std.proofs.lemmas.Bool.{false≢true, both_ways, and_parts, or_right, ltb-true, false_from_ne_true}
-use Rattle.std.proofs.lemmas.Bool.Decides.{nat_tests}
+use Rattle.kcr_laws.proofs.Common.{◌≡◌, ℕ, zero, suc, ◌<◌, ◌≤◌, Bool, true, false, not, ◌&&◌, ◌==◌, nat_le, nat_lt, List, [], ◌∷◌, filter, length}
+use Rattle.kcr_laws.proofs.Common.{get_or, arith, list_any, false≢true, both_ways, and_parts, or_right, ltb-true, false_from_ne_true, nat_tests}
+use Rattle.kcr_laws.proofs.Common.{same_text, same-is, present_are_in, Seat, History, sheet, present, is_seating, is_eligible_at, who_fit, rise}
+use Rattle.kcr_laws.proofs.Common.{is_short}
 use Rattle.std.proofs.lemmas.List.Folds.{list_any_at}
-use Rattle.kcr_base.specs.Same.{same_text}
-use Rattle.kcr_base.proofs.SameLemmas.{same-is}
-use Rattle.kcr_room.proofs.Keeping.{present_are_in}
-use Rattle.kcr_script.specs.declared.seat.Seat.{Seat}
-use Rattle.kcr_history.specs.History.{History}
-use Rattle.kcr_history.specs.Room.{sheet, present}
-use Rattle.kcr_history.specs.Seating.{is_seating, is_eligible_at, who_fit, rise, is_short}
 use Rattle.kcr_laws.proofs.Hall.{is_one, some_from}
 use Rattle.kcr_laws.proofs.Trials.{seated_inside, rest_seated}
 
@@ -69,10 +62,8 @@ module _ (A : History) (c t : ℕ) where
   apart (seat ∷ seats) (who ∷ people) h p zero l m = absurd (omega (arith, l))
   apart (seat ∷ seats) (who ∷ people) h zero (suc q) l m =
       let count = (seated_inside A c t seats people (rest_seated A c t seat seats who people h)).0 in
-      false_from_ne_true _ (λ e. both_ways _ none (list_any_at (same_text who) people q [] (omega (arith, m, count)) e))
-    where
-      none : list_any (same_text who) people ≡ false
-      none = grind arith
+      false_from_ne_true _ (λ e. both_ways (list_any (same_text who) people) (grind arith)
+      (list_any_at (same_text who) people q [] (omega (arith, m, count)) e))
   apart (seat ∷ seats) (who ∷ people) h (suc p) (suc q) l m =
       apart seats people (rest_seated A c t seat seats who people h) p q (omega (arith, l)) (omega (arith, m))
 
@@ -89,13 +80,11 @@ module _ (A : History) (c t : ℕ) where
   pub one_half : (seats : List Seat) (people : List (List ℕ)) (positions : List ℕ) → is_seating A c t seats people ≡ true
       → is_short A c t seats positions ≡ true → ⊥
   one_half seats people positions h s =
-      omega (arith, ltb-true _ _ k.1, as_many (sitter people) 0 (length seats) positions (who_fit A c t seats positions) k.0 (apart seats people h) there)
-    where
-      k : (rise 0 (length seats) positions ≡ true) × (nat_lt (length (who_fit A c t seats positions)) (length positions) ≡ true)
-      k = and_parts (rise 0 (length seats) positions) (nat_lt (length (who_fit A c t seats positions)) (length positions)) s
-
-      there : (p : ℕ) → is_one p positions ≡ true → list_any (same_text (sitter people p)) (who_fit A c t seats positions) ≡ true
-      there p o =
-          let w = sits seats people h p (below 0 (length seats) positions k.0 p o).1 in
-          let fit = some_from (is_eligible_at A c t seats (sitter people p)) positions p o w.1 in
-          in_filter (λ who. list_any (is_eligible_at A c t seats who) positions) (sitter people p) (present A c t) w.0 fit
+      let low : rise 0 (length seats) positions ≡ true = grind arith in
+      let few : nat_lt (length (who_fit A c t seats positions)) (length positions) ≡ true = grind arith in
+      let there = λ (p : ℕ) (o : is_one p positions ≡ true).
+      let w = sits seats people h p (below 0 (length seats) positions low p o).1 in
+      let fit = some_from (is_eligible_at A c t seats (sitter people p)) positions p o w.1 in
+      in_filter (λ who. list_any (is_eligible_at A c t seats who) positions) (sitter people p) (present A c t) w.0 fit in
+      let enough = as_many (sitter people) 0 (length seats) positions (who_fit A c t seats positions) low (apart seats people h) there in
+      omega (arith, ltb-true _ _ few, enough)

@@ -1,42 +1,16 @@
 -- The laws of the machine and of every register.
-use Rattle.std.specs.Prelude.{◌≡◌, ◌∷◌, ◌==◌, map, option_map, ℕ, suc, ◌<◌, ◌≤◌, nat_lt, true, List, length, Some, None, IsTrue, ◌⊎◌, ◌↔◌}
-use Rattle.std.proofs.Common.{inl, inr, ◌∙◌}
-use Rattle.std.proofs.lemmas.Bool.{or_cases, or_left, or_right}
+use Rattle.kcr_laws.proofs.Common.{IsTrue, ◌↔◌, inl, inr, ◌∙◌, or_cases, or_left, or_right, Place, Role, Refusal, Short, Crowd, Lone, Range, Vacant}
+use Rattle.kcr_laws.proofs.Common.{same_text, person_holds_from_by, trained_from_by, open_row_by, vacant_refusal, first_day_refusal}
+use Rattle.kcr_laws.proofs.Common.{place_or_person_holds, place_held_from_by, Way, IsFirstMoment, IsEver, headcount_by, stays_by, first_lone_in_by}
+use Rattle.kcr_laws.proofs.Common.{is_crowded_in_by, Act, Ceremony, RecordSheet, ReplyData, Command, Entry, History, entry_of, holder, trained}
+use Rattle.kcr_laws.proofs.Common.{is_ceremony, settled, steps_of, next, IsLeast, IsFirst, sheet, sheet_after, trainings, withdrawals, appointments}
+use Rattle.kcr_laws.proofs.Common.{seats_at, fault, crowd_refusal, lone_room_refusal, same_command, Outcome, Accepts, Refuses, machine, IsOfMachine}
+use Rattle.kcr_laws.proofs.Common.{IsRegister, HasFirstSeatings, IsOnce, IsSound, IsBalanced, orderly, of_machine, trained-rows, signature}
+use Rattle.kcr_laws.proofs.Common.{IsAccepted, CanFill, IsShortOf, IsEverCrowded, IsFirstAlone, IsNeverAlone, IsHeldOnOrAfter, HoldsPlaceOnOrAfter}
+use Rattle.kcr_laws.proofs.Common.{IsTrainedOnOrAfter, BeginsFrom, held_since, AreAnswered}
+use Rattle.std.specs.Prelude.{◌≡◌, ◌∷◌, ◌==◌, map, option_map, ℕ, suc, ◌<◌, ◌≤◌, nat_lt, true, List, length, Some, None, ◌⊎◌}
 use Rattle.kcr_base.specs.declared.limits.TheConstants.{MAX_COMMANDS, MAX_PRESENT}
-use Rattle.kcr_base.specs.declared.place.Place.{Place}
-use Rattle.kcr_base.specs.declared.place.Role.{Role}
-use Rattle.kcr_base.specs.declared.refusal.Refusal.{Refusal}
-use Rattle.kcr_base.specs.declared.refusal.Refusal.TheVariants.{Short, Crowd, Lone, Range, Vacant}
-use Rattle.kcr_base.specs.Same.{same_text}
-use Rattle.kcr_people.specs.People.{person_holds_from_by, trained_from_by, open_row_by, vacant_refusal, first_day_refusal, place_or_person_holds}
-use Rattle.kcr_people.specs.People.{place_held_from_by}
 use Rattle.kcr_people.proofs.Days.{trained_on_some_day, trained_on_no_other, held_on_some_day, held_on_no_other, place_on_some_day, place_on_no_other}
-use Rattle.kcr_room.specs.declared.Way.{Way}
-use Rattle.kcr_room.specs.Moments.{IsFirstMoment, IsEver}
-use Rattle.kcr_room.specs.Room.{headcount_by}
-use Rattle.kcr_room.specs.Stays.{stays_by, first_lone_in_by, is_crowded_in_by}
-use Rattle.kcr_history.specs.declared.commands.Act.{Act}
-use Rattle.kcr_history.specs.declared.commands.Act.TheVariants.{Ceremony}
-use Rattle.kcr_history.specs.declared.commands.Deed.TheVariants.{RecordSheet}
-use Rattle.kcr_history.specs.declared.commands.ReplyData.{ReplyData}
-use Rattle.kcr_history.specs.declared.commands.Command.{Command}
-use Rattle.kcr_history.specs.declared.commands.Entry.{Entry}
-use Rattle.kcr_history.specs.History.{History, entry_of}
-use Rattle.kcr_history.specs.Training.{holder, trained}
-use Rattle.kcr_history.specs.Ceremonies.{is_ceremony, settled, steps_of, next}
-use Rattle.kcr_history.specs.Seating.{IsLeast, IsFirst}
-use Rattle.kcr_history.specs.Room.{sheet, sheet_after}
-use Rattle.kcr_history.specs.Tables.{trainings, withdrawals, appointments, seats_at}
-use Rattle.kcr_history.specs.Conditions.{fault, crowd_refusal, lone_room_refusal}
-use Rattle.kcr_history.specs.Texts.{same_command}
-use Rattle.kcr_history.specs.Machine.{Outcome, Accepts, Refuses, machine, IsOfMachine, IsRegister}
-use Rattle.kcr_history.specs.Laws.{HasFirstSeatings, IsOnce, IsSound, IsBalanced}
-use Rattle.kcr_history.proofs.Orderly.{orderly}
-use Rattle.kcr_history.proofs.Steps.{of_machine}
-use Rattle.kcr_history.proofs.Trained.{trained-rows}
-use Rattle.kcr_laws.specs.Conditions.{signature, IsAccepted, CanFill, IsShortOf, IsEverCrowded, IsFirstAlone, IsNeverAlone, IsHeldOnOrAfter}
-use Rattle.kcr_laws.specs.Conditions.{HoldsPlaceOnOrAfter, IsTrainedOnOrAfter, BeginsFrom, held_since}
-use Rattle.kcr_laws.specs.Runs.{AreAnswered}
 use Rattle.kcr_laws.proofs.Alone.{rooms}
 use Rattle.kcr_laws.proofs.Seated.{seated}
 use Rattle.kcr_laws.proofs.Crowding.{first, ever, lone_told, lone_holds, never_told, never_holds, lone_fault, crowd_told, crowd_holds, crowd_fault}

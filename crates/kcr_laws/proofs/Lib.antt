@@ -1,3 +1,4 @@
+mod Common
 pub mod Trials
 pub mod Accepted
 pub mod Once

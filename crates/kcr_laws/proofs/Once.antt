@@ -1,11 +1,6 @@
 -- No key stands twice in a register.
-use Rattle.std.proofs.Common.{◌≡◌, ℕ, false, List, [], ◌∷◌, map, None, refl, arith}
-use Rattle.std.specs.List.{list_any}
-use Rattle.std.proofs.lemmas.Cmp.{nat_list_eq_equiv}
-use Rattle.kcr_base.specs.Same.{same_text}
-use Rattle.kcr_history.specs.History.{History, entry_of}
-use Rattle.kcr_history.specs.Machine.{IsRegister}
-use Rattle.kcr_history.specs.Laws.{IsOnce}
+use Rattle.kcr_laws.proofs.Common.{◌≡◌, ℕ, false, List, [], ◌∷◌, map, None, refl, arith, list_any, nat_list_eq_equiv, same_text, History, entry_of}
+use Rattle.kcr_laws.proofs.Common.{IsRegister, IsOnce}
 use Rattle.kcr_laws.proofs.Accepted.{each_register}
 
 absent : (A : History) (key : List ℕ) → entry_of A key ≡ None → list_any (same_text key) (map (λ entry. entry.command.key) A) ≡ false

@@ -1,29 +1,11 @@
 -- Who holds a place from a day on, and since when, by the rows and by the commands.
-use Rattle.std.proofs.Common.{◌≡◌, ℕ, ◌≤◌, true, false, not, ◌&&◌, nat_le, List, [], ◌∷◌, map, Option, Some, None, option_map, is_some, inl, inr}
-use Rattle.std.proofs.Common.{refl, sym, ap, ◌∙◌, arith}
-use Rattle.std.specs.Prelude.{unwrap_or}
-use Rattle.std.specs.List.{list_any}
-use Rattle.std.proofs.lemmas.Bool.{false≢true, and_parts, or_cases}
-use Rattle.std.proofs.lemmas.Bool.Decides.{nat_tests}
-use Rattle.kcr_base.specs.Refuse.{when}
-use Rattle.kcr_base.specs.Rows.{option_or}
-use Rattle.kcr_base.specs.Same.{same_text, same_place, is_this}
-use Rattle.kcr_base.specs.declared.place.Place.{Place}
-use Rattle.kcr_base.specs.declared.place.Role.{Role}
-use Rattle.kcr_base.specs.declared.refusal.Refusal.TheVariants.{Range, Vacant}
-use Rattle.kcr_base.proofs.SameLemmas.{place-same, place-itself}
-use Rattle.kcr_people.specs.declared.Appointment.{Appointment}
-use Rattle.kcr_people.specs.People.{holds, holder_by, lasts_beyond, place_held_from_by, holds_some_by, open_row_by, begins_too_late, trained_by}
-use Rattle.kcr_people.specs.People.{first_day_refusal, vacant_refusal}
-use Rattle.kcr_history.specs.declared.commands.Act.{Act}
-use Rattle.kcr_history.specs.declared.commands.Act.TheVariants.{Appoint, Replace, Release}
-use Rattle.kcr_history.specs.History.{History, last_value_of_acts}
-use Rattle.kcr_history.specs.Tables.{trainings, withdrawals, appointments, appointments_after, ended}
-use Rattle.kcr_history.specs.Machine.{IsRegister}
-use Rattle.kcr_history.proofs.Stacked.{stacked}
-use Rattle.kcr_history.proofs.Orderly.{orderly, holder-appointments}
-use Rattle.kcr_history.proofs.Trained.{trained-rows}
-use Rattle.kcr_laws.specs.Conditions.{IsHeldOnOrAfter, HoldsPlaceOnOrAfter, IsTrainedOnOrAfter, says_since, held_since, BeginsFrom}
+use Rattle.kcr_laws.proofs.Common.{◌≡◌, ℕ, ◌≤◌, true, false, not, ◌&&◌, nat_le, List, [], ◌∷◌, map, Option, Some, None, option_map, is_some, inl, inr}
+use Rattle.kcr_laws.proofs.Common.{refl, sym, ap, ◌∙◌, arith, unwrap_or, list_any, false≢true, and_parts, or_cases, nat_tests, option_or, same_text}
+use Rattle.kcr_laws.proofs.Common.{same_place, is_this, Place, Role, Range, Vacant, place-same, place-itself, Appointment, holds, holder_by}
+use Rattle.kcr_laws.proofs.Common.{lasts_beyond, place_held_from_by, holds_some_by, open_row_by, trained_by, first_day_refusal, vacant_refusal, Act}
+use Rattle.kcr_laws.proofs.Common.{Appoint, Replace, Release, History, last_value_of_acts, trainings, withdrawals, appointments, appointments_after}
+use Rattle.kcr_laws.proofs.Common.{ended, IsRegister, stacked, orderly, holder-appointments, trained-rows, IsHeldOnOrAfter, HoldsPlaceOnOrAfter}
+use Rattle.kcr_laws.proofs.Common.{IsTrainedOnOrAfter, says_since, held_since, BeginsFrom}
 use Rattle.kcr_laws.proofs.Finds.{none-below}
 
 -- A PLACE FROM A DAY ON
@@ -100,12 +82,9 @@ own_end : (at place : Place) (day : ℕ) (rows : List Appointment) → same_plac
 own_end at place day [] d = refl
 own_end at place day (row ∷ rows) d = grind (arith, place-same row.place place, place-same at place, place-itself place, own_end at place day rows d)
 
--- what is said of the place, or what was said before
-abbrev said_since : Option (Option ℕ) → Option (Option ℕ) → Option ℕ
-said_since now before = unwrap_or (option_or now before) None
-
 since_after : (A : History) (act : Act) (place : Place) → since_of (open_row_by (appointments A) place) ≡ held_since A place
-    → since_of (open_row_by (appointments_after act (appointments A)) place) ≡ said_since (says_since place act) (last_value_of_acts (says_since place) A)
+    → since_of (open_row_by (appointments_after act (appointments A)) place)
+    ≡ unwrap_or (option_or (says_since place act) (last_value_of_acts (says_since place) A)) None
 since_after A (Appoint at who day) place ih = grind (arith, ih)
 since_after A (Replace at who day) place ih = grind (arith, ih, other_end at place day (appointments A))
 since_after A (Release at day) place ih = grind (arith, ih, other_end at place day (appointments A), own_end at place day (appointments A))
@@ -120,11 +99,7 @@ since_said (entry ∷ A) place = since_after A entry.command.act place (since_sa
 
 -- a day is out of range only if the place's last command puts somebody there from that day or a later one on
 pub early_told : (A : History) (place : Place) (day : ℕ) → first_day_refusal (appointments A) place day ≡ Some Range → BeginsFrom A place day
-early_told A place day h = by_row (open_row_by (appointments A) place) h (since_said A place)
-  where
-    by_row : (o : Option Appointment) → when (begins_too_late o day) Range ≡ Some Range → since_of o ≡ held_since A place → BeginsFrom A place day
-    by_row None g s = absurd (let z : None ≡ Some Range = g in cc)
-    by_row (Some row) g s = (row.since, sym s, grind (arith, nat_tests))
+early_told A place day h = grind (arith, nat_tests, since_said A place)
 
 -- a day is out of range if the place's last command puts somebody there from that day or a later one on
 pub early_holds : (A : History) (place : Place) (day : ℕ) → BeginsFrom A place day → first_day_refusal (appointments A) place day ≡ Some Range

@@ -1,9 +1,6 @@
 -- Which condition a first refusal is of.
-use Rattle.std.proofs.Common.{◌≡◌, ◌≢◌, ℕ, Bool, true, false, ◌==◌, List, [], ◌∷◌, ◌++◌, Option, Some, None, option_map, ap}
-use Rattle.std.proofs.lemmas.Bool.{eqb-false}
-use Rattle.kcr_base.specs.Refuse.{when, first_of}
-use Rattle.kcr_base.specs.declared.refusal.Refusal.{Refusal}
-use Rattle.kcr_base.specs.declared.refusal.Refusal.TheVariants.{Crowd, Lone}
+use Rattle.kcr_laws.proofs.Common.{◌≡◌, ◌≢◌, ℕ, Bool, true, false, ◌==◌, List, [], ◌∷◌, ◌++◌, Option, Some, None, option_map, ap, eqb-false, when}
+use Rattle.kcr_laws.proofs.Common.{first_of, Refusal, Crowd, Lone}
 
 -- REFUSALS OF OTHER KINDS
 

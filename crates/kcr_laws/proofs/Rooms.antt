@@ -1,36 +1,18 @@
 -- Rows added for one ceremony leave the rooms of the others as they are, and its own room before their moment.
-use Rattle.std.proofs.Common.{◌≡◌, ℕ, ◌<◌, ◌≤◌, Bool, true, false, ◌||◌, ◌==◌, nat_le, nat_lt, List, [], ◌∷◌, ◌++◌, map, filter, Option, Some, None}
-use Rattle.std.proofs.Common.{refl, sym, ap, ◌∙◌, arith}
-use Rattle.std.specs.List.{list_any, list_all}
-use Rattle.std.proofs.lemmas.Bool.{cond_both, true≢false, or_parts, and_parts, and_right, lt-leb, true_from_ne_false}
-use Rattle.std.proofs.lemmas.Bool.Decides.{nat_tests}
+use Rattle.kcr_laws.proofs.Common.{◌≡◌, ℕ, ◌<◌, ◌≤◌, Bool, true, false, ◌==◌, nat_le, nat_lt, List, [], ◌∷◌, ◌++◌, map, filter, Option, None, refl}
+use Rattle.kcr_laws.proofs.Common.{sym, ap, ◌∙◌, arith, list_any, list_all, or_parts, and_right, lt-leb, nat_tests, same_text, is_before, same-is}
+use Rattle.kcr_laws.proofs.Common.{same-itself, same-turned, SheetRow, Way, is_enter, enters, later_row, last_onto, last_row, is_of, last_enters}
+use Rattle.kcr_laws.proofs.Common.{in_by, last_row_of, present_by, is_out_of_turn, is_out_of_turn_by, new_row, are_rising, present_are_in}
+use Rattle.kcr_laws.proofs.Common.{present_are_rising, before-turned}
 use Rattle.std.proofs.lemmas.List.Elements.{filter-append}
-use Rattle.kcr_base.specs.Same.{same_text, is_before}
-use Rattle.kcr_base.proofs.SameLemmas.{same-is, same-itself, same-turned}
-use Rattle.kcr_room.specs.declared.SheetRow.{SheetRow}
-use Rattle.kcr_room.specs.declared.Way.{Way}
-use Rattle.kcr_room.specs.declared.Way.TheVariants as Ways
-use Rattle.kcr_room.specs.Room.{is_enter, enters, later_row, last_onto, last_row, is_of, last_enters, in_by, last_row_of, present_by}
-use Rattle.kcr_room.specs.Requests.{is_out_of_turn, is_out_of_turn_by, new_row}
-use Rattle.kcr_room.specs.Laws.{are_rising}
 use Rattle.kcr_room.proofs.Agreement.{listed, last-above}
-use Rattle.kcr_room.proofs.Keeping.{present_are_in}
-use Rattle.kcr_room.proofs.Rising.{present_are_rising}
-use Rattle.kcr_room.proofs.Orders.{before-turned}
 use Rattle.kcr_laws.proofs.Trials.{one_of}
 
 -- none of the rows is an `in` of the ceremony, so the last of them is none
 none_enters : (other : ℕ) (last : Option SheetRow) (rows : List SheetRow) → last_enters other last ≡ false → list_any (enters other) rows ≡ false
     → last_enters other (last_onto last rows) ≡ false
 none_enters other last [] l h = l
-none_enters other last (row ∷ rows) l h = none_enters other (later_row last row) rows (by_last last l) parts.1
-  where
-    parts : (enters other row ≡ false) × (list_any (enters other) rows ≡ false)
-    parts = or_parts (enters other row) (list_any (enters other) rows) h
-
-    by_last : (o : Option SheetRow) → last_enters other o ≡ false → last_enters other (later_row o row) ≡ false
-    by_last None e = parts.0
-    by_last (Some old) e = cond_both (nat_lt row.at old.at) (Some old) (Some row) (λ o. last_enters other o ≡ false) (λ _. e) (λ _. parts.0)
+none_enters other last (row ∷ rows) l h = none_enters other (later_row last row) rows (grind arith) (grind arith)
 
 -- the last row after two lists is the last after the second, from that of the first on
 pub onto_append : (last : Option SheetRow) (rows more : List SheetRow) → last_onto last (rows ++ more) ≡ last_onto (last_onto last rows) more
@@ -68,15 +50,12 @@ all_of who m t (row ∷ rows) l h = grind (arith, nat_tests, all_of who m t rows
 -- nobody's last row is later than t, if the new rows are not
 pub not_behind : (c : ℕ) (way : Way) (at t : ℕ) (last : Option SheetRow) → is_out_of_turn way c at last ≡ false → nat_le at t ≡ true
     → list_any (λ row. nat_lt t row.at) (listed last) ≡ false
-not_behind c way at t None h l = refl
-not_behind c way at t (Some row) h l = grind (arith, nat_tests)
+not_behind c way at t last h l = grind (arith, nat_tests)
 
 -- whoever has a turn for the one ceremony is in no other's room
 elsewhere : (c other : ℕ) (way : Way) (at : ℕ) (last : Option SheetRow) → (c == other) ≡ false → is_out_of_turn way c at last ≡ false
     → last_enters other last ≡ false
-elsewhere c other way at None d h = refl
-elsewhere c other Ways.Enter at (Some row) d h = grind arith
-elsewhere c other Ways.Leave at (Some row) d h = grind (arith, nat_tests)
+elsewhere c other way at last d h = grind (arith, nat_tests)
 
 -- if all of a person's rows are at most t, the last of them is the last one at t
 last_at : (rows : List SheetRow) (who : List ℕ) (t : ℕ) → list_any (λ row. nat_lt t row.at) (listed (last_row_of rows who)) ≡ false
@@ -131,37 +110,18 @@ not_itself x (y ∷ xs) h = grind (arith, same-is x y, before-turned x x, not_it
 rising_unique : (xs ys : List (List ℕ)) → are_rising xs ≡ true → are_rising ys ≡ true
     → ((who : List ℕ) → list_any (same_text who) xs ≡ list_any (same_text who) ys) → xs ≡ ys
 rising_unique [] [] r s h = refl
-rising_unique [] (y ∷ ys) r s h = absurd (true≢false (sym (ap (λ b. b || list_any (same_text y) ys) (same-itself y)) ∙ sym (h y)))
-rising_unique (x ∷ xs) [] r s h = absurd (true≢false (sym (ap (λ b. b || list_any (same_text x) xs) (same-itself x)) ∙ h x))
-rising_unique (x ∷ xs) (y ∷ ys) r s h = λ i. head i ∷ rising_unique xs ys p.1 q.1 tails i
+rising_unique [] (y ∷ ys) r s h = grind (arith, h y, same-itself y)
+rising_unique (x ∷ xs) [] r s h = grind (arith, h x, same-itself x)
+rising_unique (x ∷ xs) (y ∷ ys) r s h = λ i. head i ∷ rising_unique xs ys (grind arith) (grind arith) tails i
   where
-    p : (list_all (is_before x) xs ≡ true) × (are_rising xs ≡ true)
-    p = and_parts (list_all (is_before x) xs) (are_rising xs) r
-
-    q : (list_all (is_before y) ys ≡ true) × (are_rising ys ≡ true)
-    q = and_parts (list_all (is_before y) ys) (are_rising ys) s
-
     -- else each of the two comes before the other
-    apart : same_text x y ≡ false → ⊥
-    apart e = grind (
-      arith,
-      h x,
-      h y,
-      same-itself x,
-      same-itself y,
-      same-turned x y,
-      p.0,
-      q.0,
-      before-turned x y,
-      one_of same_text same-is x (is_before y) ys,
-      one_of same_text same-is y (is_before x) xs,
-    )
-
     head : x ≡ y
-    head = same-is x y (true_from_ne_false (same_text x y) apart)
+    head =
+        let near = one_of same_text same-is in
+        same-is x y (grind (arith, h x, h y, same-itself, same-turned x y, before-turned x y, near x (is_before y) ys, near y (is_before x) xs))
 
     tails : (who : List ℕ) → list_any (same_text who) xs ≡ list_any (same_text who) ys
-    tails who = grind (arith, h who, head, same-is who x, not_itself x xs p.0, not_itself y ys q.0)
+    tails who = grind (arith, h who, head, same-is who x, not_itself x xs, not_itself y ys)
 
 -- rooms in which everybody is alike have the same people
 pub same_room : (a b : List SheetRow) (c t : ℕ) → ((who : List ℕ) → in_by a who c t ≡ in_by b who c t) → present_by a c t ≡ present_by b c t

@@ -1,40 +1,18 @@
 -- A later command never makes an earlier seating wrong.
-use Rattle.std.proofs.Common.{◌≡◌, ℕ, ◌<◌, ◌≤◌, Bool, true, false, ◌||◌, ◌&&◌, ◌==◌, nat_le, List, [], ◌∷◌, map, filter, Option, Some, None}
-use Rattle.std.proofs.Common.{MatchOption, option_map, refl, sym, ap, ◌∙◌, arith, inl, inr}
-use Rattle.std.specs.Prelude.{unwrap_or, is_some}
-use Rattle.std.specs.List.{list_any, list_all, filter_map, cons_option}
-use Rattle.std.proofs.lemmas.Bool.{true≢false, and_parts, and_from, eqb-true, eq-eqb, leb-true, le-leb, false≢true, or_left, or_right, or_cases}
-use Rattle.std.proofs.lemmas.Bool.Decides.{nat_tests}
+use Rattle.kcr_laws.proofs.Common.{◌≡◌, ℕ, ◌<◌, ◌≤◌, Bool, true, false, ◌||◌, ◌&&◌, ◌==◌, nat_le, List, [], ◌∷◌, map, filter, Option, Some, None}
+use Rattle.kcr_laws.proofs.Common.{MatchOption, option_map, refl, sym, ap, ◌∙◌, arith, inl, inr, unwrap_or, list_any, list_all, filter_map}
+use Rattle.kcr_laws.proofs.Common.{cons_option, true≢false, and_from, eqb-true, eq-eqb, leb-true, le-leb, false≢true, or_left, cases_Bool, nat_tests}
+use Rattle.kcr_laws.proofs.Common.{not_after_mark_refusal, option_or, is_this, Facility, Place, Role, any-same, all-more, still, Seat, Staff, AnyCo}
+use Rattle.kcr_laws.proofs.Common.{AnyRksh, Co, Rksh, Act, Plan, Ceremony, Open, Close, RecordSheet, Sign, RecordException, ReplyData, Entry, History}
+use Rattle.kcr_laws.proofs.Common.{values_of_acts, greatest, max_with, trained, holder, Planned, planned_as, plan_of, is_ceremony, facility_of}
+use Rattle.kcr_laws.proofs.Common.{steps_of, opened_at, marked_moment, mark, opened_number, opening_moment, all_marks, settled, sheet, is_in, fits}
+use Rattle.kcr_laws.proofs.Common.{eligible, is_seating, one_to_seven, seats_at, fault, seat_request, IsReplyTo, IsRegister, is_seated, are_seated}
+use Rattle.std.specs.Prelude.{is_some}
 use Rattle.kcr_base.specs.Days.{day_of}
-use Rattle.kcr_base.specs.Refuse.{not_after_mark_refusal}
-use Rattle.kcr_base.specs.Rows.{option_or}
-use Rattle.kcr_base.specs.Same.{is_this}
-use Rattle.kcr_base.specs.declared.place.Facility.{Facility}
 use Rattle.kcr_base.specs.declared.place.Facility.TheVariants.{East}
 use Rattle.kcr_base.specs.declared.place.Role.TheVariants.{Ca, Iw}
 use Rattle.kcr_base.specs.declared.place.Place.TheVariants as Places
-use Rattle.kcr_base.specs.declared.place.Place.{Place}
-use Rattle.kcr_base.specs.declared.place.Role.{Role}
-use Rattle.kcr_base.proofs.ListLemmas.{any-same, still}
-use Rattle.kcr_script.specs.declared.seat.Seat.{Seat}
-use Rattle.kcr_script.specs.declared.seat.Seat.TheVariants.{Staff, AnyCo, AnyRksh, Co, Rksh}
-use Rattle.kcr_history.specs.declared.commands.Act.{Act}
-use Rattle.kcr_history.specs.declared.commands.Act.TheVariants.{Plan, Ceremony}
-use Rattle.kcr_history.specs.declared.commands.Deed.TheVariants.{AddItem, Open, RecordSheet, Sign, RecordException, SetSafe, Seal, Take}
-use Rattle.kcr_history.specs.declared.commands.Deed.TheVariants.{Put, Cut}
-use Rattle.kcr_history.specs.declared.commands.ReplyData.{ReplyData}
-use Rattle.kcr_history.specs.declared.commands.Entry.{Entry}
-use Rattle.kcr_history.specs.History.{History, values_of_acts, greatest, max_with}
-use Rattle.kcr_history.specs.Training.{trained, holder}
-use Rattle.kcr_history.specs.Ceremonies.{Planned, planned_as, plan_of, is_ceremony, facility_of, steps_of, opened_at, marked_moment, mark, opened_number}
-use Rattle.kcr_history.specs.Ceremonies.{all_marks, settled}
-use Rattle.kcr_history.specs.Room.{sheet, is_in}
-use Rattle.kcr_history.specs.Seating.{fits, eligible, is_seating, one_to_seven}
-use Rattle.kcr_history.specs.Tables.{seats_at}
-use Rattle.kcr_history.specs.Conditions.{fault}
-use Rattle.kcr_history.specs.Machine.{seat_request, IsReplyTo, IsRegister}
-use Rattle.kcr_history.specs.Laws.{is_seated, are_seated}
-use Rattle.kcr_laws.proofs.Accepted.{entry_from, each_history}
+use Rattle.kcr_laws.proofs.Accepted.{entry_from}
 use Rattle.kcr_laws.proofs.Stays.{trained_stays, holder_stays}
 use Rattle.kcr_laws.proofs.Rooms.{in_before, in_other}
 use Rattle.kcr_laws.proofs.Alone.{turns}
@@ -51,18 +29,15 @@ moments_of c ms = map (λ m. m.1) (filter (λ m. m.0 == c) ms)
 
 -- what is not later than one of some moments is not later than the greatest
 max_at_most : (t m : ℕ) (o : Option ℕ) → (nat_le t m || at_most t o) ≡ true → nat_le t (max_with m o) ≡ true
-max_at_most t m None h = grind arith
-max_at_most t m (Some n) h = grind (arith, nat_tests)
+max_at_most t m o h = grind (arith, nat_tests)
 
 one_at_most : (t : ℕ) (o : Option ℕ) (ns : List ℕ) → (at_most t o || at_most t (greatest ns)) ≡ true → at_most t (greatest (cons_option o ns)) ≡ true
-one_at_most t None ns h = h
-one_at_most t (Some m) ns h = max_at_most t m (greatest ns) h
+one_at_most t o ns h = grind (arith, max_at_most t)
 
 -- one moment more leaves what was not later than the greatest so
 older_of : (c t : ℕ) (o : Option (ℕ × ℕ)) (ms : List (ℕ × ℕ)) → at_most t (greatest (moments_of c ms)) ≡ true
     → at_most t (greatest (moments_of c (cons_option o ms))) ≡ true
-older_of c t None ms h = h
-older_of c t (Some m) ms h = grind (arith, max_at_most t m.1 (greatest (moments_of c ms)), h)
+older_of c t o ms h = grind (arith, max_at_most t)
 
 -- the ceremony was opened
 abbrev was_opened : ℕ → List ℕ → Bool
@@ -78,28 +53,20 @@ is_past_if A None = true
 is_past_if A (Some m) = is_past A m
 
 still_opened : (c : ℕ) (o : Option ℕ) (numbers : List ℕ) → was_opened c numbers ≡ true → was_opened c (cons_option o numbers) ≡ true
-still_opened c None numbers h = h
-still_opened c (Some n) numbers h = or_right (n == c) (was_opened c numbers) h
+still_opened c o numbers h = grind arith
 
 still_past : (A : History) (entry : Entry) (o : Option (ℕ × ℕ)) → is_past_if A o ≡ true → is_past_if (entry ∷ A) o ≡ true
-still_past A entry None h = refl
-still_past A entry (Some m) h =
-    let planned = still (planned_as m.0 entry.command.act) (plan_of A m.0) in
-    let marked_by = older_of m.0 m.1 (marked_moment entry.command.act) (values_of_acts marked_moment A) in
-    let was = still_opened m.0 (opened_number entry.command.act) (values_of_acts opened_number A) in
-    grind (arith, planned, marked_by, was)
+still_past A entry o h = grind (arith, still {X = Planned}, older_of, still_opened)
 
 -- a ceremony that is open was opened
-opened_after : (A : History) (key : List ℕ) (act : Act) (answer : ReplyData) (c : ℕ)
-    → (is_some (opened_at A c) ≡ true → was_opened c (values_of_acts opened_number A) ≡ true)
-    → is_some (opened_at (entry_from key act answer ∷ A) c) ≡ true → was_opened c (values_of_acts opened_number (entry_from key act answer ∷ A)) ≡ true
-opened_after A key (Ceremony d at Open) answer c ih h = grind (arith, ih)
-opened_after A key act answer c ih h = ih h
+opened_after : (act : Act) (c : ℕ) (o : Option ℕ) (numbers : List ℕ) → (is_some o ≡ true → was_opened c numbers ≡ true)
+    → is_some (option_or (opening_moment c act) o) ≡ true → was_opened c (cons_option (opened_number act) numbers) ≡ true
+opened_after (Ceremony d at Open) c o numbers ih h = grind (arith, ih)
+opened_after act c o numbers ih h = ih h
 
 opened_there : (A : History) (c : ℕ) → is_some (opened_at A c) ≡ true → was_opened c (values_of_acts opened_number A) ≡ true
-opened_there A c =
-    each_history (λ B. is_some (opened_at B c) ≡ true → was_opened c (values_of_acts opened_number B) ≡ true) (λ h. absurd (false≢true h))
-    (λ B key act answer. opened_after B key act answer c) A
+opened_there [] c h = absurd (false≢true h)
+opened_there (entry ∷ A) c h = opened_after entry.command.act c (opened_at A c) (values_of_acts opened_number A) (opened_there A c) h
 
 -- a command with a moment is one of a ceremony that is planned and was opened
 abbrev IsKnown : History → Act → ℕ × ℕ → Type 0
@@ -107,14 +74,9 @@ IsKnown A act m = (is_ceremony A m.0 ≡ true) × (was_opened m.0 (cons_option (
 
 marks_known : (A : History) (act : Act) → fault A act ≡ None → MatchOption (marked_moment act) (Unit {0}) (IsKnown A act)
 marks_known A (Ceremony c at Open) f = (grind arith, or_left (c == c) _ (eq-eqb c c refl))
-marks_known A (Ceremony c at (Sign k)) f = (grind arith, opened_there A c (grind arith))
-marks_known A (Ceremony c at (RecordException text pass)) f = (grind arith, opened_there A c (grind arith))
-marks_known A (Ceremony c at (AddItem item)) f = (grind arith, opened_there A c (grind arith))
-marks_known A (Ceremony c at (SetSafe safe state by)) f = (grind arith, opened_there A c (grind arith))
-marks_known A (Ceremony c at (Seal serial items)) f = (grind arith, opened_there A c (grind arith))
-marks_known A (Ceremony c at (Take serial)) f = (grind arith, opened_there A c (grind arith))
-marks_known A (Ceremony c at (Put serial to)) f = (grind arith, opened_there A c (grind arith))
-marks_known A (Ceremony c at (Cut serial)) f = (grind arith, opened_there A c (grind arith))
+marks_known A (Ceremony c at Close) f = tt
+marks_known A (Ceremony c at (RecordSheet way people)) f = tt
+marks_known A (Ceremony c at deed) f = (grind arith, opened_there A c (grind arith))
 marks_known A act f = tt
 
 -- the same, if the history has one command more, and it has this moment
@@ -153,30 +115,22 @@ same_plan A entry c f k = ap (λ o. option_or o (plan_of A c)) (not_planned A en
 
 -- a sheet row of the ceremony is later than its mark
 behind : (at t : ℕ) (o : Option ℕ) → not_after_mark_refusal at o ≡ None → at_most t o ≡ true → t < at
-behind at t None h k = absurd (false≢true k)
-behind at t (Some m) h k = grind (arith, nat_tests)
+behind at t o h k = grind (arith, nat_tests)
 
 -- everybody was if the sheet says so at a past moment
 same_in : (A : History) (key : List ℕ) (act : Act) (answer : ReplyData) (who : List ℕ) (c t : ℕ) → fault A act ≡ None → at_most t (mark A c) ≡ true
     → is_in (entry_from key act answer ∷ A) who c t ≡ is_in A who c t
-same_in A key (Ceremony d at (RecordSheet way people)) answer who c t f k = by_ceremony (d == c) refl
-  where
-    by_ceremony : (b : Bool) → (d == c) ≡ b → is_in (entry_from key (Ceremony d at (RecordSheet way people)) answer ∷ A) who c t ≡ is_in A who c t
-    by_ceremony true e =
-        let later = behind at t (mark A d) (grind arith) (ap (λ z. at_most t (mark A z)) (eqb-true d c e) ∙ k) in
-        in_before (sheet A) d way at people who c t later
-    by_ceremony false e = in_other (sheet A) d way at people who c t (turns A d way at people (grind arith)) e
+same_in A key (Ceremony d at (RecordSheet way people)) answer who c t f k = elim (cases_Bool (d == c)) [
+  | inl e ↦ in_before (sheet A) d way at people who c t (behind at t (mark A d) (grind arith) (rw (eqb-true d c e) k))
+  | inr e ↦ in_other (sheet A) d way at people who c t (turns A d way at people (grind arith)) e
+]
 same_in A key act answer who c t f k = refl
 
 -- a moment that is not later than one of the marks is not later than the greatest
 one_of_marks : (A : History) (c t : ℕ) (numbers : List ℕ) → was_opened c numbers ≡ true → at_most t (mark A c) ≡ true
     → at_most t (greatest (filter_map (mark A) numbers)) ≡ true
 one_of_marks A c t [] w k = absurd (false≢true w)
-one_of_marks A c t (n ∷ numbers) w k =
-    one_at_most t (mark A n) (filter_map (mark A) numbers) (elim (or_cases (n == c) (was_opened c numbers) w) [
-      | inl e ↦ or_left (at_most t (mark A n)) _ (ap (λ z. at_most t (mark A z)) (eqb-true n c e) ∙ k)
-      | inr g ↦ or_right (at_most t (mark A n)) _ (one_of_marks A c t numbers g k)
-    ])
+one_of_marks A c t (n ∷ numbers) w k = grind (arith, nat_tests, one_at_most t (mark A n) (filter_map (mark A) numbers), one_of_marks A c t numbers)
 
 -- so its day is not later than the settled one
 settled_at : (A : History) (t : ℕ) (o : Option ℕ) → greatest (all_marks A) ≡ o → at_most t o ≡ true → (s : ℕ) × (settled A ≡ Some s) × (day_of t ≤ s)
@@ -206,20 +160,17 @@ eligible_mono : (A B : History) (c t : ℕ) → ((who : List ℕ) → is_in B wh
     → ((place : Place) → holder B place (day_of t) ≡ holder A place (day_of t))
     → (seat : Seat) (who : List ℕ) → eligible A c t seat who ≡ true → eligible B c t seat who ≡ true
 eligible_mono A B c t room here train hold seat who h =
-    let r = and_parts (is_in A who c t) (fits A (facility_of A c) (day_of t) seat who) h in
-    and_from (is_in B who c t) _ (room who ∙ r.0)
-    (ap (λ z. fits B z (day_of t) seat who) here ∙ fits_mono A B (facility_of A c) (day_of t) train hold seat who r.1)
+    let same = ap (λ z. fits B z (day_of t) seat who) here in
+    grind (arith, room who, same, fits_mono A B (facility_of A c) (day_of t) train hold seat who)
 
 -- whoever was eligible at a past moment still is
 eligible_still : (A : History) (entry : Entry) (c t : ℕ) → fault A entry.command.act ≡ None → is_past A (c, t) ≡ true → (seat : Seat) (who : List ℕ)
     → eligible A c t seat who ≡ true → eligible (entry ∷ A) c t seat who ≡ true
 eligible_still A entry c t f past =
-    let p = and_parts (is_ceremony A c) (at_most t (mark A c) && was_opened c (values_of_acts opened_number A)) past in
-    let q = and_parts (at_most t (mark A c)) (was_opened c (values_of_acts opened_number A)) p.1 in
-    let s = settled_at A t (greatest (all_marks A)) refl (one_of_marks A c t (values_of_acts opened_number A) q.1 q.0) in
+    let s = settled_at A t (greatest (all_marks A)) refl (one_of_marks A c t (values_of_acts opened_number A) (grind arith) (grind arith)) in
     let facility : facility_of (entry ∷ A) c ≡ facility_of A c =
-    ap (λ o. unwrap_or (option_map (λ (plan : Planned). plan.facility) o) East) (same_plan A entry c f p.0) in
-    eligible_mono A (entry ∷ A) c t (λ who. same_in A entry.command.key entry.command.act entry.reply who c t f q.0) facility
+    ap (λ o. unwrap_or (option_map (λ (plan : Planned). plan.facility) o) East) (same_plan A entry c f (grind arith)) in
+    eligible_mono A (entry ∷ A) c t (λ who. same_in A entry.command.key entry.command.act entry.reply who c t f (grind arith)) facility
     (λ who role. trained_stays A entry who role s.0 (day_of t) f s.1 s.2) (λ place. holder_stays A entry place s.0 (day_of t) f s.1 s.2)
 
 same_seats : (A : History) (entry : Entry) (c k : ℕ) → fault A entry.command.act ≡ None → is_ceremony A c ≡ true
@@ -229,12 +180,11 @@ same_seats A entry c k f p = ap (λ o. seats_at (unwrap_or (option_map (λ (plan
 -- a seating that was recorded before is one still
 old_seated : (A : History) (entry : Entry) (act : Act) (people : Option (List (List ℕ))) → fault A entry.command.act ≡ None → is_past_if A (marked_moment act) ≡ true
     → is_seated A (seat_request A act) people ≡ true → is_seated (entry ∷ A) (seat_request (entry ∷ A) act) people ≡ true
-old_seated A entry (Ceremony c at (Sign k)) None f past h = absurd (true≢false (sym h))
+old_seated A entry (Ceremony c at (Sign k)) None f past h = absurd (false≢true h)
 old_seated A entry (Ceremony c at (Sign k)) (Some people) f past h =
-    let p = and_parts (is_ceremony A c) (at_most at (mark A c) && was_opened c (values_of_acts opened_number A)) past in
     seating_mono A (entry ∷ A) c at (eligible_still A entry c at f past) (seats_at (steps_of (entry ∷ A) c) k) people
-    (ap (λ seats. is_seating A c at seats people) (same_seats A entry c k f p.0) ∙ h)
-old_seated A entry (Ceremony c at (RecordException text true)) None f past h = absurd (true≢false (sym h))
+    (rw (same_seats A entry c k f (grind arith)) h)
+old_seated A entry (Ceremony c at (RecordException text true)) None f past h = absurd (false≢true h)
 old_seated A entry (Ceremony c at (RecordException text true)) (Some people) f past h =
     seating_mono A (entry ∷ A) c at (eligible_still A entry c at f past) (Staff Ca ∷ Staff Iw ∷ []) people h
 old_seated A entry (Ceremony c at (RecordException text false)) people f past h = refl
@@ -246,11 +196,10 @@ old_seated A entry act people f past h = refl
 new_seated : (A : History) (key : List ℕ) (act : Act) (answer : ReplyData) → IsReplyTo A act answer (seat_request A act)
     → is_seated (entry_from key act answer ∷ A) (seat_request (entry_from key act answer ∷ A) act) answer.seating ≡ true
 new_seated A key (Ceremony c at (Sign k)) answer w =
-    let B = entry_from key (Ceremony c at (Sign k)) answer ∷ A in
-    rw w.2 (seating_mono A B c at (eligible_mono A B c at (λ who. refl) refl (λ who role h. h) (λ place. refl)) (seats_at (steps_of A c) k) w.0 w.1)
+    rw w.2 (seating_mono A (entry_from key (Ceremony c at (Sign k)) answer ∷ A) c at (λ seat who h. h) (seats_at (steps_of A c) k) w.0 w.1)
 new_seated A key (Ceremony c at (RecordException text true)) answer w =
     let B = entry_from key (Ceremony c at (RecordException text true)) answer ∷ A in
-    rw w.2 (seating_mono A B c at (eligible_mono A B c at (λ who. refl) refl (λ who role h. h) (λ place. refl)) (Staff Ca ∷ Staff Iw ∷ []) w.0 w.1)
+    rw w.2 (seating_mono A B c at (λ seat who h. h) (Staff Ca ∷ Staff Iw ∷ []) w.0 w.1)
 new_seated A key (Ceremony c at (RecordException text false)) answer w = refl
 new_seated A key act answer w = refl
 
@@ -264,8 +213,7 @@ abbrev all_seated : History → History → Bool
 all_seated A entries = list_all (λ entry. is_seated A (seat_request A entry.command.act) entry.reply.seating) entries
 
 past_still : (A : History) (entry : Entry) (entries : History) → all_past A entries ≡ true → all_past (entry ∷ A) entries ≡ true
-past_still A entry [] h = refl
-past_still A entry (old ∷ entries) h = grind (arith, still_past A entry (marked_moment old.command.act), past_still A entry entries)
+past_still A entry entries h = all-more _ _ entries (λ old. still_past A entry (marked_moment old.command.act)) h
 
 seated_still : (A : History) (entry : Entry) (entries : History) → fault A entry.command.act ≡ None → all_past A entries ≡ true → all_seated A entries ≡ true
     → all_seated (entry ∷ A) entries ≡ true

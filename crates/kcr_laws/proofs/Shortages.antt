@@ -1,36 +1,26 @@
 -- Where nobody can fill the seats of a step there is a least set of them that too few people fit.
-use Rattle.std.proofs.Common.{◌≡◌, ℕ, zero, suc, ◌+◌, ◌<◌, ◌≤◌, Bool, true, false, not, nat_lt, List, [], ◌∷◌, filter, length, ◌⊎◌, inl, inr, refl, ap, arith}
-use Rattle.std.specs.List.{list_any, list_all}
-use Rattle.std.proofs.lemmas.Bool.{true≢false, and_from, and_cases, not-false, lt-ltb, cases_Bool}
-use Rattle.std.proofs.lemmas.Bool.Decides.{nat_tests}
-use Rattle.kcr_base.specs.Same.{same_text}
-use Rattle.kcr_base.proofs.SameLemmas.{same-is}
-use Rattle.kcr_room.specs.Laws.{are_rising}
+use Rattle.kcr_laws.proofs.Common.{◌≡◌, ℕ, zero, suc, ◌+◌, ◌<◌, ◌≤◌, Bool, true, false, not, List, [], ◌∷◌, filter, length, ◌⊎◌, inl, inr, refl, ap}
+use Rattle.kcr_laws.proofs.Common.{arith, list_any, list_all, true≢false, and_from, and_cases, not-false, cases_Bool, nat_tests, same_text, same-is}
+use Rattle.kcr_laws.proofs.Common.{are_rising, present_are_rising, Seat, History, sheet, present, is_seating, is_eligible_at, rise, is_short, IsLeast}
 use Rattle.kcr_room.proofs.Lists.{any-filter}
-use Rattle.kcr_room.proofs.Rising.{present_are_rising}
-use Rattle.kcr_script.specs.declared.seat.Seat.{Seat}
-use Rattle.kcr_history.specs.History.{History}
-use Rattle.kcr_history.specs.Room.{sheet, present}
-use Rattle.kcr_history.specs.Seating.{is_seating, is_eligible_at, who_fit, rise, is_short, IsLeast}
 use Rattle.kcr_laws.proofs.Hall.{is_one, count, takers, IsAssigned, IsScarce, stand_once, hall}
 use Rattle.kcr_laws.proofs.Rooms.{not_itself}
 use Rattle.kcr_laws.proofs.Trials.{every, every_shorter, least_by_trial}
 
 -- LEAST SHORTAGES
 
--- a test that not every list passes fails for one
+-- a test that not every member passes fails for one
+fails_at : {X : Type 0} (test : X → Bool) (xs : List X) → list_all test xs ≡ false → (x : X) × (test x ≡ false)
+fails_at test [] h = absurd (true≢false h)
+fails_at test (x ∷ xs) h = elim (and_cases (test x) (list_all test xs) h) [ inl e ↦ (x, e) | inr e ↦ fails_at test xs e ]
+
+-- so does one that not every list of members passes
 every_fails : {X : Type 0} (test : List X → Bool) (xs : List X) (n : ℕ) → every test xs n ≡ false → (ys : List X) × (length ys ≡ n) × (test ys ≡ false)
 every_fails test xs zero h = ([], refl, h)
-every_fails {X = X} test xs (suc n) h = by_member xs h (λ x. every_fails (λ rest. test (x ∷ rest)) xs n)
-  where
-    by_member : (ms : List X) → list_all (λ x. every (λ rest. test (x ∷ rest)) xs n) ms ≡ false
-        → ((x : X) → every (λ rest. test (x ∷ rest)) xs n ≡ false → (ys : List X) × (length ys ≡ n) × (test (x ∷ ys) ≡ false))
-        → (ys : List X) × (length ys ≡ suc n) × (test ys ≡ false)
-    by_member [] g ih = absurd (true≢false g)
-    by_member (m ∷ ms) g ih = elim (and_cases (every (λ rest. test (m ∷ rest)) xs n) (list_all (λ x. every (λ rest. test (x ∷ rest)) xs n) ms) g) [
-      | inl e ↦ let w = ih m e in (m ∷ w.0, ap suc w.1, w.2)
-      | inr e ↦ by_member ms e ih
-    ]
+every_fails test xs (suc n) h =
+    let m = fails_at (λ x. every (λ rest. test (x ∷ rest)) xs n) xs h in
+    let w = every_fails (λ rest. test (m.0 ∷ rest)) xs n m.1 in
+    (m.0 ∷ w.0, ap suc w.1, w.2)
 
 shorter_fails : {X : Type 0} (test : List X → Bool) (xs : List X) (n : ℕ) → every_shorter test xs n ≡ false
     → (ys : List X) × (length ys < n) × (test ys ≡ false)
@@ -128,10 +118,8 @@ module _ (A : History) (c t : ℕ) (seats : List Seat) where
 
   short_so : (s : ℕ → Bool) → IsScarce positions_of fits_at (present A c t) (λ i. true) s → is_short A c t seats (filter s positions_of) ≡ true
   short_so s d =
-      and_from (rise 0 (length seats) (filter s positions_of)) (nat_lt (length (who_fit A c t seats (filter s positions_of))) (length (filter s positions_of)))
-      (rise_from s (length seats) 0 0 (length seats) (omega arith) (omega arith))
-      (lt-ltb (length (who_fit A c t seats (filter s positions_of))) (length (filter s positions_of))
-      (omega (arith, d.few, takers_filter positions_of fits_at s (present A c t), count_filter positions_of s)))
+      let rises = rise_from s (length seats) 0 0 (length seats) (omega arith) (omega arith) in
+      grind (arith, nat_tests, rises, d.few, takers_filter positions_of fits_at s (present A c t), count_filter positions_of s)
 
   -- the seats can be filled, or some of them are a least shortage
   pub seating_or_least : ((people : List (List ℕ)) × (is_seating A c t seats people ≡ true)) ⊎ ((least : List ℕ) × IsLeast A c t seats least)

@@ -1,27 +1,13 @@
 -- Who is trained, who holds a place and who fits a seat: by all rows of a register, in whatever order, as by its history.
-use Rattle.std.proofs.Common.{◌≡◌, ℕ, List, option_map, ap, ◌∙◌}
+use Rattle.kcr_laws.proofs.Common.{◌≡◌, ℕ, List, option_map, ap, ◌∙◌, is_this, Facility, Place, Role, any-same, find-order, Appointment, trained_by}
+use Rattle.kcr_laws.proofs.Common.{holder_by, holds, Seat, Staff, AnyCo, AnyRksh, Co, Rksh, History, fits, one_to_seven, trained, holder, is_holder}
+use Rattle.kcr_laws.proofs.Common.{trainings, withdrawals, appointments, IsRegister, orderly, holder-appointments, trained-rows}
 use Rattle.std.specs.List.Sorted.{IsPermutation}
-use Rattle.kcr_base.specs.Same.{is_this}
-use Rattle.kcr_base.specs.declared.place.Facility.{Facility}
-use Rattle.kcr_base.specs.declared.place.Place.{Place}
 use Rattle.kcr_base.specs.declared.place.Place.TheVariants as Places
-use Rattle.kcr_base.specs.declared.place.Role.{Role}
-use Rattle.kcr_base.proofs.ListLemmas.{any-same, find-order}
-use Rattle.kcr_people.specs.declared.Appointment.{Appointment}
 use Rattle.kcr_people.specs.declared.Training.{Training}
 use Rattle.kcr_people.specs.declared.Withdrawal.{Withdrawal}
-use Rattle.kcr_people.specs.People.{trained_by, holder_by, holds}
 use Rattle.kcr_people.proofs.Orders.{trained-order}
-use Rattle.kcr_script.specs.declared.seat.Seat.{Seat}
-use Rattle.kcr_script.specs.declared.seat.Seat.TheVariants.{Staff, AnyCo, AnyRksh, Co, Rksh}
-use Rattle.kcr_history.specs.History.{History}
 use Rattle.kcr_history.specs.Fitting.{is_holder_by, fits_by}
-use Rattle.kcr_history.specs.Seating.{fits, one_to_seven}
-use Rattle.kcr_history.specs.Training.{trained, holder, is_holder}
-use Rattle.kcr_history.specs.Tables.{trainings, withdrawals, appointments}
-use Rattle.kcr_history.specs.Machine.{IsRegister}
-use Rattle.kcr_history.proofs.Orderly.{orderly, holder-appointments}
-use Rattle.kcr_history.proofs.Trained.{trained-rows}
 use Rattle.kcr_laws.proofs.Finds.{only-holder}
 
 module _ (A : History) (h : IsRegister A) (us : List Training) (vs : List Withdrawal) (p : IsPermutation (trainings A) us)
@@ -49,13 +35,9 @@ module _ (A : History) (us : List Training) (vs : List Withdrawal) (rows : List 
   -- a person fits a seat by the rows if and only if by the history
   pub fits-on : (f : Facility) (seat : Seat) (who : List ℕ) → fits_by us vs rows f day seat who ≡ fits A f day seat who
   fits-on f (Staff role) who = trained-same who role
-  fits-on f AnyCo who =
-      any-same (λ n. is_holder_by rows (Places.Co f n) day who) (λ n. is_holder A (Places.Co f n) day who) one_to_seven
-      (λ n. is_holder-same (Places.Co f n) who)
+  fits-on f AnyCo who = any-same _ _ one_to_seven (λ n. is_holder-same (Places.Co f n) who)
   fits-on f (Co n) who = is_holder-same (Places.Co f n) who
-  fits-on f AnyRksh who =
-      any-same (λ n. is_holder_by rows (Places.Rksh n) day who) (λ n. is_holder A (Places.Rksh n) day who) one_to_seven
-      (λ n. is_holder-same (Places.Rksh n) who)
+  fits-on f AnyRksh who = any-same _ _ one_to_seven (λ n. is_holder-same (Places.Rksh n) who)
   fits-on f (Rksh n) who = is_holder-same (Places.Rksh n) who
 
 -- on every day, by all trainings and withdrawals

@@ -1,35 +1,18 @@
 -- A later command changes neither who held a place on a settled day, nor that somebody was trained on it.
-use Rattle.std.proofs.Common.{◌≡◌, ℕ, ◌≤◌, Bool, true, false, cond, ◌&&◌, nat_le, List, ◌∷◌, Option, Some, None, refl, ap, arith}
-use Rattle.std.specs.Prelude.{unwrap_or}
-use Rattle.std.proofs.lemmas.Bool.{and_right}
-use Rattle.std.proofs.lemmas.Bool.Decides.{nat_tests}
-use Rattle.kcr_base.specs.Rows.{option_or}
-use Rattle.kcr_base.specs.Same.{same_text, same_role, same_place}
-use Rattle.kcr_base.specs.declared.place.Role.{Role}
-use Rattle.kcr_base.specs.declared.place.Place.{Place}
-use Rattle.kcr_people.specs.People.{settled_refusal}
-use Rattle.kcr_history.specs.declared.commands.Act.{Act}
-use Rattle.kcr_history.specs.declared.commands.Act.TheVariants.{Train, Withdraw, Appoint, Replace, Release}
-use Rattle.kcr_history.specs.declared.commands.Entry.{Entry}
-use Rattle.kcr_history.specs.History.{History, last_value_of_acts}
-use Rattle.kcr_history.specs.Training.{holder, holder_effect, trained, training_effect}
-use Rattle.kcr_history.specs.Ceremonies.{settled}
-use Rattle.kcr_history.specs.Conditions.{fault}
+use Rattle.kcr_laws.proofs.Common.{◌≡◌, ℕ, ◌≤◌, Bool, true, false, cond, ◌&&◌, nat_le, List, ◌∷◌, Option, Some, None, ap, arith, unwrap_or, and_right}
+use Rattle.kcr_laws.proofs.Common.{nat_tests, option_or, same_text, same_role, Role, Place, settled_refusal, Act, Train, Withdraw, Entry, History}
+use Rattle.kcr_laws.proofs.Common.{last_value_of_acts, holder, holder_effect, trained, training_effect, settled, fault}
 
 -- a day that is not refused is later than the settled one
 later : (o : Option ℕ) (s day d : ℕ) → o ≡ Some s → settled_refusal o day ≡ None → d ≤ s → nat_le day d ≡ false
-later None s day d e h l = cc
-later (Some last) s day d e h l = grind (arith, nat_tests)
+later o s day d e h l = grind (arith, nat_tests)
 
 -- such a command says nothing of the place, or of the person, on the day
 silent : (b : Bool) (day d : ℕ) {X : Type 0} (x : X) → nat_le day d ≡ false → cond (b && nat_le day d) (Some x) None ≡ None
 silent b day d x h = ap (λ z. cond z (Some x) None) (and_right b (nat_le day d) h)
 
 no_word : (A : History) (act : Act) (place : Place) (s d : ℕ) → fault A act ≡ None → settled A ≡ Some s → d ≤ s → holder_effect place d act ≡ None
-no_word A (Appoint at who day) place s d f e l = silent (same_place at place) day d (Some who) (later (settled A) s day d e (grind arith) l)
-no_word A (Replace at who day) place s d f e l = silent (same_place at place) day d (Some who) (later (settled A) s day d e (grind arith) l)
-no_word A (Release at day) place s d f e l = silent (same_place at place) day d None (later (settled A) s day d e (grind arith) l)
-no_word A act place s d f e l = refl
+no_word A act place s d f e l = grind (arith, later (settled A) s)
 
 -- who held a place on a settled day still did after any accepted command
 pub holder_stays : (A : History) (entry : Entry) (place : Place) (s d : ℕ) → fault A entry.command.act ≡ None → settled A ≡ Some s → d ≤ s

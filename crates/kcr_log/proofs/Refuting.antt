@@ -1,16 +1,16 @@
 -- Why no other damage is there.
-use Rattle.std.proofs.Common.{◌≡◌, ℕ, ◌+◌, ◌-◌, ◌*◌, ◌/◌, ◌<◌, ◌≤◌, ◌||◌, true, false, List, length, sym, ◌∙◌, inl, inr, arith}
-use Rattle.std.proofs.lemmas.Bool.{false≢true, true≢false, or_cases, cases_lt}
+use Rattle.std.proofs.Common.{◌≡◌, ℕ, ◌+◌, ◌-◌, ◌/◌, ◌<◌, ◌||◌, true, false, List, length, sym, ◌∙◌, inl, inr, arith}
+use Rattle.std.proofs.lemmas.Bool.{false≢true, true≢false}
+use Rattle.std.proofs.lemmas.Bool.Decides.{nat_tests}
 use Rattle.std.proofs.Math.Nat.{div-mul-le_self, mul-le-mul_right}
 use Rattle.kcr_log.specs.declared.frames.Header.{Header}
 use Rattle.kcr_log.specs.declared.judgement.Log.{Log}
 use Rattle.kcr_log.specs.declared.judgement.Log.TheVariants.{Sound, WrongHead, WrongFrame, NoFile}
 use Rattle.kcr_log.specs.Frames.{header_of, is_signed, frame_count, checks}
-use Rattle.kcr_log.specs.Damage.{was_safe, IsWrongHead, IsDamage}
+use Rattle.kcr_log.specs.Damage.{IsWrongHead, IsDamage}
 use Rattle.kcr_log.specs.Pages.{told_header, second_header, turned, page_size_of, HasLost}
-use Rattle.kcr_log.specs.Stop.{IsCutShort}
 use Rattle.kcr_log.proofs.Counting.{carried, checked}
-use Rattle.kcr_log.proofs.Safe.{none-safe, cut-unsafe}
+use Rattle.kcr_log.proofs.Safe.{none-safe}
 
 -- nor has one with a head that does not check, if neither its head nor a page is known to be lost
 pub sound-head : (file log : List ℕ) → is_signed log ≡ false → ((ended : ℕ) → ¬ IsWrongHead file log ended)
@@ -27,27 +27,15 @@ no-frames : (header : Header) (log : List ℕ) → length log < 56 → frame_cou
 no-frames header log short =
     let d = 24 + header.page_size in
     let m = length log - 32 in
-    elim (cases_lt 0 (m / d)) [
-      | inl some ↦
-          let low : 1 * d ≤ m / d * d = mul-le-mul_right d some in
-          let high : m / d * d ≤ m = div-mul-le_self m d in
-          absurd (omega arith)
-      | inr none ↦ omega arith
-    ]
+    grind (arith, div-mul-le_self m d, λ (some : 0 < m / d). mul-le-mul_right d some)
 
 none-checked : (header : Header) (log : List ℕ) (i : ℕ) → length log < 56 → checks header log i ≡ true → ⊥
-none-checked header log i short h =
-    let low : i < frame_count header log = carried header log i (checked header log i h) in
-    let none : frame_count header log ≡ 0 = no-frames header log short in
-    omega arith
+none-checked header log i short h = omega (arith, carried header log i (checked header log i h), no-frames header log short)
 
 -- of two heads neither lets a frame check
 neither-checked : (one two : Header) (log : List ℕ) (i : ℕ) → length log < 56
     → (checks one log i || checks two log i) ≡ true → ⊥
-neither-checked one two log i short h = elim (or_cases (checks one log i) (checks two log i) h) [
-  | inl first ↦ none-checked one log i short first
-  | inr second ↦ none-checked two log i short second
-]
+neither-checked one two log i short h = grind (arith, nat_tests, none-checked one log i short, none-checked two log i short)
 
 -- nor does it have damage
 pub sound-short : (file log : List ℕ) → length log < 56 → (damage : Log) → ¬ IsDamage file log damage
@@ -62,9 +50,3 @@ sound-short file log short (NoFile ended) damage = none-checked (header_of log) 
 sound-short file log short (WrongFrame first count) damage =
     let none : frame_count (header_of log) log ≡ 0 = no-frames (header_of log) log short in
     true≢false (sym damage.safe ∙ none-safe (header_of log) log (first - 1) (omega arith))
-
--- the first wrong frame of what a stop cut short was not safe, by the head that was read
-pub cut-by : (header : Header) (log : List ℕ) (k : ℕ) → header ≡ header_of log → IsCutShort (header_of log) log
-    → ((i : ℕ) → i < k → checks header log i ≡ true) → checks header log k ≡ false
-    → was_safe header log k ≡ false
-cut-by header log k e cut before wrong = cut-unsafe header log k (rw (← e) at cut) before wrong

@@ -1,46 +1,15 @@
 -- What the rows of a view say of bags, items, safes and boxes is what the history says.
-use Rattle.std.proofs.Common.{◌≡◌, ℕ, Bool, true, false, cond, ◌||◌, ◌&&◌, eqb, List, [], ◌∷◌, Option, Some, None, option_map, is_some, refl, sym, ap}
-use Rattle.std.proofs.Common.{◌∙◌, ◌==◌, arith}
-use Rattle.std.specs.Prelude.{unwrap_or}
-use Rattle.std.specs.List.{list_any, cons_option, AllByRecursion}
-use Rattle.std.specs.List.Sorted.{IsPermutation}
-use Rattle.std.proofs.lemmas.List.Sorted.{list_any-IsPermutation}
-use Rattle.std.proofs.lemmas.Bool.{false≢true, or_parts, and_parts, eqb-true}
-use Rattle.kcr_base.proofs.RefuseLemmas.{none_holds, unmet}
-use Rattle.kcr_base.specs.Rows.{option_or}
-use Rattle.kcr_base.specs.Same.{same_text, same_facility}
-use Rattle.kcr_base.specs.declared.place.Facility.{Facility}
-use Rattle.kcr_base.specs.declared.place.Facility.TheVariants.{East, West}
-use Rattle.kcr_base.specs.declared.refusal.Refusal.TheVariants.{Taken}
-use Rattle.kcr_custody.specs.declared.Bag.{Bag}
-use Rattle.kcr_custody.specs.declared.BoxRow.{BoxRow}
-use Rattle.kcr_custody.specs.declared.Item.{Item}
-use Rattle.kcr_custody.specs.declared.Rest.{Rest}
-use Rattle.kcr_custody.specs.declared.Rest.TheVariants.{Loose}
-use Rattle.kcr_custody.specs.declared.SafeNumber.{SafeNumber}
-use Rattle.kcr_custody.specs.declared.SafeNumber.TheVariants.{One, Two}
-use Rattle.kcr_custody.specs.declared.SafeRow.{SafeRow}
-use Rattle.kcr_custody.specs.declared.Spot.TheVariants.{Spent}
-use Rattle.kcr_custody.specs.Custody.{spot_by, rest_by, is_open_by, is_open_row, is_box, place_of_box_by}
-use Rattle.kcr_history.specs.declared.commands.Act.{Act}
-use Rattle.kcr_history.specs.declared.commands.Act.TheVariants.{AddBox, Ceremony}
-use Rattle.kcr_history.specs.declared.commands.Deed.TheVariants.{AddItem, Seal}
+use Rattle.kcr_machine.proofs.Common.{◌≡◌, ℕ, Bool, true, ◌||◌, List, [], ◌∷◌, Option, Some, None, option_map, is_some, refl, sym, ap, ◌∙◌, arith}
+use Rattle.kcr_machine.proofs.Common.{unwrap_or, list_any, cons_option, AllByRecursion, IsPermutation, list_any-IsPermutation, false≢true, or_parts}
+use Rattle.kcr_machine.proofs.Common.{none_holds, unmet, option_or, same_text, same_facility, Facility, East, Bag, BoxRow, Item, Rest, Loose}
+use Rattle.kcr_machine.proofs.Common.{SafeNumber, SafeRow, Spent, spot_by, rest_by, is_open_by, is_open_row, is_box, place_of_box_by, Act, AddBox}
+use Rattle.kcr_machine.proofs.Common.{Ceremony, Seal, History, values_of_acts, last_value_of_acts, last_value_with_history, facility_of, spot}
+use Rattle.kcr_machine.proofs.Common.{sealed_in, added_at, rest_in, rest, is_open, added_box_place, place_of_box, bags, bag_row, sealed_serial, items}
+use Rattle.kcr_machine.proofs.Common.{item_row, added_item, safes, boxes, box_row, is_of_serial, is_item_of, conditions, fault, IsRegister, took}
+use Rattle.kcr_machine.proofs.Common.{sealed_somewhere, box-there, items_known, filter-order, same-is, IsIn, in-any, each-weaker}
 use Rattle.kcr_history.specs.declared.views.ItemFilter.TheVariants as Items
-use Rattle.kcr_history.specs.History.{History, values_of_acts, last_value_of_acts, last_value_with_history}
-use Rattle.kcr_history.specs.Ceremonies.{facility_of}
-use Rattle.kcr_history.specs.Custody.{spot, sealed_in, added_at, rest_in, rest, is_open, added_box_place, place_of_box}
-use Rattle.kcr_history.specs.Tables.{bags, bag_row, sealed_serial, items, item_row, added_item, safes, boxes, box_row}
-use Rattle.kcr_history.specs.Views.{is_of_serial, is_item_of}
-use Rattle.kcr_history.specs.Conditions.{conditions, fault}
-use Rattle.kcr_history.specs.Machine.{IsRegister}
-use Rattle.kcr_history.proofs.Steps.{took}
-use Rattle.kcr_laws.proofs.Stored.{sealed_somewhere, box-there, items_known}
-use Rattle.kcr_base.proofs.RowsLemmas.{filter-order}
-use Rattle.kcr_base.proofs.SameLemmas.{same-is}
 use Rattle.kcr_base.specs.declared.place.Place.TheVariants.{Rksh}
 use Rattle.kcr_machine.proofs.Keyed.{Shown, said-shown, said-view}
-use Rattle.kcr_base.proofs.Members.{IsIn, in-any}
-use Rattle.kcr_base.proofs.ListLemmas.{each-weaker}
 use Rattle.kcr_machine.proofs.Scenes.{said-then, some-where}
 
 -- where the bag is, by the rows of its serial
@@ -61,8 +30,7 @@ added A k = last_value_with_history (λ before. added_at (facility_of before) k)
 -- an item was added somewhere exactly where it was added
 added_after : (A : History) (act : Act) (k : List ℕ) → is_added A k ≡ is_some (added A k)
     → list_any (λ i. same_text i k) (cons_option (added_item act) (values_of_acts added_item A)) ≡ is_some (option_or (added_at (facility_of A) k act) (added A k))
-added_after A (Ceremony c at (AddItem item)) k ih = grind arith
-added_after A act k ih = ih
+added_after A act k ih = grind arith
 
 added_somewhere : (A : History) (k : List ℕ) → is_added A k ≡ is_some (added A k)
 added_somewhere [] k = refl
@@ -109,10 +77,7 @@ rest-coded A h codes rows p k i = rest-shown A h (is_item_of (Items.Codes codes)
 -- SAFES
 
 open-safes : (A : History) (facility : Facility) (safe : SafeNumber) → is_open_by (safes A) facility safe ≡ is_open A facility safe
-open-safes A East One = grind arith
-open-safes A East Two = grind arith
-open-safes A West One = grind arith
-open-safes A West Two = grind arith
+open-safes A facility safe = grind arith
 
 -- whether a safe is open, by the four rows in any order
 pub open-shown : (A : History) (rows : List SafeRow) → IsPermutation (safes A) rows → (facility : Facility) (safe : SafeNumber)
@@ -127,24 +92,7 @@ Placed A f n row = is_box f n row ≡ true → place_of_box A f n ≡ Some row.p
 
 placed_after : (A : History) (act : Act) (f : Facility) (n : ℕ) → fault A act ≡ None → AllByRecursion (Placed A f n) (boxes A)
     → AllByRecursion (λ row. is_box f n row ≡ true → option_or (added_box_place f n act) (place_of_box A f n) ≡ Some row.place) (cons_option (box_row act) (boxes A))
-placed_after A (AddBox facility number place) f n fine ih = (
-  first,
-  each-weaker (Placed A f n) (λ row. is_box f n row ≡ true → option_or (added_box_place f n (AddBox facility number place)) (place_of_box A f n) ≡ Some row.place)
-      (λ row g e. older row (g e)) (boxes A) ih,
-)
-  where
-    first : (same_facility facility f && eqb number n) ≡ true
-        → option_or (cond (same_facility facility f && eqb number n) (Some place) None) (place_of_box A f n) ≡ Some place
-    first e = rw e
-
-    free : is_some (place_of_box A facility number) ≡ false
-    free =
-        (or_parts (is_some (place_of_box A facility number)) _
-        (unmet _ Taken (none_holds (conditions A (AddBox facility number place)) fine).0)).0
-
-    older : (row : BoxRow) → place_of_box A f n ≡ Some row.place
-        → option_or (cond (same_facility facility f && eqb number n) (Some place) None) (place_of_box A f n) ≡ Some row.place
-    older row g = grind (arith, facility-same facility f, free)
+placed_after A (AddBox facility number place) f n fine ih = grind (arith, each-weaker, or_parts, unmet, none_holds, facility-same)
 placed_after A act f n fine ih = ih
 
 placed : (A : History) → IsRegister A → (f : Facility) (n : ℕ) → AllByRecursion (Placed A f n) (boxes A)
@@ -155,13 +103,8 @@ placed (entry ∷ A) h f n = placed_after A entry.command.act f n (took A entry 
 pub place-shown : (A : History) → IsRegister A → (rows : List BoxRow) → IsPermutation (boxes A) rows → (f : Facility) (n : ℕ)
     → place_of_box_by rows f n ≡ place_of_box A f n
 place-shown A h rows p f n =
+    let own : BoxRow = record { facility = f; number = n; place = unwrap_or (place_of_box A f n) (Rksh 0) } in
     said-shown (is_box f n) (λ row. true) own (λ row. row.place) (place_of_box A f n) (Rksh 0) (λ row e. refl) (boxes A) rows
     (filter-order (λ row. true) (boxes A) rows p)
-    (each-weaker (Placed A f n) (λ row. is_box f n row ≡ true → row ≡ own) same (boxes A) (placed A h f n)) (box-there A f n) refl
-  where
-    own : BoxRow
-    own = record { facility = f; number = n; place = unwrap_or (place_of_box A f n) (Rksh 0) }
-
-    same : (row : BoxRow) → Placed A f n row → is_box f n row ≡ true → row ≡ own
-    same row g e =
-        let p = and_parts (same_facility row.facility f) (row.number == n) e in rw (g e, ← facility-same row.facility f p.0, ← eqb-true row.number n p.1) refl
+    (each-weaker (Placed A f n) (λ row. is_box f n row ≡ true → row ≡ own)
+    (λ row g e. let same = g e in grind (arith, facility-same row.facility f)) (boxes A) (placed A h f n)) (box-there A f n) refl

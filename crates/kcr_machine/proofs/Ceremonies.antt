@@ -1,62 +1,25 @@
 -- Planning, opening and closing: whether the rows let a ceremony be planned, opened or closed, and the rows of one that is.
-use Rattle.std.proofs.Common.{◌≡◌, ℕ, Bool, true, false, not, ◌&&◌, eqb, List, [], ◌∷◌, ◌++◌, map, Option, Some, None, refl, sym, ap, ◌∙◌, subst, suc}
-use Rattle.std.proofs.Common.{◌+◌, arith, ◌≤◌, add-one}
-use Rattle.std.specs.Prelude.{is_some, unwrap_or, slice_get}
-use Rattle.std.specs.List.{list_any}
-use Rattle.std.specs.List.Sorted.{IsPermutation}
-use Rattle.std.proofs.lemmas.Bool.{true≢false, false≢true, eqb-true, eq-eqb, and_parts, ne_eqb, and_right, false_from_ne_true, and_left}
-use Rattle.std.proofs.lemmas.List.Sorted.{list_any-IsPermutation}
-use Rattle.kcr_base.specs.Rows.{put}
-use Rattle.kcr_base.specs.Same.{same_facility}
+use Rattle.kcr_machine.proofs.Common.{◌≡◌, ℕ, Bool, true, false, not, ◌&&◌, eqb, List, [], ◌∷◌, ◌++◌, map, Option, Some, None, refl, sym, ap, ◌∙◌}
+use Rattle.kcr_machine.proofs.Common.{suc, ◌+◌, arith, ◌≤◌, add-one, rules, unwrap_or, slice_get, list_any, IsPermutation, true≢false, false≢true}
+use Rattle.kcr_machine.proofs.Common.{eqb-true, eq-eqb, and_parts, ne_eqb, and_right, false_from_ne_true, and_left, list_any-IsPermutation, put}
+use Rattle.kcr_machine.proofs.Common.{same_facility, Unknown, Taken, none_holds, unmet, met, filter-order, any-same, some_if, none-there, any-map}
+use Rattle.kcr_machine.proofs.Common.{Plan, Ceremony, Open, Close, ReplyData, CeremonyRow, MarkRow, PutKey, PutStep, View, History, values_of_acts}
+use Rattle.kcr_machine.proofs.Common.{entry_of, pushed_onto, is_ceremony, facility_of, opened_at, closed_at, is_ceremony_open, mark, opened_number}
+use Rattle.kcr_machine.proofs.Common.{steps_of, planned_number, ceremony_row, ceremonies, mark_row, marks, tables, sealed_serial, bag_row, bags}
+use Rattle.kcr_machine.proofs.Common.{numbered, step_keys, step_row, steps, step_result, Tables, same_ceremony, same_mark, all_changed, same_step}
+use Rattle.kcr_machine.proofs.Common.{is_of_number, conditions, fault, IsRegister, with_command, took, no_ceremony, map-pushed, planned-number}
+use Rattle.kcr_machine.proofs.Common.{ceremony_by, is_open_beside, lies_on_table, planned_row, planned_step_row, planned_step_rows, new_key_row}
+use Rattle.kcr_machine.proofs.Common.{Facility, Bag, One, Two, Spot, Spent, is_on_table, Step, StepRow, spot, result_unwrap_or, script_of, Change}
+use Rattle.kcr_machine.proofs.Common.{IsIn, map-same-in, none-in, none-passes}
+use Rattle.std.specs.Prelude.{is_some}
 use Rattle.kcr_base.specs.declared.refusal.Refusal.TheVariants as Refusals
-use Rattle.kcr_base.specs.declared.refusal.Refusal.TheVariants.{Unknown, Taken}
 use Rattle.kcr_base.specs.declared.refusal.Thing.TheVariants as Things
-use Rattle.kcr_base.proofs.RefuseLemmas.{none_holds, unmet, met}
-use Rattle.kcr_base.proofs.RowsLemmas.{filter-order}
-use Rattle.kcr_base.proofs.ListLemmas.{any-same, some_if, none-there, any-map}
-use Rattle.kcr_history.specs.declared.commands.Act.{Act}
-use Rattle.kcr_history.specs.declared.commands.Act.TheVariants.{Plan, Ceremony}
-use Rattle.kcr_history.specs.declared.commands.Deed.TheVariants.{Open, Close, Sign, RecordException}
-use Rattle.kcr_history.specs.declared.commands.ReplyData.{ReplyData}
-use Rattle.kcr_history.specs.declared.row_types.CeremonyRow.{CeremonyRow}
 use Rattle.kcr_history.specs.declared.row_types.CeremonyState.TheVariants as States
-use Rattle.kcr_history.specs.declared.row_types.MarkRow.{MarkRow}
-use Rattle.kcr_history.specs.declared.views.Change.TheVariants.{PutKey, PutStep}
-use Rattle.kcr_history.specs.declared.views.View.{View}
-use Rattle.kcr_history.specs.History.{History, values_of_acts, entry_of, pushed_onto}
-use Rattle.kcr_history.specs.Ceremonies.{is_ceremony, facility_of, opening_moment, opened_at, closing_moment, closed_at, is_ceremony_open, mark, opened_number, steps_of}
-use Rattle.kcr_history.specs.Ceremonies.{planned_as, plan_of}
-use Rattle.kcr_history.specs.Tables.{planned_number, ceremony_row, ceremonies, mark_row, marks, tables, sealed_serial, bag_row, bags, numbered, step_keys}
-use Rattle.kcr_history.specs.Tables.{step_row, steps, step_result, Tables, step_done}
-use Rattle.kcr_history.specs.Changes.{same_ceremony, same_mark, all_changed, same_step}
-use Rattle.kcr_history.specs.Views.{is_of_number}
-use Rattle.kcr_history.specs.Conditions.{conditions, fault}
-use Rattle.kcr_history.specs.Machine.{IsRegister, with_command}
-use Rattle.kcr_history.proofs.Steps.{took, no_ceremony}
-use Rattle.kcr_history.proofs.Piled.{map-pushed}
-use Rattle.kcr_history.proofs.Words.{planned-number}
-use Rattle.kcr_rules.specs.CeremonyStatus.{ceremony_by}
-use Rattle.kcr_rules.specs.CeremonyRows.{is_open_beside, lies_on_table, planned_row, planned_step_row, planned_step_rows}
-use Rattle.kcr_machine.specs.NewDecision.{new_key_row}
-use Rattle.kcr_base.specs.declared.place.Facility.{Facility}
-use Rattle.kcr_custody.specs.declared.Bag.{Bag}
-use Rattle.kcr_custody.specs.declared.SafeNumber.TheVariants.{One, Two}
-use Rattle.kcr_custody.specs.declared.Spot.{Spot}
-use Rattle.kcr_custody.specs.declared.Spot.TheVariants.{Spent}
-use Rattle.kcr_custody.specs.Custody.{is_on_table}
-use Rattle.kcr_script.specs.declared.script.Step.{Step}
-use Rattle.kcr_history.specs.declared.row_types.StepRow.{StepRow}
-use Rattle.kcr_history.specs.declared.row_types.StepState.TheVariants.{Signed, Passed}
-use Rattle.kcr_history.specs.Custody.{spot}
-use Rattle.std.specs.Result.{result_unwrap_or}
-use Rattle.kcr_script.specs.Reading.{script_of}
-use Rattle.kcr_history.specs.declared.views.Change.{Change}
 use Rattle.kcr_machine.proofs.BagsWords.{open-shown}
 use Rattle.kcr_machine.proofs.Keyed.{Shown, put-at, put-first, put-new}
 use Rattle.kcr_machine.proofs.Leads.{EarlyShown, LateShown, Leads, command_of, entry_as, new_key}
-use Rattle.kcr_base.proofs.Members.{IsIn, map-same-in, none-in, none-passes}
-use Rattle.kcr_machine.proofs.Scenes.{ceremony-shown, facility-shown, is_open-shown, known-shown, mark-after, mark-shown, marked-opened, open-opened, open-state, opened-number}
-use Rattle.kcr_machine.proofs.Scenes.{opened-planned, said-then, some-where, turned}
+use Rattle.kcr_machine.proofs.Scenes.{ceremony-shown, facility-shown, known-shown, mark-after, marked-opened, open-opened, open-state, opened-number}
+use Rattle.kcr_machine.proofs.Scenes.{opened-planned, said-then, scene-shown, some-where, turned}
 use Rattle.kcr_machine.proofs.LastSeated.{left-shown}
 use Rattle.kcr_machine.proofs.StepRows.{keys-planned}
 use Rattle.kcr_machine.proofs.UsedRooms.{used-shown}
@@ -88,14 +51,7 @@ open-late A c at view v =
 closed-opened : (A : History) → IsRegister A → (c : ℕ) → is_some (closed_at A c) ≡ true → is_some (opened_at A c) ≡ true
 closed-opened [] h c e = absurd (false≢true e)
 closed-opened (entry ∷ A) h c e =
-    said-then (closing_moment c entry.command.act) (closed_at A c) (opening_moment c entry.command.act) (opened_at A c) (by_act entry.command.act (took A entry h.0).no_fault)
-    (closed-opened A h.1 c) e
-  where
-    by_act : (act : Act) → fault A act ≡ None → is_some (closing_moment c act) ≡ true → is_some (opened_at A c) ≡ true
-    by_act (Ceremony d at Close) f e =
-        let open_now = met (is_ceremony_open A d) Refusals.State (none_holds (conditions A (Ceremony d at Close)) f).1.0 in
-        subst (λ c. is_some (opened_at A c) ≡ true) (eqb-true d c (some-where (eqb d c) at e)) (open-opened A d open_now)
-    by_act act f e = absurd (false≢true e)
+    grind (arith, said-then, took, met, none_holds, eqb-true, some-where, open-opened, false≢true, closed-opened A h.1 c)
 
 -- one that was never opened was never closed
 never-closed : (A : History) → IsRegister A → (c : ℕ) → is_some (opened_at A c) ≡ false → closed_at A c ≡ None
@@ -134,10 +90,8 @@ module _ (A : History) (h : IsRegister A) (key : List ℕ) (answer : ReplyData) 
   marks-first =
       put-first same_mark (mark_row A) (mark_row opened_now) first_mark (λ k e. rw (mark-after A (entry_as key (Ceremony c at Open) answer) k, turned c k e) refl)
       (values_of_acts opened_number A) (opened-number A c ∙ fresh)
-      ∙ ap (λ row. row ∷ map (mark_row opened_now) (values_of_acts opened_number A)) own
-    where
-      own : first_mark ≡ mark_row opened_now c
-      own = rw (mark-after A (entry_as key (Ceremony c at Open) answer) c, eq-eqb c c refl, none-there (mark A c) (marked-opened A h c ∙ fresh)) refl
+      ∙ ap (λ row. row ∷ map (mark_row opened_now) (values_of_acts opened_number A))
+      (rw (mark-after A (entry_as key (Ceremony c at Open) answer) c, eq-eqb c c refl, none-there (mark A c) (marked-opened A h c ∙ fresh)))
 
   -- the changes of an opening lead to the tables of the history with it
   pub open-leads : (view : View) → IsPermutation (ceremonies A) view.ceremonies.items → entry_of A key ≡ None → Leads A view (command_of key (Ceremony c at Open)) answer
@@ -163,12 +117,7 @@ table-shown A facility rows p =
 
 -- a closing has the same early refusal by the rows read first as by the history
 pub close-early : (A : History) → IsRegister A → (c at : ℕ) → EarlyShown A (Ceremony c at Close)
-close-early A h c at view v =
-    rw (
-      known-shown A c view.ceremonies.items v.ceremonies,
-      is_open-shown A c view.ceremonies.items v.ceremonies h,
-      mark-shown A h c view.marks.items v.marks,
-    ) refl
+close-early A h c at view v = let s = scene-shown A h c view v.ceremonies v.marks in rw (s.0, s.1, s.2)
 
 -- a closing has the same late refusal by the rows of a view as by the history
 pub close-late : (A : History) → IsRegister A → (c at : ℕ) → LateShown A (Ceremony c at Close)
@@ -214,23 +163,11 @@ plan-late A number facility day script view v = rw (known-shown A number view.ce
 done-planned : (A : History) → IsRegister A → (c k : ℕ) → is_some (step_result A c k) ≡ true → is_ceremony A c ≡ true
 done-planned [] h c k e = absurd (false≢true e)
 done-planned (entry ∷ A) h c k e =
-    said-then (step_done c k entry.command.act entry.reply.step) (step_result A c k) (planned_as c entry.command.act) (plan_of A c)
-    (by_act entry.command.act entry.reply.step (took A entry h.0).no_fault) (done-planned A h.1 c k) e
-  where
-    own : (d step : ℕ) → no_ceremony A d ≡ None → (eqb d c && eqb step k) ≡ true → is_ceremony A c ≡ true
-    own d step f e =
-        subst (λ c. is_ceremony A c ≡ true) (eqb-true d c (and_parts (eqb d c) (eqb step k) e).0) (met (is_ceremony A d) (Unknown (Things.Ceremony d)) f)
-
-    by_act : (act : Act) (said : Option ℕ) → fault A act ≡ None → is_some (step_done c k act said) ≡ true → is_ceremony A c ≡ true
-    by_act (Ceremony d at (Sign step)) said f e = own d step (none_holds (conditions A (Ceremony d at (Sign step))) f).0 (some-where (eqb d c && eqb step k) (Signed, at) e)
-    by_act (Ceremony d at (RecordException text pass)) (Some step) f e =
-        own d step (none_holds (conditions A (Ceremony d at (RecordException text pass))) f).0 (some-where (eqb d c && eqb step k) (Passed, at) e)
-    by_act (Ceremony d at (RecordException text pass)) None f e = absurd (false≢true e)
-    by_act act said f e = absurd (false≢true e)
+    search (rules, said-then, took, no_ceremony, eqb-true, and_parts, met, none_holds, some-where, false≢true, done-planned A h.1 c k)
 
 -- what implies that a ceremony was planned is not so of one that was not
 not-planned : {X : Type 0} (o : Option X) (b : Bool) → (is_some o ≡ true → b ≡ true) → b ≡ false → o ≡ None
-not-planned o b imp e = none-there o (false_from_ne_true (is_some o) (λ i. true≢false (sym (imp i) ∙ e)))
+not-planned o b imp e = grind arith
 
 -- THE STEPS' ROWS
 
@@ -253,10 +190,12 @@ own-rows : (B : History) (c i : ℕ) (all ss : List Step) → steps_of B c ≡ a
 own-rows B c i all [] e undone at = refl
 own-rows B c i all (s ∷ ss) e undone at =
     let here : slice_get all i ≡ Some s = ap (slice_get all) (let z : i ≡ i + 0 = omega arith in z) ∙ at 0 in
-    rw (e, undone (suc i), here)
-    (ap (λ rows. planned_step_row c (suc i) s ∷ rows)
-    (own-rows B c (suc i) all ss e undone (λ j. ap (slice_get all) (let z : suc i + j ≡ i + suc j = omega arith in z) ∙ at (suc j))
-    ∙ ap (λ n. planned_step_rows c n ss) (sym (add-one (suc i)))))
+    search (
+      rules,
+      add-one,
+      own-rows B c (suc i) all ss e undone (λ j.
+          ap (slice_get all) (let z : suc i + j ≡ i + suc j = omega arith in z) ∙ at (suc j)),
+    )
 
 -- the tables with one that is planned
 module _ (A : History) (h : IsRegister A) (key : List ℕ) (answer : ReplyData) (c : ℕ) (facility : Facility) (day : ℕ) (script : List ℕ)
@@ -277,10 +216,8 @@ module _ (A : History) (h : IsRegister A) (key : List ℕ) (answer : ReplyData) 
   ceremonies-planned =
       put-first same_ceremony (ceremony_row A) (ceremony_row planned_now) (planned_row c facility day) (λ k e. rw (turned c k e) refl)
       (values_of_acts planned_number A) (planned-number A c ∙ not_known)
-      ∙ ap (λ row. row ∷ map (ceremony_row planned_now) (values_of_acts planned_number A)) own
-    where
-      own : planned_row c facility day ≡ ceremony_row planned_now c
-      own = rw (eq-eqb c c refl, never-closed A h c (ap is_some not_opened), not_opened) refl
+      ∙ ap (λ row. row ∷ map (ceremony_row planned_now) (values_of_acts planned_number A))
+      (rw (eq-eqb c c refl, never-closed A h c (ap is_some not_opened), not_opened))
 
   its_own : steps_of planned_now c ≡ its_steps
   its_own = rw (eq-eqb c c refl) refl
@@ -299,9 +236,7 @@ module _ (A : History) (h : IsRegister A) (key : List ℕ) (answer : ReplyData) 
       (sym (map-same-in (step_row A) (step_row planned_now) (step_keys A) (λ k i. rw (turned c k.0 (no_key k i)) refl))))
 
   new_steps : (j : ℕ) → list_any (λ row. eqb row.ceremony c && eqb row.step j) (steps A) ≡ false
-  new_steps j =
-      any-map (λ row. eqb row.ceremony c && eqb row.step j) (step_row A) (step_keys A)
-      ∙ none-passes (λ k. eqb k.0 c && eqb k.1 j) (step_keys A) (λ k i. and_left (eqb k.0 c) (eqb k.1 j) (no_key k i))
+  new_steps j = grind (arith, any-map, none-passes, and_left, no_key)
 
   -- the changes of a plan lead to the tables of the history with it
   pub plan-leads : (view : View) → entry_of A key ≡ None → Leads A view (command_of key (Plan c facility day script)) answer

@@ -1,55 +1,21 @@
 -- The rows that an act of custody puts, on a box, an item, a safe or a bag, lead from the tables before it to those after it.
-use Rattle.std.proofs.Common.{◌≡◌, ℕ, Bool, true, false, cond, not, ◌&&◌, List, [], ◌∷◌, map, filter, Option, Some, None, option_map, is_some, is_none, refl}
-use Rattle.std.proofs.Common.{sym, ap, ◌∙◌, ◌++◌, subst, arith}
-use Rattle.std.specs.Prelude.{unwrap_or}
-use Rattle.std.specs.List.{list_any}
-use Rattle.std.proofs.lemmas.List.Sorted.{IsPermutation-sym}
-use Rattle.std.proofs.lemmas.Bool.{or_parts}
-use Rattle.kcr_base.proofs.RefuseLemmas.{none_holds, unmet}
-use Rattle.kcr_base.proofs.SameLemmas.{same-itself, same-is, same-turned}
-use Rattle.kcr_base.proofs.ListLemmas.{there, still, map-same}
-use Rattle.kcr_base.specs.Refuse.{when}
-use Rattle.kcr_base.specs.Rows.{option_or, put, put_all}
-use Rattle.kcr_base.specs.Same.{same_text, same_facility}
-use Rattle.kcr_base.specs.declared.place.Facility.{Facility}
-use Rattle.kcr_base.specs.declared.place.Facility.TheVariants.{East, West}
-use Rattle.kcr_base.specs.declared.refusal.Refusal.TheVariants.{Unknown, Taken, Elsewhere}
-use Rattle.kcr_custody.specs.declared.Item.{Item}
-use Rattle.kcr_custody.specs.declared.Rest.{Rest}
-use Rattle.kcr_custody.specs.declared.Rest.TheVariants.{Loose, Within}
-use Rattle.kcr_custody.specs.declared.Spot.{Spot}
-use Rattle.kcr_custody.specs.declared.Spot.TheVariants.{Table, Spent}
-use Rattle.kcr_custody.specs.declared.Destination.{Destination}
+use Rattle.kcr_machine.proofs.Common.{◌≡◌, ℕ, Bool, true, false, cond, not, ◌&&◌, List, [], ◌∷◌, map, filter, Option, Some, None, option_map, is_some}
+use Rattle.kcr_machine.proofs.Common.{is_none, refl, sym, ap, ◌∙◌, ◌++◌, subst, arith, unwrap_or, list_any, IsPermutation-sym, or_parts, none_holds}
+use Rattle.kcr_machine.proofs.Common.{unmet, same-itself, same-is, same-turned, there, still, map-same, when, option_or, put, put_all, same_text}
+use Rattle.kcr_machine.proofs.Common.{same_facility, Facility, East, West, Taken, Elsewhere, Item, Rest, Loose, Within, Spot, Table, Spent}
+use Rattle.kcr_machine.proofs.Common.{Destination, is_on_table, safe_of, is_within, lies_in, sealed_item, loose_items, sealed_items}
+use Rattle.kcr_machine.proofs.Common.{spot_of_destination, same_safe, unknown_bag_refusal, Act, AddBox, Ceremony, Seal, Take, Put, Cut, AddItem}
+use Rattle.kcr_machine.proofs.Common.{SetSafe, ReplyData, History, values_of_acts, last_value_of_acts, last_value_with_history, has_command}
+use Rattle.kcr_machine.proofs.Common.{facility_of, spot_after, spot, is_spent, sealed_in, cut_at, added_at, rest_in, rest, place_of_box, boxes_place}
+use Rattle.kcr_machine.proofs.Common.{bags, bag_row, sealed_serial, items, item_row, added_item, Tables, tables, safes, boxes, conditions, fault}
+use Rattle.kcr_machine.proofs.Common.{IsRegister, with_command, sealed_somewhere, box-there, items_known, Bag, Change, PutBag, PutItem, PutMark}
+use Rattle.kcr_machine.proofs.Common.{PutKey, changed, all_changed, same_safe_row, new_key_row, SafeNumber, One, Two, SafeRow, Place, BoxRow, map-map}
+use Rattle.kcr_machine.proofs.Common.{IsIn, filter-in, in-any, in-filter, in-map, in-order, map-in, map-same-in, same-answers, listed-in, in-listed}
 use Rattle.kcr_custody.specs.Balance.{same_bag, same_item, same_box}
-use Rattle.kcr_custody.specs.Custody.{is_on_table, safe_of, is_within, lies_in, sealed_item, loose_items, sealed_items, spot_of_destination, same_safe, unknown_bag_refusal}
-use Rattle.kcr_history.specs.declared.commands.Act.{Act}
-use Rattle.kcr_history.specs.declared.commands.Act.TheVariants.{AddBox, Ceremony}
-use Rattle.kcr_history.specs.declared.commands.Deed.TheVariants.{Seal, Take, Put, Cut, AddItem, SetSafe}
-use Rattle.kcr_history.specs.declared.commands.ReplyData.{ReplyData}
-use Rattle.kcr_history.specs.History.{History, values_of_acts, last_value_of_acts, last_value_with_history, has_command}
-use Rattle.kcr_history.specs.Ceremonies.{facility_of}
-use Rattle.kcr_history.specs.Custody.{spot_after, spot, is_spent, sealed_in, cut_at, added_at, rest_in, rest, safe_state_after, place_of_box, boxes_place}
-use Rattle.kcr_history.specs.Tables.{bags, bag_row, sealed_serial, items, item_row, added_item, Tables, tables, safes, boxes}
-use Rattle.kcr_history.specs.Conditions.{conditions, fault}
-use Rattle.kcr_history.specs.Machine.{IsRegister, with_command}
-use Rattle.kcr_laws.proofs.Stored.{sealed_somewhere, box-there, items_known}
-use Rattle.kcr_custody.specs.declared.Bag.{Bag}
-use Rattle.kcr_history.specs.declared.views.Change.{Change}
-use Rattle.kcr_history.specs.declared.views.Change.TheVariants.{PutBag, PutItem, PutMark, PutKey}
-use Rattle.kcr_history.specs.Changes.{changed, all_changed, same_safe_row}
-use Rattle.kcr_machine.specs.NewDecision.{new_key_row}
-use Rattle.kcr_custody.specs.declared.SafeNumber.{SafeNumber}
-use Rattle.kcr_custody.specs.declared.SafeNumber.TheVariants.{One, Two}
-use Rattle.kcr_custody.specs.declared.SafeRow.{SafeRow}
-use Rattle.kcr_base.specs.declared.place.Place.{Place}
-use Rattle.kcr_custody.specs.declared.BoxRow.{BoxRow}
-use Rattle.kcr_room.proofs.Lists.{map-map}
-use Rattle.kcr_base.specs.declared.refusal.Thing.TheVariants as Things
 use Rattle.kcr_machine.proofs.BagsWords.{added_rest}
 use Rattle.kcr_machine.proofs.Keyed.{Shown, put-at, put-first, put-new, put-rows}
-use Rattle.kcr_machine.proofs.Leads.{LeadsOn, all_changed-rows, command_of, entry_as, new_key}
-use Rattle.kcr_base.proofs.Members.{IsIn, filter-in, in-any, in-filter, in-map, in-order, map-in, map-same-in, same-answers, listed-in, in-listed}
-use Rattle.kcr_machine.proofs.Scenes.{facility-shown, marks-put}
+use Rattle.kcr_machine.proofs.Leads.{LeadsOn, all_changed-rows, command_of, new_key}
+use Rattle.kcr_machine.proofs.Scenes.{told}
 
 -- the history with an act accepted after it
 abbrev then_act : History → List ℕ → Act → ReplyData → History
@@ -81,27 +47,17 @@ four_rows said = row_of East One (said East One) ∷ row_of East Two (said East 
 
 put-safe : (here : Facility) (safe : SafeNumber) (state : Bool) (last : Facility → SafeNumber → Option Bool)
     → put same_safe_row (row_of here safe state) (four_rows (λ f s. unwrap_or (last f s) false)) ≡ four_rows (λ f s. next_state here safe state f s (last f s))
-put-safe East One state last = refl
-put-safe East Two state last = refl
-put-safe West One state last = refl
-put-safe West Two state last = refl
+put-safe here safe state last = grind arith
 
 safes-put : (A : History) (key : List ℕ) (answer : ReplyData) (c : ℕ) (safe : SafeNumber) (state : Bool) (by : List ℕ) (at : ℕ)
     → put same_safe_row (row_of (facility_of A c) safe state) (safes A) ≡ safes (with_command A (command_of key (Ceremony c at (SetSafe safe state by))) answer)
-safes-put A key answer c safe state by at =
-    put-safe (facility_of A c) safe state (λ facility safe. last_value_with_history (λ before. safe_state_after (facility_of before) facility safe) A)
+safes-put A key answer c safe state by at = grind (arith, put-safe)
 
 -- the changes of a safe's opening or shutting lead to the tables of the history with it
 pub turn-leads : (A : History) → IsRegister A → (c : ℕ) (safe : SafeNumber) (state : Bool) (by : List ℕ) (at : ℕ) → LeadsOn A (Ceremony c at (SetSafe safe state by))
 turn-leads A h c safe state by at key view answer v k f =
-    let act = Ceremony c at (SetSafe safe state by) in
-    rw (
-      facility-shown A c view.ceremonies.items v.ceremonies,
-      safes-put A key answer c safe state by at,
-      marks-put A (entry_as key act answer) c at f refl refl,
-      new_key A (command_of key act) answer k,
-    )
-    refl
+    let s = told A key c at (SetSafe safe state by) answer view v.ceremonies k f refl refl in
+    rw (s.0, safes-put A key answer c safe state by at, s.1, s.2)
 
 -- AN ITEM
 
@@ -119,27 +75,18 @@ no_bag_yet A k h = grind arith
 items-added : (A : History) → IsRegister A → (key : List ℕ) (answer : ReplyData) (c : ℕ) (item : List ℕ) (at : ℕ) → is_some (rest A item) ≡ false
     → put same_item (record { code = item; rest = Loose (facility_of A c) }) (items A) ≡ items (with_command A (command_of key (Ceremony c at (AddItem item))) answer)
 items-added A h key answer c item at free =
-    put-first same_item (item_row A) (item_row B) (record { code = item; rest = Loose (facility_of A c) }) (λ k e. rw (same-turned item k ∙ e) refl)
+    let B = with_command A (command_of key (Ceremony c at (AddItem item))) answer in
+    let none = no_bag_yet A item free in
+    put-first same_item (item_row A) (item_row B) (record { code = item; rest = Loose (facility_of A c) }) (λ k e. rw (same-turned item k ∙ e))
     (values_of_acts added_item A) (added_rest A h item ∙ free)
-    ∙ ap (λ row. row ∷ map (item_row B) (values_of_acts added_item A)) own
-  where
-    B : History
-    B = with_command A (command_of key (Ceremony c at (AddItem item))) answer
-
-    own : record { code = item; rest = Loose (facility_of A c) } ≡ item_row B item
-    own = rw (no_bag_yet A item free, same-itself item) refl
+    ∙ ap (λ row. row ∷ map (item_row B) (values_of_acts added_item A)) (grind (arith, same-itself item))
 
 -- the changes of a new item lead to the tables of the history with it
 pub add_item-leads : (A : History) → IsRegister A → (c : ℕ) (item : List ℕ) (at : ℕ) → LeadsOn A (Ceremony c at (AddItem item))
 add_item-leads A h c item at key view answer v k f =
-    let act = Ceremony c at (AddItem item) in
-    rw (
-      facility-shown A c view.ceremonies.items v.ceremonies,
-      items-added A h key answer c item at (unmet (is_some (rest A item)) Taken (none_holds (conditions A act) f).1.0),
-      marks-put A (entry_as key act answer) c at f refl refl,
-      new_key A (command_of key act) answer k,
-    )
-    refl
+    let s = told A key c at (AddItem item) answer view v.ceremonies k f refl refl in
+    let free = unmet (is_some (rest A item)) Taken (none_holds (conditions A (Ceremony c at (AddItem item))) f).1.0 in
+    rw (s.0, items-added A h key answer c item at free, s.1, s.2)
 
 -- THE ROW OF A BAG
 
@@ -150,9 +97,8 @@ moved_row A t to k = record { serial = k; spot = unwrap_or (option_or (cond (sam
 bags_moved : (A : History) → IsRegister A → (t : List ℕ) (to : Spot) → unknown_bag_refusal (spot A t) t ≡ None
     → put same_bag (record { serial = t; spot = to }) (bags A) ≡ map (moved_row A t to) (values_of_acts sealed_serial A)
 bags_moved A h t to n =
-    put-at same_bag (bag_row A) (moved_row A t to) (record { serial = t; spot = to })
-    (λ k e. let q : k ≡ t = same-is k t e in rw (q, same-itself t) refl) (λ k e. rw (same-turned t k ∙ e) refl)
-    (values_of_acts sealed_serial A) (sealed_somewhere A h t ∙ there (spot A t) (unmet (is_none (spot A t)) (Unknown (Things.Bag t)) n))
+    put-at same_bag (bag_row A) (moved_row A t to) (record { serial = t; spot = to }) (λ k e. grind (arith, same-is k t, same-itself t))
+    (λ k e. grind (arith, same-turned t k)) (values_of_acts sealed_serial A) (sealed_somewhere A h t ∙ grind (arith, there, unmet))
 
 -- the row of a new bag is put in front
 bags_sealed : (A : History) → IsRegister A → (t : List ℕ) (to : Spot) → is_some (spot A t) ≡ false
@@ -176,11 +122,7 @@ still_in A t to u v s = grind (arith, same-is t s)
 
 items_stay : (A : History) (t : List ℕ) (to : Spot) → is_spent (spot A t) ≡ false → is_spent (Some to) ≡ false → (ks : List (List ℕ))
     → map (item_row A) ks ≡ map (λ k. record { code = k; rest = unwrap_or (option_or (option_map (in_moved A t to) (last_bag A k)) (added A k)) (Loose East) }) ks
-items_stay A t to u v ks =
-    map-same (item_row A) _ ks (λ k. ap (λ o. record { code = k; rest = unwrap_or (option_or o (added A k)) (Loose East) }) (in_bag (last_bag A k)))
-  where
-    in_bag : (o : Option (List ℕ)) → option_map (rest_in A) o ≡ option_map (in_moved A t to) o
-    in_bag o = grind (arith, still_in A t to u v)
+items_stay A t to u v ks = grind (arith, map-same, still_in)
 
 -- a bag in a safe is not spent, nor is one on a table
 stored : (facility : Facility) (o : Option Spot) → when (is_none (safe_of facility o)) Elsewhere ≡ None → is_spent o ≡ false
@@ -196,13 +138,12 @@ stored_there facility to = grind arith
 
 sealed_spot_after : (A : History) (act : Act) (k s : List ℕ) → (last_value_of_acts (sealed_in k) A ≡ Some s → is_some (spot A s) ≡ true)
     → option_or (sealed_in k act) (last_value_of_acts (sealed_in k) A) ≡ Some s → is_some (option_or (spot_after (facility_of A) s act) (spot A s)) ≡ true
-sealed_spot_after A (Ceremony c at (Seal serial codes)) k s ih e = grind (arith, same-itself s)
-sealed_spot_after A act k s ih e = still (spot_after (facility_of A) s act) (spot A s) (ih e)
+sealed_spot_after A act k s ih e = grind (arith, same-itself, still)
 
 -- a bag that an item was sealed in is somewhere
 sealed_spot : (A : History) (k s : List ℕ) → last_value_of_acts (sealed_in k) A ≡ Some s → is_some (spot A s) ≡ true
-sealed_spot [] k s e = absurd (let q : None ≡ Some s = e in cc)
-sealed_spot (entry ∷ A) k s e = sealed_spot_after A entry.command.act k s (sealed_spot A k s) e
+sealed_spot [] k s e = grind arith
+sealed_spot (entry ∷ A) k s e = grind (arith, sealed_spot_after, sealed_spot A k s)
 
 -- an item's row, in the new bag or as it was
 sealed_row : (A : History) (key : List ℕ) (c : ℕ) (serial : List ℕ) (codes : List (List ℕ)) (at : ℕ) (answer : ReplyData) → is_some (spot A serial) ≡ false
@@ -218,8 +159,7 @@ items-seal A h key c serial codes at answer n =
     put-rows same_item (λ c k. same_text k c) (sealed_item serial) (λ c k. refl) (values_of_acts added_item A) codes
     (λ code i. added_rest A h code ∙ items_known A code codes met.1.0 (in-listed code codes i))
     (λ c k i j e. ap (sealed_item serial) (sym (same-is k c e))) (item_row A) (λ c k. refl)
-    ∙ map-same (λ k. cond (list_any (same_text k) codes) (sealed_item serial k) (item_row A k)) (item_row (then_act A key (Ceremony c at (Seal serial codes)) answer))
-    (values_of_acts added_item A)
+    ∙ map-same _ (item_row (then_act A key (Ceremony c at (Seal serial codes)) answer)) (values_of_acts added_item A)
     (sealed_row A key c serial codes at answer (unmet (is_some (spot A serial)) Taken (assumption met)))
 
 -- ITEMS OF A BAG THAT IS CUT
@@ -278,32 +218,21 @@ items-cut A key c t at answer n rows p =
 -- the changes of a bag's taking lead to the tables of the history with it
 pub take-leads : (A : History) → IsRegister A → (c : ℕ) (t : List ℕ) (at : ℕ) → LeadsOn A (Ceremony c at (Take t))
 take-leads A h c t at key view answer v k f =
-    let act = Ceremony c at (Take t) in
     let here = facility_of A c in
-    let n = none_holds (conditions A act) f in
-    rw (
-      facility-shown A c view.ceremonies.items v.ceremonies,
-      bags_moved A h t (Table here) n.1.0,
-      marks-put A (entry_as key act answer) c at f refl refl,
-      new_key A (command_of key act) answer k,
-      items_stay A t (Table here) (stored here (spot A t) (assumption n)) refl (values_of_acts added_item A),
-    )
-    refl
+    let n = none_holds (conditions A (Ceremony c at (Take t))) f in
+    let s = told A key c at (Take t) answer view v.ceremonies k f refl refl in
+    let stay = items_stay A t (Table here) (stored here (spot A t) (assumption n)) refl (values_of_acts added_item A) in
+    rw (s.0, bags_moved A h t (Table here) n.1.0, s.1, s.2, stay)
 
 -- the changes of a bag's putting away lead to the tables of the history with it
 pub put-leads : (A : History) → IsRegister A → (c : ℕ) (t : List ℕ) (to : Destination) (at : ℕ) → LeadsOn A (Ceremony c at (Put t to))
 put-leads A h c t to at key view answer v k f =
-    let act = Ceremony c at (Put t to) in
-    let here = facility_of A c in
-    let n = none_holds (conditions A act) f in
-    rw (
-      facility-shown A c view.ceremonies.items v.ceremonies,
-      bags_moved A h t (spot_of_destination here to) n.1.0,
-      marks-put A (entry_as key act answer) c at f refl refl,
-      new_key A (command_of key act) answer k,
-      items_stay A t (spot_of_destination here to) (on_table here (spot A t) (assumption n)) (stored_there here to) (values_of_acts added_item A),
-    )
-    refl
+    let spot_now = spot_of_destination (facility_of A c) to in
+    let n = none_holds (conditions A (Ceremony c at (Put t to))) f in
+    let s = told A key c at (Put t to) answer view v.ceremonies k f refl refl in
+    let here = on_table (facility_of A c) (spot A t) (assumption n) in
+    let stay = items_stay A t spot_now here (stored_there (facility_of A c) to) (values_of_acts added_item A) in
+    rw (s.0, bags_moved A h t spot_now n.1.0, s.1, s.2, stay)
 
 -- the rows of items put one after the other
 items-changed : (rows : List Item) (rest : List Change) (t : Tables)
@@ -317,35 +246,23 @@ with_bag bag c at t = changed (PutMark (record { ceremony = c; at = at })) (chan
 -- the changes of a seal lead to the tables of the history with it
 pub seal-leads : (A : History) → IsRegister A → (c : ℕ) (t : List ℕ) (codes : List (List ℕ)) (at : ℕ) → LeadsOn A (Ceremony c at (Seal t codes))
 seal-leads A h c t codes at key view answer v k f =
-    let act = Ceremony c at (Seal t codes) in
     let here = facility_of A c in
-    let n = none_holds (conditions A act) f in
-    let tell = PutKey (new_key_row (command_of key act) answer) ∷ [] in
-    ap (λ facility. all_changed (map PutItem (sealed_items t codes) ++ tell) (with_bag (record { serial = t; spot = Table facility }) c at (tables A)))
-    (facility-shown A c view.ceremonies.items v.ceremonies)
+    let n = none_holds (conditions A (Ceremony c at (Seal t codes))) f in
+    let tell = PutKey (new_key_row (command_of key (Ceremony c at (Seal t codes))) answer) ∷ [] in
+    let s = told A key c at (Seal t codes) answer view v.ceremonies k f refl refl in
+    let sealed = bags_sealed A h t (Table here) (unmet (is_some (spot A t)) Taken (assumption n)) in
+    ap (λ f. all_changed (map PutItem (sealed_items t codes) ++ tell) (with_bag (record { serial = t; spot = Table f }) c at (tables A))) s.0
     ∙ items-changed (sealed_items t codes) tell (with_bag (record { serial = t; spot = Table here }) c at (tables A))
-    ∙ rw (
-      bags_sealed A h t (Table here) (unmet (is_some (spot A t)) Taken (assumption n)),
-      marks-put A (entry_as key act answer) c at f refl refl,
-      items-seal A h key c t codes at answer f,
-      new_key A (command_of key act) answer k,
-    )
-    (rw (same-itself t) refl)
+    ∙ rw (sealed, s.1, items-seal A h key c t codes at answer f, s.2) (rw (same-itself t) refl)
 
 -- the changes of a cut lead to the tables of the history with it
 pub cut-leads : (A : History) → IsRegister A → (c : ℕ) (t : List ℕ) (at : ℕ) → LeadsOn A (Ceremony c at (Cut t))
 cut-leads A h c t at key view answer v k f =
     let act = Ceremony c at (Cut t) in
-    let here = facility_of A c in
     let tell = PutKey (new_key_row (command_of key act) answer) ∷ [] in
     let bag : Bag = record { serial = t; spot = Spent } in
-    ap (λ facility. all_changed (map PutItem (loose_items view.items.items t facility) ++ tell) (with_bag bag c at (tables A)))
-    (facility-shown A c view.ceremonies.items v.ceremonies)
-    ∙ items-changed (loose_items view.items.items t here) tell (with_bag bag c at (tables A))
-    ∙ rw (
-      bags_moved A h t Spent (none_holds (conditions A act) f).1.0,
-      marks-put A (entry_as key act answer) c at f refl refl,
-      items-cut A key c t at answer f view.items.items v.items,
-      new_key A (command_of key act) answer k,
-    )
-    refl
+    let s = told A key c at (Cut t) answer view v.ceremonies k f refl refl in
+    let moved = bags_moved A h t Spent (none_holds (conditions A act) f).1.0 in
+    ap (λ facility. all_changed (map PutItem (loose_items view.items.items t facility) ++ tell) (with_bag bag c at (tables A))) s.0
+    ∙ items-changed (loose_items view.items.items t (facility_of A c)) tell (with_bag bag c at (tables A))
+    ∙ rw (moved, s.1, items-cut A key c t at answer f view.items.items v.items, s.2)

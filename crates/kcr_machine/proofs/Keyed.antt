@@ -1,18 +1,9 @@
 -- Tables whose rows are functions of their keys: what is found among the rows that a view shows, and what a row put under its key makes of them.
-use Rattle.std.proofs.Common.{◌≡◌, Bool, true, false, cond, ◌&&◌, ◌||◌, List, [], ◌∷◌, map, filter, find, Option, Some, None, option_map, is_some, refl, sym}
-use Rattle.std.proofs.Common.{ap, ◌∙◌, inl, inr, arith}
-use Rattle.std.specs.Prelude.{unwrap_or}
-use Rattle.std.specs.List.{list_any, AllByRecursion}
-use Rattle.std.specs.List.Sorted.{IsPermutation}
-use Rattle.std.proofs.lemmas.Bool.{both_ways, cases_Bool}
-use Rattle.std.proofs.lemmas.List.Sorted.{list_any-IsPermutation}
-use Rattle.std.proofs.lemmas.List.Elements.{All-from_recursion, recursion_from_All, All-filter}
-use Rattle.kcr_base.specs.Rows.{put, put_all}
-use Rattle.kcr_base.proofs.RowsLemmas.{filter-order}
-use Rattle.kcr_base.proofs.ListLemmas.{any-same, find-all, find-none, none-find, some-find, some_if, any-map, Only, all-keys, only-order}
+use Rattle.kcr_machine.proofs.Common.{◌≡◌, Bool, true, false, cond, ◌&&◌, ◌||◌, List, [], ◌∷◌, map, filter, find, Option, Some, option_map, is_some}
+use Rattle.kcr_machine.proofs.Common.{refl, sym, ap, ◌∙◌, inl, inr, arith, rules, unwrap_or, list_any, IsPermutation, list_any-IsPermutation}
+use Rattle.kcr_machine.proofs.Common.{All-from_recursion, recursion_from_All, All-filter, put, put_all, filter-order, any-same, find-all, find-order}
+use Rattle.kcr_machine.proofs.Common.{some_if, any-map, Only, all-keys, map-map, filter-kept, IsIn, Implies, map-same-in, none-in}
 use Rattle.kcr_room.proofs.Lists as RoomLists
-use Rattle.kcr_room.proofs.Lists.{map-map, filter-kept}
-use Rattle.kcr_base.proofs.Members.{IsIn, Implies, map-same-in}
 
 -- ROWS THAT ARE SHOWN: those of a table that pass `of`, in any order. Only such rows pass the test
 
@@ -36,33 +27,26 @@ pub filter-shown : {X : Type 0} (test of : X → Bool) → Implies test of → (
 filter-shown test of inside table rows p =
     rw (← filter-kept test of table inside, ← filter-kept test of rows inside) (filter-order test (filter of table) (filter of rows) p)
 
--- what holds of the rows that are asked for, and of all others, holds of all
-unfilter : {X : Type 0} (P : X → Type 0) (of : X → Bool) → ((x : X) → of x ≡ false → P x) → (rows : List X) → AllByRecursion P (filter of rows)
-    → AllByRecursion P rows
-unfilter P of other [] a = tt
-unfilter P of other (x ∷ rows) a = elim (cases_Bool (of x)) [
-  | inl e ↦ let b = rw e at a in (b.0, unfilter P of other rows b.1)
-  | inr e ↦ (other x e, unfilter P of other rows (rw e at a))
-]
+-- the test finds the same row among those that are asked for
+find-filter : {X : Type 0} (test of : X → Bool) → Implies test of → (rows : List X) → find test (filter of rows) ≡ find test rows
+find-filter test of inside [] = refl
+find-filter test of inside (x ∷ rows) = grind (arith, inside x, find-filter test of inside rows)
 
--- if all rows of the table that pass are one, that one is found
-pub found-shown : {X : Type 0} (test of : X → Bool) (v : X) → Implies test of → (table rows : List X) → Shown of table rows
-    → Only test v table → find test rows ≡ some_if (list_any test table) v
-found-shown {X} test of v inside table rows p only =
-    let P : X → Type 0 = λ x. test x ≡ true → x ≡ v in
-    let kept = recursion_from_All P (filter of table) (All-filter of P table (All-from_recursion P table only)) in
-    let shown = only-order test v (filter of table) (filter of rows) p kept in
-    find-all test v rows (unfilter P of (λ x e t. absurd (both_ways (of x) e (inside x t))) rows shown)
-    ∙ ap (λ b. some_if b v) (any-shown test of inside table rows p)
-
--- if all of them are the first that passes, the same one is found
+-- if all rows of the table that pass are the first that passes, the same one is found
 pub find-shown : {X : Type 0} (test of : X → Bool) → Implies test of → (table rows : List X) → Shown of table rows
     → ((x : X) → find test table ≡ Some x → Only test x table) → find test rows ≡ find test table
-find-shown {X} test of inside table rows p only = by_first (find test table) refl
-  where
-    by_first : (o : Option X) → find test table ≡ o → find test rows ≡ o
-    by_first None e = find-none test rows (any-shown test of inside table rows p ∙ none-find test table e)
-    by_first (Some x) e = found-shown test of x inside table rows p (only x e) ∙ ap (λ b. some_if b x) (some-find test x table e)
+find-shown {X} test of inside table rows p only =
+    sym (find-filter test of inside rows) ∙ find-order test (filter of table) (filter of rows) p (λ x e.
+    let P = λ (y : X). test y ≡ true → y ≡ x in
+    recursion_from_All P (filter of table) (All-filter of P table (All-from_recursion P table (only x (sym (find-filter test of inside table) ∙ e)))))
+    ∙ find-filter test of inside table
+
+-- if all of them are one, that one is found
+pub found-shown : {X : Type 0} (test of : X → Bool) (v : X) → Implies test of → (table rows : List X) → Shown of table rows
+    → Only test v table → find test rows ≡ some_if (list_any test table) v
+found-shown test of v inside table rows p only =
+    find-shown test of inside table rows p (λ x e. let is : v ≡ x = grind (arith, find-all test v table only) in rw is at only)
+    ∙ find-all test v table only
 
 -- what that one says is what the history says, if it is there if and only if the history says something
 pub said-shown : {X Y : Type 0} (test of : X → Bool) (v : X) (says : X → Y) (said : Option Y) (other : Y) → Implies test of → (table rows : List X)
@@ -82,8 +66,7 @@ find-view test of row_of v inside same keys rows p =
 pub said-view : {K X Y : Type 0} (test of : X → Bool) (row_of : K → X) (v : X) (says : X → Y) (said : Option Y) (other : Y) → Implies test of
     → ((k : K) → test (row_of k) ≡ true → row_of k ≡ v) → (keys : List K) (rows : List X) → Shown of (map row_of keys) rows
     → list_any (λ k. test (row_of k)) keys ≡ is_some said → says v ≡ unwrap_or said other → option_map says (find test rows) ≡ said
-said-view test of row_of v says said other inside same keys rows p there own =
-    said-shown test of v says said other inside (map row_of keys) rows p (all-keys test row_of v same keys) (any-map test row_of keys ∙ there) own
+said-view test of row_of v says said other inside same keys rows p there own = search (rules, said-shown, all-keys, any-map)
 
 -- ROWS ARE PUT
 
@@ -94,17 +77,14 @@ put-new same row rows h = rw h
 -- if no other key changes its row
 pub put-first : {K X : Type 0} (same : X → X → Bool) (f g : K → X) (row : X) → ((k : K) → same row (f k) ≡ false → f k ≡ g k) → (ks : List K)
     → list_any (λ k. same row (f k)) ks ≡ false → put same row (map f ks) ≡ row ∷ map g ks
-put-first {K} same f g row keep ks new = put-new same row (map f ks) (any-map (same row) f ks ∙ new) ∙ ap (λ rows. row ∷ rows) (kept ks new)
-  where
-    kept : (ks : List K) → list_any (λ k. same row (f k)) ks ≡ false → map f ks ≡ map g ks
-    kept [] h = refl
-    kept (k ∷ ks) h = grind (arith, keep k, kept ks)
+put-first same f g row keep ks new =
+    put-new same row (map f ks) (any-map (same row) f ks ∙ new)
+    ∙ ap (λ rows. row ∷ rows) (map-same-in f g ks (λ k i. keep k (none-in (λ k. same row (f k)) k ks new i)))
 
 -- a row under a key that is there: g gives the new row at the key, and elsewhere what f gives
 put-there : {K X : Type 0} (same : X → X → Bool) (f g : K → X) (row : X) (ks : List K) → list_any (λ k. same row (f k)) ks ≡ true
     → ((k : K) → IsIn k ks → cond (same row (f k)) row (f k) ≡ g k) → put same row (map f ks) ≡ map g ks
-put-there same f g row ks there now =
-    rw (any-map (same row) f ks ∙ there) (map-map (λ old. cond (same row old) row old) f ks ∙ map-same-in (λ k. cond (same row (f k)) row (f k)) g ks now)
+put-there same f g row ks there now = grind (arith, any-map, map-map, map-same-in)
 
 -- a row put under a key that is there gives the new rows, if no other key changes its row
 pub put-at : {K X : Type 0} (same : X → X → Bool) (f g : K → X) (row : X) → ((k : K) → same row (f k) ≡ true → row ≡ g k)

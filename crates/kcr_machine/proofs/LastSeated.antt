@@ -1,36 +1,15 @@
 -- The last step of a ceremony that has a seating is the last that is done: so it tells how many are.
-use Rattle.std.proofs.Common.{◌≡◌, ℕ, zero, suc, ◌≤◌, Bool, true, false, List, [], ◌∷◌, filter, max, length, Option, Some, None, is_some}
-use Rattle.std.proofs.Common.{Result, Ok, Err, refl, sym, ap, ◌∙◌, subst, arith, inl, inr}
-use Rattle.std.specs.Prelude.{◌==◌, nat_lt, slice_get, unwrap_or, option_map}
-use Rattle.std.specs.List.{AllByRecursion, list_any}
-use Rattle.std.specs.Result.{result_unwrap_or}
-use Rattle.std.proofs.lemmas.Bool.{false≢true, eqb-true, eq-eqb, le-ltb, lt-ltb, ltb-true, cases_Bool}
-use Rattle.std.proofs.lemmas.List.Elements.{recursion_from_All}
-use Rattle.kcr_base.specs.Rows.{option_or}
-use Rattle.kcr_base.proofs.Members.{same-answers}
-use Rattle.kcr_script.specs.Reading.{script_of}
-use Rattle.kcr_script.specs.declared.seat.Seat.{Seat}
-use Rattle.kcr_script.specs.declared.script.Step.{Step}
-use Rattle.kcr_script.proofs.ScriptReading.{HasForm, steps_have_form}
-use Rattle.kcr_history.specs.declared.commands.Act.{Act}
-use Rattle.kcr_history.specs.declared.commands.Act.TheVariants.{Plan, Ceremony}
-use Rattle.kcr_history.specs.declared.commands.Deed.TheVariants.{Sign, RecordException}
-use Rattle.kcr_history.specs.declared.commands.ReplyData.{ReplyData}
-use Rattle.kcr_history.specs.declared.row_types.SeatingRow.{SeatingRow}
-use Rattle.kcr_history.specs.declared.views.StepFilter.{StepFilter}
-use Rattle.kcr_history.specs.declared.views.View.{View}
-use Rattle.kcr_history.specs.History.{History, pushed_onto}
-use Rattle.kcr_history.specs.Ceremonies.{Planned, planned_as, plan_of, steps_of, step_at, does_step, steps_done, next_step}
-use Rattle.kcr_history.specs.Conditions.{fault}
-use Rattle.kcr_history.specs.Machine.{IsRegister, IsReplyTo, CanFollow, seat_request}
-use Rattle.kcr_history.specs.Seating.{is_seating}
-use Rattle.kcr_history.specs.Tables.{steps, seatings, seat_rows, seating_rows, seats_at, ceremony_of_step}
-use Rattle.kcr_history.specs.Views.{IncludesStep, is_seating_of, is_step_at, last_seated}
-use Rattle.kcr_history.proofs.Piled.{filter-pushed}
+use Rattle.kcr_machine.proofs.Common.{◌≡◌, ℕ, zero, suc, ◌≤◌, Bool, true, false, List, [], ◌∷◌, filter, max, length, Option, Some, None, is_some}
+use Rattle.kcr_machine.proofs.Common.{Result, Ok, Err, refl, ap, ◌∙◌, arith, slice_get, unwrap_or, AllByRecursion, list_any, result_unwrap_or}
+use Rattle.kcr_machine.proofs.Common.{false≢true, eqb-true, eq-eqb, cases_Bool, recursion_from_All, option_or, script_of, Seat, Step, HasForm}
+use Rattle.kcr_machine.proofs.Common.{steps_have_form, Act, Ceremony, Sign, RecordException, ReplyData, SeatingRow, StepFilter, View, History}
+use Rattle.kcr_machine.proofs.Common.{pushed_onto, Planned, planned_as, plan_of, steps_of, step_at, does_step, steps_done, next_step, fault}
+use Rattle.kcr_machine.proofs.Common.{IsRegister, IsReplyTo, CanFollow, seat_request, is_seating, steps, seatings, seat_rows, seating_rows, seats_at}
+use Rattle.kcr_machine.proofs.Common.{ceremony_of_step, IncludesStep, is_seating_of, is_step_at, last_seated, filter-pushed, staff, one_more}
+use Rattle.kcr_machine.proofs.Common.{next_signed, done-after}
+use Rattle.std.specs.Prelude.{◌==◌, nat_lt, option_map}
 use Rattle.kcr_history.proofs.Tops.{top, top-more}
-use Rattle.kcr_rules.specs.Signing.{staff}
 use Rattle.kcr_laws.proofs.Accepted.{entry_from, each_register}
-use Rattle.kcr_laws.proofs.Done.{one_more, next_signed, done-after}
 use Rattle.kcr_machine.proofs.StepRows.{any_step-shown, done-below, few-steps, sign-there}
 
 -- THE SEATS OF A STEP
@@ -44,8 +23,7 @@ form_script script = by_result (script_of script) refl
 
 form_after : (act : Act) (c : ℕ) (plan : Option Planned) → AllByRecursion HasForm (unwrap_or (option_map (λ plan. plan.steps) plan) [])
     → AllByRecursion HasForm (unwrap_or (option_map (λ plan. plan.steps) (option_or (planned_as c act) plan)) [])
-form_after (Plan number facility day script) c plan ih = elim (cases_Bool (number == c)) [ inl e ↦ rw e (form_script script) | inr e ↦ rw e ih ]
-form_after act c plan ih = ih
+form_after act c plan ih = grind (arith, cases_Bool, form_script)
 
 -- each step that was planned has the form of one of a script
 each_form : (A : History) (c : ℕ) → AllByRecursion HasForm (steps_of A c)
@@ -74,17 +52,11 @@ top-stacked (x ∷ front) rows = omega (arith, top-stacked front (x ∷ rows), t
 top-seats : (c k i : ℕ) (people : List (List ℕ)) → 1 ≤ length people → top (seat_rows c k i people) ≡ k
 top-seats c k i [] l = absurd (omega (arith, l))
 top-seats c k i (who ∷ []) l = omega arith
-top-seats c k i (who ∷ other ∷ people) l =
-    omega (
-      arith,
-      top-more (record { ceremony = c; step = k; seat = suc i; who = who }) (seat_rows c k (suc i) (other ∷ people)),
-      top-seats c k (suc i) (other ∷ people) (omega arith),
-    )
+top-seats c k i (who ∷ other ∷ people) l = grind (arith, top-more, top-seats c k (suc i) (other ∷ people) (omega arith))
 
 own-seats : (c k i : ℕ) (people : List (List ℕ)) → filter (is_seating_of c) (seat_rows c k i people) ≡ seat_rows c k i people
 own-seats c k i [] = refl
-own-seats c k i (who ∷ people) =
-    rw (eq-eqb c c refl) (ap (λ rows. record { ceremony = c; step = k; seat = suc i; who = who } ∷ rows) (own-seats c k (suc i) people))
+own-seats c k i (who ∷ people) = grind (arith, eq-eqb, own-seats c k (suc i) people)
 
 other-seats : (c d k i : ℕ) (people : List (List ℕ)) → (d == c) ≡ false → filter (is_seating_of c) (seat_rows d k i people) ≡ []
 other-seats c d k i [] e = refl
@@ -94,20 +66,7 @@ other-seats c d k i (who ∷ people) e = rw e (other-seats c d k (suc i) people 
 seated-after : (c d k n : ℕ) (m : Bool) (people : List (List ℕ)) (rows : List SeatingRow) → m ≡ (d == c) → 1 ≤ length people
     → ((d == c) ≡ true → k ≡ suc n) → last_seated rows c ≡ n → last_seated (pushed_onto (seat_rows d k 0 people) rows) c ≡ one_more m n
 seated-after c d k n m people rows g some next ih =
-    ap top (filter-pushed (is_seating_of c) mine rows) ∙ top-stacked (filter (is_seating_of c) mine) (filter (is_seating_of c) rows)
-    ∙ elim (cases_Bool (d == c)) [ inl e ↦ rw (g, e) (own e) | inr e ↦ rw (g, e) (other e) ]
-  where
-    mine : List SeatingRow
-    mine = seat_rows d k 0 people
-
-    own : (d == c) ≡ true → max (top (filter (is_seating_of c) mine)) (last_seated rows c) ≡ suc n
-    own e =
-        let has : top (filter (is_seating_of c) mine) ≡ k =
-        subst (λ c. top (filter (is_seating_of c) mine) ≡ k) (eqb-true d c e) (ap top (own-seats d k 0 people) ∙ top-seats d k 0 people some) in
-        omega (arith, has, next e, ih)
-
-    other : (d == c) ≡ false → max (top (filter (is_seating_of c) mine)) (last_seated rows c) ≡ n
-    other e = let has : top (filter (is_seating_of c) mine) ≡ 0 = ap top (other-seats c d k 0 people e) in omega (arith, has, ih)
+    grind (arith, top, filter-pushed, top-stacked, cases_Bool, eqb-true, own-seats, top-seats, other-seats)
 
 -- BY THE HISTORY
 
@@ -134,9 +93,7 @@ last-seated A h c = each_register (λ A. last_seated (seatings A) c ≡ steps_do
   where
     step : (A : History) (key : List ℕ) (act : Act) (answer : ReplyData) → IsRegister A → CanFollow A (entry_from key act answer)
         → last_seated (seatings A) c ≡ steps_done A c → last_seated (seatings (entry_from key act answer ∷ A)) c ≡ steps_done (entry_from key act answer ∷ A) c
-    step A key act answer h a ih =
-        by_act A act answer c a.no_fault a.answered ih
-        ∙ sym (done-after A (entry_from key act answer) c)
+    step A key act answer h a ih = grind (arith, by_act, done-after, entry_from)
 
 -- THE ROWS THAT A VIEW SHOWS
 
@@ -151,23 +108,17 @@ pub not_overdone : (A : History) → IsRegister A → (asked : StepFilter) (view
     → IncludesStep (Some asked) (seatings A) view.seatings.items (steps A) view.steps.items
     → nat_lt 400 (last_seated view.seatings.items asked.ceremony) ≡ false
 not_overdone A h asked view v =
-    let c = asked.ceremony in
-    le-ltb 400 (last_seated view.seatings.items c) (omega (arith, done-shown A h asked view v, done-below A h c, few-steps A c))
+    let few = few-steps A asked.ceremony in let done = done-shown A h asked view v in let below = done-below A h asked.ceremony in grind arith
 
 -- a step is left if not all are done
 pub left-shown : (A : History) → IsRegister A → (c : ℕ) (view : View)
     → IncludesStep (Some (record { ceremony = c; step = None })) (seatings A) view.seatings.items (steps A) view.steps.items
     → list_any (is_step_at c (suc (last_seated view.seatings.items c))) view.steps.items ≡ nat_lt (steps_done A c) (length (steps_of A c))
 left-shown A h c view v =
-    any_step-shown A h c (suc (last_seated view.seatings.items c)) view.steps.items v.step
-    ∙ ap (λ n. is_some (slice_get (steps_of A c) n)) (done-shown A h (record { ceremony = c; step = None }) view v)
-    ∙ is_left (steps_of A c) (steps_done A c)
+    let done = done-shown A h (record { ceremony = c; step = None }) view v in
+    any_step-shown A h c (suc (last_seated view.seatings.items c)) view.steps.items v.step ∙ rw done (is_left (steps_of A c) (steps_done A c))
   where
     is_left : (ss : List Step) (n : ℕ) → is_some (slice_get ss n) ≡ nat_lt n (length ss)
-    is_left [] n = sym (le-ltb n 0 (omega arith))
-    is_left (s ∷ ss) zero = sym (lt-ltb 0 (length (s ∷ ss)) (omega arith))
-    is_left (s ∷ ss) (suc n) =
-        is_left ss n
-        ∙ same-answers (nat_lt n (length ss)) (nat_lt (suc n) (suc (length ss)))
-        (λ e. lt-ltb (suc n) (suc (length ss)) (omega (arith, ltb-true n (length ss) e)))
-        (λ e. lt-ltb n (length ss) (omega (arith, ltb-true (suc n) (suc (length ss)) e)))
+    is_left [] n = grind arith
+    is_left (s ∷ ss) zero = grind arith
+    is_left (s ∷ ss) (suc n) = grind (arith, is_left ss n)

@@ -1,33 +1,11 @@
 -- Where the changes of an act lead: what they make of the tables of a history, and when these are the tables of the history with its command.
-use Rattle.std.proofs.Common.{◌≡◌, ℕ, List, [], ◌∷◌, ◌++◌, map, None, Option, option_map, refl, ap, ◌∙◌, subst}
-use Rattle.std.specs.List.Sorted.{IsPermutation}
-use Rattle.std.proofs.lemmas.List.Sorted.{IsPermutation-refl}
+use Rattle.kcr_machine.proofs.Common.{◌≡◌, ℕ, List, [], ◌∷◌, ◌++◌, map, None, Option, option_map, refl, ap, ◌∙◌, arith, rules, IsPermutation-refl}
+use Rattle.kcr_machine.proofs.Common.{first_of, put, put_all, none-find, Act, ReplyData, Command, Entry, Change, PutKey, View, History, entry_of}
+use Rattle.kcr_machine.proofs.Common.{Tables, SameTables, keys, key_row, tables, changed, all_changed, same_key_row, with_command, reply_to}
+use Rattle.kcr_machine.proofs.Common.{is_of_key, IsViewOf, asks_of_act, early_asks, fault, is_full, by_history, early_conditions, late_conditions}
+use Rattle.kcr_machine.proofs.Common.{row_of_key-keys, changes_by, early_refusal_by, late_refusal_by, all_changes_by, new_key_row}
 use Rattle.std.specs.Prelude.{Bool}
-use Rattle.kcr_base.specs.Refuse.{first_of}
-use Rattle.kcr_base.specs.Rows.{put, put_all}
-use Rattle.kcr_base.proofs.ListLemmas.{none-find}
-use Rattle.kcr_people.specs.declared.Withdrawal.{Withdrawal}
-use Rattle.kcr_room.specs.declared.SheetRow.{SheetRow}
-use Rattle.kcr_room.specs.declared.Stay.{Stay}
-use Rattle.kcr_history.specs.declared.commands.Act.{Act}
-use Rattle.kcr_history.specs.declared.commands.ReplyData.{ReplyData}
-use Rattle.kcr_history.specs.declared.commands.Command.{Command}
-use Rattle.kcr_history.specs.declared.commands.Entry.{Entry}
 use Rattle.kcr_history.specs.declared.views.Asks.{Asks}
-use Rattle.kcr_history.specs.declared.views.Change.{Change}
-use Rattle.kcr_history.specs.declared.views.Change.TheVariants.{PutKey}
-use Rattle.kcr_history.specs.declared.views.View.{View}
-use Rattle.kcr_history.specs.History.{History, entry_of}
-use Rattle.kcr_history.specs.Tables.{Tables, SameTables, keys, key_row, tables}
-use Rattle.kcr_history.specs.Changes.{changed, all_changed, same_key_row}
-use Rattle.kcr_history.specs.Machine.{with_command, reply_to}
-use Rattle.kcr_history.specs.Views.{is_of_key, IsViewOf}
-use Rattle.kcr_history.specs.AsksByKind.{asks_of_act}
-use Rattle.kcr_history.specs.Early.{early_asks}
-use Rattle.kcr_history.specs.Conditions.{fault, is_full, by_history, early_conditions, late_conditions}
-use Rattle.kcr_history.proofs.Words.{row_of_key-keys}
-use Rattle.kcr_rules.specs.ByRows.{changes_by, early_refusal_by, late_refusal_by, all_changes_by}
-use Rattle.kcr_machine.specs.NewDecision.{new_key_row}
 use Rattle.kcr_machine.proofs.Keyed.{put-new}
 
 -- THE COMMAND
@@ -48,23 +26,7 @@ Leads A view x answer = changed_with (changes_by view x.act) x answer (tables A)
 
 -- a view of what is asked for is one of the part that is read first
 pub front-of : (asks : Asks) (t : Tables) (view : View) → IsViewOf asks t view → IsViewOf (early_asks asks) t view
-front-of asks t view v =
-    record {
-      people = v.people;
-      trainings = tt;
-      withdrawals = tt;
-      appointments = tt;
-      boxes = v.boxes;
-      safes = v.safes;
-      bags = v.bags;
-      items = v.items;
-      ceremonies = v.ceremonies;
-      marks = v.marks;
-      steps = v.steps;
-      exceptions = v.exceptions;
-      stays = tt;
-      entries = tt;
-    }
+front-of asks t view v = grind arith
 
 -- by the rows of that part alone the first of the act's early refusals is the history's
 abbrev pub EarlyShown : History → Act → Type 0
@@ -107,37 +69,10 @@ pub all_changed-rows : {X : Type 0} (to : X → Change) (same : X → X → Bool
     → (xs rows : List X) (rest : List Change) (t : Tables)
     → all_changed (map to xs ++ rest) (with_rows rows t) ≡ all_changed rest (with_rows (put_all same xs rows) t)
 all_changed-rows to same with_rows one [] rows rest t = refl
-all_changed-rows to same with_rows one (x ∷ xs) rows rest t =
-    ap (all_changed (map to xs ++ rest)) (one x rows t) ∙ all_changed-rows to same with_rows one xs (put same x rows) rest t
+all_changed-rows to same with_rows one (x ∷ xs) rows rest t = grind (arith, all_changed-rows to same with_rows one xs (put same x rows) rest t)
 
 -- THE SAME ROWS IN ANOTHER ORDER
 
--- tables that differ in the order of their withdrawals, of the sheet and of the stays alone
-pub other-order : (t : Tables) (withdrawn : List Withdrawal) (sheet : List SheetRow) (stays : List Stay) → IsPermutation withdrawn t.withdrawals
-    → IsPermutation sheet t.sheet → IsPermutation stays t.stays
-    → SameTables (record t { withdrawals = withdrawn; sheet = sheet; stays = stays }) t
-other-order t withdrawn sheet stays p q r =
-    record {
-      people = IsPermutation-refl t.people;
-      trainings = IsPermutation-refl t.trainings;
-      withdrawals = p;
-      appointments = IsPermutation-refl t.appointments;
-      boxes = IsPermutation-refl t.boxes;
-      safes = IsPermutation-refl t.safes;
-      bags = IsPermutation-refl t.bags;
-      items = IsPermutation-refl t.items;
-      ceremonies = IsPermutation-refl t.ceremonies;
-      marks = IsPermutation-refl t.marks;
-      steps = IsPermutation-refl t.steps;
-      seatings = IsPermutation-refl t.seatings;
-      sheet = q;
-      stays = r;
-      exceptions = IsPermutation-refl t.exceptions;
-      keys = IsPermutation-refl t.keys;
-    }
-
 -- equal tables have the same rows
 pub same-tables : (t u : Tables) → t ≡ u → SameTables t u
-same-tables t u e =
-    subst (SameTables t) e (other-order t t.withdrawals t.sheet t.stays (IsPermutation-refl t.withdrawals) (IsPermutation-refl t.sheet)
-    (IsPermutation-refl t.stays))
+same-tables t u e = rw e (search (rules, IsPermutation-refl))

@@ -1,51 +1,25 @@
 -- People, trainings and places: what the rows of a view say of them, the first refusal of an act on them, and where its changes lead.
-use Rattle.std.proofs.Common.{◌≡◌, ℕ, true, false, ◌||◌, ◌&&◌, nat_le, max, List, filter, refl, sym, ap, ◌∙◌, subst, arith, [], ◌∷◌, map, None}
-use Rattle.std.specs.List.{list_any}
-use Rattle.std.specs.List.Sorted.{IsPermutation}
-use Rattle.std.proofs.lemmas.Bool.{leb-true, le-leb, or_left, or_parts}
-use Rattle.std.proofs.lemmas.List.Sorted.{IsPermutation-map, IsPermutation-refl, IsPermutation-sym}
-use Rattle.kcr_base.specs.Same.{same_text}
-use Rattle.kcr_base.specs.declared.place.Role.{Role}
-use Rattle.kcr_people.specs.declared.Training.{Training}
-use Rattle.kcr_people.specs.declared.Withdrawal.{Withdrawal}
-use Rattle.kcr_people.specs.People.{is_of, is_withdrawn_by, covers, trains, trained_by, trained_from_by, ends_from, least_day, withdrawal_of, withdrawn_rows}
-use Rattle.kcr_people.specs.People.{is_person_by, ever_trained_by, same_training, open_row_by, end_of, nobody}
-use Rattle.kcr_people.specs.People.{place_held_from_by, person_holds_from_by}
+use Rattle.kcr_machine.proofs.Common.{◌≡◌, ℕ, true, false, ◌||◌, ◌&&◌, nat_le, max, List, filter, refl, sym, ap, ◌∙◌, subst, arith, [], ◌∷◌, map}
+use Rattle.kcr_machine.proofs.Common.{None, rules, list_any, IsPermutation, leb-true, le-leb, or_left, or_parts, IsPermutation-map}
+use Rattle.kcr_machine.proofs.Common.{IsPermutation-refl, IsPermutation-sym, same_text, Role, Training, Withdrawal, is_of, is_withdrawn_by, covers}
+use Rattle.kcr_machine.proofs.Common.{trains, trained_by, trained_from_by, ends_from, least_day, withdrawal_of, withdrawn_rows, is_person_by}
+use Rattle.kcr_machine.proofs.Common.{ever_trained_by, same_training, open_row_by, end_of, nobody, place_held_from_by, person_holds_from_by}
+use Rattle.kcr_machine.proofs.Common.{is_training_of, is_withdrawal_of, is_of_people, IsViewOf, Place, Person, Enter, Train, Withdraw, Appoint}
+use Rattle.kcr_machine.proofs.Common.{Replace, Release, View, History, has_command, entry_of, is_person, ever_trained, is_training, people, trainings}
+use Rattle.kcr_machine.proofs.Common.{withdrawals, appointments, tables, SameTables, ended, asks_of_act, conditions, IsRegister, with_command}
+use Rattle.kcr_machine.proofs.Common.{is_person-people, ever_trained-trainings, is_training-trainings, ever_put-appointments, closing, lasts-ended}
+use Rattle.kcr_machine.proofs.Common.{no_begin, put-ended, orderly, standing, changes_by, new_appointment, put, put_all, Taken, Held, Range, Vacant}
+use Rattle.kcr_machine.proofs.Common.{none_holds, unmet, put_all-order, any-same, ReplyData, Command, PutWithdrawal, PutKey, same_person}
+use Rattle.kcr_machine.proofs.Common.{same_appointment, new_key_row, in-filter, map-same-in}
 use Rattle.kcr_people.proofs.Withdrawn.{is_of-true, least-day}
-use Rattle.kcr_history.specs.Views.{is_training_of, is_withdrawal_of, is_of_people, IsViewOf}
 use Rattle.std.specs.Cmp.Lexicographic.{bytes_decides}
-use Rattle.kcr_base.specs.declared.place.Place.{Place}
-use Rattle.kcr_people.specs.declared.Person.{Person}
-use Rattle.kcr_history.specs.declared.commands.Act.TheVariants.{Enter, Train, Withdraw, Appoint, Replace, Release}
-use Rattle.kcr_history.specs.declared.views.View.{View}
-use Rattle.kcr_history.specs.History.{History, has_command, entry_of}
-use Rattle.kcr_history.specs.Training.{is_person, ever_trained, is_training}
-use Rattle.kcr_history.specs.Tables.{people, trainings, withdrawals, appointments, tables, SameTables, ended}
-use Rattle.kcr_history.specs.AsksByKind.{asks_of_act}
-use Rattle.kcr_history.specs.Conditions.{conditions}
-use Rattle.kcr_history.specs.Machine.{IsRegister, with_command}
-use Rattle.kcr_history.proofs.Words.{is_person-people, ever_trained-trainings, is_training-trainings, ever_put-appointments}
-use Rattle.kcr_history.proofs.Stacked.{closing, lasts-ended, no_begin, put-ended}
-use Rattle.kcr_history.proofs.Orderly.{orderly, standing}
 use Rattle.kcr_history.proofs.Settled.{settled-rows}
-use Rattle.kcr_rules.specs.ByRows.{changes_by, new_appointment}
-use Rattle.kcr_base.specs.Rows.{put, put_all}
-use Rattle.kcr_base.specs.declared.refusal.Refusal.TheVariants.{Taken, Held, Range, Vacant}
-use Rattle.kcr_base.proofs.RefuseLemmas.{none_holds, unmet}
-use Rattle.kcr_base.proofs.RowsLemmas.{put_all-order}
-use Rattle.kcr_base.proofs.ListLemmas.{any-same}
 use Rattle.kcr_people.specs.Laws.{same_withdrawn}
 use Rattle.kcr_people.proofs.Keys.{same_withdrawn-keys, withdrawn_rows-apart}
-use Rattle.kcr_history.specs.declared.commands.ReplyData.{ReplyData}
-use Rattle.kcr_history.specs.declared.commands.Command.{Command}
-use Rattle.kcr_history.specs.declared.views.Change.TheVariants.{PutWithdrawal, PutKey}
-use Rattle.kcr_history.specs.Changes.{same_person, same_appointment}
 use Rattle.kcr_history.proofs.Distinct.{trainings-apart}
-use Rattle.kcr_machine.specs.NewDecision.{new_key_row}
 use Rattle.kcr_machine.proofs.LastAppointments.{open-last, person-last, place-last, put-last}
 use Rattle.kcr_machine.proofs.Keyed.{Shown, any-shown, filter-shown, put-new}
-use Rattle.kcr_machine.proofs.Leads.{LateShown, LeadsOn, all_changed-rows, changed_with, command_of, new_key, other-order}
-use Rattle.kcr_base.proofs.Members.{in-filter, map-same-in}
+use Rattle.kcr_machine.proofs.Leads.{LateShown, LeadsOn, all_changed-rows, changed_with, command_of, new_key}
 
 -- WITHDRAWALS
 
@@ -190,8 +164,7 @@ replace-late A h place who day view v =
 
 -- a release has the same late refusal by the rows of a view as by the history
 pub release-late : (A : History) → IsRegister A → (place : Place) (day : ℕ) → LateShown A (Release place day)
-release-late A h place day view v =
-    rw (open-last A h place view.appointments.items v.appointments.0 v.appointments.1, settled-rows A view.marks.items v.marks)
+release-late A h place day view v = grind (arith, open-last, settled-rows)
 
 -- WHERE ITS CHANGES LEAD
 
@@ -228,16 +201,13 @@ pub withdraw-leads : (A : History) → IsRegister A → (key who : List ℕ) (ro
     (tables (with_command A (command_of key (Withdraw who role day)) answer))
 withdraw-leads A h key who role day view answer v k =
     let x : Command = command_of key (Withdraw who role day) in
-    let after = tables (with_command A x answer) in
     let rows = withdrawn_rows view.trainings.items view.withdrawals.items who role day in
     rw (
       all_changed-rows PutWithdrawal same_withdrawn (λ rows t. record t { withdrawals = rows }) (λ row rows t. refl) rows (withdrawals A)
           (PutKey (new_key_row x answer) ∷ []) (tables A),
       new_key A x answer k,
     )
-    (other-order after (put_all same_withdrawn rows (withdrawals A)) after.sheet after.stays
-    (withdrawals-put A h who role day view.trainings.items view.withdrawals.items v.trainings v.withdrawals)
-    (IsPermutation-refl after.sheet) (IsPermutation-refl after.stays))
+    (search (rules, IsPermutation-refl, withdrawals-put))
 
 -- the changes of an appointment lead to the tables of the history with it
 pub appoint-leads : (A : History) → IsRegister A → (place : Place) (who : List ℕ) (day : ℕ) → LeadsOn A (Appoint place who day)

@@ -1,39 +1,21 @@
 -- What the rows of a view say of a ceremony is what the history says of it.
-use Rattle.std.proofs.Common.{◌≡◌, ℕ, Bool, true, false, cond, eqb, List, [], ◌∷◌, map, filter, Option, Some, None, is_none, refl, sym, ap, ◌∙◌, subst}
-use Rattle.std.proofs.Common.{arith}
+use Rattle.kcr_machine.proofs.Common.{◌≡◌, ℕ, Bool, true, false, cond, eqb, List, [], ◌∷◌, map, filter, Option, Some, None, refl, sym, ap, ◌∙◌, arith}
+use Rattle.kcr_machine.proofs.Common.{rules, list_any, cons_option, true≢false, false≢true, eqb-true, and_left, false_from_ne_true, put, option_or}
+use Rattle.kcr_machine.proofs.Common.{before_mark_refusal, State, none_holds, met, some_if, not_ready_refusal, Act, Ceremony, AddItem, Sign}
+use Rattle.kcr_machine.proofs.Common.{RecordException, SetSafe, Seal, Take, Put, Cut, Open, ReplyData, Entry, CeremonyRow, MarkRow, View, History}
+use Rattle.kcr_machine.proofs.Common.{values_of_acts, greatest, max_with, entry_of, is_ceremony, facility_of, opening_moment, opened_at}
+use Rattle.kcr_machine.proofs.Common.{is_ceremony_open, marked_moment, mark, opened_number, planned_number, ceremony_row, ceremonies, mark_row, marks}
+use Rattle.kcr_machine.proofs.Common.{keys, same_mark, same_key_row, is_of_number, is_mark_of, conditions, fault, IsRegister, took, none_ready, late}
+use Rattle.kcr_machine.proofs.Common.{ceremony_status_at, planned-number, ceremony_by, facility_of_row, mark_by, new_key_row}
 use Rattle.std.specs.Prelude.{is_some}
-use Rattle.std.specs.List.{list_any, cons_option}
-use Rattle.std.proofs.lemmas.Bool.{true≢false, false≢true, eqb-true, eq-eqb, and_left, false_from_ne_true}
-use Rattle.kcr_base.specs.Rows.{put, option_or}
-use Rattle.kcr_base.specs.Refuse.{before_mark_refusal}
-use Rattle.kcr_base.specs.declared.refusal.Refusal.TheVariants.{Unknown, State}
-use Rattle.kcr_base.specs.declared.refusal.Thing.TheVariants as Things
-use Rattle.kcr_base.proofs.RefuseLemmas.{none_holds, met}
-use Rattle.kcr_base.proofs.ListLemmas.{some_if}
-use Rattle.kcr_custody.specs.Custody.{not_ready_refusal}
-use Rattle.kcr_history.specs.declared.commands.Act.{Act}
-use Rattle.kcr_history.specs.declared.commands.Act.TheVariants.{Ceremony}
-use Rattle.kcr_history.specs.declared.commands.Deed.TheVariants.{AddItem, Open, Sign, RecordException, SetSafe, Seal, Take, Put, Cut}
-use Rattle.kcr_history.specs.declared.commands.Entry.{Entry}
-use Rattle.kcr_history.specs.declared.row_types.CeremonyRow.{CeremonyRow}
-use Rattle.kcr_history.specs.declared.row_types.MarkRow.{MarkRow}
-use Rattle.kcr_history.specs.declared.views.View.{View}
-use Rattle.kcr_history.specs.History.{History, values_of_acts, greatest, max_with}
-use Rattle.kcr_history.specs.Ceremonies.{planned_as, plan_of, is_ceremony, facility_of, opening_moment, opened_at, closed_at, is_ceremony_open, marked_moment, mark, opened_number}
-use Rattle.kcr_history.specs.Tables.{planned_number, ceremony_row, ceremonies, mark_row, marks}
-use Rattle.kcr_history.specs.Changes.{same_mark}
-use Rattle.kcr_history.specs.Views.{is_of_number, is_mark_of}
-use Rattle.kcr_history.specs.Conditions.{conditions, fault, is_full}
-use Rattle.kcr_history.specs.Machine.{IsRegister}
-use Rattle.kcr_history.proofs.Steps.{took, none_ready, late, ceremony_status_at}
-use Rattle.kcr_history.proofs.Words.{planned-number}
-use Rattle.kcr_rules.specs.ByRows.{ceremony_status_by}
-use Rattle.kcr_rules.specs.CeremonyStatus.{ceremony_by, facility_of_row, is_open_row, mark_by}
+use Rattle.kcr_history.specs.declared.commands.Deed.{Deed}
+use Rattle.kcr_rules.specs.CeremonyStatus.{is_open_row}
+use Rattle.kcr_machine.proofs.Leads.{command_of, entry_as, new_key}
 use Rattle.kcr_machine.proofs.Keyed.{Shown, find-view, put-at, said-view}
 
 -- numbers that differ do so in either order
 pub turned : (a b : ℕ) → eqb b a ≡ false → eqb a b ≡ false
-turned a b h = false_from_ne_true (eqb a b) (λ e. true≢false (sym (eq-eqb b a (sym (eqb-true a b e))) ∙ h))
+turned a b h = grind arith
 
 -- WHAT IS SAID ONLY OF WHAT WAS SAID BEFORE
 
@@ -52,32 +34,23 @@ some-where b x e = grind arith
 pub ceremony-shown : (A : History) (c : ℕ) (rows : List CeremonyRow) → Shown (is_of_number c) (ceremonies A) rows
     → ceremony_by rows c ≡ some_if (is_ceremony A c) (ceremony_row A c)
 ceremony-shown A c rows p =
-    find-view (is_of_number c) (is_of_number c) (ceremony_row A) (ceremony_row A c) (λ x e. e) (λ k e. ap (ceremony_row A) (eqb-true k c e))
-    (values_of_acts planned_number A) rows p
-    ∙ ap (λ b. some_if b (ceremony_row A c)) (planned-number A c)
+    let found = find-view (is_of_number c) (is_of_number c) (ceremony_row A) (ceremony_row A c) (λ x e. e)
+    (λ k e. ap (ceremony_row A) (eqb-true k c e)) (values_of_acts planned_number A) rows p in
+    grind (arith, planned-number A c)
 
 -- THE STATE
 
 -- only a planned ceremony is opened
 pub opened-planned : (A : History) → IsRegister A → (c : ℕ) → is_some (opened_at A c) ≡ true → is_ceremony A c ≡ true
 opened-planned [] h c e = absurd (false≢true e)
-opened-planned (entry ∷ A) h c e =
-    said-then (opening_moment c entry.command.act) (opened_at A c) (planned_as c entry.command.act) (plan_of A c) (by_act entry.command.act (took A entry h.0).no_fault)
-    (opened-planned A h.1 c) e
-  where
-    by_act : (act : Act) → fault A act ≡ None → is_some (opening_moment c act) ≡ true → is_ceremony A c ≡ true
-    by_act (Ceremony d at Open) f e =
-        subst (λ c. is_ceremony A c ≡ true) (eqb-true d c (some-where (eqb d c) at e))
-        (met (is_ceremony A d) (Unknown (Things.Ceremony d)) (none_holds (conditions A (Ceremony d at Open)) f).0)
-    by_act act f e = absurd (false≢true e)
+opened-planned (entry ∷ A) h c e = grind (arith, said-then, took, eqb-true, some-where, met, none_holds, false≢true, opened-planned A h.1 c)
 
 -- the state of a row tells whether the ceremony is open
 pub open-state : (A : History) (c : ℕ) → is_open_row (Some (ceremony_row A c)) ≡ is_ceremony_open A c
 open-state A c = grind arith
 
 never-open : (A : History) → IsRegister A → (c : ℕ) → is_ceremony A c ≡ false → is_ceremony_open A c ≡ false
-never-open A h c e =
-    and_left (is_some (opened_at A c)) (is_none (closed_at A c)) (false_from_ne_true (is_some (opened_at A c)) (λ o. true≢false (sym (opened-planned A h c o) ∙ e)))
+never-open A h c e = search (rules, and_left, false_from_ne_true, true≢false, opened-planned)
 
 module _ (A : History) (c : ℕ) (rows : List CeremonyRow) (p : Shown (is_of_number c) (ceremonies A) rows) where
   -- whether there is such a ceremony
@@ -101,8 +74,7 @@ mark_with (Some new) c m = cond (eqb new.0 c) (Some (max_with new.1 m)) m
 
 greatest_with : (o : Option (ℕ × ℕ)) (c : ℕ) (ms : List (ℕ × ℕ))
     → greatest (map (λ m. m.1) (filter (λ m. eqb m.0 c) (cons_option o ms))) ≡ mark_with o c (greatest (map (λ m. m.1) (filter (λ m. eqb m.0 c) ms)))
-greatest_with None c ms = refl
-greatest_with (Some new) c ms = grind arith
+greatest_with o c ms = grind arith
 
 -- a further command leaves the mark, or raises it to its moment if that is a marked one of the ceremony
 pub mark-after : (A : History) (entry : Entry) (c : ℕ) → mark (entry ∷ A) c ≡ mark_with (marked_moment entry.command.act) c (mark A c)
@@ -115,7 +87,7 @@ IsReady A m o = Unit {0}
 
 -- so is an act of custody that found its ceremony ready
 in_time : (A : History) (c at : ℕ) → not_ready_refusal (ceremony_status_at A c at) ≡ None → IsReady A (Some (c, at)) None
-in_time A c at h = let n = none_ready A c at h in (met (is_ceremony_open A c) State n.0, n.1.0)
+in_time A c at h = grind (arith, none_ready, met)
 
 -- an act that is marked, but for an opening, is in an open ceremony and not before its mark, if nothing refuses it
 pub ready : (A : History) (act : Act) → fault A act ≡ None → IsReady A (marked_moment act) (opened_number act)
@@ -136,8 +108,7 @@ open-opened A c e = grind arith
 -- a ceremony has a mark if it was opened
 mark_stays : (A : History) (c : ℕ) (o : Option (ℕ × ℕ)) → IsReady A o None → is_some (mark A c) ≡ is_some (opened_at A c)
     → is_some (mark_with o c (mark A c)) ≡ is_some (opened_at A c)
-mark_stays A c None r ih = ih
-mark_stays A c (Some new) r ih = grind (arith, open-opened A new.0 r.0)
+mark_stays A c o r ih = grind arith
 
 marked_opened_after : (A : History) (act : Act) (c : ℕ) → fault A act ≡ None → is_some (mark A c) ≡ is_some (opened_at A c)
     → is_some (mark_with (marked_moment act) c (mark A c)) ≡ is_some (option_or (opening_moment c act) (opened_at A c))
@@ -147,14 +118,12 @@ marked_opened_after A act c f ih = mark_stays A c (marked_moment act) (ready A a
 -- a ceremony of a register has a mark if and only if it was opened
 pub marked-opened : (A : History) → IsRegister A → (c : ℕ) → is_some (mark A c) ≡ is_some (opened_at A c)
 marked-opened [] h c = refl
-marked-opened (entry ∷ A) h c =
-    ap is_some (mark-after A entry c) ∙ marked_opened_after A entry.command.act c (took A entry h.0).no_fault (marked-opened A h.1 c)
+marked-opened (entry ∷ A) h c = grind (arith, mark-after, marked_opened_after, took, marked-opened A h.1 c)
 
 -- a ceremony has a row of marks if it was opened
 opened_after : (act : Act) (c : ℕ) (numbers : List ℕ) (o : Option ℕ) → list_any (λ k. eqb k c) numbers ≡ is_some o
     → list_any (λ k. eqb k c) (cons_option (opened_number act) numbers) ≡ is_some (option_or (opening_moment c act) o)
-opened_after (Ceremony d at Open) c numbers o ih = grind arith
-opened_after act c numbers o ih = ih
+opened_after act c numbers o ih = grind arith
 
 -- a number is among those opened if and only if its ceremony was opened
 pub opened-number : (A : History) (c : ℕ) → list_any (λ k. eqb k c) (values_of_acts opened_number A) ≡ is_some (opened_at A c)
@@ -182,24 +151,32 @@ pub marks-put : (A : History) (entry : Entry) (c at : ℕ) → fault A entry.com
     → opened_number entry.command.act ≡ None
     → put same_mark (record { ceremony = c; at = at }) (marks A) ≡ marks (entry ∷ A)
 marks-put A entry c at f m o =
-    put-at same_mark (mark_row A) (mark_row (entry ∷ A)) (row_at c at) here elsewhere (values_of_acts opened_number A) (opened-number A c ∙ open-opened A c go.0)
+    let go : IsReady A (Some (c, at)) None = rw (m, o) at (ready A entry.command.act f) in
+    put-at same_mark (mark_row A) (mark_row (entry ∷ A)) (row_at c at)
+    (λ k e. let after = mark-after A entry k in grind (arith, mark-now (mark A c) at go.1))
+    (λ k e. let after = mark-after A entry k in grind (arith, turned c k e))
+    (values_of_acts opened_number A) (opened-number A c ∙ open-opened A c go.0)
     ∙ ap (λ n. map (mark_row (entry ∷ A)) (cons_option n (values_of_acts opened_number A))) (sym o)
-  where
-    go : IsReady A (Some (c, at)) None
-    go = subst (λ n. IsReady A (Some (c, at)) n) o (subst (λ n. IsReady A n (opened_number entry.command.act)) m (ready A entry.command.act f))
 
-    here : (k : ℕ) → eqb k c ≡ true → row_at c at ≡ mark_row (entry ∷ A) k
-    here k e = let same : k ≡ c = eqb-true k c e in rw (same, mark-after A entry c, m, eq-eqb c c refl, mark-now (mark A c) at go.1) refl
-
-    elsewhere : (k : ℕ) → eqb k c ≡ false → mark_row A k ≡ mark_row (entry ∷ A) k
-    elsewhere k e = rw (mark-after A entry k, m, turned c k e) refl
+-- of an act that is marked so and accepted: its facility by the rows, the mark's row that it puts, and the row of its key
+pub told : (A : History) (key : List ℕ) (c at : ℕ) (deed : Deed) (answer : ReplyData) (view : View)
+    → Shown (is_of_number c) (ceremonies A) view.ceremonies.items → entry_of A key ≡ None → fault A (Ceremony c at deed) ≡ None
+    → marked_moment (Ceremony c at deed) ≡ Some (c, at) → opened_number (Ceremony c at deed) ≡ None
+    → (facility_of_row (ceremony_by view.ceremonies.items c) ≡ facility_of A c)
+    × (put same_mark (row_at c at) (marks A) ≡ marks (entry_as key (Ceremony c at deed) answer ∷ A))
+    × (put same_key_row (new_key_row (command_of key (Ceremony c at deed)) answer) (keys A)
+    ≡ new_key_row (command_of key (Ceremony c at deed)) answer ∷ keys A)
+told A key c at deed answer view v k f m o =
+    let act = Ceremony c at deed in
+    (facility-shown A c view.ceremonies.items v, marks-put A (entry_as key act answer) c at f m o, new_key A (command_of key act) answer k)
 
 -- THE STATUS
 
--- the ceremony at the moment
-pub status-shown : (A : History) → IsRegister A → (c at : ℕ) (view : View) → Shown (is_of_number c) (ceremonies A) view.ceremonies.items
+-- of the ceremony, whether it was planned, whether it is open, its mark and its facility
+pub scene-shown : (A : History) → IsRegister A → (c : ℕ) (view : View) → Shown (is_of_number c) (ceremonies A) view.ceremonies.items
     → Shown (is_mark_of c) (marks A) view.marks.items
-    → ceremony_status_by view (is_full A) c at ≡ ceremony_status_at A c at
-status-shown A h c at view p q =
+    → (is_some (ceremony_by view.ceremonies.items c) ≡ is_ceremony A c) × (is_open_row (ceremony_by view.ceremonies.items c) ≡ is_ceremony_open A c)
+    × (mark_by view.marks.items c ≡ mark A c) × (facility_of_row (ceremony_by view.ceremonies.items c) ≡ facility_of A c)
+scene-shown A h c view p q =
     let rows = view.ceremonies.items in
-    rw (known-shown A c rows p, facility-shown A c rows p, is_open-shown A c rows p h, mark-shown A h c view.marks.items q) refl
+    (known-shown A c rows p, is_open-shown A c rows p h, mark-shown A h c view.marks.items q, facility-shown A c rows p)

@@ -1,30 +1,15 @@
 -- The search's answers by numbers, over those present, are the machine's: a first seating of people, and a least shortage of seats.
-use Rattle.std.proofs.Common.{◌≡◌, ◌≢◌, ℕ, zero, suc, ◌+◌, ◌<◌, ◌≤◌, Bool, true, false, cond, nat_lt, List, [], ◌∷◌, map, filter, length, get_or, refl, sym, ap}
-use Rattle.std.proofs.Common.{◌∙◌, arith, subst, ◌==◌, Option, Some, None}
-use Rattle.std.specs.Prelude.{slice_get, slice_index, if◌then◌else◌, EachIndex}
-use Rattle.std.specs.List.{list_any, list_all}
-use Rattle.std.proofs.lemmas.Bool.{false≢true, both_ways, ltb-true, and_parts, and_from, eqb-true, eq-eqb, lt-ltb, or_from, false_from_ne_true}
-use Rattle.std.proofs.lemmas.Bool.{true_from_ne_false, true≢false}
-use Rattle.std.proofs.lemmas.List.{length-map, get_or-map}
+use Rattle.kcr_machine.proofs.Common.{◌≡◌, ◌≢◌, ℕ, zero, suc, ◌+◌, ◌<◌, ◌≤◌, Bool, true, false, cond, nat_lt, List, [], ◌∷◌, map, filter, length}
+use Rattle.kcr_machine.proofs.Common.{get_or, refl, sym, ap, ◌∙◌, arith, ◌==◌, slice_get, slice_index, if◌then◌else◌, EachIndex, list_any, list_all}
+use Rattle.kcr_machine.proofs.Common.{false≢true, both_ways, ltb-true, and_parts, and_from, eqb-true, eq-eqb, lt-ltb, false_from_ne_true}
+use Rattle.kcr_machine.proofs.Common.{true_from_ne_false, length-map, get_or-map, same_text, is_before, before-turned, Seat, on_seat, fits_of}
+use Rattle.kcr_machine.proofs.Common.{IsStrictlyIncreasing, day_of, same-is, same-itself, any-same, are_rising, present_are_in, History, facility_of}
+use Rattle.kcr_machine.proofs.Common.{sheet, present, fits, eligible, is_seating, comes_first, IsFirst, is_eligible_at, who_fit, rise, is_short}
+use Rattle.kcr_machine.proofs.Common.{IsLeast, filter_agree}
 use Rattle.std.proofs.lemmas.List.Folds.{list_any_at, list_all_at}
-use Rattle.kcr_base.specs.Same.{same_text, is_before}
-use Rattle.kcr_room.proofs.Orders.{before-turned}
-use Rattle.kcr_script.specs.declared.seat.Seat.{Seat}
 use Rattle.kcr_seats.specs.Seating as Search
 use Rattle.kcr_seats.specs.Seating.{count_below, can_take}
-use Rattle.kcr_rules.specs.Signing.{on_seat, fits_of}
-use Rattle.std.specs.List.Sorted.{IsStrictlyIncreasing}
-use Rattle.kcr_base.specs.Days.{day_of}
-use Rattle.kcr_base.proofs.SameLemmas.{same-is, same-itself}
-use Rattle.kcr_base.proofs.ListLemmas.{any-same}
-use Rattle.kcr_room.specs.Laws.{are_rising}
-use Rattle.kcr_room.proofs.Keeping.{present_are_in}
 use Rattle.kcr_room.proofs.Rising.{present_are_rising}
-use Rattle.kcr_history.specs.History.{History}
-use Rattle.kcr_history.specs.Ceremonies.{facility_of}
-use Rattle.kcr_history.specs.Room.{sheet, present}
-use Rattle.kcr_history.specs.Seating.{fits, eligible, is_seating, comes_first, IsFirst, is_eligible_at, who_fit, rise, is_short, IsLeast}
-use Rattle.std.proofs.lemmas.List.Elements.{filter_agree}
 use Rattle.kcr_laws.proofs.Hall.{is_one}
 use Rattle.kcr_seats.proofs.Counting.{length_under, count_all}
 use Rattle.kcr_seats.proofs.Least.{rising_apart}
@@ -49,7 +34,7 @@ abbrev pub can_take_one : (Seat → List ℕ → Bool) → List Seat → List �
 can_take_one E seats S who = list_any (λ s. on_seat E (slice_get seats s) who) S
 
 before_itself : (a : List ℕ) → is_before a a ≡ false
-before_itself a = false_from_ne_true (is_before a a) (λ e. true≢false (sym e ∙ before-turned a a e))
+before_itself a = grind (arith, before-turned a a)
 
 -- where a value of the list stands
 abbrev position_in : {X : Type 0} → (X → X → Bool) → List X → X → ℕ
@@ -76,8 +61,7 @@ count-people test (x ∷ P) = grind (arith, count-shift (λ p. test (get_or (x �
 count-agree : (f g : ℕ → Bool) (n : ℕ) → ((i : ℕ) → i < n → f i ≡ g i) → count_below f n ≡ count_below g n
 unfolding count_below
 count-agree f g zero e = refl
-count-agree f g (suc n) e =
-    ap (λ m. m + cond (f n) 1 0) (count-agree f g n (λ i l. e i (omega (arith, l)))) ∙ ap (λ b. count_below g n + cond b 1 0) (e n (omega arith))
+count-agree f g (suc n) e = grind (arith, count-agree f g n (λ i l. e i (omega (arith, l))))
 
 -- E says who is eligible, F who fits by the rows; P are the people present
 module _ (E F : Seat → List ℕ → Bool) (L : List Seat) (P : List (List ℕ))
@@ -101,16 +85,12 @@ module _ (E F : Seat → List ℕ → Bool) (L : List Seat) (P : List (List ℕ)
 
   -- a seating of numbers is one of people
   pub seating-lift : (w : List ℕ) → Search.IsSeating (fits_of F L P) (length L) (length P) w → IsSeatingOf E L (named w)
-  seating-lift w s = record {
-    each_seat = length-map w (λ p. get_or P p []) ∙ s.each_seat;
-    fitting = λ k l.
-        let m : k < length w = omega (arith, l, s.each_seat) in
-        ap (on_seat E (slice_get L k)) (name-at w k m) ∙ sym (fits-same k (slice_index w k) (s.in_range k l)) ∙ s.fitting k l;
-    distinct = λ j k a b e.
-        let m : j < length w = omega (arith, a, s.each_seat) in
-        let n : k < length w = omega (arith, b, s.each_seat) in
-        s.distinct j k a b (apart (slice_index w j) (slice_index w k) (s.in_range j a) (s.in_range k b) (sym (name-at w j m) ∙ e ∙ name-at w k n));
-  }
+  seating-lift w s =
+      let named_at = λ (k : ℕ) (l : k < length L). name-at w k (omega (arith, l, s.each_seat)) in record {
+        each_seat = length-map w (λ p. get_or P p []) ∙ s.each_seat;
+        fitting = λ k l. ap (on_seat E (slice_get L k)) (named_at k l) ∙ sym (fits-same k (slice_index w k) (s.in_range k l)) ∙ s.fitting k l;
+        distinct = λ j k a b e. s.distinct j k a b (apart _ _ (s.in_range j a) (s.in_range k b) (sym (named_at j a) ∙ e ∙ named_at k b));
+      }
 
   abbrev numbered_as : List (List ℕ) → List ℕ
   numbered_as W = map (position_in same_text P) W
@@ -162,9 +142,7 @@ module _ (E F : Seat → List ℕ → Bool) (L : List Seat) (P : List (List ℕ)
 
 not_there : (who : List ℕ) (people : List (List ℕ)) → ((j : ℕ) → j < length people → get_or people j [] ≡ who → ⊥) → list_any (same_text who) people ≡ false
 not_there who [] f = refl
-not_there who (p ∷ people) f =
-    or_from (same_text who p) (list_any (same_text who) people) (false_from_ne_true (same_text who p) (λ e. f 0 (omega arith) (sym (same-is who p e))))
-    (not_there who people (λ j l. f (suc j) (omega (arith, l))))
+not_there who (p ∷ people) f = grind (arith, same-is who p, f 0, not_there who people (λ j l. f (suc j) (omega (arith, l))))
 
 seating-is : (A : History) (c t : ℕ) (L : List Seat) (people : List (List ℕ)) → IsSeatingOf (eligible A c t) L people → is_seating A c t L people ≡ true
 seating-is A c t [] [] s = refl
@@ -172,33 +150,18 @@ seating-is A c t [] (who ∷ people) s = absurd (omega (arith, s.each_seat))
 seating-is A c t (seat ∷ L) [] s = absurd (omega (arith, s.each_seat))
 seating-is A c t (seat ∷ L) (who ∷ people) s =
     let count : length people ≡ length L = omega (arith, s.each_seat) in
-    let rest : IsSeatingOf (eligible A c t) L people
-    = record {
+    let rest : IsSeatingOf (eligible A c t) L people = record {
       each_seat = count;
       fitting = λ k l. s.fitting (suc k) (omega (arith, l));
-      distinct = λ j k a b e. (let same : suc j ≡ suc k = s.distinct (suc j) (suc k) (omega (arith, a)) (omega (arith, b)) e in omega (arith, same));
+      distinct = λ j k a b e. grind (arith, s.distinct (suc j) (suc k));
     } in
-    let alone : list_any (same_text who) people ≡ false
-    = not_there who people (λ j l e. (let same : suc j ≡ 0 = s.distinct (suc j) 0 (omega (arith, l, count)) (omega arith) e in omega (arith, same))) in
+    let alone = not_there who people (λ j l e. grind (arith, s.distinct (suc j) 0, count)) in
     grind (arith, s.fitting 0 (omega arith), seating-is A c t L people rest)
 
 one_more_seat : (E : Seat → List ℕ → Bool) (seat : Seat) (who : List ℕ) (L : List Seat) (people : List (List ℕ)) → E seat who ≡ true
     → list_any (same_text who) people ≡ false → IsSeatingOf E L people
     → IsSeatingOf E (seat ∷ L) (who ∷ people)
-one_more_seat E seat who L people e free s = record { each_seat = ap suc s.each_seat; fitting = fit; distinct = apart }
-  where
-    fit : (k : ℕ) → k < suc (length L) → on_seat E (slice_get (seat ∷ L) k) (get_or (who ∷ people) k []) ≡ true
-    fit zero l = e
-    fit (suc k) l = s.fitting k (omega (arith, l))
-
-    alone : (k : ℕ) → k < length L → get_or people k [] ≡ who → ⊥
-    alone k l q = both_ways _ free (list_any_at (same_text who) people k [] (omega (arith, l, s.each_seat)) (ap (same_text who) q ∙ same-itself who))
-
-    apart : (j k : ℕ) → j < suc (length L) → k < suc (length L) → get_or (who ∷ people) j [] ≡ get_or (who ∷ people) k [] → j ≡ k
-    apart zero zero a b q = refl
-    apart zero (suc k) a b q = absurd (alone k (omega (arith, b)) (sym q))
-    apart (suc j) zero a b q = absurd (alone j (omega (arith, a)) q)
-    apart (suc j) (suc k) a b q = ap suc (s.distinct j k (omega (arith, a)) (omega (arith, b)) q)
+one_more_seat E seat who L people e free s = grind (arith, both_ways, list_any_at, same-itself)
 
 seating-of : (A : History) (c t : ℕ) (L : List Seat) (people : List (List ℕ)) → is_seating A c t L people ≡ true → IsSeatingOf (eligible A c t) L people
 seating-of A c t [] [] h = record { each_seat = refl; fitting = λ k l. absurd (omega (arith, l)); distinct = λ j k l. absurd (omega (arith, l)) }
@@ -216,8 +179,6 @@ LaterAt people others =
 -- so the first list comes first
 comes-first : (people others : List (List ℕ)) → length people ≡ length others → others ≢ people → LaterAt people others → comes_first people others ≡ true
 comes-first [] [] n ne f = absurd (ne refl)
-comes-first [] (b ∷ others) n ne f = absurd (omega (arith, n))
-comes-first (a ∷ people) [] n ne f = absurd (omega (arith, n))
 comes-first (a ∷ people) (b ∷ others) n ne f = by_test (same_text a b) refl (comes-first people others (omega (arith, n)))
   where
     later : (same : a ≡ b) → (k : ℕ) → ((j : ℕ) → j < k → get_or others j [] ≡ get_or people j []) → (j : ℕ) → j < suc k
@@ -231,16 +192,10 @@ comes-first (a ∷ people) (b ∷ others) n ne f = by_test (same_text a b) refl 
         let same : a ≡ b = same-is a b e in
         ih (λ q. ne (rw (same, q) refl)) (λ k l g d. f (suc k) (omega (arith, l)) (later same k g) d)
     by_test false e ih = f 0 (omega arith) (λ j l. absurd (omega (arith, l))) (λ q. absurd (both_ways _ e (ap (same_text a) q ∙ same-itself a)))
+comes-first people others n ne f = absurd (grind arith)
 
 first-is : (A : History) (c t : ℕ) (L : List Seat) (people : List (List ℕ)) → IsFirstOf (eligible A c t) L people → IsFirst A c t L people
-first-is A c t L people f =
-    record {
-      seating = seating-is A c t L people f.seating;
-      first = λ others so ne.
-          let s = seating-of A c t L others so in
-          comes-first people others (f.seating.each_seat ∙ sym s.each_seat) ne
-          (λ k l same differ. f.first others k s (omega (arith, l, f.seating.each_seat)) same differ);
-    }
+first-is A c t L people f = grind (arith, seating-is, seating-of, comes-first)
 
 -- SHORTAGES
 
@@ -251,15 +206,11 @@ at-seat A c t (seat ∷ L) who zero = refl
 at-seat A c t (seat ∷ L) who (suc p) = at-seat A c t L who p
 
 takers-fit : (A : History) (c t : ℕ) (L : List Seat) (S : List ℕ) → who_fit A c t L S ≡ filter (can_take_one (eligible A c t) L S) (present A c t)
-takers-fit A c t L S =
-    filter_agree (λ who. list_any (is_eligible_at A c t L who) S) (can_take_one (eligible A c t) L S)
-    (λ who. any-same (is_eligible_at A c t L who) (λ s. on_seat (eligible A c t) (slice_get L s) who) S (at-seat A c t L who)) (present A c t)
+takers-fit A c t L S = grind (arith, filter_agree, any-same, at-seat)
 
 -- rising numbers in a range, position by position and one after the other
 tail-rises : (p : ℕ) (S : List ℕ) → IsStrictlyIncreasing (p ∷ S) → IsStrictlyIncreasing S
-tail-rises p S h = λ k l.
-    let e : suc k + 1 ≡ suc (k + 1) = omega arith in
-    subst (λ n. slice_index (p ∷ S) (suc k) < slice_index (p ∷ S) n) e (h (suc k) (omega (arith, l)))
+tail-rises p S h = λ k l. grind (arith, h (suc k))
 
 rise-is : (low high : ℕ) (S : List ℕ) → IsStrictlyIncreasing S → EachIndex S (λ i. slice_index S i < high) → (0 < length S → low ≤ slice_index S 0)
     → rise low high S ≡ true
@@ -270,17 +221,13 @@ rise-is low high (p ∷ S) inc range first =
     grind (arith, rise-is (suc p) high S (tail-rises p S inc) (λ i l. range (suc i) (omega (arith, l))) (λ l. inc 0 (omega (arith, l))))
 
 range-of : (low high : ℕ) (S : List ℕ) → rise low high S ≡ true → (i : ℕ) → i < length S → slice_index S i < high
-range-of low high [] r i l = absurd (omega (arith, l))
-range-of low high (p ∷ S) r zero l = grind arith
-range-of low high (p ∷ S) r (suc i) l = range-of (suc p) high S (grind arith) i (omega (arith, l))
+range-of low high [] r i l = grind arith
+range-of low high (p ∷ S) r i l = grind (arith, range-of (suc p) high S)
 
 rises-of : (low high : ℕ) (S : List ℕ) → rise low high S ≡ true → (k : ℕ) → k + 1 < length S → slice_index S k < slice_index S (k + 1)
-rises-of low high [] r k l = absurd (omega (arith, l))
-rises-of low high (p ∷ []) r k l = absurd (omega (arith, l))
-rises-of low high (p ∷ q ∷ S) r zero l = grind arith
-rises-of low high (p ∷ q ∷ S) r (suc k) l =
-    let e : suc (k + 1) ≡ suc k + 1 = omega arith in
-    subst (λ n. slice_index (p ∷ q ∷ S) (suc k) < slice_index (p ∷ q ∷ S) n) e (rises-of (suc p) high (q ∷ S) (grind arith) k (omega (arith, l)))
+rises-of low high [] r k l = grind arith
+rises-of low high (p ∷ []) r k l = grind arith
+rises-of low high (p ∷ q ∷ S) r k l = grind (arith, rises-of (suc p) high (q ∷ S))
 
 -- PARTS
 
@@ -294,26 +241,18 @@ part-of (p ∷ part) whole h (suc i) l = part-of part whole (grind arith) i (ome
 -- rising numbers that are all in a list are not more than it has
 pigeon : (S T : List ℕ) → IsStrictlyIncreasing S → Search.IsPart S T → length S ≤ length T
 pigeon S T rises part =
+    let at = λ (i : ℕ) (l : i < length S). (let j = part i l in
+    position (λ p q. q == p) (λ p q e. sym (eqb-true q p e)) 0 T (slice_index S i)
+    (list_any_at (λ q. q == slice_index S i) T j.0 0 j.1 (eq-eqb (slice_index T j.0) (slice_index S i) j.2))) in
     let fit = length_under S (position_in (λ p q. q == p) T) (λ p. true) (length T) (λ i l. (at i l).0) (λ i l. refl)
     (λ i j l m e. rising_apart S rises i j l m (sym (at i l).1 ∙ ap (λ p. get_or T p 0) e ∙ (at j m).1)) in
     omega (arith, fit, count_all (length T))
-  where
-    at : (i : ℕ) → i < length S → (position_in (λ p q. q == p) T (slice_index S i) < length T)
-        × (get_or T (position_in (λ p q. q == p) T (slice_index S i)) 0 ≡ slice_index S i)
-    at i l =
-        let j = part i l in
-        position (λ p q. q == p) (λ p q e. sym (eqb-true q p e)) 0 T (slice_index S i)
-        (list_any_at (λ q. q == slice_index S i) T j.0 0 j.1 (eq-eqb (slice_index T j.0) (slice_index S i) j.2))
 
 -- OVER THOSE PRESENT
 
 rising-at : (P : List (List ℕ)) → are_rising P ≡ true → (i j : ℕ) → i < j → j < length P → is_before (get_or P i []) (get_or P j []) ≡ true
-rising-at [] h i j l m = absurd (omega (arith, m))
-rising-at (x ∷ P) h i zero l m = absurd (omega (arith, l))
-rising-at (x ∷ P) h zero (suc j) l m =
-    true_from_ne_false (is_before x (get_or P j []))
-    (λ e. true≢false (sym (let q : list_all (is_before x) P ≡ true = grind arith in q) ∙ list_all_at (is_before x) P j [] (omega (arith, m)) e))
-rising-at (x ∷ P) h (suc i) (suc j) l m = rising-at P (grind arith) i j (omega (arith, l)) (omega (arith, m))
+rising-at [] h i j l m = grind arith
+rising-at (x ∷ P) h i j l m = grind (arith, true_from_ne_false, list_all_at, rising-at P)
 
 -- F says who fits by the rows, and of the seats at hand says what the history does
 module _ (A : History) (c t : ℕ) (F : Seat → List ℕ → Bool) (L : List Seat)
@@ -323,18 +262,10 @@ module _ (A : History) (c t : ℕ) (F : Seat → List ℕ → Bool) (L : List Se
 
   agree : (k : ℕ) (who : List ℕ) → list_any (same_text who) (present A c t) ≡ true
       → on_seat F (slice_get L k) who ≡ on_seat (eligible A c t) (slice_get L k) who
-  agree k who e = fit k who ∙ by_seat (slice_get L k)
-    where
-      by_seat : (o : Option Seat) → on_seat (fits A (facility_of A c) (day_of t)) o who ≡ on_seat (eligible A c t) o who
-      by_seat None = refl
-      by_seat (Some seat) = grind (arith, present_are_in (sheet A) who c t)
+  agree k who e = grind (arith, present_are_in)
 
   inside : (k : ℕ) (who : List ℕ) → on_seat (eligible A c t) (slice_get L k) who ≡ true → list_any (same_text who) (present A c t) ≡ true
-  inside k who e = by_seat (slice_get L k) e
-    where
-      by_seat : (o : Option Seat) → on_seat (eligible A c t) o who ≡ true → list_any (same_text who) (present A c t) ≡ true
-      by_seat None g = absurd (false≢true g)
-      by_seat (Some seat) g = grind (arith, present_are_in (sheet A) who c t)
+  inside k who e = grind (arith, false≢true, present_are_in)
 
   -- the first seating
   pub first-of : (w : List ℕ) → Search.IsFirst (fits_of F L (present A c t)) (length L) (length (present A c t)) w
@@ -345,19 +276,10 @@ module _ (A : History) (c t : ℕ) (F : Seat → List ℕ → Bool) (L : List Se
   counted S = takers (eligible A c t) F L (present A c t) rising agree inside S ∙ ap length (sym (takers-fit A c t L S))
 
   short-is : (S : List ℕ) → Search.IsShort (fits_of F L (present A c t)) (length L) (length (present A c t)) S → is_short A c t L S ≡ true
-  short-is S s =
-      and_from (rise 0 (length L) S) (nat_lt (length (who_fit A c t L S)) (length S))
-      (rise-is 0 (length L) S s.rising s.in_range (λ l. omega arith))
-      (lt-ltb (length (who_fit A c t L S)) (length S) (rw (counted S) at s.few))
+  short-is S s = grind (arith, and_from, rise-is, lt-ltb, counted)
 
   short-of : (S : List ℕ) → is_short A c t L S ≡ true → Search.IsShort (fits_of F L (present A c t)) (length L) (length (present A c t)) S
-  short-of S h =
-      let k = and_parts (rise 0 (length L) S) (nat_lt (length (who_fit A c t L S)) (length S)) h in
-      record {
-        rising = rises-of 0 (length L) S k.0;
-        in_range = range-of 0 (length L) S k.0;
-        few = rw (counted S) (ltb-true (length (who_fit A c t L S)) (length S) k.1);
-      }
+  short-of S h = grind (arith, and_parts, rising, rises-of, range-of, counted, ltb-true)
 
   -- a least shortage
   pub least-of : (S : List ℕ) → Search.IsLeast (fits_of F L (present A c t)) (length L) (length (present A c t)) S → IsLeast A c t L S

@@ -1,49 +1,18 @@
 -- The rows that a request of the sheet puts lead to the tables after it, if the sheet was made in turn and each person is named once.
-use Rattle.std.proofs.Common.{◌≡◌, ℕ, Bool, true, false, cond, not, ◌&&◌, ◌==◌, nat_le, List, [], ◌∷◌, ◌++◌, map, filter, find, reverse, Option, None, refl}
-use Rattle.std.proofs.Common.{sym, ap, ◌∙◌, subst, arith, append_assoc, append-nil, inl, inr, ◌≤◌}
-use Rattle.std.specs.List.{list_any}
-use Rattle.std.specs.List.Sorted.{IsPermutation}
-use Rattle.std.proofs.lemmas.Bool.{true≢false, both_ways, and_parts, and_from, or_parts, not-true, not-false, le-leb, eqb-true, eq-eqb, false_from_ne_true}
-use Rattle.std.proofs.lemmas.Bool.{or_from, cases_lt}
-use Rattle.std.proofs.lemmas.List.Sorted.{IsPermutation-refl, IsPermutation-sym, IsPermutation-trans, IsPermutation-reverse, IsPermutation-append}
-use Rattle.std.proofs.lemmas.List.Sorted.{IsPermutation-map, IsPermutation-middle}
-use Rattle.kcr_base.specs.Rows.{put_all}
-use Rattle.kcr_base.specs.Same.{same_text}
-use Rattle.kcr_room.specs.declared.SheetRow.{SheetRow}
-use Rattle.kcr_room.specs.declared.Stay.{Stay}
-use Rattle.kcr_room.specs.declared.Way.{Way}
-use Rattle.kcr_room.specs.declared.Way.TheVariants.{Enter, Leave}
-use Rattle.kcr_room.specs.Room.{later_row, last_onto, last_row_of}
-use Rattle.kcr_room.specs.Stays.{stay_reaches, stays_by}
-use Rattle.kcr_base.specs.Lists.{is_among}
-use Rattle.kcr_room.specs.Requests.{has_no_end, is_inside_of, is_out_of_turn_in, is_out_of_turn_by, new_row, new_stay, with_end}
-use Rattle.kcr_room.specs.Requests.{is_open_stay_of, changed_stays, reaches, turn_refusal}
-use Rattle.kcr_base.specs.Lists.{are_apart}
-use Rattle.kcr_base.proofs.SameLemmas.{same-is, same-itself, same-turned}
-use Rattle.kcr_room.specs.Laws.{IsSheet}
-use Rattle.kcr_room.proofs.Keeping.{none-found}
-use Rattle.kcr_room.proofs.Sheets.{last_reaches, earlier-last, same-turns, added, rows-added}
-use Rattle.kcr_room.proofs.Orders.{turn-order}
-use Rattle.kcr_history.specs.declared.commands.Act.TheVariants.{Ceremony}
-use Rattle.kcr_history.specs.declared.commands.Deed.TheVariants.{RecordSheet}
-use Rattle.kcr_history.specs.declared.commands.ReplyData.{ReplyData}
-use Rattle.kcr_history.specs.declared.commands.Command.{Command}
-use Rattle.kcr_history.specs.declared.views.Change.{Change}
-use Rattle.kcr_history.specs.declared.views.Change.TheVariants.{PutSheet, PutStay, PutKey}
-use Rattle.kcr_history.specs.declared.views.View.{View}
-use Rattle.kcr_history.specs.History.{History, entry_of}
-use Rattle.kcr_history.specs.Room.{sheet}
-use Rattle.kcr_history.specs.Tables.{Tables, SameTables, tables, withdrawals}
-use Rattle.kcr_history.specs.Changes.{same_sheet_row, same_stay, all_changed}
-use Rattle.kcr_history.specs.Views.{IsViewOf}
-use Rattle.kcr_history.specs.AsksByKind.{asks_of_act}
-use Rattle.kcr_history.specs.Conditions.{out_of_turn_refusal}
-use Rattle.kcr_history.specs.Machine.{with_command}
-use Rattle.kcr_rules.specs.SheetRows.{sheet_changes_by}
-use Rattle.kcr_machine.specs.NewDecision.{new_key_row}
+use Rattle.kcr_machine.proofs.Common.{◌≡◌, ℕ, Bool, true, false, cond, ◌&&◌, ◌==◌, nat_le, List, [], ◌∷◌, ◌++◌, map, filter, find, reverse, Option}
+use Rattle.kcr_machine.proofs.Common.{None, refl, sym, ap, ◌∙◌, arith, append_assoc, append-nil, inl, inr, rules, list_any, IsPermutation, and_from}
+use Rattle.kcr_machine.proofs.Common.{eqb-true, eq-eqb, IsPermutation-refl, IsPermutation-sym, IsPermutation-trans, IsPermutation-reverse}
+use Rattle.kcr_machine.proofs.Common.{IsPermutation-append, IsPermutation-map, IsPermutation-middle, put_all, same_text, SheetRow, Stay, Way, Leave}
+use Rattle.kcr_machine.proofs.Common.{later_row, last_onto, last_row_of, stay_reaches, stays_by, is_among, has_no_end, is_inside_of}
+use Rattle.kcr_machine.proofs.Common.{is_out_of_turn_in, is_out_of_turn_by, new_row, new_stay, with_end, is_open_stay_of, changed_stays, turn_refusal}
+use Rattle.kcr_machine.proofs.Common.{are_apart, same-is, same-itself, same-turned, IsSheet, none-found, last_reaches, earlier-last, same-turns}
+use Rattle.kcr_machine.proofs.Common.{added, rows-added, turn-order, Ceremony, RecordSheet, ReplyData, Command, Change, PutSheet, PutStay, PutKey}
+use Rattle.kcr_machine.proofs.Common.{View, History, entry_of, sheet, Tables, SameTables, tables, same_sheet_row, same_stay, all_changed, IsViewOf}
+use Rattle.kcr_machine.proofs.Common.{asks_of_act, out_of_turn_refusal, with_command, sheet_changes_by, new_key_row, IsIn, any-in, filter-in, in-any}
+use Rattle.kcr_machine.proofs.Common.{in-filter, in-order, map-same-in, none-in, none-passes}
+use Rattle.kcr_room.specs.declared.Way.TheVariants.{Enter}
 use Rattle.kcr_machine.proofs.Keyed.{Shown, put-rows}
-use Rattle.kcr_machine.proofs.Leads.{all_changed-rows, changed_with, command_of, new_key, other-order}
-use Rattle.kcr_base.proofs.Members.{IsIn, any-in, filter-in, in-any, in-filter, in-order, map-same-in, none-in, none-passes}
+use Rattle.kcr_machine.proofs.Leads.{all_changed-rows, changed_with, command_of, new_key}
 use Rattle.kcr_machine.proofs.SheetStays.{IsClear, before-enter, clear-order, clear-sheet}
 
 -- NEW ROWS ARE PUT IN FRONT
@@ -55,31 +24,27 @@ IsFresh same (x ∷ xs) old = (list_any (same x) old ≡ false) × IsFresh same 
 
 -- rows put under new keys are added to the old ones, in some order
 pub put-fresh : {X : Type 0} (same : X → X → Bool) (xs old : List X) → IsFresh same xs old → IsPermutation (put_all same xs old) (old ++ xs)
-put-fresh same [] old h = subst (IsPermutation old) (sym (append-nil old)) (IsPermutation-refl old)
+put-fresh same [] old h = rw append-nil (IsPermutation-refl old)
 put-fresh same (x ∷ xs) old h =
-    rw h.0 (IsPermutation-trans (put_all same xs (x ∷ old)) (x ∷ (old ++ xs)) (old ++ x ∷ xs) (put-fresh same xs (x ∷ old) h.1)
-    (IsPermutation-sym (old ++ x ∷ xs) (x ∷ (old ++ xs)) (IsPermutation-middle old x xs)))
+    rw h.0 (IsPermutation-trans _ _ _ (put-fresh same xs (x ∷ old) h.1) (IsPermutation-sym _ _ (IsPermutation-middle old x xs)))
 
 -- a row for each of some people, each named once
 fresh-people : {X : Type 0} (same : X → X → Bool) (f : List ℕ → X) (people : List (List ℕ)) (old : List X) → are_apart people ≡ true
     → ((x y : List ℕ) → same_text x y ≡ false → same (f y) (f x) ≡ false) → ((who : List ℕ) → IsIn who people → list_any (same (f who)) old ≡ false)
     → IsFresh same (map f people) old
 fresh-people same f [] old a other new = tt
-fresh-people same f (who ∷ people) old a other new =
-    let d = and_parts (not (list_any (same_text who) people)) (are_apart people) a in (
-      new who (inl refl),
-      fresh-people same f people (f who ∷ old) d.1 other (λ w i.
-          or_from (same (f w) (f who)) (list_any (same (f w)) old)
-          (other who w (none-in (same_text who) w people (not-true (list_any (same_text who) people) d.0) i)) (new w (inr i))),
-    )
+fresh-people same f (who ∷ people) old a other new = (
+  new who (inl refl),
+  fresh-people same f people (f who ∷ old) (grind arith) other (λ w i.
+      let apart = none-in (same_text who) w people (grind arith) i in grind (arith, other who w, new w (inr i))),
+)
 
 -- such rows that are put into a table, of which the last row stands first, stand behind its rows
 put-news : {X : Type 0} (same : X → X → Bool) (news old : List X) → IsFresh same news (reverse old)
     → IsPermutation (put_all same news (reverse old)) (reverse (old ++ news))
 put-news same news old fresh =
-    IsPermutation-trans (put_all same news (reverse old)) (reverse old ++ news) (reverse (old ++ news)) (put-fresh same news (reverse old) fresh)
-    (IsPermutation-trans (reverse old ++ news) (old ++ news) (reverse (old ++ news))
-    (IsPermutation-append (reverse old) old news news (IsPermutation-sym old (reverse old) (IsPermutation-reverse old)) (IsPermutation-refl news))
+    IsPermutation-trans _ _ _ (put-fresh same news (reverse old) fresh)
+    (IsPermutation-trans _ _ _ (IsPermutation-append _ old news news (IsPermutation-sym _ _ (IsPermutation-reverse old)) (IsPermutation-refl news))
     (IsPermutation-reverse (old ++ news)))
 
 -- if it is the turn of each of the people
@@ -98,12 +63,12 @@ all-before at (row ∷ rows) last h = grind (arith, all-before at rows (later_ro
 row-fresh : (rows : List SheetRow) (c : ℕ) (way : Way) (at : ℕ) (who : List ℕ) → is_out_of_turn_by rows c way at who ≡ false
     → list_any (same_sheet_row (new_row c way at who)) (reverse rows) ≡ false
 row-fresh rows c way at who h =
-    none-passes (same_sheet_row (new_row c way at who)) (reverse rows) (λ row i. false_from_ne_true (same_sheet_row (new_row c way at who) row) (λ e.
-    let p = and_parts (same_text row.who who) (row.at == at) e in
-    let k : row.at ≡ at = eqb-true row.at at p.1 in
-    let own = filter-in (λ r. same_text r.who who) row rows (in-order row rows (reverse rows) (IsPermutation-reverse rows) i) p.0 in
-    let early = (all-before at (filter (λ r. same_text r.who who) rows) None (earlier-last way c at (last_row_of rows who) h)).1 in
-    both_ways (nat_le at row.at) (none-in (λ r. nat_le at r.at) row (filter (λ r. same_text r.who who) rows) early own) (le-leb at row.at (omega (arith, k)))))
+    none-passes (same_sheet_row (new_row c way at who)) (reverse rows) (λ row i.
+    let all = filter (λ (r : SheetRow). same_text r.who who) rows in
+    let own = filter-in (λ r. same_text r.who who) row rows (in-order row rows (reverse rows) (IsPermutation-reverse rows) i) in
+    let early = (all-before at all None (earlier-last way c at (last_row_of rows who) h)).1 in
+    let past = none-in (λ r. nat_le at r.at) row all early in
+    grind arith)
 
 other-row : (c : ℕ) (way : Way) (at : ℕ) (x y : List ℕ) → same_text x y ≡ false → same_sheet_row (new_row c way at y) (new_row c way at x) ≡ false
 other-row c way at x y e = ap (λ b. b && at == at) e
@@ -115,10 +80,7 @@ other-stay c at x y e = ap (λ b. b && at == at) e
 sheet-put : (rows : List SheetRow) (c : ℕ) (way : Way) (at : ℕ) (people : List (List ℕ)) → are_apart people ≡ true
     → turn_refusal (find (is_out_of_turn_by rows c way at) people) ≡ None
     → IsPermutation (put_all same_sheet_row (map (new_row c way at) people) (reverse rows)) (reverse (rows ++ map (new_row c way at) people))
-sheet-put rows c way at people a h =
-    put-news same_sheet_row (map (new_row c way at) people) rows
-    (fresh-people same_sheet_row (new_row c way at) people (reverse rows) a (other-row c way at)
-    (λ who i. row-fresh rows c way at who (turns-each (is_out_of_turn_by rows c way at) people h who i)))
+sheet-put rows c way at people a h = grind (arith, put-news, fresh-people, other-row, row-fresh, turns-each)
 
 -- those who come get a stay
 enter-put : (stays : List Stay) (c at : ℕ) (people : List (List ℕ)) → are_apart people ≡ true
@@ -126,14 +88,9 @@ enter-put : (stays : List Stay) (c at : ℕ) (people : List (List ℕ)) → are_
     → IsPermutation (put_all same_stay (map (new_stay c at) people) (reverse stays)) (reverse (stays ++ map (new_stay c at) people))
 enter-put stays c at people a turns =
     put-news same_stay (map (new_stay c at) people) stays
-    (fresh-people same_stay (new_stay c at) people (reverse stays) a (other-stay c at) (λ who i. stay-fresh who (turns who i)))
-  where
-    stay-fresh : (who : List ℕ) → is_out_of_turn_in stays c Enter at who ≡ false → list_any (same_stay (new_stay c at who)) (reverse stays) ≡ false
-    stay-fresh who h =
-        none-passes (same_stay (new_stay c at who)) (reverse stays) (λ r i. false_from_ne_true (same_stay (new_stay c at who) r) (λ e.
-        let p = and_parts (same_text r.who who) (r.since == at) e in
-        let l = (before-enter stays c at who h r (in-order r stays (reverse stays) (IsPermutation-reverse stays) i) p.0).0 in
-        omega (arith, l, eqb-true r.since at p.1)))
+    (fresh-people same_stay (new_stay c at) people (reverse stays) a (other-stay c at) (λ who i.
+    none-passes (same_stay (new_stay c at who)) (reverse stays) (λ r j.
+    let l = before-enter stays c at who (turns who i) r (in-order r stays (reverse stays) (IsPermutation-reverse stays) j) in grind arith)))
 
 -- ROWS ARE PUT IN PLACE OF OLD ONES
 
@@ -159,34 +116,19 @@ module _ (all shown : List Stay) (c at : ℕ) (people : List (List ℕ)) (clear 
   changed-in x i = within x (in-filter (is_open_stay_of c people) x shown i).0
 
   only-one : (x r : Stay) → IsIn x all → IsIn r all → same_stay x r ≡ true → x ≡ r
-  only-one x r i j e =
-      let q = and_parts (same_text r.who x.who) (r.since == x.since) e in
-      elim (clear.apart x r i j (same-turned x.who r.who ∙ q.0) (let k = eqb-true r.since x.since q.1 in omega (arith, k))) [
-        | inl same ↦ same
-        | inr later_row ↦ absurd (let k = eqb-true r.since x.since q.1 in omega (arith, k, later_row.0))
-      ]
+  only-one x r i j e = grind (arith, same-turned, eqb-true)
 
   -- an open stay of somebody who leaves is one of those that end
   ends : (r : Stay) → IsIn r all → is_among people r.who ≡ true → has_no_end r.until ≡ true → list_any (λ x. same_stay x r) changed ≡ true
   ends r i m o =
       let w = any-in (same_text r.who) people m in
-      let same : r.who ≡ w.0 = same-is r.who w.0 w.2 in
-      let t = or_parts (list_any (reaches w.0 at) all) (not (list_any (is_inside_of c w.0) all)) (turns w.0 w.1) in
-      let s = any-in (is_inside_of c w.0) all (not-false (list_any (is_inside_of c w.0) all) t.1) in
-      let b : (same_text s.0.who w.0 ≡ true) × (has_no_end s.0.until ≡ true) = (grind arith, grind arith) in
-      let owner : same_text r.who s.0.who ≡ true = ap (same_text r.who) (same-is s.0.who w.0 b.0 ∙ sym same) ∙ same-itself r.who in
-      let is : r ≡ s.0 = elim (cases_lt r.since s.0.since) [
-        | inl l ↦ by_time r s.0 i s.1 owner o (omega (arith, l))
-        | inr l ↦ sym (by_time s.0 r s.1 i (same-turned s.0.who r.who ∙ owner) b.1 l)
-      ] in
+      let s = any-in (is_inside_of c w.0) all (grind (arith, turns w.0 w.1)) in
+      let is : r ≡ s.0 = grind (arith, clear.apart r s.0 i s.1, clear.apart s.0 r s.1 i, same-is r.who w.0, same-is s.0.who w.0, same-itself w.0) in
       let here : (r.ceremony == c) ≡ true = rw is (grind arith) in
-      let fits : is_open_stay_of c people r ≡ true = grind arith in
-      let own : IsIn r (filter (stay_reaches c at) shown) = in-order r (filter (stay_reaches c at) shown) (filter (stay_reaches c at) all)
-      (IsPermutation-sym (filter (stay_reaches c at) all) (filter (stay_reaches c at) shown) p) (filter-in (stay_reaches c at) r all i (open-lasts c at r here o)) in
-      in-any (λ x. same_stay x r) r changed (filter-in (is_open_stay_of c people) r shown (in-filter (stay_reaches c at) r shown own).0 fits) (same-stay r)
-    where
-      by_time : (r s : Stay) → IsIn r all → IsIn s all → same_text r.who s.who ≡ true → has_no_end r.until ≡ true → r.since ≤ s.since → r ≡ s
-      by_time r s i j e o l = elim (clear.apart r s i j e l) [ inl same ↦ same | inr q ↦ absurd (true≢false (sym o ∙ ap has_no_end q.1.1)) ]
+      let all_own = filter-in (stay_reaches c at) r all i (open-lasts c at r here o) in
+      let seen = in-order r (filter (stay_reaches c at) shown) (filter (stay_reaches c at) all) (IsPermutation-sym _ _ p) all_own in
+      let fits = filter-in (is_open_stay_of c people) r shown (in-filter (stay_reaches c at) r shown seen).0 (grind arith) in
+      in-any (λ x. same_stay x r) r changed fits (same-stay r)
 
   leave-put : put_all same_stay (map (with_end people at) changed) all ≡ map (with_end people at) all
   leave-put =
@@ -202,9 +144,7 @@ stays-put : (rows : List SheetRow) → IsSheet rows → (shown : List Stay) (c :
     → IsPermutation (put_all same_stay (changed_stays shown c way people at) (reverse (stays_by rows)))
     (reverse (stays_by (rows ++ map (new_row c way at) people)))
 stays-put rows s shown c way at people a p l h =
-    subst (λ stays. IsPermutation (put_all same_stay (changed_stays shown c way people at) (reverse (stays_by rows)))
-    (reverse stays))
-    (sym (rows-added c way at people rows s a h))
+    rw (rows-added c way at people rows s a h)
     (by_way way (λ who i. sym (same-turns rows s c way at who) ∙ turns-each (is_out_of_turn_by rows c way at) people h who i))
   where
     table : List Stay
@@ -216,11 +156,9 @@ stays-put rows s shown c way at people a p l h =
     by_way Enter turns = enter-put table c at people a turns
     by_way Leave turns =
         let turned = IsPermutation-reverse table in
-        subst (λ rows. IsPermutation rows (reverse (map (with_end people at) table)))
-        (sym (leave-put (reverse table) shown c at people (clear-order table (reverse table) turned (clear-sheet rows s)) p l
-        (λ who i. turn-order table (reverse table) turned c Leave at who ∙ turns who i)))
-        (IsPermutation-trans (map (with_end people at) (reverse table)) (map (with_end people at) table) (reverse (map (with_end people at) table))
-        (IsPermutation-map (with_end people at) (reverse table) table (IsPermutation-sym table (reverse table) turned))
+        let same = leave-put (reverse table) shown c at people (clear-order table (reverse table) turned (clear-sheet rows s)) p l
+        (λ who i. turn-order table (reverse table) turned c Leave at who ∙ turns who i) in
+        rw same (IsPermutation-trans _ _ _ (IsPermutation-map (with_end people at) (reverse table) table (IsPermutation-sym _ _ turned))
         (IsPermutation-reverse (map (with_end people at) table)))
 
 -- THE TABLES
@@ -248,5 +186,4 @@ sheet-leads A s key c way all at a view answer v k f =
       all_changed-stays stays rest (record (tables A) { sheet = put_all same_sheet_row news (reverse (sheet A)) }),
       new_key A x answer k,
     )
-    (other-order (tables (with_command A x answer)) (withdrawals A) _ _ (IsPermutation-refl (withdrawals A)) (sheet-put (sheet A) c way at all a f)
-    (stays-put (sheet A) s view.stays.items c way at all a v.stays.room v.stays.within f))
+    (search (rules, IsPermutation-refl, sheet-put, stays-put))

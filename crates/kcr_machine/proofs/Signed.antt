@@ -1,51 +1,21 @@
 -- Signatures and exceptions: what the rows of a view say of them is what the history says, and their changes lead on.
-use Rattle.kcr_history.specs.declared.row_types.StepRow.{StepRow}
-use Rattle.std.proofs.Common.{◌≡◌, ℕ, zero, suc, ◌<◌, Bool, true, false, nat_lt, List, [], ◌∷◌, ◌++◌, map, length, get_or, Option, Some, None, is_none, refl}
-use Rattle.std.proofs.Common.{sym, ap, ◌∙◌, subst, arith, inl, inr, append_assoc}
-use Rattle.std.specs.Prelude.{is_some, slice_get}
-use Rattle.std.specs.List.Sorted.{IsPermutation}
-use Rattle.std.proofs.lemmas.Bool.{ltb-true}
-use Rattle.kcr_base.specs.Days.{day_of}
-use Rattle.kcr_base.specs.Rows.{put}
-use Rattle.kcr_base.specs.declared.place.Facility.{Facility}
-use Rattle.kcr_base.specs.declared.place.Role.TheVariants.{Ca, Iw}
-use Rattle.kcr_base.specs.declared.refusal.Refusal.{Refusal}
-use Rattle.kcr_base.specs.declared.refusal.Refusal.TheVariants.{Short}
-use Rattle.kcr_people.specs.People.{lasts_beyond}
-use Rattle.kcr_script.specs.declared.seat.Seat.{Seat}
-use Rattle.kcr_seats.specs.Seating as Search
-use Rattle.kcr_history.specs.declared.commands.Act.{Act}
-use Rattle.kcr_history.specs.declared.commands.Act.TheVariants.{Ceremony}
-use Rattle.kcr_history.specs.declared.commands.Deed.TheVariants.{Sign, RecordException}
-use Rattle.kcr_history.specs.declared.commands.Command.{Command}
-use Rattle.kcr_history.specs.declared.row_types.StepState.{StepState}
+use Rattle.kcr_machine.proofs.Common.{StepRow, ◌≡◌, ℕ, suc, ◌<◌, Bool, true, false, List, [], ◌∷◌, ◌++◌, map, Option, Some, None, is_none, refl, ap}
+use Rattle.kcr_machine.proofs.Common.{◌∙◌, subst, arith, inl, inr, append_assoc, rules, slice_get, IsPermutation, ltb-true, day_of, put, Facility}
+use Rattle.kcr_machine.proofs.Common.{Refusal, Short, lasts_beyond, Seat, Act, Ceremony, Sign, RecordException, Command, StepState, Change}
+use Rattle.kcr_machine.proofs.Common.{PutSeating, PutKey, StepFilter, View, History, pushed_onto, facility_of, steps_of, step_at, steps_done}
+use Rattle.kcr_machine.proofs.Common.{next_step, exceptions_of, present, fits, IsFirst, IsLeast, Tables, tables, marks, steps, step_row, seatings}
+use Rattle.kcr_machine.proofs.Common.{seat_rows, seats_at, exceptions, trainings, withdrawals, appointments, all_changed, same_step, same_mark}
+use Rattle.kcr_machine.proofs.Common.{same_exception, changed, IsViewOf, is_step_at, training_reaches, asks_of_act, SeatRequest, reply_to, IsRegister}
+use Rattle.kcr_machine.proofs.Common.{seat_request, ceremony_by, facility_of_row, step_by, seats_by, next_step_by, on_seat, room_by, IsSeatedBy}
+use Rattle.kcr_machine.proofs.Common.{IsUnseatedBy, staff, mark_change, seat_changes, exception_change, new_key_row, rooms, next_signed, fits-on}
+use Rattle.kcr_machine.proofs.Common.{same_Some, none-some}
+use Rattle.std.specs.Prelude.{is_some}
 use Rattle.kcr_history.specs.declared.row_types.StepState.TheVariants.{Signed, Passed}
-use Rattle.kcr_history.specs.declared.views.Change.{Change}
-use Rattle.kcr_history.specs.declared.views.Change.TheVariants.{PutSeating, PutKey}
-use Rattle.kcr_history.specs.declared.views.StepFilter.{StepFilter}
-use Rattle.kcr_history.specs.declared.views.View.{View}
-use Rattle.kcr_history.specs.History.{History, pushed_onto}
-use Rattle.kcr_history.specs.Ceremonies.{facility_of, steps_of, step_at, steps_done, next_step, exceptions_of}
-use Rattle.kcr_history.specs.Room.{present}
 use Rattle.kcr_history.specs.Fitting.{fits_by}
-use Rattle.kcr_history.specs.Seating.{fits, IsFirst, IsLeast}
-use Rattle.kcr_history.specs.Tables.{Tables, tables, marks, steps, step_row, seatings, seat_rows, seats_at, exceptions, trainings, withdrawals, appointments}
-use Rattle.kcr_history.specs.Changes.{all_changed, same_step, same_mark, same_exception, changed}
-use Rattle.kcr_history.specs.Views.{IsViewOf, is_step_at, training_reaches}
-use Rattle.kcr_history.specs.AsksByKind.{asks_of_act}
-use Rattle.kcr_history.specs.Machine.{SeatRequest, reply_to, IsRegister, seat_request}
-use Rattle.kcr_rules.specs.CeremonyStatus.{ceremony_by, facility_of_row}
-use Rattle.kcr_rules.specs.Signing.{step_by, seats_by, next_step_by, on_seat, fits_of, room_by, IsSeatedBy, IsUnseatedBy, staff, mark_change}
-use Rattle.kcr_rules.specs.Signing.{seat_changes, exception_change}
-use Rattle.kcr_machine.specs.NewDecision.{new_key_row}
-use Rattle.kcr_laws.proofs.Alone.{rooms}
-use Rattle.kcr_laws.proofs.Done.{next_signed}
-use Rattle.kcr_laws.proofs.Staffed.{fits-on}
-use Rattle.std.proofs.lemmas.Option.{same_Some, none-some}
 use Rattle.kcr_machine.proofs.InRoom.{present-shown, trained-lasting, holder-lasting}
 use Rattle.kcr_machine.proofs.Keyed.{Shown, put-new}
-use Rattle.kcr_machine.proofs.Leads.{EarlyShown, SeatsLeadOn, changed-append, command_of, entry_as, new_key}
-use Rattle.kcr_machine.proofs.Scenes.{facility-shown, is_open-shown, known-shown, mark-shown, marks-put}
+use Rattle.kcr_machine.proofs.Leads.{EarlyShown, SeatsLeadOn, changed-append, command_of, entry_as}
+use Rattle.kcr_machine.proofs.Scenes.{facility-shown, scene-shown, told}
 use Rattle.kcr_machine.proofs.Seatings.{first-of, least-of}
 use Rattle.kcr_machine.proofs.LastSeated.{done-shown}
 use Rattle.kcr_machine.proofs.StepRows.{fresh-exception, fresh-seats, pass-there, put-seats, put-step, sign-there, stated-shown, step-shown}
@@ -67,25 +37,15 @@ the_next c = record { ceremony = c; step = None }
 -- a signature has the same early refusal by the rows read first as by the history
 pub sign-early : (A : History) → IsRegister A → (c k at : ℕ) → EarlyShown A (Ceremony c at (Sign k))
 sign-early A h c k at view v =
-    rw (
-      known-shown A c view.ceremonies.items v.ceremonies,
-      no_step-shown A h c k view v.steps.step,
-      is_open-shown A c view.ceremonies.items v.ceremonies h,
-      mark-shown A h c view.marks.items v.marks,
-      done-shown A h (named c k) view v.steps,
-    )
+    let s = scene-shown A h c view v.ceremonies v.marks in
+    rw (s.0, no_step-shown A h c k view v.steps.step, s.1, s.2, done-shown A h (named c k) view v.steps)
 
 -- an exception has the same early refusal by the rows read first as by the history
 pub except-early : (A : History) → IsRegister A → (c : ℕ) (text : List ℕ) (pass : Bool) (at : ℕ) → EarlyShown A (Ceremony c at (RecordException text pass))
 except-early A h c text pass at view v =
-    rw (
-      known-shown A c view.ceremonies.items v.ceremonies,
-      no_step-shown A h c (next_step_by view.seatings.items c) view v.steps.step,
-      is_open-shown A c view.ceremonies.items v.ceremonies h,
-      mark-shown A h c view.marks.items v.marks,
-      done-shown A h (the_next c) view v.steps,
-      stated-shown A h c view.exceptions.items v.exceptions,
-    )
+    let s = scene-shown A h c view v.ceremonies v.marks in
+    let none = no_step-shown A h c (next_step_by view.seatings.items c) view v.steps.step in
+    rw (s.0, none, s.1, s.2, done-shown A h (the_next c) view v.steps, stated-shown A h c view.exceptions.items v.exceptions)
 
 -- SEATS
 
@@ -104,10 +64,7 @@ pub fits-shown : (A : History) → IsRegister A → (view : View) (day : ℕ) �
     → IsPermutation (withdrawals A) view.withdrawals.items → Shown (lasts_beyond day) (appointments A) view.appointments.items
     → (f : Facility) (o : Option Seat) (who : List ℕ)
     → on_seat (fits_by view.trainings.items view.withdrawals.items view.appointments.items f day) o who ≡ on_seat (fits A f day) o who
-fits-shown A h view day p q r f None who = refl
-fits-shown A h view day p q r f (Some seat) who =
-    fits-on A view.trainings.items view.withdrawals.items view.appointments.items day (holder-lasting A h view.appointments.items day r)
-    (trained-lasting A h view.trainings.items view.withdrawals.items day p q) f seat who
+fits-shown A h view day p q r f o who = grind (arith, fits-on, holder-lasting, trained-lasting)
 
 -- of the seats of a passing exception trainings and withdrawals are enough
 pub staff-shown : (A : History) → IsRegister A → (view : View) (day : ℕ) → Shown (training_reaches day) (trainings A) view.trainings.items
@@ -115,9 +72,7 @@ pub staff-shown : (A : History) → IsRegister A → (view : View) (day : ℕ) �
     → (f : Facility) (k : ℕ) (who : List ℕ)
     → on_seat (fits_by view.trainings.items view.withdrawals.items view.appointments.items f day) (slice_get staff k) who
     ≡ on_seat (fits A f day) (slice_get staff k) who
-staff-shown A h view day p q f zero who = trained-lasting A h view.trainings.items view.withdrawals.items day p q who Ca
-staff-shown A h view day p q f (suc zero) who = trained-lasting A h view.trainings.items view.withdrawals.items day p q who Iw
-staff-shown A h view day p q f (suc (suc k)) who = refl
+staff-shown A h view day p q f k who = grind (arith, trained-lasting)
 
 -- what the seats of a sitting are filled by, the same by the rows of a view as by the history
 pub record IsShown (A : History) (view : View) (s : SeatRequest) : Type 0 where
@@ -126,57 +81,26 @@ pub record IsShown (A : History) (view : View) (s : SeatRequest) : Type 0 where
   pub fit : (k : ℕ) (who : List ℕ)
       → on_seat (by_view A view s) (slice_get s.seats k) who ≡ on_seat (fits A (facility_of A s.ceremony) (day_of s.at)) (slice_get s.seats k) who
 
--- the sitting of an act is shown so
-sign-sitting : (A : History) → IsRegister A → (c k at : ℕ) (view : View) → IsViewOf (asks_of_act (Ceremony c at (Sign k))) (tables A) view
-    → IsShown A view (record { ceremony = c; at = at; seats = seats_at (steps_of A c) k })
-sign-sitting A h c k at view v =
-    record {
-      facility = facility-shown A c view.ceremonies.items v.ceremonies;
-      room = present-shown A c at view.stays.items v.stays.room;
-      fit = λ j who. fits-shown A h view (day_of at) v.trainings v.withdrawals v.appointments.1 (facility_of A c) (slice_get (seats_at (steps_of A c) k) j) who;
-    }
-
-pass-sitting : (A : History) → IsRegister A → (c : ℕ) (text : List ℕ) (at : ℕ) (view : View)
-    → IsViewOf (asks_of_act (Ceremony c at (RecordException text true))) (tables A) view → IsShown A view (record { ceremony = c; at = at; seats = staff })
-pass-sitting A h c text at view v =
-    record {
-      facility = facility-shown A c view.ceremonies.items v.ceremonies;
-      room = present-shown A c at view.stays.items v.stays.room;
-      fit = staff-shown A h view (day_of at) v.trainings v.withdrawals (facility_of A c);
-    }
-
 -- by any view of what an act asks for, the facility, the room and who fits a seat are as by the history
 pub sitting-is : (A : History) → IsRegister A → (act : Act) (view : View) → IsViewOf (asks_of_act act) (tables A) view → (s : SeatRequest)
     → seat_request A act ≡ Some s → IsShown A view s
-sitting-is A h (Ceremony c at (Sign k)) view v s e = subst (IsShown A view) (same_Some _ s e) (sign-sitting A h c k at view v)
-sitting-is A h (Ceremony c at (RecordException text true)) view v s e = subst (IsShown A view) (same_Some _ s e) (pass-sitting A h c text at view v)
+sitting-is A h (Ceremony c at (Sign k)) view v s e = rw (← same_Some _ s e) (search (rules, facility-shown, present-shown, fits-shown))
+sitting-is A h (Ceremony c at (RecordException text true)) view v s e =
+    rw (← same_Some _ s e) (search (rules, facility-shown, present-shown, staff-shown))
 sitting-is A h (Ceremony c at (RecordException text false)) view v s e = absurd (none-some s e)
 sitting-is A h act view v s e = absurd (none-some s e)
 
 -- the people whom the search names are the first seating, and the seats that it names a least shortage
 module _ (A : History) (h : IsRegister A) (view : View) (s : SeatRequest) (shown : IsShown A view s) where
-  abbrev relation : Facility → List (List ℕ) → ℕ → ℕ → Bool
-  relation f P = fits_of (fits_by view.trainings.items view.withdrawals.items view.appointments.items f (day_of s.at)) s.seats P
-
   -- the people whom the search names are the first seating
   pub seated-first : (people : List (List ℕ)) → IsSeatedBy view s people → IsFirst A s.ceremony s.at s.seats people
-  seated-first people g =
-      let one = subst (λ f. Search.IsFirst (relation f (room_by view s)) (length s.seats) (length (room_by view s)) g.numbers) shown.facility g.first in
-      let two = subst (λ P. Search.IsFirst (relation (facility_of A s.ceremony) P) (length s.seats) (length P) g.numbers) shown.room one in
-      subst (IsFirst A s.ceremony s.at s.seats) (sym (g.named ∙ ap (λ P. map (λ p. get_or P p []) g.numbers) shown.room))
-      (first-of A s.ceremony s.at (by_view A view s) s.seats shown.fit g.numbers two)
+  seated-first people g = grind (arith, shown.facility, shown.room, first-of A s.ceremony s.at (by_view A view s) s.seats shown.fit)
 
   -- if nobody is seated, the refusal names a least shortage
   pub unseated-least : (refusal : Refusal) → IsUnseatedBy view s refusal
       → (positions : List ℕ) × IsLeast A s.ceremony s.at s.seats positions × (refusal ≡ Short (map suc positions))
-  unseated-least refusal (inl (positions, g, e)) =
-      let one = subst (λ f. Search.IsLeast (relation f (room_by view s)) (length s.seats) (length (room_by view s)) g.numbers) shown.facility g.least in
-      let two = subst (λ P. Search.IsLeast (relation (facility_of A s.ceremony) P) (length s.seats) (length P) g.numbers) shown.room one in
-      (g.numbers, least-of A s.ceremony s.at (by_view A view s) s.seats shown.fit g.numbers two, e ∙ ap Short g.counted)
-  unseated-least refusal (inr (e, g)) =
-      let many : 128 < length (present A s.ceremony s.at) = ltb-true 128 (length (present A s.ceremony s.at))
-      (ap (λ P. nat_lt 128 (length P)) (sym shown.room) ∙ g) in
-      absurd (omega (arith, many, (rooms A h s.ceremony s.at).1))
+  unseated-least refusal (inl (positions, g, e)) = grind (arith, least-of)
+  unseated-least refusal (inr (e, g)) = grind (arith, ltb-true, rooms)
 
 -- CHANGES
 
@@ -209,16 +133,15 @@ sign-leads A h c k at people key view answer v absent f e =
     let x : Command = command_of key (Ceremony c at (Sign k)) in
     let inside = sign-there A c k at f in
     let s = put-step A h (entry_as key x.act answer) c k at Signed (λ d j. refl) (λ d. refl) refl inside in
+    let r = told A key c at (Sign k) answer view v.ceremonies absent f refl refl in
     seats-changed A h view c k at Signed people v.steps.step inside (omega (arith, next_signed A c k at f)) (PutKey (new_key_row x answer) ∷ [])
-    ∙ rw (new_key A x answer absent, s, marks-put A (entry_as key x.act answer) c at f refl refl, e) refl
+    ∙ rw (r.2, s, r.1, e)
 
 -- the row of an exception is put in front
 put-exception : (A : History) → IsRegister A → (c : ℕ) (text : List ℕ) (at : ℕ) (passed : Option ℕ)
     → put same_exception (record { ceremony = c; exception = suc (exceptions_of A c); text = text; at = at; passed = passed }) (exceptions A)
     ≡ record { ceremony = c; exception = suc (exceptions_of A c); text = text; at = at; passed = passed } ∷ exceptions A
-put-exception A h c text at passed =
-    put-new same_exception (record { ceremony = c; exception = suc (exceptions_of A c); text = text; at = at; passed = passed }) (exceptions A)
-    (fresh-exception A h c (suc (exceptions_of A c)) (omega arith))
+put-exception A h c text at passed = put-new same_exception _ (exceptions A) (fresh-exception A h c (suc (exceptions_of A c)) (omega arith))
 
 -- an exception that passes a step
 pub pass-leads : (A : History) → IsRegister A → (c : ℕ) (text : List ℕ) (at : ℕ) (people : List (List ℕ)) → SeatsLeadOn A (Ceremony c at (RecordException text true)) (Some people)
@@ -229,26 +152,13 @@ pass-leads A h c text at people key view answer v absent f e =
     let tell = PutKey (new_key_row x answer) ∷ [] in
     let shown = subst (λ n. Shown (is_step_at c (suc n)) (steps A) view.steps.items) (done-shown A h (the_next c) view v.steps) v.steps.step in
     let s = put-step A h (entry_as key x.act (reply_to A x.act (Some people))) c k at Passed (λ d j. refl) (λ d. refl) refl inside in
+    let r = told A key c at (RecordException text true) answer view v.ceremonies absent f refl refl in
     rw (done-shown A h (the_next c) view v.steps, append_assoc (seat_changes view Passed c k at people) (exception_change view c text at (Some k) ∷ []) tell)
     (seats-changed A h view c k at Passed people shown inside (omega arith) (exception_change view c text at (Some k) ∷ tell)
-    ∙ rw (
-      stated-shown A h c view.exceptions.items v.exceptions,
-      put-exception A h c text at (Some k),
-      new_key A x answer absent,
-      marks-put A
-          (entry_as key x.act answer) c at f refl refl,
-      e,
-    ) (rw s refl))
+    ∙ rw (stated-shown A h c view.exceptions.items v.exceptions, put-exception A h c text at (Some k), r.2, r.1, e) (rw s refl))
 
 -- an exception that passes no step
 pub state-leads : (A : History) → IsRegister A → (c : ℕ) (text : List ℕ) (at : ℕ) → SeatsLeadOn A (Ceremony c at (RecordException text false)) None
 state-leads A h c text at key view answer v absent f e =
-    let x : Command = command_of key (Ceremony c at (RecordException text false)) in
-    rw (
-      stated-shown A h c view.exceptions.items v.exceptions,
-      put-exception A h c text at None,
-      new_key A x answer absent,
-      marks-put A
-          (entry_as key x.act answer) c at f refl refl,
-      e,
-    ) refl
+    let s = told A key c at (RecordException text false) answer view v.ceremonies absent f refl refl in
+    rw (stated-shown A h c view.exceptions.items v.exceptions, put-exception A h c text at None, s.2, s.1, e)

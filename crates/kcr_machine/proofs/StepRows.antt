@@ -1,48 +1,19 @@
 -- Steps and exceptions: how many there are by the rows as by the history, each step once and in order, and the rows of one that is done.
-use Rattle.std.proofs.Common.{◌≡◌, ℕ, zero, suc, ◌+◌, ◌≤◌, Bool, true, false, cond, ◌&&◌, List, [], ◌∷◌, map, filter, length, Option, Some}
-use Rattle.std.proofs.Common.{None, is_none, Result, Ok, Err, refl, sym, ap, ◌∙◌, arith, subst, ◌<◌, ◌==◌}
-use Rattle.std.specs.Prelude.{is_some, slice_get, unwrap_or, option_map}
-use Rattle.std.specs.List.{list_any}
-use Rattle.std.specs.List.Sorted.{IsPermutation}
-use Rattle.std.specs.Result.{result_unwrap_or}
-use Rattle.std.proofs.lemmas.Bool.{false≢true, eqb-true, eq-eqb, ne_eqb, and_parts, and_right, or_from}
-use Rattle.std.proofs.lemmas.List.Sorted.{length_permutation, list_any-IsPermutation, IsPermutation-sym}
-use Rattle.std.proofs.lemmas.Option.{slice_get_past}
-use Rattle.kcr_base.specs.Rows.{option_or, put}
-use Rattle.kcr_base.specs.declared.refusal.Refusal.TheVariants.{Taken, Unknown, Order}
-use Rattle.kcr_base.specs.declared.refusal.Thing.TheVariants as Things
-use Rattle.kcr_base.proofs.RefuseLemmas.{none_holds, unmet}
-use Rattle.kcr_script.specs.Reading.{script_of}
-use Rattle.kcr_script.specs.declared.script.Step.{Step}
-use Rattle.kcr_script.proofs.ScriptReading.{script_has_steps}
-use Rattle.kcr_history.specs.declared.commands.Act.{Act}
-use Rattle.kcr_history.specs.declared.commands.Act.TheVariants.{Plan, Ceremony}
-use Rattle.kcr_history.specs.declared.commands.Deed.TheVariants.{Sign, RecordException}
-use Rattle.kcr_history.specs.declared.commands.ReplyData.{ReplyData}
+use Rattle.kcr_machine.proofs.Common.{◌≡◌, ℕ, zero, suc, ◌+◌, ◌≤◌, Bool, true, false, cond, ◌&&◌, List, [], ◌∷◌, map, filter, length, Option, Some}
+use Rattle.kcr_machine.proofs.Common.{subst, None, refl, sym, ap, ◌∙◌, arith, ◌<◌, ◌==◌, rules, slice_get, unwrap_or, list_any, IsPermutation}
+use Rattle.kcr_machine.proofs.Common.{result_unwrap_or, false≢true, eqb-true, eq-eqb, ne_eqb, and_parts, or_from, length_permutation}
+use Rattle.kcr_machine.proofs.Common.{list_any-IsPermutation, IsPermutation-sym, slice_get_past, option_or, put, none_holds, unmet, script_of, Step}
+use Rattle.kcr_machine.proofs.Common.{script_has_steps, Act, Plan, Ceremony, Sign, RecordException, ReplyData, StepRow, StepState, History}
+use Rattle.kcr_machine.proofs.Common.{pushed_onto, Planned, planned_as, plan_of, is_ceremony, steps_of, step_at, does_step, steps_done, next_step}
+use Rattle.kcr_machine.proofs.Common.{is_exception, exceptions_of, fault, reply_to, IsRegister, numbered, step_keys, step_result, step_row, steps}
+use Rattle.kcr_machine.proofs.Common.{exceptions, Tables, seatings, seat_rows, seating_rows, ceremony_of_step, is_step_at, is_exception_of, took}
+use Rattle.kcr_machine.proofs.Common.{any-pushed, filter-pushed, pushed-alone, exception_count_by, step_by, one_more, count-cons, next_signed}
+use Rattle.kcr_machine.proofs.Common.{done-after, Entry, SeatingRow, PutSeating, same_step, same_seating, all_changed, any-same, any-map, some_if}
+use Rattle.kcr_machine.proofs.Common.{there, Facility, Implies}
+use Rattle.std.specs.Prelude.{is_some, option_map}
 use Rattle.kcr_history.specs.declared.row_types.ExceptionRow.{ExceptionRow}
-use Rattle.kcr_history.specs.declared.row_types.StepRow.{StepRow}
-use Rattle.kcr_history.specs.declared.row_types.StepState.{StepState}
-use Rattle.kcr_history.specs.History.{History, pushed_onto}
-use Rattle.kcr_history.specs.Ceremonies.{Planned, planned_as, plan_of, is_ceremony, steps_of, step_at, does_step, steps_done, next_step, is_exception}
-use Rattle.kcr_history.specs.Ceremonies.{exceptions_of}
-use Rattle.kcr_history.specs.Conditions.{conditions, fault}
-use Rattle.kcr_history.specs.Machine.{reply_to, IsRegister}
-use Rattle.kcr_history.specs.Tables.{numbered, step_keys, step_keys_after, step_result, step_row, steps, exceptions, Tables, seatings, seat_rows}
-use Rattle.kcr_history.specs.Tables.{seating_rows, ceremony_of_step}
-use Rattle.kcr_history.specs.Views.{is_step_at, is_exception_of}
-use Rattle.kcr_history.proofs.Steps.{took}
-use Rattle.kcr_history.proofs.Piled.{any-pushed, filter-pushed, pushed-alone}
-use Rattle.kcr_rules.specs.Signing.{exception_count_by, step_by}
-use Rattle.kcr_laws.proofs.Done.{one_more, count-cons, next_signed, done-after}
-use Rattle.kcr_history.specs.declared.commands.Entry.{Entry}
-use Rattle.kcr_history.specs.declared.row_types.SeatingRow.{SeatingRow}
-use Rattle.kcr_history.specs.declared.views.Change.TheVariants.{PutSeating}
-use Rattle.kcr_history.specs.Changes.{same_step, same_seating, all_changed}
-use Rattle.kcr_base.proofs.ListLemmas.{any-same, any-map, some_if, there}
-use Rattle.kcr_base.specs.declared.place.Facility.{Facility}
 use Rattle.kcr_room.proofs.Lists as RoomLists
 use Rattle.kcr_machine.proofs.Keyed.{Shown, any-shown, filter-shown, find-view, put-at, put-new}
-use Rattle.kcr_base.proofs.Members.{Implies, same-answers}
 
 -- COUNTING
 
@@ -55,26 +26,17 @@ count-view test of inside table rows p = length_permutation (filter test table) 
 
 -- THE STEPS OF A CEREMONY
 
-unplanned : (o : Option Planned) → is_some o ≡ false → unwrap_or (option_map (λ plan. plan.steps) o) [] ≡ []
-unplanned o h = grind arith
-
 no_steps : (A : History) (c : ℕ) → is_ceremony A c ≡ false → steps_of A c ≡ []
-no_steps A c h = unplanned (plan_of A c) h
-
-is_within : (steps : List Step) (n : ℕ) → is_some (step_at steps (suc n)) ≡ true → suc n ≤ length steps
-is_within steps n h = grind (arith, slice_get_past steps n)
+no_steps A c h = grind arith
 
 -- the step of a signature or of a passing exception that has no fault is in the script
 pub sign-there : (A : History) (c k at : ℕ) → fault A (Ceremony c at (Sign k)) ≡ None → is_some (step_at (steps_of A c) k) ≡ true
-sign-there A c k at f =
-    there (step_at (steps_of A c) k) (unmet (is_none (step_at (steps_of A c) k)) (Unknown (Things.Step k)) (none_holds (conditions A (Ceremony c at (Sign k))) f).1.0)
+sign-there A c k at f = grind (arith, there, unmet, none_holds)
 
 -- an exception that passes a step is refused unless the next step is one of the script
 pub pass-there : (A : History) (c : ℕ) (text : List ℕ) (at : ℕ) → fault A (Ceremony c at (RecordException text true)) ≡ None
     → is_some (step_at (steps_of A c) (next_step A c)) ≡ true
-pass-there A c text at f =
-    there (step_at (steps_of A c) (next_step A c))
-    (unmet (is_none (step_at (steps_of A c) (next_step A c))) (Order (next_step A c)) (assumption (none_holds (conditions A (Ceremony c at (RecordException text true))) f)))
+pass-there A c text at f = grind (arith, there, unmet, none_holds)
 
 next-there : (A : History) (act : Act) (c : ℕ) → fault A act ≡ None → does_step c act ≡ true → is_some (step_at (steps_of A c) (next_step A c)) ≡ true
 next-there A (Ceremony d at (Sign k)) c f e =
@@ -86,14 +48,12 @@ next-there A (Ceremony d at (RecordException text false)) c f e = absurd (grind 
 next-there A act c f e = absurd (false≢true e)
 
 one_below : (b : Bool) (n : ℕ) (ss : List Step) → (b ≡ true → is_some (step_at ss (suc n)) ≡ true) → n ≤ length ss → one_more b n ≤ length ss
-one_below b n ss inside l = grind (arith, is_within ss n)
+one_below b n ss inside l = grind (arith, slice_get_past)
 
 -- a ceremony that is planned now had no steps
 new_planned : (A : History) (number : ℕ) (facility : Facility) (day : ℕ) (script : List ℕ) (c : ℕ) → fault A (Plan number facility day script) ≡ None
     → (number == c) ≡ true → steps_of A c ≡ []
-new_planned A number facility day script c f q =
-    no_steps A c (subst (λ c. is_ceremony A c ≡ false) (eqb-true number c q)
-    (unmet (is_ceremony A number) Taken (none_holds (conditions A (Plan number facility day script)) f).0))
+new_planned A number facility day script c f q = grind (arith, no_steps, eqb-true, unmet, none_holds)
 
 below_after : (A : History) (act : Act) (answer : ReplyData) (key : List ℕ) (c : ℕ) → fault A act ≡ None → steps_done A c ≤ length (steps_of A c)
     → one_more (does_step c act) (steps_done A c) ≤ length (steps_of (record { command = record { key = key; act = act }; reply = answer } ∷ A) c)
@@ -109,16 +69,11 @@ done-below (entry ∷ A) h c =
 
 -- a script has at most 400 steps
 few_script : (script : List ℕ) → length (result_unwrap_or (script_of script) []) ≤ 400
-few_script script = by_result (script_of script) refl
-  where
-    by_result : (r : Result (List Step) ℕ) → script_of script ≡ r → length (result_unwrap_or r []) ≤ 400
-    by_result (Ok steps) e = (script_has_steps script steps e).few
-    by_result (Err row) e = omega arith
+few_script script = grind (arith, script_has_steps)
 
 few_after : (act : Act) (c : ℕ) (plan : Option Planned) → length (unwrap_or (option_map (λ plan. plan.steps) plan) []) ≤ 400
     → length (unwrap_or (option_map (λ plan. plan.steps) (option_or (planned_as c act) plan)) []) ≤ 400
-few_after (Plan number facility day script) c plan ih = grind (arith, few_script script)
-few_after act c plan ih = ih
+few_after act c plan ih = grind (arith, few_script)
 
 -- a ceremony has at most 400 steps
 pub few-steps : (A : History) (c : ℕ) → length (steps_of A c) ≤ 400
@@ -138,22 +93,10 @@ other-keys c d i (s ∷ ss) e = rw e (other-keys c d (suc i) ss e)
 -- the keys of a ceremony's steps in the table are those of its script
 keys-stacked : (A : History) → IsRegister A → (c : ℕ) → filter (λ key. key.0 == c) (step_keys A) ≡ pushed_onto (numbered c 0 (steps_of A c)) []
 keys-stacked [] h c = refl
-keys-stacked (entry ∷ A) h c = by_act entry.command.act (took A entry h.0).no_fault (keys-stacked A h.1 c)
-  where
-    by_act : (act : Act) → fault A act ≡ None → filter (λ key. key.0 == c) (step_keys A) ≡ pushed_onto (numbered c 0 (steps_of A c)) []
-        → filter (λ key. key.0 == c) (step_keys_after act (step_keys A))
-        ≡ pushed_onto (numbered c 0 (steps_of (record { command = record { key = entry.command.key; act = act }; reply = entry.reply } ∷ A) c)) []
-    by_act (Plan number facility day script) f ih =
-        let ss = result_unwrap_or (script_of script) [] in
-        let moved = filter-pushed (λ key. key.0 == c) (numbered number 0 ss) (step_keys A) in
-        grind (arith, moved, other-keys c number 0 ss, own-keys c 0 ss, new_planned A number facility day script c f)
-    by_act act f ih = ih
+keys-stacked (entry ∷ A) h c = grind (arith, took, filter-pushed, other-keys, own-keys, new_planned, keys-stacked A h.1 c)
 
 keys-order : (A : History) → IsRegister A → (c : ℕ) → IsPermutation (filter (λ key. key.0 == c) (step_keys A)) (numbered c 0 (steps_of A c))
-keys-order A h c =
-    let all = numbered c 0 (steps_of A c) in
-    rw (keys-stacked A h c) (IsPermutation-sym all (pushed_onto all [])
-    (pushed-alone all))
+keys-order A h c = grind (arith, keys-stacked, IsPermutation-sym, pushed-alone)
 
 keys-any : (A : History) → IsRegister A → (c : ℕ) (g : ℕ → Bool)
     → list_any (λ key. key.0 == c && g key.1) (step_keys A) ≡ list_any (λ key. g key.1) (numbered c 0 (steps_of A c))
@@ -178,27 +121,14 @@ numbered-from c i (suc j) m (s ∷ ss) e = rw (ne_eqb (suc i) m (λ q. omega (ar
 
 -- the table has a row of step k if and only if it is a step of the script
 pub has-step : (A : History) → IsRegister A → (c k : ℕ) → list_any (λ key. key.0 == c && key.1 == k) (step_keys A) ≡ is_some (step_at (steps_of A c) k)
-has-step A h c k = keys-any A h c (λ j. j == k) ∙ by_number k
-  where
-    by_number : (k : ℕ) → list_any (λ key. key.1 == k) (numbered c 0 (steps_of A c)) ≡ is_some (step_at (steps_of A c) k)
-    by_number zero = none_zero c 0 (steps_of A c)
-    by_number (suc j) = numbered-from c 0 j (suc j) (steps_of A c) (omega arith)
+has-step A h c zero = keys-any A h c (λ j. j == zero) ∙ none_zero c 0 (steps_of A c)
+has-step A h c (suc j) = keys-any A h c (λ i. i == suc j) ∙ numbered-from c 0 j (suc j) (steps_of A c) (omega arith)
 
 -- EXCEPTIONS
 
 stated-exceptions : (A : History) → IsRegister A → (c : ℕ) → exception_count_by (exceptions A) c ≡ exceptions_of A c
 stated-exceptions [] h c = refl
-stated-exceptions (entry ∷ A) h c =
-    let t = took A entry h.0 in
-    by_act entry.command.act entry.reply t.people t.reply (stated-exceptions A h.1 c)
-    ∙ sym (count-cons (λ entry. is_exception c entry.command.act) entry A)
-  where
-    by_act : (act : Act) (answer : ReplyData) (people : Option (List (List ℕ))) → answer ≡ reply_to A act people → exception_count_by (exceptions A) c ≡ exceptions_of A c
-        → exception_count_by (exceptions (record { command = record { key = entry.command.key; act = act }; reply = answer } ∷ A)) c
-        ≡ one_more (is_exception c act) (exceptions_of A c)
-    by_act (Ceremony d at (RecordException text true)) answer people e ih = rw e (grind arith)
-    by_act (Ceremony d at (RecordException text false)) answer people e ih = rw e (grind arith)
-    by_act act answer people e ih = ih
+stated-exceptions (entry ∷ A) h c = grind (arith, took, count-cons, one_more, stated-exceptions A h.1 c)
 
 -- THE ROWS THAT A VIEW SHOWS
 
@@ -225,27 +155,17 @@ stated-shown A h c rows p = count-view (is_exception_of c) (is_exception_of c) (
 
 -- THE ROW OF A STEP THAT IS DONE
 
-same-number : (a b : ℕ) → (a == b) ≡ (b == a)
-same-number a b = same-answers (a == b) (b == a) (λ e. eq-eqb b a (sym (eqb-true a b e))) (λ e. eq-eqb a b (sym (eqb-true b a e)))
-
 -- an act does step k of c, and leaves scripts as they are: putting the step's row gives the steps after it
 module _ (A : History) (h : IsRegister A) (entry : Entry) (c k at : ℕ) (state : StepState)
     (fate_now : (d j : ℕ) → step_result (entry ∷ A) d j ≡ option_or (cond (c == d && k == j) (Some (state, at)) None) (step_result A d j))
     (steps_same : (d : ℕ) → steps_of (entry ∷ A) d ≡ steps_of A d)
     (keys_same : step_keys (entry ∷ A) ≡ step_keys A)
     (inside : is_some (step_at (steps_of A c) k) ≡ true) where
-  turned : (s : ℕ × ℕ) → (c == s.0 && k == s.1) ≡ (s.0 == c && s.1 == k)
-  turned s = ap (λ b. b && k == s.1) (same-number c s.0) ∙ ap (λ b. s.0 == c && b) (same-number k s.1)
-
   -- the step's row put with what became of it gives the rows of steps after the act
   pub put-step : put same_step (record (step_row A (c, k)) { state = state; at = Some at }) (steps A) ≡ steps (entry ∷ A)
   put-step =
       put-at same_step (step_row A) (step_row (entry ∷ A)) (record (step_row A (c, k)) { state = state; at = Some at })
-      (λ s e.
-      let p = and_parts (s.0 == c) (s.1 == k) e in
-      rw (fate_now s.0 s.1, turned s ∙ e, steps_same s.0, eqb-true s.0 c p.0, eqb-true s.1 k p.1) refl)
-      (λ s e. rw (fate_now s.0 s.1, turned s ∙ e, steps_same s.0))
-      (step_keys A) (has-step A h c k ∙ inside)
+      (λ s e. grind (arith, fate_now, steps_same)) (λ s e. grind (arith, fate_now, steps_same)) (step_keys A) (has-step A h c k ∙ inside)
       ∙ ap (map (step_row (entry ∷ A))) (sym keys_same)
 
 -- SEATS
@@ -262,9 +182,7 @@ put-seats c k i (who ∷ people) t fresh =
     let row : SeatingRow = record { ceremony = c; step = k; seat = suc i; who = who } in
     ap (λ rows. all_changed (map PutSeating (seat_rows c k (suc i) people)) (record t { seatings = rows }))
     (put-new same_seating row t.seatings (fresh (suc i) (omega arith)))
-    ∙ put-seats c k (suc i) people (record t { seatings = row ∷ t.seatings })
-    (λ j l. or_from ((c == c && k == k) && suc i == j) _ (and_right (c == c && k == k) (suc i == j) (ne_eqb (suc i) j (λ e. omega (arith, e, l))))
-    (fresh j (omega (arith, l))))
+    ∙ put-seats c k (suc i) people (record t { seatings = row ∷ t.seatings }) (λ j l. grind (arith, fresh j))
 
 foreign-seats : (c k d s i j : ℕ) (people : List (List ℕ)) → (d == c && s == k) ≡ false → list_any (is_seat_of c k j) (seat_rows d s i people) ≡ false
 foreign-seats c k d s i j [] e = refl
@@ -277,10 +195,7 @@ fresh-seats (entry ∷ A) h c k j l =
     let t = took A entry h.0 in
     let l2 : one_more (does_step c entry.command.act) (steps_done A c) < k = rw (done-after A entry c) at l in
     any-pushed (is_seat_of c k j) (seating_rows (ceremony_of_step entry.command.act) entry.reply.step entry.reply.seating) (seatings A)
-    ∙ or_from _ _
-    (ap (λ answer. list_any (is_seat_of c k j) (seating_rows (ceremony_of_step entry.command.act) answer.step answer.seating)) t.reply
-    ∙ by_act entry.command.act t.people t.no_fault l2)
-    (fresh-seats A h.1 c k j (grind arith))
+    ∙ or_from _ _ (rw t.reply (by_act entry.command.act t.people t.no_fault l2)) (fresh-seats A h.1 c k j (grind arith))
   where
     rows_of : (d s : ℕ) (people : Option (List (List ℕ))) → (d == c && s == k) ≡ false
         → list_any (is_seat_of c k j) (seating_rows (Some d) (Some s) people) ≡ false
@@ -292,10 +207,7 @@ fresh-seats (entry ∷ A) h c k j l =
 
     by_act : (act : Act) (people : Option (List (List ℕ))) → fault A act ≡ None → one_more (does_step c act) (steps_done A c) < k
         → list_any (is_seat_of c k j) (seating_rows (ceremony_of_step act) (reply_to A act people).step (reply_to A act people).seating) ≡ false
-    by_act (Ceremony d at (Sign s)) people f l = rows_of d s people (other d s (next_signed A d s at f) l)
-    by_act (Ceremony d at (RecordException text true)) people f l = rows_of d (next_step A d) people (other d (next_step A d) refl (grind arith))
-    by_act (Ceremony d at (RecordException text false)) people f l = refl
-    by_act act people f l = refl
+    by_act act people f l = search (rules, rows_of, other, next_signed)
 
 -- EXCEPTIONS
 

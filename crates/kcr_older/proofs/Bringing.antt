@@ -1,30 +1,15 @@
 -- What an older file holds, before and after it is migrated to this version.
-use Rattle.std.proofs.Common.{rules, ◌≡◌, ℕ, ◌+◌, List, [], map, refl, arith}
-use Rattle.std.specs.List.Sorted.{IsPermutation}
-use Rattle.std.proofs.lemmas.List.Sorted.{IsPermutation-refl}
-use Rattle.sqlite.specs.Effect.{Database}
-use Rattle.kcr_room.specs.declared.Stay.{Stay}
-use Rattle.kcr_room.specs.Stays.{stays_by}
-use Rattle.kcr_history.specs.declared.views.Change.TheVariants.{PutStay}
-use Rattle.kcr_history.specs.History.{History}
-use Rattle.kcr_history.specs.Tables.{tables}
+use Rattle.kcr_older.proofs.Common.{rules, ◌≡◌, List, [], map, refl, arith, IsPermutation, IsPermutation-refl, Database, Stay, stays_by, PutStay}
+use Rattle.kcr_older.proofs.Common.{History, tables, StoredTables, Holds, with_bare_tables, with_own_stays, migrated_tables, HoldsHistoryAs, numbered}
+use Rattle.kcr_older.proofs.Common.{number_of}
 use Rattle.kcr_history.specs.Tables as machine
-use Rattle.kcr_tables.specs.StoredTables.{StoredTables, Holds}
 use Rattle.kcr_tables.specs.MachineTables.{SameRows, HoldsTables}
 use Rattle.kcr_tables.proofs.HoldLemmas.{tables_of}
 use Rattle.kcr_tables.proofs.JointLemmas.{Rises, kept_rises, all_stand, same_stands}
-use Rattle.kcr_older.specs.Migrated.{with_bare_tables, with_own_stays, migrated_tables}
 use Rattle.kcr_older.specs.Backfilled.{with_stays}
-use Rattle.kcr_older.specs.OldFiles.{HoldsHistoryAs, HoldsFirst, numbered}
-use Rattle.kcr_older.specs.Versions.{number_of}
 use Rattle.kcr_older.specs.declared.migration.OldVersion.{OldVersion}
 use Rattle.kcr_older.specs.declared.migration.OldVersion.TheVariants.{V1, V2}
 use Rattle.kcr_older.proofs.Filling.{filled}
-
--- a file that holds a history as a version does holds its tables, with the number of that version
-pub old_holds : (version : ℕ) (A : History) (db : Database) (s : HoldsHistoryAs version A db)
-    → HoldsFirst (14 + version) db (record s.tables.t { versions = numbered version })
-old_holds version A db s = record { schema = s.schema; kept = s.tables.kept }
 
 -- ---- what is put leaves the number of the version
 
@@ -39,14 +24,12 @@ stands_older : (A : History) (t : StoredTables) (own rows : List Stay) → SameR
     → SameRows (record (tables A) { stays = own }) (record { rows = record t.rows { stays = rows; withdrawals = [] }; versions = numbered 3 })
 stands_older A t own rows s none same =
     let without : IsPermutation (machine.withdrawals A) [] = rw none (IsPermutation-refl []) in
-    let others = s.rows in
-    record { rows = search (rules, others, without, same); versions = refl }
+    search (rules, s.rows, without, same)
 
-brought_1 : (A : History) (old new : Database) (s : HoldsHistoryAs 1 A old)
-    → Holds new
-    (record (with_stays (record { rows = record s.tables.t.rows { stays = []; withdrawals = [] }; versions = numbered 1 })) { versions = numbered 3 })
-    → HoldsTables (tables A) new
-brought_1 A old new s after =
+-- a file of an older version, migrated, holds the machine's tables of its history
+pub brought_from : (from : OldVersion) (A : History) (old new : Database) (s : HoldsHistoryAs (number_of from) A old)
+    → Holds new (migrated_tables from (record s.tables.t { versions = numbered (number_of from) })) → HoldsTables (tables A) new
+brought_from V1 A old new s after =
     let t : StoredTables = s.tables.t in
     let now : StoredTables = record { rows = record t.rows { stays = []; withdrawals = [] }; versions = numbered 3 } in
     let stood = stands_older A t [] [] s.tables.stands (s.tables.unwithdrawn (omega arith)) (IsPermutation-refl []) in
@@ -55,16 +38,7 @@ brought_1 A old new s after =
     let put = all_stand (map PutStay (stays_by t.rows.sheet)) (record (tables A) { stays = [] }) now rises stood in
     let stands = same_stands _ (tables A) (with_stays now) (filled A s.tables.register t.rows.sheet s.tables.stands.rows.sheet) put in
     tables_of (tables A) new (with_stays now) stands after
-
-brought_2 : (A : History) (old new : Database) (s : HoldsHistoryAs 2 A old)
-    → Holds new (record { rows = record s.tables.t.rows { withdrawals = [] }; versions = numbered 3 }) → HoldsTables (tables A) new
-brought_2 A old new s after =
+brought_from V2 A old new s after =
     let t : StoredTables = s.tables.t in
     let stands = stands_older A t (tables A).stays t.rows.stays s.tables.stands (s.tables.unwithdrawn (omega arith)) s.tables.stands.rows.stays in
     tables_of (tables A) new (record { rows = record t.rows { withdrawals = [] }; versions = numbered 3 }) stands after
-
--- a file of an older version, migrated, holds the machine's tables of its history
-pub brought_from : (from : OldVersion) (A : History) (old new : Database) (s : HoldsHistoryAs (number_of from) A old)
-    → Holds new (migrated_tables from (record s.tables.t { versions = numbered (number_of from) })) → HoldsTables (tables A) new
-brought_from V1 A old new s after = brought_1 A old new s after
-brought_from V2 A old new s after = brought_2 A old new s after

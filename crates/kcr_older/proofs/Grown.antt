@@ -1,40 +1,19 @@
 -- An older file with the tables that it lacks, which have no rows yet: what CREATE TABLE does to tables that have rows.
-use Rattle.std.proofs.Common.{rules, ◌≡◌, ℕ, zero, suc, List, [], ◌∷◌, map, drop, take, ◌∙◌, ◌+◌, Ok}
-use Rattle.sqlite.specs.Tree.{Trees}
-use Rattle.sqlite.specs.Table.{Table}
-use Rattle.sqlite.specs.Change.{KeepsRows}
-use Rattle.sqlite.specs.Effect.{Database}
-use Rattle.sqlite_catalog.specs.Listing.{IsSound}
-use Rattle.sqlite.specs.Order.{Row}
-use Rattle.kcr_rows.specs.Keyed.{TreeHolds, TableLayout}
+use Rattle.kcr_older.proofs.Common.{rules, ◌≡◌, ℕ, zero, suc, List, [], ◌∷◌, map, drop, take, ◌∙◌, ◌+◌, Ok, Trees, Table, KeepsRows, Database}
+use Rattle.kcr_older.proofs.Common.{IsSound, Row, TreeHolds, TableLayout, keeps_on, stay_row, withdrawal_row, all_tables, register_schema, stays}
+use Rattle.kcr_older.proofs.Common.{withdrawals, StoredTables, TreesHold, Holds, stays_place, withdrawals_place, HoldsFirst, State, Executes, text_at}
+use Rattle.kcr_older.proofs.Common.{schema_prefix, MakesAt}
 use Rattle.kcr_rows.proofs.CreateLemmas.{bare, creates}
-use Rattle.kcr_rows.proofs.TableLemmas.{keeps_on}
-use Rattle.kcr_rows.specs.Rows.{stay_row, withdrawal_row}
-use Rattle.kcr_tables.specs.Schema.{all_tables, register_schema, stays, withdrawals}
-use Rattle.kcr_tables.specs.StoredTables.{StoredTables, TreesHold, Holds, stays_place, withdrawals_place}
 use Rattle.kcr_older.specs.NewTable.{Gains}
-use Rattle.kcr_older.specs.OldFiles.{HoldsFirst}
-use Rattle.sqlite.specs.State.{State, Executes}
-use Rattle.kcr_tables.specs.Creation.{text_at, schema_prefix}
-use Rattle.kcr_tables.proofs.MakeLemmas.{MakesAt, makes_stays, makes_withdrawals}
 
 -- ---- one more table
 
 -- the rows of the tables that were there stay, and the new one has none
-creates_over : (at : ℕ) (table : Table) → MakesAt at table → (old new : State) (count : ℕ) → old.now.schema ≡ schema_prefix at
+pub creates_over : (at : ℕ) (table : Table) → MakesAt at table → (old new : State) (count : ℕ) → old.now.schema ≡ schema_prefix at
     → Executes (text_at at) [] old new (Ok count) → Gains at table old.now new.now
 creates_over at table makes old new count has h =
     let made = creates (schema_prefix at) (text_at at) table (schema_prefix (at + 1)) makes old new count has h in
     record { schema = made.0; shared = made.1; empty = made.2; sound = made.3 }
-
--- after the first 15 tables, CREATE TABLE adds the table of stays, without rows
-pub creates_stays : (old new : State) (count : ℕ) → old.now.schema ≡ schema_prefix 15 → Executes (text_at 15) [] old new (Ok count) → Gains 15 stays old.now new.now
-creates_stays = creates_over 15 stays makes_stays
-
--- after the first 16 tables, CREATE TABLE adds the table of withdrawals, without rows
-pub creates_withdrawals : (old new : State) (count : ℕ) → old.now.schema ≡ schema_prefix 16 → Executes (text_at 16) [] old new (Ok count)
-    → Gains 16 withdrawals old.now new.now
-creates_withdrawals = creates_over 16 withdrawals makes_withdrawals
 
 -- ---- all that an older file lacks
 

@@ -1,3 +1,4 @@
+mod Common
 pub mod Grown
 pub mod Filling
 pub mod Update

@@ -1,23 +1,10 @@
 -- The number of a database that holds the tables of a register.
-use Rattle.std.proofs.Common.{◌≡◌, ◌⊎◌, inl, inr, ◌∙◌, ap, sym, subst, subst₂, refl, ℕ, ◌+◌, pos, ℤ, List, [], ◌∷◌, map, Option, Some, None, take}
-use Rattle.std.specs.List.Sorted.{IsPermutation}
-use Rattle.std.proofs.lemmas.List.Sorted.{IsPermutation-map}
-use Rattle.sqlite.specs.Effect.{Database}
-use Rattle.sqlite.specs.Order.{Row, column}
-use Rattle.sqlite.specs.declared.types.Value.TheVariants.{Int}
+use Rattle.kcr_older.proofs.Common.{inl, inr, take, ◌≡◌, ◌⊎◌, ◌∙◌, ap, sym, subst₂, refl, ℕ, ◌+◌, pos, ℤ, List, [], ◌∷◌, map, Option, Some, None}
+use Rattle.kcr_older.proofs.Common.{IsPermutation, IsPermutation-map, KeepsRows, Database, Row, Int, Trees, map-map, TreeHolds, cells, version_row}
+use Rattle.kcr_older.proofs.Common.{Version, keeps_on, StoredTables, versions_place, schema_prefix, all_tables, versions, HoldsFirst, numbered}
+use Rattle.kcr_older.proofs.Common.{numbered_table, numbers_in, only_number, version_in}
+use Rattle.sqlite.specs.Order.{column}
 use Rattle.sqlite_schema.specs.Names.{same_name}
-use Rattle.sqlite_trees.proofs.ListLemmas.{map-map}
-use Rattle.sqlite.specs.Change.{KeepsRows}
-use Rattle.sqlite.specs.Tree.{Trees}
-use Rattle.kcr_rows.specs.Keyed.{TreeHolds, cells}
-use Rattle.kcr_rows.specs.Rows.{version_row}
-use Rattle.kcr_rows.specs.declared.row_impls.Version.{Version}
-use Rattle.kcr_rows.proofs.TableLemmas.{keeps_on}
-use Rattle.kcr_tables.specs.StoredTables.{StoredTables, versions_place}
-use Rattle.kcr_tables.specs.Creation.{schema_prefix}
-use Rattle.kcr_tables.specs.Schema.{all_tables, versions}
-use Rattle.kcr_older.specs.OldFiles.{HoldsFirst, numbered}
-use Rattle.kcr_older.specs.Kind.{numbered_table, numbers_in, only_number, version_in}
 use Rattle.kcr_older.proofs.NumberLemmas.{same_number}
 
 -- the versions are 1, 2 and 3
@@ -27,9 +14,9 @@ IsKnown version = (version ≡ 1) ⊎ ((version ≡ 2) ⊎ (version ≡ 3))
 -- every version has the table of its number
 pub has_versions : (version : ℕ) → IsKnown version → numbered_table (schema_prefix (14 + version)) ≡ Some versions
 unfolding same_name
-has_versions version (inl one) = subst (λ v. numbered_table (schema_prefix (14 + v)) ≡ Some versions) (sym one) refl
-has_versions version (inr (inl two)) = subst (λ v. numbered_table (schema_prefix (14 + v)) ≡ Some versions) (sym two) refl
-has_versions version (inr (inr three)) = subst (λ v. numbered_table (schema_prefix (14 + v)) ≡ Some versions) (sym three) refl
+has_versions version (inl one) = rw one refl
+has_versions version (inr (inl two)) = rw two refl
+has_versions version (inr (inr three)) = rw three refl
 
 -- the number in the one row
 abbrev pub only_version : List Version → Option ℤ
@@ -55,12 +42,9 @@ held_version version known db rows schema keeps =
     (rw there refl) ∙ sym (same_number (map number rows) (numbers_in versions db.trees) (subst₂ IsPermutation mine theirs same)) ∙ by_number rows
 
 shares_versions : (version : ℕ) → IsKnown version → (old new : Trees) → KeepsRows (take (14 + version) all_tables) old new → new 28 ≡ old 28
-shares_versions version (inl one) old new s =
-    (subst (λ v. KeepsRows (take (14 + v) all_tables) old new) one s).1.1.1.1.1.1.1.1.1.1.1.1.1.0
-shares_versions version (inr (inl two)) old new s =
-    (subst (λ v. KeepsRows (take (14 + v) all_tables) old new) two s).1.1.1.1.1.1.1.1.1.1.1.1.1.0
-shares_versions version (inr (inr three)) old new s =
-    (subst (λ v. KeepsRows (take (14 + v) all_tables) old new) three s).1.1.1.1.1.1.1.1.1.1.1.1.1.0
+shares_versions version (inl one) old new s = (rw one at s).1.1.1.1.1.1.1.1.1.1.1.1.1.0
+shares_versions version (inr (inl two)) old new s = (rw two at s).1.1.1.1.1.1.1.1.1.1.1.1.1.0
+shares_versions version (inr (inr three)) old new s = (rw three at s).1.1.1.1.1.1.1.1.1.1.1.1.1.0
 
 -- the number of a file of a version that holds rows is that in the one row of its versions
 pub older_version : (version : ℕ) → IsKnown version → (db : Database) (t : StoredTables) → HoldsFirst (14 + version) db t → version_in db ≡ only_version t.versions
@@ -71,5 +55,5 @@ older_version version known db t h =
 -- one number is one row
 pub is_numbered : (rows : List Version) (number : ℕ) → only_version rows ≡ Some (pos number) → rows ≡ numbered number
 is_numbered [] number h = absurd cc
-is_numbered (version ∷ []) number h = (let same : version.number ≡ number = cc in ap (λ n. record { number = n } ∷ []) same)
+is_numbered (version ∷ []) number h = (let same : version.number ≡ number = cc in rw same refl)
 is_numbered (version ∷ next ∷ more) number h = absurd cc

@@ -1,74 +1,28 @@
 -- UPDATE of the one number of the table of versions.
-use Rattle.std.proofs.Common.{rules, ◌==◌, ◌≡◌, ℕ, ◌^◌, ℤ, pos, nat_le, true, false, not, cond, None, Ok, List, [], ◌∷◌, map, filter, codes, refl, sym, ap}
-use Rattle.std.proofs.Common.{subst, ◌∙◌}
-use Rattle.std.specs.List.{list_all}
-use Rattle.std.specs.Ordering.{is_eq}
-use Rattle.std.specs.List.Sorted.{IsPermutation}
+use Rattle.kcr_older.proofs.Common.{rules, ◌==◌, ◌≡◌, ℕ, ℤ, pos, true, false, not, None, Ok, List, [], ◌∷◌, map, codes, refl, sym, ap, subst, ◌∙◌}
+use Rattle.kcr_older.proofs.Common.{list_all, IsPermutation, IsPermutation-refl, Command, Term, lit, col, Row, Trees, rowid, put_row, Database, State}
+use Rattle.kcr_older.proofs.Common.{Executes, mode_of, Null, Int, IsPlain, command_of, statement_of, runs_as, one_step, one_permutation, IsShaped}
+use Rattle.kcr_older.proofs.Common.{IsSound, cells, TreeHolds, TableLayout, reading, keeps_still, version_row, Version, register_schema, versions}
+use Rattle.kcr_older.proofs.Common.{StoredTables, Holds, versions_place, numbered}
 use Rattle.std.proofs.lemmas.Cmp.{tied_itself}
-use Rattle.std.proofs.lemmas.List.Sorted.{IsPermutation-refl, IsPermutation-map}
-use Rattle.sqlite.specs.Command.{Command}
 use Rattle.sqlite.specs.Command.TheVariants.{Update}
-use Rattle.sqlite.specs.Term.{Term, lit, col}
-use Rattle.sqlite.specs.Query.{Query, IsAnswer, Output, output}
-use Rattle.sqlite.specs.Program.{overlay}
-use Rattle.sqlite.specs.Order.{Row, column, value_cmp}
-use Rattle.sqlite.specs.Tree.{Trees, rowid, put_row}
+use Rattle.sqlite.specs.Order.{column}
 use Rattle.sqlite_trees.specs.Tree.{without_rowid}
 use Rattle.sqlite.specs.Cast.{cast_row}
-use Rattle.sqlite.specs.Effect.{Database}
 use Rattle.sqlite.specs.Rows.{Written}
 use Rattle.sqlite.specs.Does.{Tally, Does}
 use Rattle.sqlite.specs.Edit.{Edit, edit_of, edited, id_in}
 use Rattle.sqlite.specs.Rowids.TheVariants.{Given}
-use Rattle.sqlite.specs.State.{State, Executes, mode_of}
-use Rattle.sqlite.specs.declared.types.Value.TheVariants.{Null, Int}
 use Rattle.sqlite.specs.Listing.{understood}
-use Rattle.sqlite.proofs.Callers.{IsPlain, command_of, statement_of, runs_as, one_step, one_permutation}
 use Rattle.sqlite_tied.specs.Compute.{everything}
-use Rattle.sqlite_trees.specs.View.{IsShaped}
 use Rattle.sqlite_trees.specs.declared.store.Shape.TheVariants as shape
-use Rattle.sqlite_trees.proofs.ListLemmas.{map-map}
 use Rattle.sqlite_value.proofs.OrderLemmas.{value_cmp_total}
 use Rattle.sqlite_schema.specs.declared.schema.Keys.TheVariants.{Enforced}
 use Rattle.sqlite_rules.specs.Edit.{Applies}
 use Rattle.sqlite_rules.specs.Calls.{ids_of}
 use Rattle.sqlite_rules.proofs.TableLemmas.{int_is}
-use Rattle.sqlite_catalog.specs.Listing.{IsSound}
-use Rattle.kcr_rows.specs.Keyed.{cells, TreeHolds, TableLayout}
-use Rattle.kcr_rows.proofs.ReadLemmas.{reading, matched}
-use Rattle.kcr_base.proofs.ListLemmas.{map-same}
 use Rattle.kcr_rows.proofs.WriteLemmas.{went, same_value, cast_int}
-use Rattle.kcr_rows.proofs.TableLemmas.{filter_every, keeps_still}
-use Rattle.kcr_rows.specs.Rows.{version_row}
-use Rattle.kcr_rows.specs.declared.row_impls.Version.{Version}
-use Rattle.kcr_tables.specs.Schema.{register_schema, versions}
-use Rattle.kcr_tables.specs.StoredTables.{StoredTables, Holds, versions_place}
-use Rattle.kcr_older.specs.OldFiles.{numbered}
-
--- ---- what a query with no test shows of each entry
-
-module _ (params : Row) (tree : ℕ) (project : List Term) (f : Row → Row)
-    (shows : (r : Row) → output (reading tree [] project []) (params ∷ r ∷ []) ≡ ([], f r))
-    (low : nat_le (2 ^ 31) tree ≡ false) where
-  abbrev q : Query
-  q = reading tree [] project []
-
-  abbrev with_f : Row → Output
-  with_f r = ([], f r)
-
-  every_row : (db : Trees) (rows : List Row) → IsAnswer q (overlay db []) params rows → IsPermutation (map f (db tree)) rows
-  every_row db rows a =
-      let entries = db tree in
-      let staged : a.staged ≡ map (λ r. params ∷ r ∷ []) (filter (λ _. true) (overlay db [] tree)) =
-      a.grouped ∙ matched (λ _. true) (λ r. params ∷ r ∷ []) (overlay db [] tree) in
-      let over : overlay db [] tree ≡ entries = rw low in
-      let all : a.staged ≡ map (λ r. params ∷ r ∷ []) entries =
-      staged ∙ ap (λ l. map (λ r. params ∷ r ∷ []) (filter (λ _. true) l)) over ∙ ap (map (λ r. params ∷ r ∷ [])) (filter_every entries) in
-      let outs : a.kept ≡ map with_f entries =
-      a.distinct ∙ ap (map (output q)) all ∙ map-map (output q) (λ r. params ∷ r ∷ []) entries ∙ map-same _ with_f entries shows in
-      let same : IsPermutation (map (λ (o : Output). o.1) a.kept) (map (λ (o : Output). o.1) a.ordered) = IsPermutation-map (λ (o : Output). o.1) _ _ a.same in
-      let firsts : map (λ (o : Output). o.1) a.kept ≡ map f entries = ap (map (λ (o : Output). o.1)) outs ∙ map-map (λ (o : Output). o.1) with_f entries in
-      subst (λ l. IsPermutation l rows) firsts (subst (IsPermutation (map (λ (o : Output). o.1) a.kept)) (sym a.shown) same)
+use Rattle.kcr_older.proofs.NumberLemmas.{every_row}
 
 -- ---- the statement
 
@@ -87,9 +41,6 @@ set_is = (refl, (refl, refl))
 
 abbrev show_set : Row → Row
 show_set r = column r 0 ∷ column r 0 ∷ Int (pos 3) ∷ []
-
-shows_set : (r : Row) → output (reading versions_place.tree [] project []) ([] ∷ r ∷ []) ≡ ([], show_set r)
-shows_set r = refl
 
 abbrev edit_for : Trees → List Row → Edit
 edit_for trees rows = edit_of trees versions (ids_of rows) Given 1 rows
@@ -113,20 +64,18 @@ updates limit trees text tally next h =
       ap (λ (d : Database). d.schema) now,
       record {
         rows = queried.0;
-        shown = every_row [] versions_place.tree project show_set shows_set refl trees queried.0 (queried.1.answer Null);
+        shown = every_row versions_place.tree project show_set (λ r. refl) refl trees queried.0 (queried.1.answer Null);
         applies = subst (λ (t : Trees). Applies register_schema Enforced trees (edit_for trees queried.0) t) (sym trees_is) applies;
       },
     )
 
 one_entry : (g : Row → Row) (xs : List Row) (y : Row) → map g xs ≡ y ∷ [] → (e : Row) × (xs ≡ e ∷ [])
-one_entry g [] y h = absurd (cc)
+one_entry g [] y h = absurd cc
 one_entry g (e ∷ []) y h = (e, refl)
-one_entry g (e ∷ other ∷ more) y h = absurd (cc)
+one_entry g (e ∷ other ∷ more) y h = absurd cc
 
 gone_one : (i : ℤ) (e : Row) → rowid e ≡ Int i → without_rowid i (e ∷ []) ≡ []
-gone_one i e h =
-    let has : is_eq (value_cmp (rowid e) (Int i)) ≡ true = ap (λ v. is_eq (value_cmp v (Int i))) h ∙ ap is_eq (tied_itself value_cmp_total (Int i)) in
-    ap (λ b. cond (not b) (e ∷ []) []) has
+gone_one i e h = rw (h, tied_itself value_cmp_total (Int i)) refl
 
 -- the row of the one entry
 set_tree : (trees next : Trees) (e : Row) (i : ℤ) → trees versions_place.tree ≡ e ∷ [] → rowid e ≡ Int i → IsSet trees next

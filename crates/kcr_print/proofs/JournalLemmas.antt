@@ -1,31 +1,12 @@
 -- The lines that the rows of accepted commands keep are those of the commands.
-use Rattle.std.proofs.Common.{◌≡◌, ℕ, List, [], map, take, reverse, Option, ap, subst, ◌∙◌}
-use Rattle.std.specs.Prelude.{Result, ⊤}
-use Rattle.std.specs.List.{AllByRecursion, flat_map}
-use Rattle.std.proofs.lemmas.List.{take-map}
-use Rattle.std.proofs.lemmas.List.Sorted.{IsPermutation-reverse}
-use Rattle.sqlite.specs.Held.{state}
-use Rattle.sqlite.specs.State.{HasCleanDisk}
-use Rattle.sqlite.specs.Store.{Ghosts}
-use Rattle.sqlite.specs.Tree.{Trees}
-use Rattle.sqlite_trees.proofs.ListLemmas.{all-permutation}
-use Rattle.kcr_base.specs.Counted.{inner_of}
-use Rattle.kcr_base.specs.declared.counted.Counted.{Counted}
-use Rattle.kcr_forms.specs.Values.{AreValues}
-use Rattle.kcr_history.specs.History.{History}
-use Rattle.kcr_history.specs.Machine.{IsRegister}
-use Rattle.kcr_history.specs.Tables.{key_row, people, tables}
-use Rattle.kcr_history.specs.declared.row_types.KeyRow.{KeyRow}
+use Rattle.kcr_print.proofs.Common.{◌≡◌, ℕ, List, map, take, reverse, ap, subst, ◌∙◌, Result, ⊤, AllByRecursion, flat_map, take-map}
+use Rattle.kcr_print.proofs.Common.{IsPermutation-reverse, state, HasCleanDisk, Ghosts, Trees, all-permutation, inner_of, Counted, AreValues, History}
+use Rattle.kcr_print.proofs.Common.{IsRegister, key_row, people, tables, KeyRow, RegisterState, PrintsJournal, row_journal, IsPrinted, Prints}
+use Rattle.kcr_print.proofs.Common.{PrintsRows, PrintFault}
+use Rattle.std.proofs.Common.{Option}
 use Rattle.kcr_journal.specs.Journal.{journal, row_line}
 use Rattle.kcr_journal.proofs.EntryLemmas.{IsGood, good-entries, rows-are}
-use Rattle.kcr_store.specs.Register.{RegisterState}
-use Rattle.kcr_print.specs.Journal.{PrintsJournal, row_journal}
-use Rattle.kcr_print.specs.Reports.{IsPrinted, Prints, PrintsRows}
-use Rattle.kcr_print.specs.declared.fault.PrintFault.{PrintFault}
-use Rattle.kcr_print.proofs.RequestLemmas.{past_is, held_by, all_take}
-
-none : KeyRow
-none = record { key = []; accepted = 0; command = []; reply = [] }
+use Rattle.kcr_print.proofs.RequestLemmas.{none, past_is, held_by, all_take}
 
 rows_tell : (asked : Option ℕ) (A : History) → IsRegister A → AreValues A → row_journal asked (tables A) ≡ journal asked A
 rows_tell asked A is values =

@@ -1,3 +1,4 @@
+mod Common
 mod CsvLemmas
 mod JournalLemmas
 mod LineLemmas

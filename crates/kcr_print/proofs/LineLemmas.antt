@@ -1,7 +1,6 @@
 -- Words with blanks between them, one word after the other.
-use Rattle.std.proofs.Common.{◌≡◌, ℕ, ◌+◌, ◌<◌, List, [], ◌∷◌, ◌++◌, map, take, length, get_or, refl, sym, ap, ◌∙◌, append_assoc, add-one, arith}
-use Rattle.std.specs.List.{join_with_byte}
-use Rattle.std.proofs.lemmas.List.{map_more}
+use Rattle.kcr_print.proofs.Common.{◌≡◌, ℕ, ◌+◌, ◌<◌, List, [], ◌∷◌, ◌++◌, map, take, length, get_or, refl, sym, ap, ◌∙◌, append_assoc, add-one}
+use Rattle.kcr_print.proofs.Common.{arith, join_with_byte, map_more}
 
 -- what stands between a list and the next word: a blank if the list is not empty
 abbrev pub separator : {X : Type 0} → List X → List ℕ

@@ -1,61 +1,36 @@
 -- Parts of a report that are written one after the other.
-use Rattle.std.proofs.Common.{◌≡◌, ℕ, ◌<◌, List, [], ◌++◌, inl, inr, refl, sym, ap, ◌∙◌, subst}
-use Rattle.std.specs.Prelude.{◌⊎◌, ⊤, Bool, true, false, Option, Some, None, Result, Ok, Err, IfErr, IsErr, IsErrAnd, OnOk, IsSome, IsTrue, is_some}
-use Rattle.std.proofs.lemmas.Bool.{false≢true, true≢false}
-use Rattle.std.proofs.lemmas.Option.{none-some}
-use Rattle.std.specs.Io.KnownBytes.{Appends}
-use Rattle.std.specs.List.{flat_map}
-use Rattle.sqlite.specs.Store.{Ghosts}
-use Rattle.sqlite.specs.Held.{Held, state}
-use Rattle.sqlite.specs.State.{HasCleanDisk}
-use Rattle.kcr_base.specs.Counted.{inner_of, failures_of}
-use Rattle.kcr_base.specs.declared.counted.Counted.{Counted}
-use Rattle.kcr_base.specs.declared.refusal.Refusal.{Refusal}
+use Rattle.kcr_print.proofs.Common.{◌≡◌, ℕ, ◌<◌, List, [], ◌++◌, inl, inr, refl, sym, ap, ◌∙◌, subst, ◌⊎◌, ⊤, Option, Some, Result, Ok, Err, IfErr}
+use Rattle.kcr_print.proofs.Common.{IsErr, IsErrAnd, OnOk, is_some, true≢false, Appends, flat_map, Ghosts, Held, state, HasCleanDisk, inner_of}
+use Rattle.kcr_print.proofs.Common.{failures_of, Counted, Refusal, some_if, is_ceremony, History, ceremony_row, tables, IsFault, RegisterState}
+use Rattle.kcr_print.proofs.Common.{IsConsistent, CeremonyRow, planned_row, conn_after, left_by, reads_nothing, reads_then, rows_shown, stands_rows}
+use Rattle.kcr_print.proofs.Common.{BreaksIf, OfHistory, OfRows, OfRowsOver, OfRowsShown, OnlyReads, row_of_ceremony, Stops, IsPrinted, IsOfPlanned}
+use Rattle.kcr_print.proofs.Common.{Prints, PrintsPart, PrintsCeremonyPart, PrintsPlanned, CountsWriteFaults, Writes, PrintFault, Refused, Write}
+use Rattle.std.specs.Prelude.{Bool, true, false}
+use Rattle.std.proofs.lemmas.Result.{IfErr-weaker, IfOk-from_err, MatchResult-weaker, on_ok_weaker}
 use Rattle.kcr_base.specs.declared.refusal.Refusal.TheVariants as Refusals
-use Rattle.kcr_base.specs.declared.refusal.Thing.TheVariants as Things
-use Rattle.kcr_base.proofs.ListLemmas.{some_if}
-use Rattle.kcr_history.specs.Ceremonies.{is_ceremony}
-use Rattle.kcr_history.specs.History.{History}
 use Rattle.kcr_history.specs.Tables as machine
-use Rattle.kcr_history.specs.Tables.{ceremony_row, tables}
-use Rattle.kcr_tables.specs.Refusals.{IsFault}
-use Rattle.kcr_store.specs.Register.{RegisterState, IsConsistent}
-use Rattle.kcr_history.specs.declared.row_types.CeremonyRow.{CeremonyRow}
-use Rattle.kcr_store.proofs.PlannedLemmas.{planned_row}
-use Rattle.kcr_store.proofs.WholeLemmas.{conn_after, left_by, reads_nothing, reads_then, rows_shown, stands_rows}
-use Rattle.kcr_store.specs.Calls.{BreaksIf, OfHistory, OfRows}
-use Rattle.kcr_store.specs.Frame.{OfRowsOver, OfRowsShown, OnlyReads}
 use Rattle.kcr_store.specs.Rows.{MayHaveNoRow, IsNotPlanned, NamesCeremony}
 use Rattle.kcr_store.specs.ShownBy.{HasNoRowBy, IsNotPlannedBy, IsRowBy}
-use Rattle.kcr_print.specs.ByRows.{row_of_ceremony}
-use Rattle.kcr_print.specs.Reports.{Stops, IsPrinted, IsOfPlanned, Prints, PrintsPart, PrintsCeremonyPart, PrintsPlanned, CountsWriteFaults}
-use Rattle.kcr_print.specs.Written.{Writes}
-use Rattle.kcr_print.specs.declared.fault.PrintFault.{PrintFault}
-use Rattle.kcr_print.specs.declared.fault.PrintFault.TheVariants.{Refused, Write}
 use Rattle.kcr_print.proofs.WrittenLemmas.{appends_both, appends_nothing, front_both, front_longer}
 
 -- WHY IT STOPS
 
--- what stops a part that nothing denies stops any
-pub stops_weaker : (M : Refusal → Type 0) (fault : PrintFault) → Stops (λ _. ⊥) fault → Stops M fault
-stops_weaker M (Refused refusal) (inl f) = inl f
-stops_weaker M (Refused refusal) (inr none) = absurd none
-stops_weaker M Write h = tt
+-- denied for another reason
+stops_denied : {D E : Refusal → Type 0} → ((refusal : Refusal) → D refusal → E refusal) → (fault : PrintFault) → Stops D fault → Stops E fault
+stops_denied f (Refused refusal) (inl fault) = inl fault
+stops_denied f (Refused refusal) (inr why) = inr (f refusal why)
+stops_denied f Write h = tt
 
--- a part that nothing denies stops only for what may stop any
-pub cause_weaker : (M : Refusal → Type 0) (r : Result ⊤ PrintFault) → IfErr r (Stops (λ _. ⊥)) → IfErr r (Stops M)
-cause_weaker M (Ok v) h = h
-cause_weaker M (Err e) h = stops_weaker M e h
+-- what stops a part that nothing denies stops any
+stops_weaker : (M : Refusal → Type 0) (fault : PrintFault) → Stops (λ _. ⊥) fault → Stops M fault
+stops_weaker M = stops_denied (λ _ no. absurd no)
 
 -- a part that nothing denies is not stopped by a refusal that names a ceremony
 not_named : (ceremony : ℕ) (e : PrintFault) (refusal : Refusal) → Stops (λ _. ⊥) e → NamesCeremony ceremony refusal → e ≡ Refused refusal → ⊥
-not_named ceremony (Refused other) refusal (inl fault) names is = by fault (let same : other ≡ refusal = cc in same ∙ names)
-  where
-    by : IsFault other → other ≡ Refusals.Unknown (Things.Ceremony ceremony) → ⊥
-    by (inl memory) unknown = let e : Refusals.Memory ≡ Refusals.Unknown (Things.Ceremony ceremony) = sym memory ∙ unknown in cc
-    by (inr disk) unknown = let e : Refusals.Disk ≡ Refusals.Unknown (Things.Ceremony ceremony) = sym disk ∙ unknown in cc
+not_named ceremony (Refused other) refusal (inl (inl memory)) names is = cc
+not_named ceremony (Refused other) refusal (inl (inr disk)) names is = cc
 not_named ceremony (Refused other) refusal (inr none) names is = none
-not_named ceremony Write refusal h names is = let e : Write ≡ Refused refusal = is in cc
+not_named ceremony Write refusal h names is = cc
 
 pub err_is : (r : Result ⊤ PrintFault) (e f : PrintFault) → IsErrAnd r (λ fault. fault ≡ e) → r ≡ Err f → e ≡ f
 err_is (Ok v) e f is eq = absurd is
@@ -67,46 +42,16 @@ on_ok : {T E : Type 0} (r : Result T E) (P : Type 0) → P → OnOk r P
 on_ok (Ok v) P p = p
 on_ok (Err e) P p = tt
 
-not_ok : {T E : Type 0} (r : Result T E) (P : Type 0) → IsErr r → OnOk r P
-not_ok (Ok v) P h = absurd (false≢true h)
-not_ok (Err e) P h = tt
-
-on_weaker : {T E : Type 0} (r : Result T E) {P Q : Type 0} → (P → Q) → OnOk r P → OnOk r Q
-on_weaker (Ok v) f h = f h
-on_weaker (Err e) f h = tt
-
-on_not : {T E : Type 0} (r : Result T E) {b : Bool} → OnOk r (IsTrue b) → b ≡ false → OnOk r ⊥
-on_not (Ok v) h is = true≢false (sym h ∙ is)
-on_not (Err e) h is = tt
-
 -- THE ROW OF A CEREMONY OF A HISTORY
 
-planned_some : (b : Bool) (row : CeremonyRow) {o : Option CeremonyRow} → o ≡ some_if b row → IsSome o → IsTrue b
-planned_some true row is some = refl
-planned_some false row is some = absurd (true≢false (sym some ∙ ap is_some is))
+some_if_tells : (b : Bool) (row : CeremonyRow) → is_some (some_if b row) ≡ b
+some_if_tells true row = refl
+some_if_tells false row = refl
 
-planned_none : (b : Bool) (row : CeremonyRow) {o : Option CeremonyRow} → o ≡ some_if b row → o ≡ None → b ≡ false
-planned_none true row is none = absurd (none-some row (sym none ∙ is))
-planned_none false row is none = refl
-
-was_planned : (A : History) (ceremony : ℕ) → IsSome (row_of_ceremony ceremony (tables A)) → IsTrue (is_ceremony A ceremony)
-was_planned A ceremony = planned_some (is_ceremony A ceremony) (ceremony_row A ceremony) (planned_row A ceremony)
-
-not_planned : (A : History) (ceremony : ℕ) (refusal : Refusal) → IsNotPlannedBy (tables A) ceremony refusal → IsNotPlanned A ceremony refusal
-not_planned A ceremony refusal h = (planned_none (is_ceremony A ceremony) (ceremony_row A ceremony) (planned_row A ceremony) h.0, h.1)
+row_tells : (A : History) (ceremony : ℕ) → is_some (row_of_ceremony ceremony (tables A)) ≡ is_ceremony A ceremony
+row_tells A ceremony = ap is_some (planned_row A ceremony) ∙ some_if_tells (is_ceremony A ceremony) (ceremony_row A ceremony)
 
 -- THE BYTES
-
--- denied for another reason
-stops_denied : {D E : Refusal → Type 0} → ((refusal : Refusal) → D refusal → E refusal) → (fault : PrintFault) → Stops D fault → Stops E fault
-stops_denied f (Refused refusal) (inl fault) = inl fault
-stops_denied f (Refused refusal) (inr why) = inr (f refusal why)
-stops_denied f Write h = tt
-
-printed_denied : {D E : Refusal → Type 0} → ((refusal : Refusal) → D refusal → E refusal) → (r : Result ⊤ PrintFault) (a b : Option (List ℕ)) (x : List ℕ)
-    → IsPrinted D x r a b → IsPrinted E x r a b
-printed_denied f (Ok v) a b x p = p
-printed_denied f (Err e) a b x p = (p.0, stops_denied f e p.1)
 
 -- nothing is a prefix of any text
 printed_none : (D : Refusal → Type 0) (r : Result ⊤ PrintFault) (a b : Option (List ℕ)) (x : List ℕ) → OnOk r ⊥ → IsPrinted D [] r a b → IsPrinted D x r a b
@@ -115,12 +60,7 @@ printed_none D (Err e) a b x never p = (front_longer a b [] x p.0, p.1)
 
 printed_then : (D : Refusal → Type 0) (r : Result ⊤ PrintFault) (a b c : Option (List ℕ)) (x y : List ℕ) → Appends a b x → IsPrinted D y r b c
     → IsPrinted D (x ++ y) r a c
-printed_then D (Ok v) a b c x y p q = appends_both a b c x y p q
-printed_then D (Err e) a b c x y p q = (front_both a b c x y p q.0, q.1)
-
-printed_weaker : (D : Refusal → Type 0) (r : Result ⊤ PrintFault) (a b : Option (List ℕ)) (x : List ℕ) → IsPrinted (λ _. ⊥) x r a b → IsPrinted D x r a b
-printed_weaker D (Ok v) a b x p = p
-printed_weaker D (Err e) a b x p = (p.0, stops_weaker D e p.1)
+printed_then D r a b c x y p q = MatchResult-weaker r q (λ _. appends_both a b c x y p) (λ _ f. (front_both a b c x y p f.0, f.1))
 
 printed_of : (D : Refusal → Type 0) (r : Result ⊤ PrintFault) (a b : Option (List ℕ)) (x : List ℕ) → Writes r a b x → IfErr r (Stops (λ _. ⊥))
     → IsPrinted D x r a b
@@ -183,7 +123,8 @@ module _ {S W : Type 0} {g : Ghosts S} {contents : W → Option (List ℕ)} {D :
   pub puts_weaker : {a b : Held S} {x y : Counted W} {r : Result ⊤ PrintFault} {t : machine.Tables → List ℕ}
       → PrintsPart g contents a b x y r (λ _ _. ⊥) (λ _. ⊥) t → PrintsPart g contents a b x y r D M t
   puts_weaker {r = r} {t} p =
-      puts_as (λ clean m has. printed_weaker (D m) r _ _ (t m) (p.printed clean m has)) (cause_weaker M r p.reads.cause) p
+      puts_as (λ clean m has. MatchResult-weaker r (p.printed clean m has) (λ _ q. q) (λ e q. (q.0, stops_weaker (D m) e q.1)))
+      (IfErr-weaker r _ _ (stops_weaker M) p.reads.cause) p
 
   -- the same part, its text told otherwise
   pub puts_text : {a b : Held S} {x y : Counted W} {r : Result ⊤ PrintFault} {t : machine.Tables → List ℕ} (u : machine.Tables → List ℕ)
@@ -194,13 +135,13 @@ module _ {S W : Type 0} {g : Ghosts S} {contents : W → Option (List ℕ)} {D :
 
 module _ {S W : Type 0} {g : Ghosts S} {contents : W → Option (List ℕ)} where
   -- a call on the register, and then a text that is written
-  puts_line : {D : machine.Tables → Refusal → Type 0} {M : Refusal → Type 0} {A E : Type 0} {N : E → Type 0} {q : Result A E} {a b : Held S} {x y : Counted W}
-      {r : Result ⊤ PrintFault} (line : List ℕ) → OnlyReads g N a b q
+  pub puts_line : {D : machine.Tables → Refusal → Type 0} {M : Refusal → Type 0} {A E : Type 0} {N : E → Type 0} {q : Result A E} {a b : Held S}
+      {x y : Counted W} {r : Result ⊤ PrintFault} (line : List ℕ) → OnlyReads g N a b q
       → Writes r (contents (inner_of x)) (contents (inner_of y)) line → IfErr r (Stops (λ _. ⊥)) → CountsWriteFaults x y r
       → PrintsPart g contents a b x y r D M (λ _. line)
   puts_line {D} {M} {b = b} {r = r} line peeks written cause told = record {
     printed = λ now m has. printed_of (D m) r _ _ line written cause;
-    reads = reads_then peeks (reads_nothing b (cause_weaker M r cause));
+    reads = reads_then peeks (reads_nothing b (IfErr-weaker r _ _ (stops_weaker M) cause));
     told = told;
   }
 
@@ -245,7 +186,7 @@ module _ {S W : Type 0} {g : Ghosts S} {contents : W → Option (List ℕ)} wher
       → PrintsCeremonyPart report_by ceremony g contents a b x y r
   stops_planned {ceremony = ceremony} r {e} err is cause p = record {
     puts = puts_err r e is p;
-    row = λ clean m has. not_ok r _ err;
+    row = λ clean m has. IfOk-from_err r _ err;
     unwritten = λ refusal names eq. absurd (not_named ceremony e refusal cause names (err_is r e (Refused refusal) is eq));
   }
 
@@ -255,7 +196,7 @@ module _ {S W : Type 0} {g : Ghosts S} {contents : W → Option (List ℕ)} wher
       → PrintsPart g contents a b x x (Err e) (λ m. IsNotPlannedBy m ceremony) (NamesCeremony ceremony) (λ m. report_by m ceremony)
       → PrintsCeremonyPart report_by ceremony g contents a b x x r
   denied_planned r {e} err is p =
-      record { puts = puts_err r e is p; row = λ clean m has. not_ok r _ err; unwritten = λ refusal names eq. refl }
+      record { puts = puts_err r e is p; row = λ clean m has. IfOk-from_err r _ err; unwritten = λ refusal names eq. refl }
 
   -- one that is whole is of a ceremony whose row was read
   pub ends_planned : {a c : Held S} {x y : Counted W} {report_by : machine.Tables → ℕ → List ℕ} {ceremony : ℕ} {r : Result ⊤ PrintFault} {row : CeremonyRow}
@@ -275,13 +216,6 @@ module _ {S W : Type 0} {g : Ghosts S} {contents : W → Option (List ℕ)} wher
       → PrintsPart g contents a b x x (Err (Refused refusal)) (λ m. IsNotPlannedBy m ceremony) (NamesCeremony ceremony) t
   no_planned {a} {b} {ceremony = ceremony} {refusal} peeks why =
       puts_nothing (rows_shown g a b (λ m. HasNoRowBy m ceremony refusal) peeks.clean why) peeks.cause peeks
-
-  -- the row of the ceremony was read, and these lines are written
-  pub row_line : {a b : Held S} {x y : Counted W} {r : Result ⊤ PrintFault} {ceremony : ℕ} {row : CeremonyRow} (line : List ℕ)
-      → OnlyReads g (MayHaveNoRow ceremony) a b (Ok row)
-      → Writes r (contents (inner_of x)) (contents (inner_of y)) line → IfErr r (Stops (λ _. ⊥)) → CountsWriteFaults x y r
-      → PrintsPart g contents a b x y r (λ m. IsNotPlannedBy m ceremony) (NamesCeremony ceremony) (λ _. line)
-  row_line line peeks = puts_line line peeks
 
 -- OVER ANY REGISTER
 
@@ -338,17 +272,16 @@ module _ {S W : Type 0} (g : Ghosts S) {contents : W → Option (List ℕ)} {bef
   }
     where
       planned : IsOfPlanned g before (record before { conn = conn }) r ceremony
-      planned clean A at = on_weaker r (was_planned A ceremony) (part.row clean (tables A) (stands_rows at))
+      planned clean A at = on_ok_weaker r (λ some. sym (row_tells A ceremony) ∙ some) (part.row clean (tables A) (stands_rows at))
 
       printed : OfHistory g before (record before { conn = conn })
           (λ A. IsPrinted (IsNotPlanned A ceremony) (report A ceremony) r (contents (inner_of x)) (contents (inner_of y)))
       printed clean A at =
-          by (texts clean A at) (printed_denied (not_planned A ceremony) r _ _ (report_by (tables A) ceremony) (part.puts.printed clean (tables A) (stands_rows at)))
-        where
-          by : ((is_ceremony A ceremony ≡ false) × (report_by (tables A) ceremony ≡ [])) ⊎ (report_by (tables A) ceremony ≡ report A ceremony)
-              → IsPrinted (IsNotPlanned A ceremony) (report_by (tables A) ceremony) r (contents (inner_of x)) (contents (inner_of y))
-              → IsPrinted (IsNotPlanned A ceremony) (report A ceremony) r (contents (inner_of x)) (contents (inner_of y))
-          by (inr same) h = subst (λ (text : List ℕ). IsPrinted (IsNotPlanned A ceremony) text r (contents (inner_of x)) (contents (inner_of y))) same h
-          by (inl none) h =
-              printed_none (IsNotPlanned A ceremony) r _ _ (report A ceremony) (on_not r (planned clean A at) none.0)
-              (subst (λ (text : List ℕ). IsPrinted (IsNotPlanned A ceremony) text r (contents (inner_of x)) (contents (inner_of y))) none.1 h)
+          let h : IsPrinted (IsNotPlanned A ceremony) (report_by (tables A) ceremony) r (contents (inner_of x)) (contents (inner_of y)) =
+          MatchResult-weaker r (part.puts.printed clean (tables A) (stands_rows at)) (λ _ p. p)
+          (λ e p. (p.0, stops_denied (λ refusal h. (sym (row_tells A ceremony) ∙ ap is_some h.0, h.1)) e p.1)) in
+          elim (texts clean A at) [
+            | inr same ↦ rw same at h
+            | inl none ↦ printed_none (IsNotPlanned A ceremony) r _ _ (report A ceremony)
+                (on_ok_weaker r (λ yes. true≢false (sym yes ∙ none.0)) (planned clean A at)) (rw none.1 at h)
+          ]

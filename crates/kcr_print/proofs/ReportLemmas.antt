@@ -1,43 +1,25 @@
 -- The texts of the rows that are read are the parts of the reports.
-use Rattle.std.proofs.Common.{◌≡◌, ℕ, Bool, true, false, List, [], ◌∷◌, ◌++◌, map, filter, reverse, inl, inr, refl, ap, ◌∙◌}
-use Rattle.std.specs.Prelude.{◌⊎◌}
-use Rattle.std.specs.List.{flat_map}
-use Rattle.std.specs.Option.{option_map_or}
-use Rattle.std.specs.Coded.{coded_ℕ, coded_list}
-use base.Stored.{Coded-set}
-use Rattle.std.proofs.Math.Logic.{∥∥₁_elim}
-use Rattle.std.proofs.lemmas.List.Sorted.{IsPermutation-trans, IsPermutation-reverse}
-use Rattle.std.proofs.lemmas.List.Folds.{flat_map-map}
-use Rattle.sqlite.specs.Held.{state}
-use Rattle.sqlite.specs.State.{HasCleanDisk}
-use Rattle.sqlite.specs.Store.{Ghosts}
-use Rattle.sqlite.specs.Tree.{Trees}
-use Rattle.sqlite_trees.proofs.ListLemmas.{flat_map-filter, flat_map_same_on}
+use Rattle.kcr_print.proofs.Common.{◌≡◌, ℕ, Bool, false, List, [], ◌∷◌, ◌++◌, map, filter, reverse, inl, inr, refl, ap, ◌∙◌, ◌⊎◌, Option, flat_map}
+use Rattle.kcr_print.proofs.Common.{option_map_or, coded_ℕ, coded_list, Coded-set, ∥∥₁_elim, cases_Bool, IsPermutation-trans, IsPermutation-reverse}
+use Rattle.kcr_print.proofs.Common.{flat_map-map, state, HasCleanDisk, Ghosts, Trees, flat_map-filter, flat_map_same_on, some_if, is_ceremony}
+use Rattle.kcr_print.proofs.Common.{History, ceremony_row, people, safes, seatings, tables, CeremonyRow, line_of, step_lines, steps_in_order}
+use Rattle.kcr_print.proofs.Common.{stay_line, bag_lines, items_in_order, bags_in_order, loose_line, seated_at, annotated, attendance, custody}
+use Rattle.kcr_print.proofs.Common.{exception_line, safe_line, exceptions_of, named_stays, loose_items, RegisterState, StandsAt, whole, planned_row}
+use Rattle.kcr_print.proofs.Common.{annotated_by, attendance_by, custody_by, script_by, head_lines, foot_lines, header_line, seated_lines, named_line}
+use Rattle.kcr_print.proofs.Common.{packed_lines, code_line}
 use Rattle.kcr_custody.specs.Custody.{lies_in}
 use Rattle.kcr_custody.specs.Spots.{spot_text}
 use Rattle.kcr_custody.specs.declared.Bag.{Bag}
 use Rattle.kcr_custody.specs.declared.Item.{Item}
 use Rattle.kcr_custody.specs.declared.Rest.TheVariants.{Loose, Within}
 use Rattle.kcr_room.specs.Stays.{stays_by, attendance_in_by}
-use Rattle.kcr_base.proofs.ListLemmas.{some_if}
-use Rattle.kcr_history.specs.Ceremonies.{is_ceremony}
-use Rattle.kcr_history.specs.History.{History}
 use Rattle.kcr_history.specs.Room.{sheet}
-use Rattle.kcr_history.specs.Tables.{ceremony_row, people, safes, seatings, tables}
-use Rattle.kcr_history.specs.declared.row_types.CeremonyRow.{CeremonyRow}
 use Rattle.kcr_history.specs.declared.row_types.SeatingRow.{SeatingRow}
 use Rattle.kcr_history.specs.declared.row_types.StepRow.{StepRow}
 use Rattle.kcr_history.specs.declared.row_types.StepState.TheVariants.{Undone, Signed, Passed}
-use Rattle.kcr_history.specs.Prints.{line_of, step_lines, steps_in_order, stay_line, bag_lines, items_in_order, bags_in_order, loose_line, seated_at}
-use Rattle.kcr_history.specs.Prints.{annotated, attendance, custody, exception_line, safe_line}
 use Rattle.kcr_history.specs.Questions.{with_seated, with_name, with_items, is_loose}
-use Rattle.kcr_reading.specs.Remaining.{exceptions_of, seated_steps, named_stays, packed_bags, loose_items}
 use Rattle.kcr_tables.specs.MachineTables.{TreesHoldTables}
 use Rattle.kcr_reading.proofs.StayLemmas.{one_attendance}
-use Rattle.kcr_store.specs.Register.{RegisterState, StandsAt, whole}
-use Rattle.kcr_store.proofs.PlannedLemmas.{planned_row}
-use Rattle.kcr_print.specs.ByRows.{annotated_by, attendance_by, custody_by, script_by}
-use Rattle.kcr_print.specs.Lines.{head_lines, foot_lines, header_line, seated_lines, named_line, packed_lines, code_line}
 
 -- lines that are the same row by row
 lines_along : {X Y : Type 0} (f : X → List ℕ) (g : Y → List ℕ) (v : Y → X) → ((y : Y) → f (v y) ≡ g y) → (ys : List Y) → flat_map f (map v ys) ≡ flat_map g ys
@@ -55,54 +37,36 @@ packed_is : (items : List Item) (bag : Bag) → packed_lines (record { bag = bag
 packed_is items bag =
     ap (λ t. line_of (bag.serial ∷ spot_text bag.spot ∷ []) ++ t) (flat_map-map code_line (λ (item : Item). item.code) (filter (lies_in bag.serial) items))
 
--- THE PARTS
-
-steps_text : (A : History) (ceremony : ℕ) → flat_map seated_lines (seated_steps ceremony (tables A))
-    ≡ flat_map (step_lines (seatings A)) (steps_in_order A ceremony)
-steps_text A ceremony = lines_along seated_lines (step_lines (seatings A)) (with_seated (seatings A)) (seated_is (seatings A)) (steps_in_order A ceremony)
-
-stays_text : (A : History) (ceremony : ℕ) → flat_map named_line (named_stays ceremony (tables A))
-    ≡ flat_map (stay_line (people A)) (attendance_in_by (reverse (stays_by (sheet A))) ceremony)
-stays_text A ceremony =
-    lines_along named_line (stay_line (people A)) (with_name (people A)) (λ stay. refl) (attendance_in_by (reverse (stays_by (sheet A))) ceremony)
-
-bags_text : (A : History) → flat_map packed_lines (packed_bags (tables A)) ≡ flat_map (bag_lines (items_in_order A)) (bags_in_order A)
-bags_text A = lines_along packed_lines (bag_lines (items_in_order A)) (with_items (items_in_order A)) (packed_is (items_in_order A)) (bags_in_order A)
-
 -- an item that is in a bag has no line
 bagged : (item : Item) → is_loose item ≡ false → loose_line item ≡ []
 bagged item =
     elim item.rest as (λ r. is_loose (record item { rest = r }) ≡ false → loose_line (record item { rest = r }) ≡ [])
     [ Loose facility ↦ λ no. absurd (cc no) | Within serial ↦ λ _. refl ]
 
-loose_text : (A : History) → flat_map loose_line (loose_items (tables A)) ≡ flat_map loose_line (items_in_order A)
-loose_text A = flat_map-filter loose_line is_loose bagged (items_in_order A)
-
 -- THE REPORTS
 
 -- by the tables of a history the annotated script is that of the history; of a ceremony that was never planned it is empty
 pub annotated_text : (A : History) (ceremony : ℕ)
     → ((is_ceremony A ceremony ≡ false) × (annotated_by (tables A) ceremony ≡ [])) ⊎ (annotated_by (tables A) ceremony ≡ annotated A ceremony)
-annotated_text A ceremony = by (is_ceremony A ceremony) refl
-  where
-    row : CeremonyRow
-    row = ceremony_row A ceremony
-
-    told : (b : Bool) → is_ceremony A ceremony ≡ b → annotated_by (tables A) ceremony ≡ option_map_or (script_by ceremony (tables A)) (some_if b row) []
-    told b is = ap (λ o. option_map_or (script_by ceremony (tables A)) o []) (planned_row A ceremony ∙ ap (λ b. some_if b row) is)
-
-    by : (b : Bool) → is_ceremony A ceremony ≡ b
-        → ((is_ceremony A ceremony ≡ false) × (annotated_by (tables A) ceremony ≡ [])) ⊎ (annotated_by (tables A) ceremony ≡ annotated A ceremony)
-    by false is = inl (is, told false is)
-    by true is =
-        inr (told true is
-        ∙ ap (λ t. head_lines row ++ t ++ flat_map exception_line (exceptions_of ceremony (tables A)) ++ foot_lines row) (steps_text A ceremony))
+annotated_text A ceremony =
+    let row = ceremony_row A ceremony in
+    let by_row : Bool → List ℕ = λ b. option_map_or (script_by ceremony (tables A)) (some_if b row) [] in
+    let told : annotated_by (tables A) ceremony ≡ by_row (is_ceremony A ceremony) =
+    ap (λ (o : Option CeremonyRow). option_map_or (script_by ceremony (tables A)) o []) (planned_row A ceremony) in
+    elim (cases_Bool (is_ceremony A ceremony)) [
+      | inr is ↦ inl (is, told ∙ ap by_row is)
+      | inl is ↦ inr (told ∙ ap by_row is
+          ∙ ap (λ t. head_lines row ++ t ++ flat_map exception_line (exceptions_of ceremony (tables A)) ++ foot_lines row)
+          (lines_along seated_lines (step_lines (seatings A)) (with_seated (seatings A)) (seated_is (seatings A)) (steps_in_order A ceremony)))
+    ]
 
 -- by the tables of a history the report on custody is that of the history
 pub custody_text : (A : History) → custody_by (tables A) ≡ custody A
 custody_text A =
-    ap (λ t. flat_map safe_line (safes A) ++ t ++ flat_map loose_line (loose_items (tables A))) (bags_text A)
-    ∙ ap (λ t. flat_map safe_line (safes A) ++ flat_map (bag_lines (items_in_order A)) (bags_in_order A) ++ t) (loose_text A)
+    ap (λ t. flat_map safe_line (safes A) ++ t ++ flat_map loose_line (loose_items (tables A)))
+    (lines_along packed_lines (bag_lines (items_in_order A)) (with_items (items_in_order A)) (packed_is (items_in_order A)) (bags_in_order A))
+    ∙ ap (λ t. flat_map safe_line (safes A) ++ flat_map (bag_lines (items_in_order A)) (bags_in_order A) ++ t)
+    (flat_map-filter loose_line is_loose bagged (items_in_order A))
 
 -- THE ATTENDANCE
 
@@ -111,7 +75,8 @@ attendance_text : (A : History) (db : Trees) → TreesHoldTables (tables A) db �
     → flat_map named_line (named_stays ceremony (tables A)) ≡ flat_map (stay_line (people A)) (attendance_in_by (stays_by (sheet A)) ceremony)
 attendance_text A db k ceremony =
     let sheets = IsPermutation-trans _ _ _ (IsPermutation-reverse (stays_by (sheet A))) k.stands.rows.stays in
-    stays_text A ceremony ∙ ap (flat_map (stay_line (people A))) (one_attendance ceremony sheets k.stands.rows.stays k.kept.stays.rising)
+    lines_along named_line (stay_line (people A)) (with_name (people A)) (λ stay. refl) (attendance_in_by (reverse (stays_by (sheet A))) ceremony)
+    ∙ ap (flat_map (stay_line (people A))) (one_attendance ceremony sheets k.stands.rows.stays k.kept.stays.rising)
 
 -- so it is with every register: its file holds the tables, whatever a crash may leave
 pub register_attendance : {S : Type 0} (g : Ghosts S) (r : RegisterState S)

@@ -1,24 +1,10 @@
 -- Rows that are written one after the other.
-use Rattle.std.proofs.Common.{◌≡◌, ℕ, List, [], ◌∷◌, ◌++◌, length, take, inl, refl, sym, ap, ◌∙◌, subst, append_assoc, append-nil}
-use Rattle.std.specs.Prelude.{⊤, Option, Some, None, Result, Ok, Err, IsErrAnd}
-use Rattle.std.specs.Io.KnownBytes.{Appends}
-use Rattle.std.specs.List.{flat_map}
-use Rattle.std.proofs.Math.Seq.{take-append_seam}
-use Rattle.std.proofs.lemmas.Grind.{flat_map-append}
-use Rattle.sqlite.specs.Held.{Held}
-use Rattle.sqlite.specs.Store.{Ghosts}
-use Rattle.kcr_base.specs.Counted.{inner_of, failures_of}
-use Rattle.kcr_base.specs.declared.counted.Counted.{Counted}
-use Rattle.kcr_base.specs.declared.refusal.Refusal.{Refusal}
+use Rattle.kcr_print.proofs.Common.{◌≡◌, ℕ, List, [], ◌∷◌, ◌++◌, length, take, inl, refl, sym, ap, ◌∙◌, subst, append_assoc, append-nil, ⊤, Option}
+use Rattle.kcr_print.proofs.Common.{Some, None, Result, Ok, Err, IsErrAnd, Appends, flat_map, take-append_seam, flat_map-append, Held, Ghosts}
+use Rattle.kcr_print.proofs.Common.{inner_of, failures_of, Counted, Refusal, IsNextOf, IsFault, OfRowsOver, OfRowsShown, OnlyReads, reads_nothing}
+use Rattle.kcr_print.proofs.Common.{reads_then, CountsWriteFaults, PrintsPart, RefusesBetweenRows, RefusesUnwritten, Stops, WritesPrefix, PrintFault}
+use Rattle.kcr_print.proofs.Common.{Refused}
 use Rattle.kcr_history.specs.Tables as machine
-use Rattle.kcr_reading.specs.Remaining.{IsNextOf}
-use Rattle.kcr_tables.specs.Refusals.{IsFault}
-use Rattle.kcr_store.specs.Frame.{OfRowsOver, OfRowsShown, OnlyReads}
-use Rattle.kcr_store.proofs.WholeLemmas.{reads_nothing, reads_then}
-use Rattle.kcr_print.specs.Reports.{CountsWriteFaults, PrintsPart, RefusesBetweenRows, RefusesUnwritten, Stops}
-use Rattle.kcr_print.specs.Written.{WritesPrefix}
-use Rattle.kcr_print.specs.declared.fault.PrintFault.{PrintFault}
-use Rattle.kcr_print.specs.declared.fault.PrintFault.TheVariants.{Refused}
 use Rattle.kcr_print.proofs.PartLemmas.{err_is, told_then}
 use Rattle.kcr_print.proofs.WrittenLemmas.{appends_both, appends_nothing, front_both, front_longer}
 
@@ -73,9 +59,8 @@ pub record Goes {S W R Row : Type 0} (g : Ghosts S) (contents : W → Option (Li
 module _ {S W R Row : Type 0} (g : Ghosts S) (contents : W → Option (List ℕ)) (to_come : R → machine.Tables → List Row) (lines : Row → List ℕ) where
   -- at first no row is written, and all are left
   pub goes_start : {a b : Held S} (x : Counted W) {first next : R} → b ≡ a → next ≡ first → Goes g contents to_come lines a b x x first next
-  goes_start {a} {b} x {first} {next} same is =
-      let P : Held S → Type 0 = λ h. Goes g contents to_come lines a h x x first next in
-      subst P (sym same) (record {
+  goes_start {a} x same is =
+      rw same (record {
         gone = λ clean m has. record { front = []; written = appends_nothing (contents (inner_of x)); is = ap (λ at. to_come at m) (sym is) };
         reads = reads_nothing a tt;
         calm = refl;
@@ -138,5 +123,4 @@ module _ {S W R Row : Type 0} (g : Ghosts S) (contents : W → Option (List ℕ)
         pub whole_before : (r : Result ⊤ PrintFault) {e : PrintFault} → IsErrAnd r (λ fault. fault ≡ e) → RefusesUnwritten y z (Err e) → Whole a c x z r first
         whole_before r {e} err unwritten clean m has refusal same =
             let still : z ≡ y = unwritten refusal (ap (λ (fault : PrintFault). Err fault) (err_is r e (Refused refusal) err same)) in
-            subst (λ (w : Counted W). (n : ℕ) × Appends (contents (inner_of x)) (contents (inner_of w)) (flat_map lines (take n (to_come first m)))) (sym still)
-            (gone_rows lines _ _ _ _ (s.gone (peeks.clean clean) m has))
+            rw still (gone_rows lines _ _ _ _ (s.gone (peeks.clean clean) m has))

@@ -1,15 +1,15 @@
 -- The lines of seats, one seat after the other.
-use Rattle.std.proofs.Common.{◌≡◌, ℕ, zero, suc, ◌+◌, ◌<◌, List, [], ◌∷◌, ◌++◌, take, length, get_or, min, codes, refl, sym, ap, ◌∙◌, append_assoc}
-use Rattle.std.proofs.Common.{append-nil, add-one, arith}
+use Rattle.kcr_print.proofs.Common.{◌≡◌, ℕ, zero, suc, ◌+◌, ◌<◌, List, [], ◌∷◌, ◌++◌, take, length, get_or, min, codes, refl, sym, ap, ◌∙◌}
+use Rattle.kcr_print.proofs.Common.{append_assoc, append-nil, arith, ends_line, words, seat_lines}
 use Rattle.kcr_script.specs.Seat.{seat_text}
 use Rattle.kcr_script.specs.declared.seat.Seat.{Seat}
-use Rattle.kcr_history.specs.Prints.{ends_line, words, seat_lines}
 
 -- the line of a seat: its text, then the initials of the person in it
 abbrev pub seat_line : Seat → List ℕ → List ℕ
 seat_line seat who = ends_line (codes "  " ++ words (seat_text seat ∷ who ∷ []))
 
-lines_more : (seats : List Seat) (people : List (List ℕ)) (n : ℕ) (seat : Seat) (who : List ℕ) → n < length seats → n < length people
+-- the next seat stands behind those before it
+pub lines_more : (seats : List Seat) (people : List (List ℕ)) (n : ℕ) (seat : Seat) (who : List ℕ) → n < length seats → n < length people
     → seat ≡ get_or seats n seat → who ≡ get_or people n who
     → seat_lines (take (suc n) seats) (take (suc n) people) ≡ seat_lines (take n seats) (take n people) ++ seat_line seat who
 lines_more [] people n seat who s p e f = absurd (omega arith)
@@ -19,12 +19,6 @@ lines_more (x ∷ seats) (y ∷ people) zero seat who s p e f =
 lines_more (x ∷ seats) (y ∷ people) (suc n) seat who s p e f =
     ap (λ t. seat_line x y ++ t) (lines_more seats people n seat who (omega arith) (omega arith) e f)
     ∙ sym (append_assoc (seat_line x y) (seat_lines (take n seats) (take n people)) (seat_line seat who))
-
--- the next seat stands behind those before it
-pub seats_more : (seats : List Seat) (people : List (List ℕ)) (n : ℕ) (seat : Seat) (who : List ℕ) → n < length seats → n < length people
-    → seat ≡ get_or seats n seat → who ≡ get_or people n who
-    → seat_lines (take (n + 1) seats) (take (n + 1) people) ≡ seat_lines (take n seats) (take n people) ++ seat_line seat who
-seats_more seats people n seat who s p e f = rw add-one (lines_more seats people n seat who s p e f)
 
 -- as many as there are of both are all
 pub seats_all : (seats : List Seat) (people : List (List ℕ)) (n : ℕ) → n ≡ min (length seats) (length people)

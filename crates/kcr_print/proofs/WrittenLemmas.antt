@@ -1,10 +1,7 @@
 -- Texts that are written one after the other.
-use Rattle.std.proofs.Common.{◌≡◌, ℕ, ◌+◌, List, [], ◌++◌, length, take, min, sym, ap, ◌∙◌, subst, arith, append_assoc}
-use Rattle.std.specs.Prelude.{Option, Some, None, Result, Ok, Err}
-use Rattle.std.specs.Io.KnownBytes.{Appends}
-use Rattle.std.proofs.lemmas.List.{append-nil, take-append-le, take_min}
-use Rattle.std.proofs.Math.Seq.{take-append-add}
-use Rattle.kcr_print.specs.Written.{WritesPrefix, Writes}
+use Rattle.kcr_print.proofs.Common.{◌≡◌, ℕ, ◌+◌, List, [], ◌++◌, length, take, min, sym, ap, ◌∙◌, subst, arith, append_assoc, Option, Some, None}
+use Rattle.kcr_print.proofs.Common.{Result, Ok, Err, Appends, take-append-le, take_min, take-append-add, WritesPrefix, Writes}
+use Rattle.std.proofs.lemmas.List.{append-nil}
 
 -- two texts that are written one after the other are written together
 pub appends_both : (a b c : Option (List ℕ)) (x y : List ℕ) → Appends a b x → Appends b c y → Appends a c (x ++ y)
@@ -18,18 +15,10 @@ pub appends_nothing : (a : Option (List ℕ)) → Appends a a []
 appends_nothing None = tt
 appends_nothing (Some a) = sym (append-nil a)
 
--- some bytes, and then a beginning of y
-pub front_after : (a b c : Option (List ℕ)) (x y rest : List ℕ) → Appends a b x → WritesPrefix b c y → WritesPrefix a c (x ++ (y ++ rest))
-front_after a b c x y rest p q =
-    let n : ℕ = min q.0 (length y) in
-    let e : take n y ≡ take q.0 y = take_min q.0 y in
-    let f : take (length x + n) (x ++ (y ++ rest)) ≡ x ++ take q.0 y =
-    take-append-add x (y ++ rest) n ∙ ap (λ (t : List ℕ). x ++ t) (take-append-le n y rest (omega arith) ∙ e) in
-    (length x + n, subst (Appends a c) (sym f) (appends_both a b c x (take q.0 y) p q.1))
-
 -- x, and then a beginning of y
 pub front_both : (a b c : Option (List ℕ)) (x y : List ℕ) → Appends a b x → WritesPrefix b c y → WritesPrefix a c (x ++ y)
-front_both a b c x y p q = subst (λ t. WritesPrefix a c (x ++ t)) (append-nil y) (front_after a b c x y [] p q)
+front_both a b c x y p q =
+    (length x + q.0, subst (Appends a c) (sym (take-append-add x y q.0)) (appends_both a b c x (take q.0 y) p q.1))
 
 -- a call that writes a text behind one that was written writes both, or after a fault a prefix of both
 pub writes_then : {T E : Type 0} (r : Result T E) (a b c : Option (List ℕ)) (x y : List ℕ)

@@ -1,43 +1,18 @@
 -- The steps and the exceptions of a ceremony, read by their numbers, and the people of several steps.
-use Rattle.std.proofs.Common.{◌≡◌, ℕ, ◌-◌, ◌<◌, pos, ◌&&◌, ◌==◌, not, nat_lt, Bool, true, false, List, [], ◌∷◌, filter, map, take, drop, length, slice_get}
-use Rattle.std.proofs.Common.{codes, Option, Less, refl, sym, ap, subst, ◌∙◌, arith}
-use Rattle.std.specs.List.{AllByRecursion}
-use Rattle.std.proofs.lemmas.Bool.{eqb-true}
-use Rattle.std.specs.List.Sorted.{IsPermutation}
-use Rattle.std.specs.Ordering.{nat_cmp}
-use Rattle.std.proofs.lemmas.Cmp.{nat_cmp_total}
-use Rattle.sqlite.specs.declared.types.Value.TheVariants.{Int}
-use Rattle.sqlite.specs.Order.{Row}
-use Rattle.sqlite.specs.Term.{Term, col, op2}
+use Rattle.kcr_reading.proofs.Common.{◌≡◌, ℕ, ◌-◌, ◌<◌, pos, ◌&&◌, ◌==◌, nat_lt, Bool, true, false, List, [], ◌∷◌, filter, map, take, drop, length}
+use Rattle.kcr_reading.proofs.Common.{slice_get, codes, Option, Less, refl, sym, ap, subst, ◌∙◌, arith, AllByRecursion, eqb-true, nat_tests}
+use Rattle.kcr_reading.proofs.Common.{IsPermutation, nat_cmp, nat_cmp_total, Int, Row, Term, col, op2, Binary, State, Shown, Trees, IsAscending}
+use Rattle.kcr_reading.proofs.Common.{Compare, Eq, Gt, Le, IsPermutation-filter, all_weaker, by_key, filter_as, each_is, exception_row, seating_row}
+use Rattle.kcr_reading.proofs.Common.{step_row, filter-and, in_order, seated_at, seatings_at, SeatingRow, StepRow, StoredTables, Holds}
+use Rattle.kcr_reading.proofs.Common.{exceptions_place, steps_place, seatings_place, TreesHoldTables, SameRows, Choice, SelectsRows, shows}
+use Rattle.kcr_reading.proofs.Common.{rows_shown, ShowsSome, ShowsFirst, InOrder, AreFirst, IsFirstRow, bound_of, with_seated, IsNextOf}
+use Rattle.kcr_reading.proofs.Common.{IsNextBatchOf, IsStepWithin, is_past, is_past_until, people_at, exceptions_past, rows_past, with_people}
 use Rattle.sqlite.specs.Ops.{binary}
-use Rattle.sqlite.specs.Collation.TheVariants.{Binary}
-use Rattle.sqlite.specs.State.{State, Shown}
-use Rattle.sqlite.specs.Tree.{Trees, IsAscending}
-use Rattle.sqlite_sql.specs.declared.ops.BinaryOp.TheVariants.{Compare}
-use Rattle.sqlite_sql.specs.declared.ops.CompareOp.TheVariants.{Eq, Gt, Le}
-use Rattle.sqlite_trees.proofs.ListLemmas.{IsPermutation-filter, all_weaker}
 use Rattle.sqlite_tied.specs.Compute.{everything}
-use Rattle.kcr_rows.specs.Keyed.{by_key}
-use Rattle.kcr_rows.proofs.FilterLemmas.{filter_as}
-use Rattle.kcr_rows.proofs.TableLemmas.{each_is}
-use Rattle.kcr_rows.specs.Rows.{exception_row, seating_row, step_row}
-use Rattle.kcr_room.proofs.Lists.{filter-and}
-use Rattle.kcr_history.specs.Prints.{in_order, seated_at, seatings_at}
 use Rattle.kcr_history.specs.Tables as machine
 use Rattle.kcr_history.specs.declared.row_types.ExceptionRow.{ExceptionRow}
-use Rattle.kcr_history.specs.declared.row_types.SeatingRow.{SeatingRow}
-use Rattle.kcr_history.specs.declared.row_types.StepRow.{StepRow}
 use Rattle.kcr_tables.specs.Schema as schema
-use Rattle.kcr_tables.specs.StoredTables.{StoredTables, Holds, exceptions_place, steps_place, seatings_place}
-use Rattle.kcr_tables.specs.MachineTables.{TreesHoldTables, SameRows}
 use Rattle.kcr_tables.specs.SeatingsLaws as seatings
-use Rattle.kcr_tables.specs.Statements.{Choice, SelectsRows}
-use Rattle.kcr_tables.specs.TableTexts.{shows}
-use Rattle.kcr_tables.proofs.StatementLemmas.{rows_shown}
-use Rattle.kcr_reading.specs.FirstRows.{ShowsSome, ShowsFirst, InOrder, AreFirst, IsFirstRow, bound_of}
-use Rattle.kcr_history.specs.Questions.{with_seated}
-use Rattle.kcr_reading.specs.Remaining.{IsNextOf, IsNextBatchOf, IsStepWithin, is_past, is_past_until, people_at, exceptions_past, rows_past, with_people}
-use Rattle.kcr_history.specs.declared.report_rows.SeatedStep.{SeatedStep}
 use Rattle.kcr_reading.proofs.ChoiceLemmas.{by_test, rise, chosen_come, next_come, several_come, within_come}
 use Rattle.kcr_reading.proofs.FirstLemmas.{begin_take}
 use Rattle.kcr_reading.proofs.NumberLemmas.{behind_number, up_to_number, equal_number, one_test, with_tests, same_ceremony, same_step, number_later}
@@ -161,11 +136,8 @@ module _ (ceremony : ℕ) (last : Option ℕ) (m : machine.Tables) {db : Trees} 
   steps_within =
       subst (λ l. AllByRecursion (IsStepWithin ceremony last l) rows)
       (moved_to nat_cmp nat_cmp_total (λ (x : StepRow). x.step) last rows found ends)
-      (all_weaker _ _ (λ x h. record { of = eqb-true x.ceremony ceremony h.0; within = both _ _ h.1.0 h.1.1 }) rows
+      (all_weaker _ _ (λ x h. record { of = eqb-true x.ceremony ceremony h.0; within = grind (arith, h.1.0, h.1.1) }) rows
       (within step_row (λ x. x.ceremony) (λ x. x.step) (λ x. refl) ceremony k.stands.rows.steps k.kept.steps.rising last count rows first))
-    where
-      both : (a b : Bool) → a ≡ true → b ≡ false → (a && not b) ≡ true
-      both a b p q = rw (p, q)
 
 -- ---- the people of steps
 
@@ -207,17 +179,8 @@ of_step : (ceremony : ℕ) (from until : Option ℕ) (step : ℕ) → is_past_un
 of_step ceremony from until step inside rows =
     filter-and (is_within ceremony from until) (λ row. row.step == step) rows ∙ filter_as _ _ same rows
   where
-    settled : (b : Bool) → ((b && true) && true) ≡ (b && true)
-    settled true = refl
-    settled false = refl
-
     same : (x : SeatingRow) → (is_within ceremony from until x && x.step == step) ≡ is_at ceremony step x
-    same x = by_step (x.step == step) refl
-      where
-        by_step : (b : Bool) → (x.step == step) ≡ b → (is_within ceremony from until x && b) ≡ (x.ceremony == ceremony && b)
-        by_step true e =
-            ap (λ b. (x.ceremony == ceremony && b) && true) (ap (is_past_until from until) (eqb-true x.step step e) ∙ inside) ∙ settled (x.ceremony == ceremony)
-        by_step false e = grind arith
+    same x = grind (arith, nat_tests)
 
 -- the people of one of these steps, among the rows that are shown, are those of the machine's seatings
 pub seated : (ceremony : ℕ) (from until : Option ℕ) (old new : State) (rows : List SeatingRow) (m : machine.Tables) (t : StoredTables) → Holds old.now t → SameRows m t
@@ -243,7 +206,4 @@ pub people_are : (ceremony : ℕ) (from until : Option ℕ) (m : machine.Tables)
     → (steps : List StepRow) → AllByRecursion (IsStepWithin ceremony from until) steps → map (with_people rows) steps ≡ map (with_seated m.seatings) steps
 people_are ceremony from until m rows people [] all = refl
 people_are ceremony from until m rows people (x ∷ steps) all =
-    let own : people_at x.step rows ≡ seated_at m.seatings x.ceremony x.step =
-    people x.step all.0.within ∙ ap (λ c. seated_at m.seatings c x.step) (sym all.0.of) in
-    let made : List (List ℕ) → SeatedStep = λ seated. record { step = x; seated = seated } in
-    λ i. made (own i) ∷ people_are ceremony from until m rows people steps all.1 i
+    let own = rw (← all.0.of) at (people x.step all.0.within) in cc (own, people_are ceremony from until m rows people steps all.1)

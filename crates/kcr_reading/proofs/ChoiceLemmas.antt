@@ -1,30 +1,14 @@
 -- Rows of a table, read one at a time: what a text chooses, and which of them comes next.
-use Rattle.std.proofs.Common.{◌≡◌, ℕ, ◌&&◌, Bool, true, List, [], ◌∷◌, ◌++◌, map, filter, take, slice_get, Option, Some, Ordering, Less, Result}
-use Rattle.std.proofs.Common.{false, sym, ap, subst, ◌∙◌}
-use Rattle.std.specs.List.{AllByRecursion}
-use Rattle.std.proofs.lemmas.List.{map-append}
+use Rattle.kcr_reading.proofs.Common.{◌≡◌, ℕ, ◌&&◌, Bool, true, List, [], ◌∷◌, ◌++◌, map, filter, take, slice_get, Option, Some, Ordering, Less}
+use Rattle.kcr_reading.proofs.Common.{Result, false, sym, ap, subst, ◌∙◌, AllByRecursion, map-append, list_all, IsTotalOrder, Null, Row, Term, holds}
+use Rattle.kcr_reading.proofs.Common.{IsAscending, all_both, all_weaker, all-filter, ascending_weaker, ascending_from_map, ascending-filter}
+use Rattle.kcr_reading.proofs.Common.{IsPermutation-same, TableLayout, by_key, if_ok, filter_as, filter-and, StoredTables, Holds, HoldsTables}
+use Rattle.kcr_reading.proofs.Common.{TreesHoldTables, held_of, Choice, ShowsSome, InOrder, IsNextOf, IsNextBatchOf, Begin}
 use Rattle.std.specs.Prelude.{IfOk}
-use Rattle.std.specs.List.{list_all}
-use Rattle.std.specs.Cmp.{IsTotalOrder}
-use Rattle.sqlite.specs.declared.types.Value.TheVariants.{Null}
 use Rattle.sqlite.specs.Effect.{Database}
-use Rattle.sqlite.specs.Order.{Row}
-use Rattle.sqlite.specs.Term.{Term, holds}
-use Rattle.sqlite.specs.Tree.{IsAscending}
-use Rattle.sqlite_trees.proofs.ListLemmas.{all_both, all_weaker, all-filter, ascending_weaker, ascending_from_map, ascending-filter, IsPermutation-same}
 use Rattle.kcr_base.specs.declared.refusal.Refusal.{Refusal}
-use Rattle.kcr_rows.specs.Keyed.{TableLayout, by_key}
-use Rattle.kcr_rows.proofs.FailLemmas.{if_ok}
-use Rattle.kcr_rows.proofs.FilterLemmas.{filter_as}
 use Rattle.kcr_rows.proofs.GreatestLemmas.{none_from}
-use Rattle.kcr_room.proofs.Lists.{filter-and}
 use Rattle.kcr_history.specs.Tables as machine
-use Rattle.kcr_tables.specs.StoredTables.{StoredTables, Holds}
-use Rattle.kcr_tables.specs.MachineTables.{HoldsTables, TreesHoldTables}
-use Rattle.kcr_tables.proofs.HoldLemmas.{held_of}
-use Rattle.kcr_tables.specs.Statements.{Choice}
-use Rattle.kcr_reading.specs.FirstRows.{ShowsSome, InOrder}
-use Rattle.kcr_reading.specs.Remaining.{IsNextOf, IsNextBatchOf, Begin}
 use Rattle.kcr_reading.proofs.FirstLemmas.{all_take, ascending_take}
 use Rattle.kcr_reading.proofs.NumberLemmas.{passing, rises_among}
 use Rattle.kcr_reading.proofs.OrderLemmas.{later, moved, moved_on, gives_first, gives_several, none_past}

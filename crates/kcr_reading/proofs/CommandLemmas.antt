@@ -1,24 +1,13 @@
 -- The accepted commands, read by their numbers.
-use Rattle.std.proofs.Common.{◌≡◌, ℕ, ◌+◌, ◌-◌, ◌<◌, ◌≤◌, ◌==◌, pos, suc, List, [], ◌∷◌, ◌++◌, length, length-append, true, false, Option, Some, None, IsSome, is_some, codes, refl, sym, ap, ◌∙◌, arith}
-use Rattle.std.specs.List.Sorted.{IsPermutation}
-use Rattle.std.specs.Option.{option_map_or, option_to_list}
-use Rattle.std.proofs.lemmas.Bool.{false≢true}
-use Rattle.std.proofs.lemmas.List.Sorted.{length_permutation}
-use Rattle.sqlite.specs.declared.types.Value.TheVariants.{Int}
+use Rattle.kcr_reading.proofs.Common.{◌≡◌, ℕ, ◌+◌, ◌-◌, ◌<◌, ◌≤◌, ◌==◌, pos, suc, List, [], ◌∷◌, ◌++◌, length, length-append, true, false, Option}
+use Rattle.kcr_reading.proofs.Common.{Some, None, IsSome, is_some, codes, refl, sym, ap, ◌∙◌, arith, IsPermutation, option_map_or, option_to_list}
+use Rattle.kcr_reading.proofs.Common.{false≢true, length_permutation, Int, all-permutation, key_row, has_value, value_is, number_ties, KeyRow}
+use Rattle.kcr_reading.proofs.Common.{keys_place, is_given, shown_columns, column_names, IsNextOf}
 use Rattle.sqlite_tied.specs.Compute.{everything}
-use Rattle.sqlite_trees.proofs.ListLemmas.{all-permutation}
-use Rattle.kcr_rows.specs.Rows.{key_row}
-use Rattle.kcr_rows.proofs.FilterLemmas.{has_value, value_is}
-use Rattle.kcr_rows.proofs.SameLemmas.{number_ties}
 use Rattle.kcr_history.specs.Tables as machine
-use Rattle.kcr_history.specs.declared.row_types.KeyRow.{KeyRow}
-use Rattle.kcr_tables.specs.StoredTables.{keys_place}
 use Rattle.kcr_tables.specs.Schema as schema
-use Rattle.kcr_tables.specs.Statements.{is_given, shown_columns}
-use Rattle.kcr_tables.specs.TableTexts.{column_names}
 use Rattle.kcr_tables.specs.Unordered.{SelectsUnordered}
 use Rattle.kcr_reading.specs.Commands.{only, numbered, commands_past, commands_within}
-use Rattle.kcr_reading.specs.Remaining.{IsNextOf}
 
 -- the text
 
@@ -38,31 +27,25 @@ is_numbered number x = value_is (Int (pos x.accepted)) (Int (pos number)) refl r
 
 -- one alone, in whatever order they are
 
-of_length : {X : Type 0} (xs ys : List X) → IsPermutation xs ys → (length xs ≡ length ys → ⊥) → only xs ≡ only ys
-of_length xs ys same other = absurd (other (sym (length_permutation xs ys same)))
+-- a list that has none or several elements has no only one
+pub only_other : {X : Type 0} (ys : List X) → (length ys ≡ 1 → ⊥) → only ys ≡ None
+only_other [] other = refl
+only_other (y ∷ []) other = absurd (other refl)
+only_other (y ∷ z ∷ ys) other = refl
 
 -- the only element of a list, or that there is none, is the same in any order
 pub only_same : {X : Type 0} (xs ys : List X) → IsPermutation xs ys → only xs ≡ only ys
-only_same [] [] same = refl
-only_same [] (y ∷ ys) same = of_length [] (y ∷ ys) same (λ e. omega arith)
-only_same (x ∷ []) [] same = of_length (x ∷ []) [] same (λ e. omega arith)
 only_same (x ∷ []) (y ∷ []) same = ap Some (sym (all-permutation (λ z. z ≡ x) (x ∷ []) (y ∷ []) same (refl, tt)).0)
-only_same (x ∷ []) (y ∷ z ∷ ys) same = of_length (x ∷ []) (y ∷ z ∷ ys) same (λ e. omega arith)
-only_same (x ∷ z ∷ xs) [] same = of_length (x ∷ z ∷ xs) [] same (λ e. omega arith)
-only_same (x ∷ z ∷ xs) (y ∷ []) same = of_length (x ∷ z ∷ xs) (y ∷ []) same (λ e. omega arith)
-only_same (x ∷ z ∷ xs) (y ∷ w ∷ ys) same = refl
+only_same (x ∷ []) [] same = absurd (omega (arith, length_permutation _ _ same))
+only_same (x ∷ []) (y ∷ z ∷ ys) same = absurd (omega (arith, length_permutation _ _ same))
+only_same [] ys same = sym (only_other ys (λ e. omega (arith, length_permutation _ _ same)))
+only_same (x ∷ z ∷ xs) ys same = sym (only_other ys (λ e. omega (arith, length_permutation _ _ same)))
 
 -- the last of one is that one
 pub only_popped : {X : Type 0} (ys rest : List X) (found : Option X) → length ys ≡ 1 → ys ≡ rest ++ option_to_list found → IsSome found → found ≡ only ys
 only_popped ys [] (Some x) one split some = ap only (sym split)
 only_popped ys (z ∷ rest) (Some x) one split some = absurd (let long = ap length split in omega (arith, length-append rest (x ∷ [])))
 only_popped ys rest None one split some = absurd (false≢true some)
-
--- a list that has none or several elements has no only one
-pub only_other : {X : Type 0} (ys : List X) → (length ys ≡ 1 → ⊥) → only ys ≡ None
-only_other [] other = refl
-only_other (y ∷ []) other = absurd (other refl)
-only_other (y ∷ z ∷ ys) other = refl
 
 -- the next of those to come
 

@@ -1,45 +1,25 @@
 -- The bags, the loose items and the safes, read one at a time in order, and the items of one bag.
-use Rattle.std.proofs.Common.{◌≡◌, ℕ, ◌+◌, ◌*◌, ◌&&◌, pos, Bool, true, List, [], ◌∷◌, map, filter, drop, codes, slice_get, Option, Some, None, Less, Equal}
-use Rattle.std.proofs.Common.{arith, refl, sym, ap, subst, ◌∙◌}
-use Rattle.std.specs.List.Sorted.{IsPermutation}
-use Rattle.std.specs.Ordering.{is_eq, nat_cmp, ordering_then}
-use Rattle.std.specs.Cmp.Lexicographic.{slice_cmp}
-use Rattle.std.proofs.lemmas.Cmp.{nat_cmp_total, nat_list_cmp_total, tied_itself}
-use Rattle.sqlite.specs.declared.types.Value.TheVariants.{Null, Int, Text}
-use Rattle.sqlite.specs.Order.{Row, value_cmp}
-use Rattle.sqlite.specs.Term.{Term, lit, col, op2}
-use Rattle.sqlite.specs.Ops.{binary, is_true, from_truth}
-use Rattle.sqlite.specs.Collation.TheVariants.{Binary}
-use Rattle.sqlite.specs.Tree.{Trees, IsAscending}
-use Rattle.sqlite_sql.specs.declared.ops.BinaryOp.TheVariants.{Compare, Is}
-use Rattle.sqlite_sql.specs.declared.ops.CompareOp.TheVariants.{Gt}
-use Rattle.sqlite_trees.proofs.ListLemmas.{ascending_weaker, ascending_from_map}
-use Rattle.sqlite_value.proofs.OrderLemmas.{value_cmp-Text, value_cmp_total}
+use Rattle.kcr_reading.proofs.Common.{◌≡◌, ℕ, ◌+◌, ◌*◌, ◌&&◌, pos, Bool, true, List, [], ◌∷◌, map, filter, drop, codes, slice_get, Option, Some, None}
+use Rattle.kcr_reading.proofs.Common.{Less, Equal, arith, refl, sym, ap, subst, ◌∙◌, IsPermutation, is_eq, nat_cmp, ordering_then, slice_cmp}
+use Rattle.kcr_reading.proofs.Common.{nat_cmp_total, nat_list_cmp_total, tied_itself, Null, Int, Text, Row, Term, lit, col, op2, is_true, from_truth}
+use Rattle.kcr_reading.proofs.Common.{Binary, Trees, IsAscending, Compare, Is, Gt, ascending_weaker, ascending_from_map, value_cmp-Text}
+use Rattle.kcr_reading.proofs.Common.{value_cmp_total, by_key, filter-and, bag_row, item_row, safe_row, Item, SafeRow, in_order, bags_place}
+use Rattle.kcr_reading.proofs.Common.{items_place, TreesHoldTables, Choice, shows, ShowsFirst, IsFirstRow, is_loose, IsNextOf, is_past, is_behind}
+use Rattle.kcr_reading.proofs.Common.{loose_past, items_by_code, serials_past, safe_place, safes_in_order, safes_past}
+use Rattle.sqlite.specs.Order.{value_cmp}
+use Rattle.sqlite.specs.Ops.{binary}
 use Rattle.sqlite_tied.specs.Compute.{everything}
 use Rattle.kcr_base.specs.declared.place.Facility.{Facility}
 use Rattle.kcr_base.specs.Facility.{facility_text}
 use Rattle.kcr_base.specs.Same.{facility_number, is_before}
-use Rattle.kcr_rows.specs.Keyed.{by_key}
-use Rattle.kcr_room.proofs.Lists.{filter-and}
-use Rattle.kcr_rows.specs.Rows.{bag_row, item_row, safe_row}
 use Rattle.kcr_rows.specs.States.{safe_digit}
 use Rattle.kcr_custody.specs.Custody.{lies_in}
 use Rattle.kcr_custody.specs.declared.Bag.{Bag}
-use Rattle.kcr_custody.specs.declared.Item.{Item}
 use Rattle.kcr_custody.specs.declared.Rest.{Rest}
 use Rattle.kcr_custody.specs.declared.Rest.TheVariants.{Loose, Within}
 use Rattle.kcr_custody.specs.declared.SafeNumber.{SafeNumber}
-use Rattle.kcr_custody.specs.declared.SafeRow.{SafeRow}
-use Rattle.kcr_history.specs.Prints.{in_order}
 use Rattle.kcr_history.specs.Tables as machine
 use Rattle.kcr_tables.specs.Schema as schema
-use Rattle.kcr_tables.specs.StoredTables.{bags_place, items_place}
-use Rattle.kcr_tables.specs.MachineTables.{TreesHoldTables}
-use Rattle.kcr_tables.specs.Statements.{Choice}
-use Rattle.kcr_tables.specs.TableTexts.{shows}
-use Rattle.kcr_reading.specs.FirstRows.{ShowsFirst, IsFirstRow}
-use Rattle.kcr_history.specs.Questions.{is_loose}
-use Rattle.kcr_reading.specs.Remaining.{IsNextOf, is_past, is_behind, loose_past, items_by_code, serials_past, safe_place, safes_in_order, safes_past}
 use Rattle.kcr_reading.proofs.ChoiceLemmas.{by_test, chosen_come, next_come}
 use Rattle.kcr_reading.proofs.NumberLemmas.{behind_text, one_test, text_key, text_later, number_cmp, number_later}
 use Rattle.kcr_reading.proofs.OrderLemmas.{moved, ordered, numbers_ordered, gives_first}
@@ -183,12 +163,7 @@ places_rise : (f g : Facility) (s r : SafeNumber)
     → ordering_then (value_cmp (Text (facility_text f)) (Text (facility_text g)))
     (ordering_then (value_cmp (Int (pos (safe_digit s))) (Int (pos (safe_digit r)))) Equal)
     ≡ nat_cmp (facility_number f * 2 + safe_digit s) (facility_number g * 2 + safe_digit r)
-places_rise f g s r = rw (value_cmp-Text (facility_text f) (facility_text g), number_cmp (safe_digit s) (safe_digit r)) (by_cases f g s r)
-  where
-    by_cases : (f g : Facility) (s r : SafeNumber)
-        → ordering_then (slice_cmp nat_cmp (facility_text f) (facility_text g)) (ordering_then (nat_cmp (safe_digit s) (safe_digit r)) Equal)
-        ≡ nat_cmp (facility_number f * 2 + safe_digit s) (facility_number g * 2 + safe_digit r)
-    by_cases f g s r = grind arith
+places_rise f g s r = rw (value_cmp-Text (facility_text f) (facility_text g), number_cmp (safe_digit s) (safe_digit r)) (grind arith)
 
 rise : {m : machine.Tables} {db : Trees} (k : TreesHoldTables m db) → IsAscending (λ a b. nat_cmp (safe_place a) (safe_place b) ≡ Less) k.t.rows.safes
 rise k =

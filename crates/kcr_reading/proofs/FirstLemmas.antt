@@ -1,29 +1,13 @@
 -- A reading of a table that gives the first rows alone, and what is the last of them.
-use Rattle.std.proofs.Common.{◌≡◌, ℕ, zero, suc, List, [], ◌∷◌, ◌++◌, map, filter, take, drop, length, slice_get, Option, Some, None, ◌<◌, arith, pos}
-use Rattle.std.proofs.Common.{refl, sym, ap, subst, ◌∙◌}
-use Rattle.std.proofs.Common.{Less}
-use Rattle.std.specs.List.{AllByRecursion}
-use Rattle.std.specs.Option.{option_to_list}
-use Rattle.std.specs.List.Sorted.{IsPermutation}
-use Rattle.std.proofs.lemmas.List.{map-id, take-map, take-append-drop}
-use Rattle.std.proofs.lemmas.List.Sorted.{IsPermutation-map, IsPermutation-trans, IsPermutation-sym}
-use Rattle.sqlite.specs.declared.types.Value.TheVariants.{Null}
-use Rattle.sqlite.specs.Order.{Row}
-use Rattle.sqlite.specs.Query.{Query, IsAnswer, Output, output_cmp}
-use Rattle.sqlite.specs.Tree.{Trees, IsAscending}
-use Rattle.sqlite.specs.State.{State, Shown}
+use Rattle.kcr_reading.proofs.Common.{◌≡◌, ℕ, zero, suc, List, [], ◌∷◌, ◌++◌, map, filter, take, drop, length, slice_get, Option, Some, None, ◌<◌}
+use Rattle.kcr_reading.proofs.Common.{arith, pos, length-append, refl, sym, ap, subst, ◌∙◌, Less, AllByRecursion, option_to_list, IsPermutation}
+use Rattle.kcr_reading.proofs.Common.{map-id, take-map, take-append-drop, nil_from_length, length-take, IsPermutation-map, IsPermutation-trans}
+use Rattle.kcr_reading.proofs.Common.{IsPermutation-sym, Null, Row, Query, IsAnswer, Output, output_cmp, Trees, IsAscending, State, Shown, map-map}
+use Rattle.kcr_reading.proofs.Common.{filter-map, IsPermutation-filter, ascending-map, ascending_weaker, all-permutation, all-filter, sorted_unique}
+use Rattle.kcr_reading.proofs.Common.{cells, TableLayout, TreeHolds, reads_shown, same_values, register_schema, Choice, ShowsSome, Begin}
 use Rattle.sqlite.specs.Program.{overlay}
 use Rattle.sqlite_sql.proofs.QueryLemmas.{output_cmp_total}
-use Rattle.sqlite_trees.proofs.ListLemmas.{map-map, filter-map, IsPermutation-filter, ascending-map, ascending_weaker, all-permutation, all-filter}
-use Rattle.sqlite_keyed.proofs.SortLemmas.{sorted_unique}
-use Rattle.kcr_rows.specs.Keyed.{cells, TableLayout, TreeHolds}
 use Rattle.kcr_rows.proofs.ReadLemmas.{asking, kept_cells}
-use Rattle.kcr_rows.proofs.TextLemmas.{reads_shown}
-use Rattle.kcr_rows.proofs.TableLemmas.{same_values}
-use Rattle.kcr_tables.specs.Schema.{register_schema}
-use Rattle.kcr_tables.specs.Statements.{Choice}
-use Rattle.kcr_reading.specs.FirstRows.{ShowsSome}
-use Rattle.kcr_reading.specs.Remaining.{Begin}
 
 -- what holds of all elements holds of the first ones
 pub all_take : {X : Type 0} (P : X → Type 0) (count : ℕ) (xs : List X) → AllByRecursion P xs → AllByRecursion P (take count xs)
@@ -83,26 +67,18 @@ pub begin_take : {X : Type 0} (count : ℕ) → 0 < count → (all rows : List X
 begin_take count low all rows is = record {
   rest = drop count all;
   first = sym (take-append-drop count all) ∙ ap (λ l. l ++ drop count all) (sym is);
-  some = λ none. empty count low all (sym is ∙ none);
+  some = λ none. nil_from_length all (omega (arith, simp length-take at (ap length (sym is ∙ none))));
 }
-  where
-    empty : {X : Type 0} (count : ℕ) → 0 < count → (xs : List X) → take count xs ≡ [] → xs ≡ []
-    empty zero low xs h = absurd (omega arith)
-    empty (suc count) low [] h = refl
-    empty (suc count) low (x ∷ xs) h = absurd (let none : x ∷ take count xs ≡ [] = h in cc)
 
 -- what the last of at most one is
 pub popped : {X : Type 0} (xs rest those : List X) (found : Option X) → xs ≡ take 1 those → xs ≡ rest ++ option_to_list found → (found ≡ None → xs ≡ [])
     → found ≡ slice_get those 0
 popped xs rest [] None is split none = refl
 popped xs rest (y ∷ those) None is split none = absurd (let h : y ∷ [] ≡ [] = sym is ∙ none refl in cc)
-popped xs [] [] (Some x) is split none = absurd (let h : [] ≡ x ∷ [] = sym is ∙ split in cc)
-popped xs (r ∷ rest) [] (Some x) is split none = absurd (let h : [] ≡ r ∷ (rest ++ (x ∷ [])) = sym is ∙ split in cc)
+popped xs rest [] (Some x) is split none = absurd (omega (arith, length-append rest (x ∷ []), ap length (sym is ∙ split)))
 popped xs [] (y ∷ those) (Some x) is split none = let h : y ∷ [] ≡ x ∷ [] = sym is ∙ split in cc
-popped xs (r ∷ []) (y ∷ those) (Some x) is split none = absurd (let h : y ∷ [] ≡ r ∷ x ∷ [] = sym is ∙ split in cc)
-popped xs (r ∷ r2 ∷ rest) (y ∷ those) (Some x) is split none = absurd (let h : y ∷ [] ≡ r ∷ r2 ∷ (rest ++ (x ∷ [])) = sym is ∙ split in cc)
+popped xs (r ∷ rest) (y ∷ those) (Some x) is split none = absurd (omega (arith, length-append rest (x ∷ []), ap length (sym is ∙ split)))
 
 -- none if there is no room for one
 pub no_rows : {X : Type 0} (n : ℕ) (xs : List X) → length xs ≡ n → (0 < n → ⊥) → xs ≡ []
-no_rows n [] same none = refl
-no_rows n (x ∷ xs) same none = absurd (none (omega (arith, same)))
+no_rows n xs same none = nil_from_length xs (omega arith)

@@ -2,6 +2,7 @@ mod AheadLemmas
 mod CeremonyLemmas
 mod ChoiceLemmas
 mod CommandLemmas
+mod Common
 pub mod CustodyLemmas
 mod FirstLemmas
 mod NumberLemmas

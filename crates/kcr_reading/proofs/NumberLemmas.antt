@@ -1,30 +1,16 @@
 -- Numbers and texts as the database compares them.
-use Rattle.std.proofs.lemmas.Bool.{and_parts, eqb-true}
-use Rattle.std.proofs.lemmas.Bool.Decides.{nat_tests}
-use Rattle.std.proofs.Common.{◌≡◌, arith, ℕ, pos, negsuc, ◌&&◌, ◌==◌, not, Bool, true, false, cond, List, [], ◌∷◌, filter, Option, Some, None, Ordering, is_lt}
-use Rattle.std.proofs.Common.{Less, Equal, Greater, refl, sym, ap, ◌∙◌}
-use Rattle.std.specs.List.{AllByRecursion}
-use Rattle.std.specs.Ordering.{is_gt, is_le, is_eq, nat_cmp, int_cmp, ordering_then}
-use Rattle.std.specs.Cmp.Lexicographic.{slice_cmp}
-use Rattle.std.proofs.lemmas.Cmp.{nat_cmp_total, nat_list_cmp_total, tied_itself}
-use Rattle.sqlite.specs.declared.types.Value.TheVariants.{Int, Text}
-use Rattle.sqlite.specs.Order.{Row, value_cmp}
-use Rattle.sqlite.specs.Ops.{is_true, from_truth}
-use Rattle.sqlite.specs.Tree.{IsAscending}
-use Rattle.sqlite_trees.proofs.ListLemmas.{all_both, ascending-filter}
-use Rattle.sqlite_value.proofs.OrderLemmas.{value_cmp-Int, value_cmp-Text, value_cmp_total, then-Equal}
-use Rattle.kcr_rows.specs.Keyed.{by_key}
-use Rattle.kcr_rows.proofs.SameLemmas.{ties_is, number_ties}
-use Rattle.kcr_reading.specs.FirstRows.{bound_of}
-use Rattle.kcr_reading.specs.Remaining.{is_past, is_behind}
+use Rattle.kcr_reading.proofs.Common.{eqb-true, nat_tests, ◌≡◌, arith, ℕ, pos, negsuc, ◌&&◌, ◌==◌, not, Bool, true, List, [], ◌∷◌, filter, Option}
+use Rattle.kcr_reading.proofs.Common.{Some, None, Ordering, is_lt, Less, Equal, Greater, refl, sym, ap, ◌∙◌, AllByRecursion, is_gt, is_le, is_eq}
+use Rattle.kcr_reading.proofs.Common.{nat_cmp, ordering_then, slice_cmp, nat_cmp_total, nat_list_cmp_total, tied_itself, Int, Text, Row, is_true}
+use Rattle.kcr_reading.proofs.Common.{from_truth, IsAscending, all_both, ascending-filter, value_cmp-Int, value_cmp-Text, value_cmp_total, then-Equal}
+use Rattle.kcr_reading.proofs.Common.{by_key, ties_is, number_ties, bound_of, is_past, is_behind}
+use Rattle.std.proofs.lemmas.List.Elements.{recursion_from_All, filter_passes}
+use Rattle.sqlite.specs.Order.{value_cmp}
 use Rattle.kcr_reading.proofs.OrderLemmas.{later, lt_is, turned}
-
-int_nat : (a b : ℕ) → int_cmp (pos a) (pos b) ≡ nat_cmp a b
-int_nat a b = grind (arith, nat_tests)
 
 -- numbers are in the same order as values
 pub number_cmp : (a b : ℕ) → value_cmp (Int (pos a)) (Int (pos b)) ≡ nat_cmp a b
-number_cmp a b = value_cmp-Int (pos a) (pos b) ∙ int_nat a b
+number_cmp a b = value_cmp-Int (pos a) (pos b) ∙ grind (arith, nat_tests)
 
 -- the tests of WHERE
 
@@ -39,10 +25,9 @@ behind_text last text = ap is_gt (value_cmp-Text text last) ∙ sym (ap is_lt (n
 
 -- a number is at most the bound as a value if and only if it is not past the last
 pub up_to_number : (last : Option ℕ) (n : ℕ) → is_le (value_cmp (Int (pos n)) (Int (bound_of last))) ≡ not (is_past last n)
-up_to_number last n = le_is (value_cmp (Int (pos n)) (Int (bound_of last))) ∙ ap not (behind_number last n)
-  where
-    le_is : (o : Ordering) → is_le o ≡ not (is_gt o)
-    le_is o = elim o as (λ o. is_le o ≡ not (is_gt o)) [ Less ↦ refl | Equal ↦ refl | Greater ↦ refl ]
+up_to_number last n =
+    (elim (value_cmp (Int (pos n)) (Int (bound_of last))) as (λ o. is_le o ≡ not (is_gt o)) [ Less ↦ refl | Equal ↦ refl | Greater ↦ refl ])
+    ∙ ap not (behind_number last n)
 
 -- numbers are equal as values if and only if they are equal
 pub equal_number : (a b : ℕ) → is_eq (value_cmp (Int (pos a)) (Int (pos b))) ≡ (a == b)
@@ -50,13 +35,11 @@ equal_number a b = sym (number_ties a b ∙ ties_is _ _)
 
 -- a single test in WHERE passes if and only if it holds
 pub one_test : (b : Bool) → (is_true (from_truth (Some b)) && true) ≡ b
-one_test true = refl
-one_test false = refl
+one_test b = grind arith
 
 -- a test before others
 pub with_tests : (b b' c c' : Bool) → b ≡ b' → c ≡ c' → (is_true (from_truth (Some b)) && c) ≡ (b' && c')
-with_tests true b' c c' e f = rw (← e) f
-with_tests false b' c c' e f = rw (← e)
+with_tests b b' c c' e f = grind arith
 
 -- keys
 
@@ -79,20 +62,13 @@ same_ceremony ceremony c d a b xs ys p q = same_number c d ceremony _ p q ∙ th
 pub same_step : (ceremony step c s d r a b : ℕ) (xs ys : Row) → ((c == ceremony) && (s == step)) ≡ true → ((d == ceremony) && (r == step)) ≡ true
     → by_key 3 (Int (pos c) ∷ Int (pos s) ∷ Int (pos a) ∷ xs) (Int (pos d) ∷ Int (pos r) ∷ Int (pos b) ∷ ys) ≡ nat_cmp a b
 same_step ceremony step c s d r a b xs ys p q =
-    let one = and_parts (c == ceremony) (s == step) p in
-    let two = and_parts (d == ceremony) (r == step) q in
-    same_number c d ceremony _ one.0 two.0 ∙ same_number s r step _ one.1 two.1 ∙ then-Equal _ ∙ number_cmp a b
+    same_number c d ceremony _ (grind arith) (grind arith) ∙ same_number s r step _ (grind arith) (grind arith) ∙ then-Equal _ ∙ number_cmp a b
 
 -- those that pass rise if any two that pass do
 
 -- all that a filter keeps pass
 pub passing : {X : Type 0} (p : X → Bool) (xs : List X) → AllByRecursion (λ x. p x ≡ true) (filter p xs)
-passing p [] = tt
-passing p (x ∷ xs) = go (p x) refl (passing p xs)
-  where
-    go : (b : Bool) → p x ≡ b → AllByRecursion (λ x. p x ≡ true) (filter p xs) → AllByRecursion (λ x. p x ≡ true) (cond b (x ∷ filter p xs) (filter p xs))
-    go true e rest = (e, rest)
-    go false e rest = rest
+passing p xs = recursion_from_All (λ x. p x ≡ true) (filter p xs) (filter_passes p xs)
 
 rises_where : {X : Type 0} (p : X → Bool) (S : X → X → Type 0) (xs : List X) → AllByRecursion (λ x. p x ≡ true) xs
     → IsAscending (λ a b. p a ≡ true → p b ≡ true → S a b) xs → IsAscending S xs

@@ -1,30 +1,17 @@
 -- Rows in an order: what stands behind the first of them, and that rows that rise are the rows in order.
-use Rattle.std.proofs.Common.{◌≡◌, ℕ, ◌+◌, ◌-◌, Bool, true, false, cond, List, [], ◌∷◌, ◌++◌, length, filter, slice_get, get_or, Option, Some, None}
-use Rattle.std.proofs.Common.{Ordering, Less, Equal, Greater}
-use Rattle.std.proofs.Common.{is_lt, nat_lt, IsSorted, refl, sym, ap, subst, ◌∙◌, arith}
-use Rattle.std.specs.List.{AllByRecursion}
-use Rattle.std.specs.List.Sorted.{IsPermutation}
-use Rattle.std.specs.Ordering.{is_eq, is_gt, nat_cmp, ordering_reverse}
-use Rattle.std.specs.Cmp.{IsTotalOrder}
-use Rattle.std.proofs.lemmas.Bool.Decides.{nat_tests}
-use Rattle.std.proofs.lemmas.Cmp.{nat_cmp_total, tied_itself, on_total}
-use Rattle.std.proofs.lemmas.List.Sorted.{IsPermutation-sym}
-use Rattle.sqlite.specs.Tree.{IsAscending}
-use Rattle.sqlite_trees.proofs.ListLemmas.{all_weaker, all-filter, all-slice_get, filter_all, ascending-get_or, ascending_weaker, along_permutation}
+use Rattle.kcr_reading.proofs.Common.{◌≡◌, ℕ, ◌+◌, ◌-◌, Bool, true, false, cond, List, [], ◌∷◌, ◌++◌, length, filter, slice_get, get_or, Option, Some}
+use Rattle.kcr_reading.proofs.Common.{None, Ordering, Less, is_lt, nat_lt, IsSorted, refl, sym, ap, subst, ◌∙◌, arith, AllByRecursion, IsPermutation}
+use Rattle.kcr_reading.proofs.Common.{is_eq, is_gt, nat_cmp, ordering_reverse, IsTotalOrder, nat_tests, nat_cmp_total, tied_itself, on_total}
+use Rattle.kcr_reading.proofs.Common.{IsPermutation-sym, IsAscending, all_weaker, all-filter, all-slice_get, filter_all, ascending-get_or}
+use Rattle.kcr_reading.proofs.Common.{ascending_weaker, along_permutation, sorted_is-sort_by, put_in_order, in_order, IsNextOf, IsNextBatchOf, Begin}
 use Rattle.sqlite_keyed.specs.Lists.{insert_sorted, sort_by}
-use Rattle.sqlite_keyed.proofs.SortLemmas.{sorted_is-sort_by}
-use Rattle.kcr_history.specs.Prints.{put_in_order, in_order}
-use Rattle.kcr_reading.specs.Remaining.{IsNextOf, IsNextBatchOf, Begin}
-
-less : (o : Ordering) → is_lt o ≡ true → o ≡ Less
-less o h = grind arith
 
 -- the reverse of an order is less if and only if the order is greater
 pub turned : (o : Ordering) → is_lt (ordering_reverse o) ≡ is_gt o
-turned o = elim o as (λ o. is_lt (ordering_reverse o) ≡ is_gt o) [ Less ↦ refl | Equal ↦ refl | Greater ↦ refl ]
+turned o = grind arith
 
 reversed : (o : Ordering) → is_eq (ordering_reverse o) ≡ is_eq o
-reversed o = elim o as (λ o. is_eq (ordering_reverse o) ≡ is_eq o) [ Less ↦ refl | Equal ↦ refl | Greater ↦ refl ]
+reversed o = grind arith
 
 -- a number is below another if and only if their order is less
 pub lt_is : (a b : ℕ) → nat_lt a b ≡ is_lt (nat_cmp a b)
@@ -54,7 +41,7 @@ module _ {K : Type 0} (compare : K → K → Ordering) (total : IsTotalOrder com
 
   goes_on : (last : Option K) (x y : X) → later last x ≡ true → Rises x y → later last y ≡ true
   goes_on None x y h b = refl
-  goes_on (Some l) x y h b = ap is_lt (total.trans l (key x) (key y) (less _ h) b)
+  goes_on (Some l) x y h b = ap is_lt (total.trans l (key x) (key y) (grind arith) b)
 
   -- where the last moves to the row that was found
   abbrev pub moved : Option K → Option X → Option K

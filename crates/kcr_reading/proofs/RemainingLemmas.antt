@@ -1,6 +1,5 @@
 -- Rows that were taken one after the other, and those that are left.
-use Rattle.std.proofs.Common.{◌≡◌, List, [], ◌∷◌, ◌++◌, Option, Some, None, sym, ap, subst, ◌∙◌, append_assoc, append-nil}
-use Rattle.kcr_reading.specs.Remaining.{IsNextOf}
+use Rattle.kcr_reading.proofs.Common.{◌≡◌, List, [], ◌∷◌, ◌++◌, Option, Some, None, sym, ap, subst, ◌∙◌, append_assoc, append-nil, IsNextOf}
 
 -- one more row was taken
 pub one_taken : {X : Type 0} (rows more left rest all : List X) (row : X) (given : Option X) → rows ++ left ≡ all → given ≡ Some row

@@ -1,47 +1,20 @@
 -- The stays of a ceremony by their beginning, then initials, and the name of a person.
-use Rattle.std.proofs.Common.{◌≡◌, ℕ, pos, arith, ◌&&◌, ◌||◌, ◌==◌, nat_lt, not, Bool, true, false, cond, List, [], ◌∷◌, ◌++◌, map, filter, slice_get, length}
-use Rattle.std.proofs.Common.{◌-◌, ◌<◌, append_assoc, Option, Some, None, Ordering, Less, Equal, Greater, is_lt, refl, sym}
-use Rattle.std.proofs.Common.{codes, ap, ap₂, subst, ◌∙◌}
-use Rattle.std.specs.List.{AllByRecursion, list_all}
-use Rattle.std.specs.Ordering.{is_eq, nat_cmp, then_cmp, ordering_then, ordering_reverse}
-use Rattle.std.specs.Cmp.{IsTotalOrder, tied_then}
-use Rattle.std.specs.Cmp.Lexicographic.{slice_cmp}
-use Rattle.std.specs.List.Sorted.{IsPermutation}
-use Rattle.std.proofs.Math.Bool.{and_comm}
-use Rattle.std.proofs.lemmas.Bool.{and_parts, eqb-true}
-use Rattle.std.proofs.lemmas.Bool.Decides.{nat_tests}
-use Rattle.std.proofs.lemmas.Cmp.{nat_cmp_total, nat_list_cmp_total, on_total, then_total, tied_itself}
-use Rattle.std.proofs.lemmas.List.Sorted.{IsPermutation-sym, IsPermutation-trans}
-use Rattle.sqlite.specs.declared.types.Value.TheVariants.{Int, Text}
-use Rattle.sqlite.specs.Order.{Row, column}
-use Rattle.sqlite.specs.Query.{key_cmp}
-use Rattle.sqlite.specs.Term.{Term, col, op2}
+use Rattle.kcr_reading.proofs.Common.{◌≡◌, ℕ, pos, arith, ◌&&◌, ◌||◌, ◌==◌, nat_lt, not, Bool, true, false, cond, List, [], ◌∷◌, ◌++◌, map, filter}
+use Rattle.kcr_reading.proofs.Common.{slice_get, length, ◌-◌, ◌<◌, append_assoc, Option, Some, None, Ordering, Less, is_lt, refl, sym, codes, ap, ap₂}
+use Rattle.kcr_reading.proofs.Common.{subst, ◌∙◌, AllByRecursion, list_all, is_eq, nat_cmp, then_cmp, ordering_then, IsTotalOrder, slice_cmp}
+use Rattle.kcr_reading.proofs.Common.{IsPermutation, and_parts, nat_tests, nat_cmp_total, nat_list_cmp_total, on_total, then_total, IsPermutation-sym}
+use Rattle.kcr_reading.proofs.Common.{IsPermutation-trans, Int, Text, Row, column, key_cmp, Term, col, op2, Binary, Trees, IsAscending, all_from_test}
+use Rattle.kcr_reading.proofs.Common.{sorted_unique, Compare, Eq, Gt, value_cmp-Text, then-Equal, all_both, all_weaker, filter_none, ascending_weaker}
+use Rattle.kcr_reading.proofs.Common.{ascending_from_map, ascending-filter, IsPermutation-filter, by_key, filter_as, stay_row, filter-and, Stay}
+use Rattle.kcr_reading.proofs.Common.{stays_place, TreesHoldTables, shown_columns, Choice, column_names, shows, ShowsSome, AreFirst, bound_of, Begin}
+use Rattle.kcr_reading.proofs.Common.{IsNextBatchOf, since_of, begins_with, begins_after, is_stay_past, listed_past}
 use Rattle.sqlite.specs.Ops.{binary}
-use Rattle.sqlite.specs.Collation.TheVariants.{Binary}
-use Rattle.sqlite.specs.Tree.{Trees, IsAscending}
-use Rattle.sqlite_keyed.proofs.ListLemmas.{all_from_test}
-use Rattle.sqlite_keyed.proofs.SortLemmas.{sorted_unique}
-use Rattle.sqlite_sql.specs.declared.ops.BinaryOp.TheVariants.{Compare}
-use Rattle.sqlite_sql.specs.declared.ops.CompareOp.TheVariants.{Eq, Gt}
 use Rattle.sqlite_value.specs.Keys.{ascending, rising}
-use Rattle.sqlite_value.proofs.OrderLemmas.{value_cmp-Text, then-Equal}
 use Rattle.sqlite_tied.specs.Compute.{everything}
-use Rattle.sqlite_trees.proofs.ListLemmas.{all_both, all_weaker, filter_none, ascending_weaker, ascending_from_map, ascending-filter, IsPermutation-filter}
-use Rattle.kcr_rows.specs.Keyed.{by_key}
-use Rattle.kcr_rows.proofs.FilterLemmas.{filter_as}
-use Rattle.kcr_rows.specs.Rows.{stay_row}
 use Rattle.kcr_room.proofs.Listed.{attendance-moves, attendance-listed}
-use Rattle.kcr_room.proofs.Lists.{filter-and}
 use Rattle.kcr_room.specs.Stays.{is_listed_before, are_listed, attendance_in_by}
-use Rattle.kcr_room.specs.declared.Stay.{Stay}
 use Rattle.kcr_history.specs.Tables as machine
-use Rattle.kcr_tables.specs.StoredTables.{stays_place}
-use Rattle.kcr_tables.specs.MachineTables.{TreesHoldTables}
 use Rattle.kcr_tables.specs.Schema as schema
-use Rattle.kcr_tables.specs.Statements.{shown_columns, Choice}
-use Rattle.kcr_tables.specs.TableTexts.{column_names, shows}
-use Rattle.kcr_reading.specs.FirstRows.{ShowsSome, AreFirst, bound_of}
-use Rattle.kcr_reading.specs.Remaining.{Begin, IsNextBatchOf, is_behind, since_of, begins_with, begins_after, is_stay_past, listed_past}
 use Rattle.kcr_reading.proofs.ChoiceLemmas.{by_test}
 use Rattle.kcr_reading.proofs.FirstLemmas.{begin_take}
 use Rattle.kcr_reading.proofs.NumberLemmas.{number_cmp, behind_number, behind_text, equal_number, one_test, with_tests, rises_among}
@@ -75,10 +48,7 @@ by_who : (a b : Stay) → by_key 2 (stay_row a) (stay_row b) ≡ ordering_then (
 by_who a b = ap₂ (λ o p. ordering_then o p) (value_cmp-Text a.who b.who) (then-Equal _ ∙ number_cmp a.since b.since)
 
 key_apart : (a b : Stay) → by_key 2 (stay_row a) (stay_row b) ≡ Less → Apart a b
-key_apart a b h =
-    sym (tied_then (nat_cmp a.since b.since) (slice_cmp nat_cmp a.who b.who))
-    ∙ and_comm (is_eq (nat_cmp a.since b.since)) (is_eq (slice_cmp nat_cmp a.who b.who)) ∙ tied_then (slice_cmp nat_cmp a.who b.who) (nat_cmp a.since b.since)
-    ∙ ap is_eq (sym (by_who a b) ∙ h)
+key_apart a b h = let e : ordering_then (slice_cmp nat_cmp a.who b.who) (nat_cmp a.since b.since) ≡ Less = sym (by_who a b) ∙ h in grind arith
 
 -- stays in the order of the listing, each two of them apart, rise
 strict : (xs : List Stay) → are_listed xs ≡ true → IsAscending Apart xs → IsAscending Rises xs
@@ -87,13 +57,8 @@ strict (x ∷ xs) h up =
     let parts = and_parts (list_all (λ other. not (is_listed_before other x)) xs) (are_listed xs) h in
     (all_both _ (Apart x) (Rises x) rises xs (all_from_test _ xs parts.0) up.0, strict xs parts.1 up.1)
   where
-    one : (o : Ordering) → not (is_lt (ordering_reverse o)) ≡ true → is_eq o ≡ false → o ≡ Less
-    one Less h k = refl
-    one Equal h k = absurd (cc)
-    one Greater h k = absurd (cc)
-
     rises : (y : Stay) → not (is_listed_before y x) ≡ true → Apart x y → Rises x y
-    rises y h apart = one (listed x y) (ap (λ o. not (is_lt o)) (sym (listed_total.antisymm y x)) ∙ ap not (sym (before_is y x)) ∙ h) apart
+    rises y h apart = grind (arith, before_is y x, listed_total.antisymm y x)
 
 abbrev is_of : ℕ → Stay → Bool
 is_of ceremony stay = stay.ceremony == ceremony
@@ -172,12 +137,8 @@ first_together ceremony last count low m k rows first =
   where
     keyed : (a b : Stay) → Rises a b → begins_with last a ≡ true → begins_with last b ≡ true → by_key 2 (stay_row a) (stay_row b) ≡ Less
     keyed a b h p q =
-        let one = and_parts _ _ p in
-        let two = and_parts _ _ q in
-        let same : a.since ≡ b.since = eqb-true a.since last.since one.0 ∙ sym (eqb-true b.since last.since two.0) in
-        let tied : nat_cmp a.since b.since ≡ Equal = ap (λ n. nat_cmp n b.since) same ∙ tied_itself nat_cmp_total b.since in
-        let less : slice_cmp nat_cmp a.who b.who ≡ Less = ap (λ o. ordering_then o (slice_cmp nat_cmp a.who b.who)) (sym tied) ∙ h in
-        by_who a b ∙ ap (λ o. ordering_then o (nat_cmp a.since b.since)) less
+        let same : a.since ≡ b.since = grind (arith, nat_tests) in
+        by_who a b ∙ grind (arith, nat_tests)
 
 -- ---- the first that begin later
 
@@ -231,37 +192,17 @@ first_later ceremony last count low m k rows first =
 
 none_with : (last x : Stay) (xs : List Stay) → nat_lt last.since x.since ≡ true → AllByRecursion (Rises x) xs → filter (begins_with last) xs ≡ []
 none_with last x xs p all =
-    filter_none (begins_with last) xs (all_weaker (Rises x) _
-    (λ y h. ap (λ b. b && is_behind (Some last.who) y.who) (after last.since x.since y.since _ p h)) xs all)
-  where
-    after : (l a b : ℕ) (o : Ordering) → nat_lt l a ≡ true → ordering_then (nat_cmp a b) o ≡ Less → (b == l) ≡ false
-    after l a b o p h = grind (arith, nat_tests)
+    filter_none (begins_with last) xs (all_weaker (Rises x) _ (λ y h. grind (arith, nat_tests)) xs all)
+
+one_more : (l s : ℕ) (r : Bool) (x : Stay) (all with after : List Stay) → all ≡ with ++ after → (nat_lt l s ≡ true → with ≡ [])
+    → cond (nat_lt l s || ((l == s) && r)) (x ∷ all) all ≡ cond ((s == l) && r) (x ∷ with) with ++ cond (nat_lt l s) (x ∷ after) after
+one_more l s r x all with after is none = grind (arith, nat_tests)
 
 -- those past the last are those that begin with it, and then those that begin later
 split : (last : Stay) (xs : List Stay) → IsAscending Rises xs → filter (is_stay_past (Some last)) xs ≡ filter (begins_with last) xs
     ++ filter (begins_after (Some last)) xs
 split last [] up = refl
-split last (x ∷ xs) up = go (nat_lt last.since x.since) refl (is_lt (slice_cmp nat_cmp last.who x.who)) (split last xs up.1)
-  where
-    turned : (a b : ℕ) → (a == b) ≡ (b == a)
-    turned a b = grind (arith, nat_tests)
-
-    differs : (l a : ℕ) → nat_lt l a ≡ true → (a == l) ≡ false
-    differs l a h = grind (arith, nat_tests)
-
-    go : (p : Bool) → nat_lt last.since x.since ≡ p → (r : Bool) → filter (is_stay_past (Some last)) xs ≡ filter (begins_with last) xs
-        ++ filter (begins_after (Some last)) xs
-        → cond (p || ((last.since == x.since) && r)) (x ∷ filter (is_stay_past (Some last)) xs) (filter (is_stay_past (Some last)) xs)
-        ≡ cond ((x.since == last.since) && r) (x ∷ filter (begins_with last) xs) (filter (begins_with last) xs)
-        ++ cond p (x ∷ filter (begins_after (Some last)) xs) (filter (begins_after (Some last)) xs)
-    go true e r ih =
-        let none = none_with last x xs e up.0 in
-        rw (differs last.since x.since e, none) (ap (λ l. x ∷ l) (ih ∙ ap (λ l. l ++ filter (begins_after (Some last)) xs) none))
-    go false e r ih =
-        rw (turned x.since last.since) (elim ((last.since == x.since) && r)
-        as (λ b. cond b (x ∷ filter (is_stay_past (Some last)) xs) (filter (is_stay_past (Some last)) xs)
-        ≡ cond b (x ∷ filter (begins_with last) xs) (filter (begins_with last) xs)
-        ++ filter (begins_after (Some last)) xs) [ true ↦ ap (λ l. x ∷ l) ih | false ↦ ih ])
+split last (x ∷ xs) up = one_more last.since x.since _ x _ _ _ (split last xs up.1) (λ p. none_with last x xs p up.0)
 
 -- a prefix of the first kind is one of both, and if there are none of the first kind one of the second is
 pub first_with : (ceremony : ℕ) (last : Stay) (m : machine.Tables) {db : Trees} (k : TreesHoldTables m db) (rows : List Stay) → (rows ≡ [] → ⊥)

@@ -1,27 +1,18 @@
 -- A law: rows may come in any order if each person has at most one at a moment, as rows made in turn have
 -- (`sheet-shares`). Their stays are the same up to their order (`stays-order`), and the same people are in a room
 -- (`rows-present`).
-use Rattle.std.proofs.Common.{◌≡◌, ℕ, Bool, true, false, cond, not, ◌||◌, ◌&&◌, ◌==◌, nat_le, nat_lt, List, [], ◌∷◌, ◌++◌, map, Option}
-use Rattle.std.proofs.Common.{Some, None, refl, sym, ap, ◌∙◌, subst, arith, append_assoc}
-use Rattle.std.specs.List.{list_any, filter, count_by, AllByRecursion}
-use Rattle.std.specs.List.Sorted.{IsPermutation}
-use Rattle.std.proofs.lemmas.Bool.{eqb-true, and_parts}
-use Rattle.std.proofs.Math.Bool.{or-false}
-use Rattle.std.proofs.lemmas.List.Elements.{filter-append}
-use Rattle.std.proofs.lemmas.List.Sums.{sum_by-append}
-use Rattle.std.proofs.lemmas.List.Sorted.{IsPermutation-map, sum_by-IsPermutation, list_any-IsPermutation}
-use Rattle.kcr_base.proofs.RowsLemmas.{filter-order}
-use Rattle.kcr_room.specs.Room.{is_enter, is_ahead, is_as_late, following, Followed, followed_rows_behind, later_row, last_onto, last_row_of, present_by}
-use Rattle.kcr_room.specs.Stays.{next_of, stays_of, stays_by}
-use Rattle.kcr_room.specs.Laws.{IsSheet, ShareNoMoment}
+use Rattle.kcr_room.proofs.Common.{◌≡◌, ℕ, Bool, true, false, cond, not, ◌||◌, ◌&&◌, ◌==◌, nat_le, List, [], ◌∷◌, ◌++◌, map, Option, None, refl, sym}
+use Rattle.kcr_room.proofs.Common.{ap, ◌∙◌, arith, append_assoc, list_any, filter, count_by, AllByRecursion, IsPermutation, or-false, filter-append}
+use Rattle.kcr_room.proofs.Common.{sum_by-append, IsPermutation-map, sum_by-IsPermutation, list_any-IsPermutation, filter-order, is_enter, is_ahead}
+use Rattle.kcr_room.proofs.Common.{is_as_late, following, Followed, followed_rows_behind, later_row, last_onto, present_by, next_of, stays_of}
+use Rattle.kcr_room.proofs.Common.{stays_by, IsSheet, ShareNoMoment, same-itself, same-is}
 use Rattle.kcr_room.proofs.Words.{nat_tests, same_text, SheetRow}
 use Rattle.kcr_room.proofs.Lists.{any-filter, count-cons, none-behind}
 use Rattle.kcr_room.proofs.Firsts.{end-unique}
 use Rattle.kcr_room.proofs.Followed.{lasts-next}
 use Rattle.kcr_room.proofs.Agreement.{of_person, same-present}
-use Rattle.kcr_base.proofs.SameLemmas.{same-itself, same-is}
 use Rattle.kcr_room.proofs.Orders.{present-order}
-use Rattle.kcr_room.proofs.Sheets.{made-in-turn, InTurn, last_reaches, earlier-last}
+use Rattle.kcr_room.proofs.Sheets.{made-in-turn, InTurn, last_reaches}
 
 -- the row is this person's and has this moment
 abbrev is_at : List ℕ → ℕ → SheetRow → Bool
@@ -37,12 +28,9 @@ late-ahead row (other ∷ rows) a = grind (arith, nat_tests, a.0, late-ahead row
 following-ahead : (front back : List SheetRow) (row : SheetRow) → ShareNoMoment (front ++ (row ∷ back))
     → following front row back ≡ filter (is_ahead row) (front ++ (row ∷ back))
 following-ahead front back row h =
-    ap (λ behind. filter (is_ahead row) front ++ behind)
-    (late-ahead row back (none-behind (is_at row.who row.at) front back row own (h row.who row.at)) ∙ grind (arith, nat_tests))
-    ∙ sym (filter-append (is_ahead row) front (row ∷ back))
-  where
-    own : is_at row.who row.at row ≡ true
-    own = grind (arith, nat_tests, same-itself row.who)
+    let own : is_at row.who row.at row ≡ true = grind (arith, nat_tests, same-itself row.who) in
+    let late = late-ahead row back (none-behind (is_at row.who row.at) front back row own (h row.who row.at)) in
+    grind (arith, nat_tests, filter-append (is_ahead row) front (row ∷ back))
 
 -- a row with those of all rows that are ahead
 abbrev plain : List SheetRow → SheetRow → Followed
@@ -51,11 +39,8 @@ plain all row = record { row = row; by = filter (is_ahead row) all }
 followed-plain : (front back : List SheetRow) → ShareNoMoment (front ++ back) → followed_rows_behind front back ≡ map (plain (front ++ back)) back
 followed-plain front [] h = refl
 followed-plain front (row ∷ back) h =
-    let all : List SheetRow = front ++ (row ∷ back) in
-    let e : (front ++ (row ∷ [])) ++ back ≡ all = append_assoc front (row ∷ []) back in
-    ap (λ by. record { row = row; by = by } ∷ followed_rows_behind (front ++ (row ∷ [])) back) (following-ahead front back row h)
-    ∙ ap (λ rest. plain all row ∷ rest)
-    (followed-plain (front ++ (row ∷ [])) back (subst ShareNoMoment (sym e) h) ∙ ap (λ all. map (plain all) back) e)
+    let more = (rw (append_assoc front (row ∷ []) back) at (followed-plain (front ++ (row ∷ [])) back)) h in
+    cc (following-ahead front back row h)
 
 next-order : (xs ys : List SheetRow) → IsPermutation xs ys → (row : SheetRow) → next_of (plain xs row) ≡ next_of (plain ys row)
 next-order xs ys p row =
@@ -69,17 +54,14 @@ stays-plain xs ys p (row ∷ rows) = grind (arith, nat_tests, next-order xs ys p
 
 -- if no two rows of one person share a moment, no two do in another order
 pub share-order : (xs ys : List SheetRow) → IsPermutation xs ys → ShareNoMoment xs → ShareNoMoment ys
-share-order xs ys p h =
-    λ who t. let e = sum_by-IsPermutation (λ row. cond (same_text row.who who && row.at == t) 1 0) xs ys p in let n = h who t in omega (arith, e, n)
+share-order xs ys p h who t =
+    let e = sum_by-IsPermutation (λ row. cond (same_text row.who who && row.at == t) 1 0) xs ys p in let n = h who t in omega (arith, e, n)
 
 -- the stays of such rows are the same whatever the order of the rows, up to their own order
 pub stays-order : (xs ys : List SheetRow) → IsPermutation xs ys → ShareNoMoment xs → IsPermutation (stays_by xs) (stays_by ys)
 stays-order xs ys p h =
-    let moved = IsPermutation-map (plain xs) xs ys p in
-    let same = stays-plain xs ys p ys ∙ ap stays_of (sym (followed-plain [] ys (share-order xs ys p h))) in
-    subst (λ all. IsPermutation (stays_of all) (stays_by ys)) (sym (followed-plain [] xs h))
-    (subst (IsPermutation (stays_of (map (plain xs) xs))) same
-    (IsPermutation-map _ _ _ (filter-order (λ followed. is_enter followed.row.way) (map (plain xs) xs) (map (plain xs) ys) moved)))
+    let moved = filter-order (λ followed. is_enter followed.row.way) _ _ (IsPermutation-map (plain xs) xs ys p) in
+    rw (followed-plain [] xs h, followed-plain [] ys (share-order xs ys p h), ← stays-plain xs ys p ys) (IsPermutation-map _ _ _ moved)
 
 -- of such rows the same people are in a room, whatever the order of the rows
 pub rows-present : (xs ys : List SheetRow) → IsPermutation xs ys → ShareNoMoment xs → (c t : ℕ) → present_by ys c t ≡ present_by xs c t
@@ -89,14 +71,7 @@ rows-present xs ys p h c t = sym (same-present ys c t) ∙ present-order (stays_
 reached : (m : ℕ) (rows : List SheetRow) (last : Option SheetRow)
     → last_reaches m (last_onto last rows) ≡ (last_reaches m last || list_any (λ row. nat_le m row.at) rows)
 reached m [] last = sym (or-false (last_reaches m last))
-reached m (row ∷ rows) None = reached m rows (Some row)
-reached m (row ∷ rows) (Some other) = reached m rows (later_row (Some other) row) ∙ both (nat_lt row.at other.at) refl
-  where
-    both : (b : Bool) → nat_lt row.at other.at ≡ b
-        → (last_reaches m (cond b (Some other) (Some row)) || list_any (λ row. nat_le m row.at) rows)
-        ≡ (nat_le m other.at || (nat_le m row.at || list_any (λ row. nat_le m row.at) rows))
-    both true e = grind (arith, nat_tests, e)
-    both false e = grind (arith, nat_tests, e)
+reached m (row ∷ rows) last = grind (arith, nat_tests, reached m rows (later_row last row))
 
 uncounted : (who : List ℕ) (t : ℕ) (rows : List SheetRow) → list_any (λ row. same_text row.who who && nat_le t row.at) rows ≡ false
     → count_by (is_at who t) rows ≡ 0
@@ -106,20 +81,11 @@ uncounted who t (row ∷ rows) h = grind (arith, nat_tests, h, count-cons (is_at
 share-next : (before : List SheetRow) (row : SheetRow) → IsSheet before → InTurn before row → ShareNoMoment before
     → ShareNoMoment (before ++ (row ∷ []))
 share-next before row s turn h who t =
-    let k = sum_by-append (λ other. cond (is_at who t other) 1 0) before (row ∷ []) in
-    grind (arith, nat_tests, k, count-cons (is_at who t) row [] (is_at who t row) refl, h who t, alone)
-  where
-    new : count_by (is_at row.who row.at) before ≡ 0
-    new =
-        uncounted row.who row.at before
-        (sym (any-filter (of_person row.who) (λ other. nat_le row.at other.at) before)
-        ∙ sym (reached row.at (filter (of_person row.who) before) None)
-        ∙ earlier-last row.way row.ceremony row.at (last_row_of before row.who) turn)
-
-    alone : is_at who t row ≡ true → count_by (is_at who t) before ≡ 0
-    alone e =
-        let d = and_parts (same_text row.who who) (row.at == t) e in
-        rw (← same-is row.who who d.0, ← eqb-true row.at t d.1) new
+    let same = same-is row.who who in
+    let none = uncounted row.who row.at before in
+    let last = reached row.at (filter (of_person row.who) before) None in
+    let one = count-cons (is_at who t) row [] (is_at who t row) refl in
+    grind (arith, nat_tests, h who t, any-filter, sum_by-append (λ other. cond (is_at who t other) 1 0) before (row ∷ []))
 
 -- of rows made in turn no two of one person share a moment
 pub sheet-shares : (rows : List SheetRow) → IsSheet rows → ShareNoMoment rows

@@ -1,18 +1,14 @@
 -- The moments at which people come and go tell how many are in a room.
-use Rattle.std.proofs.Common.{◌≡◌, ℕ, zero, suc, ◌≤◌, Bool, true, false, cond, not, ◌&&◌, ◌==◌, nat_le, nat_lt, List, [], ◌∷◌, ◌++◌}
-use Rattle.std.proofs.Common.{length, find, refl, sym, ap, ◌∙◌, arith}
-use Rattle.std.specs.List.{count_by, AllByRecursion, list_any, filter}
-use Rattle.std.specs.List.Sorted.{IsPartitionPoint, IsNonDecreasing}
-use Rattle.std.proofs.lemmas.List.Elements.{recursion_from_All}
-use Rattle.std.proofs.lemmas.List.Folds.{list_any-append}
-use Rattle.std.proofs.lemmas.List.Sorted.{sum_by-IsPermutation, list_any-IsPermutation, IsPermutation-append}
+use Rattle.kcr_room.proofs.Common.{◌≡◌, ℕ, zero, suc, ◌≤◌, Bool, true, false, cond, not, ◌&&◌, ◌==◌, nat_le, nat_lt, List, [], ◌∷◌, ◌++◌, length}
+use Rattle.kcr_room.proofs.Common.{refl, sym, ap, ◌∙◌, arith, count_by, AllByRecursion, list_any, filter, IsPartitionPoint, IsNonDecreasing}
+use Rattle.kcr_room.proofs.Common.{recursion_from_All, list_any-append, sum_by-IsPermutation, list_any-IsPermutation, IsPermutation-append}
+use Rattle.kcr_room.proofs.Common.{min_moment, least, ends_after, headcount_in_by, is_lone_in_by, is_crowd_in_by, comings_by, first_lone_in_by}
+use Rattle.kcr_room.proofs.Common.{is_crowded_in_by, any-same}
+use Rattle.std.proofs.Common.{find}
 use Rattle.kcr_room.specs.declared.occupancy.Occupancy.{Occupancy}
-use Rattle.kcr_room.specs.Moments.{min_moment, least}
-use Rattle.kcr_room.specs.Stays.{ends_after, headcount_in_by, is_lone_in_by, is_crowd_in_by, comings_by, goings_by, first_lone_in_by, is_crowded_in_by}
 use Rattle.kcr_room.specs.Occupancy.{headcount_of, is_crowd_of, is_lone_of, HasMomentsOf}
 use Rattle.kcr_room.proofs.Words.{nat_tests, Stay}
 use Rattle.kcr_room.proofs.Lists.{count-cons}
-use Rattle.kcr_base.proofs.ListLemmas.{any-same}
 use Rattle.kcr_room.proofs.Firsts.{end-unique, lasts-sooner, lasts-passing}
 use Rattle.kcr_room.proofs.Moments.{balance}
 
@@ -35,10 +31,9 @@ parted-count test (m ∷ moments) (suc i) h point =
 -- those who have come without those who have gone are there
 pub told-crowd : (traffic : Occupancy) (stays : List Stay) (c : ℕ) → HasMomentsOf traffic stays c → (t : ℕ) → headcount_of traffic t ≡ headcount_in_by stays c t
 told-crowd traffic stays c told t =
-    let m = sum_by-IsPermutation (λ moment. cond (nat_le moment t) 1 0) (comings_by stays c) traffic.arrivals.items told.0 in
-    let n = sum_by-IsPermutation (λ moment. cond (nat_le moment t) 1 0) (goings_by stays c) traffic.departures.items told.1 in
-    let b = balance stays c t in
-    omega (arith, m, n, b)
+    let m = sum_by-IsPermutation (λ moment. cond (nat_le moment t) 1 0) _ _ told.0 in
+    let n = sum_by-IsPermutation (λ moment. cond (nat_le moment t) 1 0) _ _ told.1 in
+    omega (arith, m, n, balance stays c t)
 
 -- of moments in order the first that passes is the least
 none-sooner : (test : ℕ → Bool) (t m : ℕ) (ts : List ℕ) → AllByRecursion (λ n. m ≤ n) ts → nat_lt t m ≡ true → list_any (λ n. test n && nat_le n t) ts ≡ false
@@ -56,9 +51,8 @@ lasts-found test t (m ∷ ts) rising =
 pub found-least : (test : ℕ → Bool) (ms ns : List ℕ) → IsNonDecreasing ms → IsNonDecreasing ns
     → min_moment (find test ms) (find test ns) ≡ least (filter test (ms ++ ns))
 found-least test ms ns f g = end-unique _ _ (λ t.
-    lasts-sooner t (find test ms) (find test ns)
-    ∙ grind (arith, nat_tests, lasts-found test t ms f, lasts-found test t ns g, list_any-append (λ n. test n && nat_le n t) ms ns)
-    ∙ sym (lasts-passing test t (ms ++ ns)))
+    let passing = lasts-passing test t (ms ++ ns) in
+    grind (arith, nat_tests, lasts-sooner t (find test ms) (find test ns), lasts-found test t ms f, lasts-found test t ns g, list_any-append))
 
 -- the traffic of a room is crowded, and has its first moment with one person, as the stays have
 pub told-crowded : (traffic : Occupancy) (stays : List Stay) (c : ℕ) → HasMomentsOf traffic stays c
@@ -70,9 +64,10 @@ told-crowded traffic stays c told =
 -- the least moment of a room's traffic with one person is the first such moment by the stays
 pub told-lone : (traffic : Occupancy) (stays : List Stay) (c : ℕ) → HasMomentsOf traffic stays c
     → least (filter (is_lone_of traffic) (traffic.arrivals.items ++ traffic.departures.items)) ≡ first_lone_in_by stays c
-told-lone traffic stays c told = end-unique _ _ (λ t.
-    lasts-passing (is_lone_of traffic) t (traffic.arrivals.items ++ traffic.departures.items)
-    ∙ ap not (any-same _ (λ n. is_lone_in_by stays c n && nat_le n t) (traffic.arrivals.items ++ traffic.departures.items)
-    (λ n. ap (λ crowd. crowd == 1 && nat_le n t) (told-crowd traffic stays c told n))
-    ∙ sym (list_any-IsPermutation (λ n. is_lone_in_by stays c n && nat_le n t) _ _ (IsPermutation-append _ _ _ _ told.0 told.1)))
-    ∙ sym (lasts-passing (is_lone_in_by stays c) t (comings_by stays c ++ goings_by stays c)))
+told-lone traffic stays c told =
+    let moments = traffic.arrivals.items ++ traffic.departures.items in
+    end-unique _ _ (λ t.
+    let same = λ (n : ℕ). ap (λ crowd. crowd == 1 && nat_le n t) (told-crowd traffic stays c told n) in
+    let moved = list_any-IsPermutation (λ n. is_lone_in_by stays c n && nat_le n t) _ _ (IsPermutation-append _ _ _ _ told.0 told.1) in
+    let lone = any-same (λ n. is_lone_of traffic n && nat_le n t) (λ n. is_lone_in_by stays c n && nat_le n t) moments same in
+    rw (lasts-passing, lasts-passing, lone, moved))

@@ -1,13 +1,8 @@
 -- The ends of rows, told by their places, are those of the rows that follow.
-use Rattle.std.proofs.Common.{◌≡◌, ℕ, suc, ◌+◌, ◌≤◌, ◌<◌, Bool, not, ◌||◌, ◌&&◌, ◌==◌, nat_le, nat_lt, List, [], ◌∷◌, ◌++◌, map, length}
-use Rattle.std.proofs.Common.{get_or, drop, Option, None, refl, sym, ap, ◌∙◌, arith, append_assoc, drop-cons, length-append}
-use Rattle.std.specs.List.{list_any, filter, AllByRecursion}
-use Rattle.std.proofs.lemmas.List.{drop_all}
-use Rattle.std.proofs.lemmas.List.Folds.{list_any-append}
-use Rattle.kcr_room.specs.declared.stays.SheetEvent.{SheetEvent}
-use Rattle.kcr_room.specs.Room.{is_ahead, is_as_late, following, Followed, followed_rows_behind}
-use Rattle.kcr_room.specs.Stays.{ends_after, next_of, stays_of}
-use Rattle.kcr_room.specs.Events.{sheet_events_from, sheet_events_by, stays_with}
+use Rattle.kcr_room.proofs.Common.{◌≡◌, ℕ, suc, ◌+◌, ◌≤◌, ◌<◌, Bool, not, ◌||◌, ◌&&◌, ◌==◌, nat_le, nat_lt, List, [], ◌∷◌, ◌++◌, map, length, get_or}
+use Rattle.kcr_room.proofs.Common.{drop, Option, None, refl, sym, ap, ◌∙◌, arith, append_assoc, drop-cons, length-append, list_any, AllByRecursion}
+use Rattle.kcr_room.proofs.Common.{drop_all, list_any-append, SheetEvent, is_ahead, is_as_late, following, Followed, followed_rows_behind, ends_after}
+use Rattle.kcr_room.proofs.Common.{next_of, stays_of, sheet_events_from, sheet_events_by, stays_with}
 use Rattle.kcr_room.proofs.Words.{nat_tests, same_text, SheetRow}
 use Rattle.kcr_room.proofs.Lists.{any-filter}
 use Rattle.kcr_room.proofs.Firsts.{end-unique}
@@ -41,45 +36,31 @@ any-behind t row first place [] h = refl
 any-behind t row first place (other ∷ behind) h = grind (arith, nat_tests, h, any-behind t row first (suc place) behind (omega arith))
 
 steps-append : (place : ℕ) (rows more : List SheetRow) → sheet_events_from place (rows ++ more) ≡ sheet_events_from place rows ++ sheet_events_from (place + length rows) more
-steps-append place [] more = let e : place ≡ place + 0 = omega arith in ap (λ n. sheet_events_from n more) e
-steps-append place (row ∷ rows) more =
-    let e : suc place + length rows ≡ place + suc (length rows) = omega arith in
-    ap (λ rest. step_at place row ∷ rest) (steps-append (suc place) rows more ∙ ap (λ n. sheet_events_from (suc place) rows ++ sheet_events_from n more) e)
+steps-append place [] more = grind arith
+steps-append place (row ∷ rows) more = grind (arith, steps-append (suc place) rows more)
 
 -- the steps that follow a row's step are those of the rows that follow
 any-following : (t : ℕ) (all before behind : List SheetRow) (row : SheetRow) (place : ℕ) → all ≡ before ++ (row ∷ behind) → length before ≡ place
     → list_any (λ other. follows (step_at place row) other && nat_le other.at t) (sheet_events_by all)
     ≡ list_any (λ other. nat_le other.at t) (following before row behind)
 any-following t all before behind row place e n =
-    let test = λ (other : SheetEvent). follows (step_at place row) other && nat_le other.at t in
-    let z : 0 + length before ≡ place = omega (arith, n) in
-    ap (λ rows. list_any test (sheet_events_by rows)) e
-    ∙ ap (list_any test) (steps-append 0 before (row ∷ behind) ∙ ap (λ k. sheet_events_from 0 before ++ sheet_events_from k (row ∷ behind)) z)
-    ∙ list_any-append test (sheet_events_from 0 before) (sheet_events_from place (row ∷ behind))
-    ∙ grind (
-      arith,
-      nat_tests,
-      any-before t row place 0 before (omega (arith, n)),
-      any-behind t row place (suc place) behind (omega arith),
-      any-filter (is_ahead row) (λ other. nat_le other.at t) before,
-      any-filter (is_as_late row) (λ other. nat_le other.at t) behind,
-      list_any-append (λ other. nat_le other.at t) (filter (is_ahead row) before) (filter (is_as_late row) behind),
-    )
+    let steps = steps-append 0 before (row ∷ behind) in
+    let front = any-before t row place 0 before (omega arith) in
+    let back = any-behind t row place (suc place) behind (omega arith) in
+    grind (arith, nat_tests, list_any-append, any-filter)
 
 -- so ends told by places are the moments of the next rows
 pub ends-next : (all : List SheetRow) (full : List (Option ℕ)) (place : ℕ) (before rows : List SheetRow) → all ≡ before ++ rows → length before ≡ place
     → place + length rows ≡ length full → AllByRecursion (λ step. IsEnd (sheet_events_by all) step (get_or full step.place None)) (sheet_events_from place rows)
     → drop place full ≡ map next_of (followed_rows_behind before rows)
-ends-next all full place before [] e n l a = drop_all place full (omega (arith, l))
+ends-next all full place before [] e n l a = drop_all place full (omega arith)
 ends-next all full place before (row ∷ rows) e n l a =
     let own : Followed = record { row = row; by = following before row rows } in
-    let end : get_or full place None ≡ next_of own = end-unique (get_or full place None) (next_of own) (λ t.
+    let end = end-unique (get_or full place None) (next_of own) (λ t.
     a.0 t ∙ ap not (any-following t all before rows row place e n) ∙ sym (lasts-next t own)) in
-    drop-cons full place None (omega (arith, l))
-    ∙ ap (λ until. until ∷ drop (suc place) full) end
-    ∙ ap (λ rest. next_of own ∷ rest)
-    (ends-next all full (suc place) (before ++ (row ∷ [])) rows (e ∙ sym (append_assoc before (row ∷ []) rows))
-    (omega (arith, n, length-append before (row ∷ []))) (omega (arith, l)) a.1)
+    let rest = ends-next all full (suc place) (before ++ (row ∷ [])) rows (e ∙ sym (append_assoc before (row ∷ []) rows))
+    (omega (arith, length-append before (row ∷ []))) (omega arith) a.1 in
+    cc (drop-cons full place None (omega arith))
 
 -- each row has one
 pub ends-many : (before rows : List SheetRow) → length (map next_of (followed_rows_behind before rows)) ≡ length rows

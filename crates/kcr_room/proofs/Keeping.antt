@@ -1,28 +1,15 @@
 -- Laws of every sheet: rows that are not refused keep every row in its turn (`turns_keep`), and those present are those in the room by their last rows
 -- (`present_are_in`).
-use Rattle.std.proofs.Common.{◌≡◌, ℕ, Bool, true, false, not, ◌||◌, ◌&&◌, nat_le, List, [], ◌∷◌, ◌++◌, map, Option, Some, None, refl, sym, ap, ◌∙◌}
-use Rattle.std.proofs.Common.{arith, append-nil, append_assoc}
-use Rattle.std.specs.List.{list_any, filter, find}
-use Rattle.std.proofs.lemmas.Bool.{and_parts, and_from, or_parts, not-true}
-use Rattle.std.proofs.Math.Bool.{or-false}
-use Rattle.std.proofs.lemmas.List.Elements.{filter-append}
+use Rattle.kcr_room.proofs.Common.{◌≡◌, ℕ, Bool, true, false, ◌||◌, ◌&&◌, nat_le, List, [], ◌∷◌, ◌++◌, map, Option, None, refl, ap, ◌∙◌, arith}
+use Rattle.kcr_room.proofs.Common.{append-nil, append_assoc, list_any, filter, find, filter-append, enters, last_row, last_enters, last_row_of, is_of}
+use Rattle.kcr_room.proofs.Common.{in_force, ascending, put_person, stays_by, turn_refusal, sheet_refusal, is_out_of_turn_by, new_row, rows_refusal}
+use Rattle.kcr_room.proofs.Common.{are_apart, in_turn_onto, TurnsKeep, PresentAreIn, any-map, any-same, same-turned}
 use Rattle.kcr_base.specs.Refuse.{when}
 use Rattle.kcr_base.specs.declared.refusal.Refusal.TheVariants.{Late}
-use Rattle.kcr_room.specs.Room.{enters, last_row, last_enters, last_row_of, is_of, in_force, ascending, put_person}
-use Rattle.kcr_room.specs.Stays.{stays_by}
-use Rattle.kcr_room.specs.Requests.{turn_refusal, sheet_refusal, is_out_of_turn, is_out_of_turn_by, new_row, rows_refusal}
-use Rattle.kcr_base.specs.Lists.{are_apart}
-use Rattle.kcr_room.specs.Laws.{in_turn_onto, TurnsKeep, PresentAreIn}
 use Rattle.kcr_base.proofs.RefuseLemmas.{none_holds}
 use Rattle.kcr_room.proofs.Words.{nat_tests, same_text, SheetRow, Way}
 use Rattle.kcr_room.proofs.Lists.{any-filter}
-use Rattle.kcr_base.proofs.ListLemmas.{any-same}
 use Rattle.kcr_room.proofs.Agreement.{listed, of_person, force-last}
-use Rattle.kcr_base.proofs.SameLemmas.{same-turned}
-
--- three tests joined by `and` answer the same whichever two are joined first
-pub and-assoc : (a b c : Bool) → ((a && b) && c) ≡ (a && (b && c))
-and-assoc a b c = grind (arith, nat_tests)
 
 -- rows that are not refused: everybody has the turn, and nothing is against the sheet that they make
 pub taken : (rows : List SheetRow) (c mark : ℕ) (full : Bool) (way : Way) (people : List (List ℕ)) (at : ℕ) → rows_refusal rows c mark full way people at ≡ None
@@ -42,10 +29,9 @@ last-other rows row who h = ap last_row (filter-append (of_person who) rows (row
 
 -- rows of two lists are in turn if and only if the first list's are, and then the second's behind them
 pub in_turn-append : (before rows more : List SheetRow) → in_turn_onto before (rows ++ more) ≡ (in_turn_onto before rows && in_turn_onto (before ++ rows) more)
-in_turn-append before [] more = rw (append-nil before) refl
+in_turn-append before [] more = rw (append-nil before)
 in_turn-append before (row ∷ rows) more =
-    rw (in_turn-append (before ++ (row ∷ [])) rows more, append_assoc before (row ∷ []) rows)
-    (sym (and-assoc (not (is_out_of_turn_by before row.ceremony row.way row.at row.who)) _ _))
+    grind (arith, nat_tests, in_turn-append (before ++ (row ∷ [])) rows more, append_assoc before (row ∷ []) rows)
 
 -- people of whom each has the turn have it still if others of them came before
 pub turn-others : (rows : List SheetRow) (c : ℕ) (way : Way) (at : ℕ) (first : List ℕ) (people : List (List ℕ)) → list_any (same_text first) people ≡ false
@@ -53,27 +39,19 @@ pub turn-others : (rows : List SheetRow) (c : ℕ) (way : Way) (at : ℕ) (first
     → turn_refusal (find (is_out_of_turn_by (rows ++ (new_row c way at first ∷ [])) c way at) people) ≡ None
 turn-others rows c way at first [] a h = refl
 turn-others rows c way at first (who ∷ rest) a h =
-    let n = none-found (is_out_of_turn_by rows c way at) who rest h in
-    let d = or_parts (same_text first who) (list_any (same_text first) rest) a in
-    let e : is_out_of_turn_by (rows ++ (new_row c way at first ∷ [])) c way at who ≡ false =
-    ap (λ last. is_out_of_turn way c at last) (last-other rows (new_row c way at first) who d.0) ∙ n.0 in
-    rw e (turn-others rows c way at first rest d.1 n.1)
+    grind (arith, nat_tests, a, h, last-other rows (new_row c way at first) who, turn-others rows c way at first rest)
 
 turns-more : (rows : List SheetRow) (c : ℕ) (way : Way) (at : ℕ) (people : List (List ℕ)) → are_apart people ≡ true
     → turn_refusal (find (is_out_of_turn_by rows c way at) people) ≡ None → in_turn_onto rows (map (new_row c way at) people) ≡ true
 turns-more rows c way at [] a h = refl
 turns-more rows c way at (who ∷ rest) a h =
-    let d = and_parts (not (list_any (same_text who) rest)) (are_apart rest) a in
-    let n = none-found (is_out_of_turn_by rows c way at) who rest h in
-    let more = turn-others rows c way at who rest (not-true (list_any (same_text who) rest) d.0) n.1 in
-    rw n.0 (turns-more (rows ++ (new_row c way at who ∷ [])) c way at rest d.1 more)
+    grind (arith, nat_tests, a, h, turn-others rows c way at who rest, turns-more (rows ++ (new_row c way at who ∷ [])) c way at rest)
 
 -- rows that are not refused keep every row in its turn: after them each came in its turn if each had before
 pub turns_keep : TurnsKeep
 turns_keep rows c mark full way people at apart h s =
-    in_turn-append [] rows (map (new_row c way at) people)
-    ∙ and_from (in_turn_onto [] rows) (in_turn_onto rows (map (new_row c way at) people)) s
-    (turns-more rows c way at people apart (taken rows c mark full way people at h).0)
+    let more = turns-more rows c way at people apart (taken rows c mark full way people at h).0 in
+    grind (arith, nat_tests, in_turn-append [] rows (map (new_row c way at) people))
 
 -- a test finds in a list put in order what it finds in the list
 pub any-put : (p : List ℕ → Bool) (who : List ℕ) (people : List (List ℕ)) → list_any p (put_person who people) ≡ (p who || list_any p people)
@@ -85,24 +63,13 @@ pub any-ascending : (p : List ℕ → Bool) (people : List (List ℕ)) → list_
 any-ascending p [] = refl
 any-ascending p (who ∷ rest) = any-put p who (ascending rest) ∙ ap (λ b. p who || b) (any-ascending p rest)
 
-any-map : (p : List ℕ → Bool) (rows : List SheetRow) → list_any p (map (λ row. row.who) rows) ≡ list_any (λ row. p row.who) rows
-any-map p [] = refl
-any-map p (row ∷ rows) = rw (any-map p rows)
-
 any-listed : (c : ℕ) (last : Option SheetRow) → list_any (enters c) (listed last) ≡ last_enters c last
-any-listed c None = refl
-any-listed c (Some row) = or-false (enters c row)
+any-listed c last = grind (arith, nat_tests)
 
 -- somebody is among those present if and only if their last row says so
 pub present_are_in : PresentAreIn
 present_are_in rows who c t =
-    any-ascending (same_text who) (map (λ row. row.who) (filter (enters c) (in_force t rows)))
-    ∙ any-map (same_text who) (filter (enters c) (in_force t rows))
-    ∙ any-filter (enters c) (λ row. same_text who row.who) (in_force t rows)
-    ∙ any-same (λ row. enters c row && same_text who row.who) (λ row. same_text row.who who && enters c row) (in_force t rows) turned
-    ∙ sym (any-filter (of_person who) (enters c) (in_force t rows))
-    ∙ ap (list_any (enters c)) (force-last who t rows)
-    ∙ any-listed c (last_row (filter (is_of who t) rows))
-  where
-    turned : (row : SheetRow) → (enters c row && same_text who row.who) ≡ (same_text row.who who && enters c row)
-    turned row = grind (arith, nat_tests, same-turned who row.who)
+    let turned = any-same (λ row. enters c row && same_text who row.who) (λ row. same_text row.who who && enters c row) (in_force t rows) (λ row.
+    grind (arith, nat_tests, same-turned who row.who)) in
+    let own = any-filter (of_person who) (enters c) (in_force t rows) in
+    grind (arith, force-last who t rows, any-ascending, any-map, any-filter, any-listed c (last_row (filter (is_of who t) rows)))

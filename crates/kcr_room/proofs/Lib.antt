@@ -1,3 +1,4 @@
+mod Common
 pub mod Words
 pub mod Lists
 pub mod Followed

@@ -1,28 +1,21 @@
 -- A law: an attendance has each stay of the ceremony once and no other (`attendance-moves`), by beginning, then initials (`attendance-listed`).
-use Rattle.std.proofs.Common.{◌≡◌, ℕ, Bool, true, false, cond, not, ◌==◌, List, [], ◌∷◌, ◌++◌, refl, arith}
-use Rattle.std.specs.List.{list_all, filter}
-use Rattle.std.specs.List.Sorted.{IsPermutation}
-use Rattle.std.proofs.lemmas.List.Sorted.{IsPermutation-refl, IsPermutation-cons, IsPermutation-trans, IsPermutation-middle}
-use Rattle.kcr_room.specs.Stays.{is_listed_before, put_stay, in_order, attendance_in_by, are_listed}
+use Rattle.kcr_room.proofs.Common.{◌≡◌, ℕ, Bool, true, false, cond, not, ◌==◌, List, [], ◌∷◌, ◌++◌, refl, arith, list_all, filter, IsPermutation}
+use Rattle.kcr_room.proofs.Common.{IsPermutation-refl, IsPermutation-cons, IsPermutation-trans, IsPermutation-middle, all-more, is_listed_before}
+use Rattle.kcr_room.proofs.Common.{put_stay, in_order, attendance_in_by, are_listed}
 use Rattle.kcr_room.proofs.Words.{nat_tests, Stay}
 use Rattle.kcr_room.proofs.Orders.{before-turned, behind}
 
 put-moves : (stay : Stay) (stays : List Stay) → IsPermutation (stay ∷ stays) (put_stay stay stays)
 put-moves stay [] = IsPermutation-refl (stay ∷ [])
-put-moves stay (other ∷ rest) = by_order (is_listed_before other stay) (put-moves stay rest)
-  where
-    by_order : (b : Bool) → IsPermutation (stay ∷ rest) (put_stay stay rest)
-        → IsPermutation (stay ∷ other ∷ rest) (cond b (other ∷ put_stay stay rest) (stay ∷ other ∷ rest))
-    by_order true ih =
-        IsPermutation-trans (stay ∷ other ∷ rest) (other ∷ stay ∷ rest) (other ∷ put_stay stay rest)
-        (IsPermutation-middle (stay ∷ []) other rest) (IsPermutation-cons other (stay ∷ rest) (put_stay stay rest) ih)
-    by_order false ih = IsPermutation-refl (stay ∷ other ∷ rest)
+put-moves stay (other ∷ rest) =
+    let turned = IsPermutation-middle (stay ∷ []) other rest in
+    let under = IsPermutation-cons other (stay ∷ rest) (put_stay stay rest) (put-moves stay rest) in
+    grind (arith, IsPermutation-refl {X = Stay}, IsPermutation-trans _ _ _ turned under)
 
 order-moves : (stays : List Stay) → IsPermutation stays (in_order stays)
 order-moves [] = IsPermutation-refl []
 order-moves (stay ∷ rest) =
-    IsPermutation-trans (stay ∷ rest) (stay ∷ in_order rest) (put_stay stay (in_order rest))
-    (IsPermutation-cons stay rest (in_order rest) (order-moves rest)) (put-moves stay (in_order rest))
+    IsPermutation-trans _ _ _ (IsPermutation-cons stay rest (in_order rest) (order-moves rest)) (put-moves stay (in_order rest))
 
 -- the attendance of a ceremony has each of its stays once and no other, in some order
 pub attendance-moves : (stays : List Stay) (c : ℕ) → IsPermutation (filter (λ stay. stay.ceremony == c) stays) (attendance_in_by stays c)
@@ -41,8 +34,9 @@ all-put p stay (other ∷ rest) h a = grind (arith, nat_tests, h, a, all-put p s
 
 all-behind : (stay other : Stay) (stays : List Stay) → is_listed_before other stay ≡ false → list_all (λ s. not (is_listed_before s other)) stays ≡ true
     → list_all (λ s. not (is_listed_before s stay)) stays ≡ true
-all-behind stay other [] h a = refl
-all-behind stay other (s ∷ rest) h a = grind (arith, nat_tests, a, listed-behind s other stay, all-behind stay other rest h)
+all-behind stay other stays h a =
+    all-more (λ s. not (is_listed_before s other)) (λ s. not (is_listed_before s stay)) stays
+    (λ s k. grind (arith, nat_tests, listed-behind s other stay)) a
 
 listed-put : (stay : Stay) (stays : List Stay) → are_listed stays ≡ true → are_listed (put_stay stay stays) ≡ true
 listed-put stay [] r = refl

@@ -1,18 +1,10 @@
 -- Who is in a room by stays changes at the moments of the stays alone.
-use Rattle.std.proofs.Common.{◌≡◌, ℕ, zero, suc, ◌+◌, ◌≤◌, Bool, true, false, cond, ◌&&◌, ◌==◌, nat_le, nat_lt, List, [], ◌∷◌, ◌++◌}
-use Rattle.std.proofs.Common.{map, Option, Some, None, refl, sym}
-use Rattle.std.proofs.Common.{ap, ◌∙◌, arith, subst}
-use Rattle.std.specs.List.{list_any, filter, filter_map}
-use Rattle.std.proofs.lemmas.Bool.{ltb-true, lt-ltb, eqb-true, eq-eqb, or_parts}
-use Rattle.std.proofs.lemmas.List.Folds.{list_any-append}
-use Rattle.std.proofs.lemmas.List.Sums.{sum_by-cons}
-use Rattle.kcr_room.specs.Room.{headcount_by}
-use Rattle.kcr_room.specs.Moments.{IsFirstMoment, IsEver, count_until}
-use Rattle.kcr_room.specs.Stays.{ends_after, stay_covers, headcount_in_by, is_lone_in_by, is_crowd_in_by, is_held, comings_by}
-use Rattle.kcr_room.specs.Stays.{goings_by, first_lone_in_by, is_crowded_in_by}
-use Rattle.kcr_room.specs.Stays.{stays_by}
+use Rattle.kcr_room.proofs.Common.{◌≡◌, ℕ, zero, suc, ◌+◌, ◌≤◌, Bool, true, false, cond, ◌==◌, nat_le, nat_lt, List, [], ◌∷◌, ◌++◌, Option, Some}
+use Rattle.kcr_room.proofs.Common.{None, refl, sym, ap, ◌∙◌, arith, subst, list_any, or_parts, list_any-append, sum_by-cons, headcount_by}
+use Rattle.kcr_room.proofs.Common.{IsFirstMoment, IsEver, count_until, stay_covers, headcount_in_by, is_lone_in_by, is_crowd_in_by, comings_by}
+use Rattle.kcr_room.proofs.Common.{goings_by, first_lone_in_by, is_crowded_in_by, stays_by}
 use Rattle.kcr_room.proofs.Words.{nat_tests, SheetRow, Stay}
-use Rattle.kcr_room.proofs.Firsts.{before, RisesAt, is_first, is_first-same, is_ever}
+use Rattle.kcr_room.proofs.Firsts.{RisesAt, is_first, is_first-same, is_ever}
 use Rattle.kcr_room.proofs.Agreement.{same-crowd}
 use Rattle.kcr_room.proofs.Lists.{count-cons}
 
@@ -41,52 +33,39 @@ count-rises t (n ∷ moments) = grind (arith, nat_tests, count-first n moments t
 pub crowd-cons : (stay : Stay) (stays : List Stay) (c t : ℕ) → headcount_in_by (stay ∷ stays) c t ≡ cond (stay_covers c t stay) 1 0 + headcount_in_by stays c t
 crowd-cons stay stays c t = sum_by-cons (λ s. cond (stay_covers c t s) 1 0) stay stays
 
--- the stays that hold, with one more of this end if b says so
-abbrev one_more : Bool → Option ℕ → Stay → List Stay → List Stay
-one_more b until stay held = cond b (record stay { until = until } ∷ held) held
-
 -- as many have come until t as are there or have gone
 pub balance : (stays : List Stay) (c t : ℕ) → count_until (comings_by stays c) t ≡ headcount_in_by stays c t + count_until (goings_by stays c) t
 balance [] c t = refl
 balance (stay ∷ stays) c t =
-    by_until (stay.ceremony == c) stay.until (balance stays c t) (count-first stay.since (comings_by stays c) t)
-    ∙ ap (λ n. n + count_until (goings_by (stay ∷ stays) c) t) (sym (crowd-cons stay stays c t))
+    by_until stay.until refl (balance stays c t) (count-first stay.since (comings_by stays c) t) (crowd-cons stay stays c t)
   where
-    by_until : (b : Bool) (until : Option ℕ) → count_until (comings_by stays c) t ≡ headcount_in_by stays c t + count_until (goings_by stays c) t
+    by_until : (until : Option ℕ) → stay.until ≡ until
+        → count_until (comings_by stays c) t ≡ headcount_in_by stays c t + count_until (goings_by stays c) t
         → count_until (stay.since ∷ comings_by stays c) t ≡ cond (nat_le stay.since t) 1 0 + count_until (comings_by stays c) t
-        → count_until (map (λ stay. stay.since) (one_more (b && ends_after stay.since until) until stay (filter (is_held c) stays))) t
-        ≡ (cond ((b && nat_le stay.since t) && ends_after t until) 1 0 + headcount_in_by stays c t)
-        + count_until (filter_map (λ stay. stay.until) (one_more (b && ends_after stay.since until) until stay (filter (is_held c) stays))) t
-    by_until b None ih came = grind (arith, nat_tests, ih, came)
-    by_until b (Some u) ih came = grind (arith, nat_tests, ih, came, count-first u (goings_by stays c) t)
+        → headcount_in_by (stay ∷ stays) c t ≡ cond (stay_covers c t stay) 1 0 + headcount_in_by stays c t
+        → count_until (comings_by (stay ∷ stays) c) t ≡ headcount_in_by (stay ∷ stays) c t + count_until (goings_by (stay ∷ stays) c) t
+    by_until None e ih came one = grind (arith, nat_tests, e, ih, came, one)
+    by_until (Some u) e ih came one = grind (arith, nat_tests, e, ih, came, one, count-first u (goings_by stays c) t)
 
 -- a room is too full for the first time if somebody comes
 crowd-rises : (stays : List Stay) (c : ℕ) → RisesAt (is_crowd_in_by stays c) (comings_by stays c)
-crowd-rises stays c zero h p =
-    let k = ltb-true 128 (headcount_in_by stays c 0) p in absurd (omega (arith, k, balance stays c 0, count-zero (comings_by stays c) h))
+crowd-rises stays c zero h p = grind (arith, nat_tests, balance stays c 0, count-zero (comings_by stays c))
 crowd-rises stays c (suc t) h p =
-    let k = ltb-true 128 (headcount_in_by stays c (suc t)) p in
-    let rise = count-rises t (goings_by stays c) in
-    lt-ltb 128 (headcount_in_by stays c t) (omega (arith, k, balance stays c t, balance stays c (suc t), count-kept t (comings_by stays c) h, rise))
+    let came = count-kept t (comings_by stays c) in
+    grind (arith, nat_tests, balance stays c t, balance stays c (suc t), count-rises t (goings_by stays c))
 
 -- and exactly one person is there for the first time if somebody comes or goes
 lone-rises : (stays : List Stay) (c : ℕ) → RisesAt (is_lone_in_by stays c) (comings_by stays c ++ goings_by stays c)
-lone-rises stays c t h p = by_moment t (or_parts _ _ (sym (list_any-append (λ n. n == t) (comings_by stays c) (goings_by stays c)) ∙ h)) p
-  where
-    came : List ℕ
-    came = comings_by stays c
-
-    went : List ℕ
-    went = goings_by stays c
-
-    by_moment : (t : ℕ) → (list_any (λ n. n == t) came ≡ false) × (list_any (λ n. n == t) went ≡ false) → is_lone_in_by stays c t ≡ true
-        → before (is_lone_in_by stays c) t ≡ true
-    by_moment zero h p =
-        let k = eqb-true (headcount_in_by stays c 0) 1 p in absurd (omega (arith, k, balance stays c 0, count-zero came h.0))
-    by_moment (suc t) h p =
-        let k = eqb-true (headcount_in_by stays c (suc t)) 1 p in
-        eq-eqb (headcount_in_by stays c t) 1
-        (omega (arith, k, balance stays c t, balance stays c (suc t), count-kept t came h.0, count-kept t went h.1))
+lone-rises stays c zero h p =
+    let k = or_parts (list_any (λ n. n == 0) (comings_by stays c)) _
+    (sym (list_any-append (λ n. n == 0) (comings_by stays c) (goings_by stays c)) ∙ h) in
+    let none = count-zero (comings_by stays c) k.0 in
+    grind (arith, nat_tests, balance stays c 0)
+lone-rises stays c (suc t) h p =
+    let k = or_parts (list_any (λ n. n == suc t) (comings_by stays c)) _ (sym (list_any-append _ (comings_by stays c) (goings_by stays c)) ∙ h) in
+    let came = count-kept t (comings_by stays c) k.0 in
+    let went = count-kept t (goings_by stays c) k.1 in
+    grind (arith, nat_tests, balance stays c t, balance stays c (suc t))
 
 -- the first lone moment by the stays is the first at which exactly one of them covers it
 pub first_lone-is_first : (stays : List Stay) (c : ℕ) → IsFirstMoment (is_lone_in_by stays c) (first_lone_in_by stays c)

@@ -1,19 +1,11 @@
 -- Stays in another order: who is in the room, and what a request is refused for.
-use Rattle.std.proofs.Common.{append-nil, get_or, length, take, ◌+◌, ◌<◌}
-use Rattle.std.proofs.Common.{◌≡◌, ℕ, Bool, true, false, cond, ◌||◌, List, [], ◌∷◌, ◌++◌, map, refl, sym, ap, ◌∙◌, arith}
-use Rattle.std.specs.List.{filter}
-use Rattle.std.proofs.lemmas.List.{take_more, map-append}
-use Rattle.std.proofs.lemmas.List.Elements.{filter-append}
-use Rattle.std.specs.List.Sorted.{IsPermutation}
-use Rattle.kcr_base.proofs.RowsLemmas.{Shuffled, shuffled, filter-order}
-use Rattle.std.proofs.lemmas.List.Sorted.{IsPermutation-map, IsPermutation-append_left, sum_by-IsPermutation}
-use Rattle.std.proofs.lemmas.List.Sorted.{list_any-IsPermutation}
-use Rattle.kcr_room.specs.Room.{ascending, put_person}
-use Rattle.kcr_room.specs.Stays.{stay_covers, headcount_in_by, present_in_by}
-use Rattle.kcr_room.specs.Requests.{reaches, is_inside, is_inside_of, is_out_of_turn_in, new_stay, with_end, of_ceremony, stays_after_request}
-use Rattle.kcr_room.specs.Requests.{clipped_to_moment, stays_from_moment, is_overfull, stays_refusal}
+use Rattle.kcr_room.proofs.Common.{append-nil, get_or, length, take, ◌+◌, ◌<◌, ◌≡◌, ℕ, Bool, true, false, cond, ◌||◌, List, [], ◌∷◌, ◌++◌, map, refl}
+use Rattle.kcr_room.proofs.Common.{sym, ap, ◌∙◌, arith, filter, take_more, map-append, filter-append, IsPermutation, Shuffled, shuffled, filter-order}
+use Rattle.kcr_room.proofs.Common.{IsPermutation-map, IsPermutation-append_left, sum_by-IsPermutation, list_any-IsPermutation, ascending, put_person}
+use Rattle.kcr_room.proofs.Common.{stay_covers, headcount_in_by, present_in_by, reaches, is_inside, is_inside_of, is_out_of_turn_in, new_stay}
+use Rattle.kcr_room.proofs.Common.{with_end, of_ceremony, stays_after_request, clipped_to_moment, stays_from_moment, is_overfull, stays_refusal}
+use Rattle.kcr_room.proofs.Common.{same-is}
 use Rattle.kcr_room.proofs.Words.{nat_tests, is_before, Way, Enter, Leave, Stay}
-use Rattle.kcr_base.proofs.SameLemmas.{same-is}
 use Rattle.kcr_room.proofs.Refusals.{refused-same, find-same}
 use Rattle.kcr_room.proofs.Rising.{ranked, other-before}
 
@@ -59,10 +51,7 @@ pub present-more : (stays : List Stay) (i c t : ℕ) (d : Stay) → i < length s
 present-more stays i c t d h =
     let stay : Stay = get_or stays i d in
     let own = map (λ (stay : Stay). stay.who) (filter (stay_covers c t) (take i stays)) in
-    ap (λ xs. present_in_by xs c t) (take_more stays i d h)
-    ∙ ap (λ xs. ascending (map (λ stay. stay.who) xs)) (filter-append (stay_covers c t) (take i stays) (stay ∷ []))
-    ∙ ap ascending (map-append (λ stay. stay.who) (filter (stay_covers c t) (take i stays)) (filter (stay_covers c t) (stay ∷ [])))
-    ∙ grind (arith, nat_tests, put-last own stay.who, append-nil own)
+    grind (arith, nat_tests, take_more stays i d h, filter-append, map-append, put-last own stay.who, append-nil)
 
 -- those present are the same for the stays in any order
 pub present-order : (xs ys : List Stay) → IsPermutation xs ys → (c t : ℕ) → present_in_by ys c t ≡ present_in_by xs c t
@@ -93,7 +82,7 @@ turn-order xs ys p c Leave at who = rw (list_any-IsPermutation (reaches who at) 
 -- a request is refused alike for the stays in any order
 pub refusal-order : (xs ys : List Stay) → IsPermutation xs ys → (entered c mark : ℕ) (full : Bool) (way : Way) (people : List (List ℕ)) (at : ℕ)
     → stays_refusal ys entered c mark full way people at ≡ stays_refusal xs entered c mark full way people at
-refusal-order xs ys p entered c mark full way people at = rw (
-  find-same (is_out_of_turn_in ys c way at) (is_out_of_turn_in xs c way at) (turn-order xs ys p c way at) people,
-  refused-same (stays_from_moment ys c way people at) (stays_from_moment xs c way people at) c (full || is_overfull entered way people) (later-order xs ys p c way people at),
-)
+refusal-order xs ys p entered c mark full way people at =
+    let turns = find-same (is_out_of_turn_in ys c way at) (is_out_of_turn_in xs c way at) (turn-order xs ys p c way at) people in
+    let later = later-order xs ys p c way people at in
+    rw (turns, refused-same _ (stays_from_moment xs c way people at) c (full || is_overfull entered way people) later)

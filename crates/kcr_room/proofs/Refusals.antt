@@ -1,16 +1,9 @@
 -- A law: of a sheet made in turn, a request that is not refused changes rows and stays alike (`same_stays`), and it is refused by both alike where nobody
 -- was ever alone in the room, nor too many (`same_refusal`).
-use Rattle.std.proofs.Common.{◌≡◌, ℕ, Bool, true, false, cond, ◌||◌, ◌==◌, nat_le, nat_lt, List, [], ◌∷◌, Option, Some, None, refl, sym}
-use Rattle.std.proofs.Common.{ap, ◌∙◌, subst, arith}
-use Rattle.std.specs.List.{find}
-use Rattle.std.proofs.lemmas.Bool.{both_ways}
-use Rattle.kcr_base.specs.Refuse.{when, first_of}
-use Rattle.kcr_base.specs.declared.refusal.Refusal.{Refusal}
-use Rattle.kcr_base.specs.declared.refusal.Refusal.TheVariants.{Late}
-use Rattle.kcr_room.specs.Moments.{IsFirstMoment, IsEver}
-use Rattle.kcr_room.specs.Stays.{headcount_in_by, is_lone_in_by, is_crowd_in_by, stays_by}
-use Rattle.kcr_room.specs.Requests.{turn_refusal, stays_from_moment, occupancy_refusal, sheet_refusal, is_overfull, stay_count, is_out_of_turn_in, is_out_of_turn_by}
-use Rattle.kcr_room.specs.Laws.{IsNeverLoneOrCrowded, SameRefusal, SameStays}
+use Rattle.kcr_room.proofs.Common.{◌≡◌, ℕ, Bool, true, false, ◌||◌, ◌==◌, nat_lt, List, [], ◌∷◌, Option, Some, None, refl, sym, ap, ◌∙◌, subst, arith}
+use Rattle.kcr_room.proofs.Common.{find, IsFirstMoment, IsEver, headcount_in_by, is_lone_in_by, is_crowd_in_by, stays_by, stays_from_moment}
+use Rattle.kcr_room.proofs.Common.{occupancy_refusal, sheet_refusal, is_overfull, stay_count, is_out_of_turn_in, is_out_of_turn_by}
+use Rattle.kcr_room.proofs.Common.{IsNeverLoneOrCrowded, SameRefusal, SameStays}
 use Rattle.kcr_room.proofs.Words.{nat_tests, Way, Stay}
 use Rattle.kcr_room.proofs.Moments.{first_lone-is_first, crowded-is_ever}
 use Rattle.kcr_room.proofs.Keeping.{taken}
@@ -20,25 +13,23 @@ use Rattle.kcr_room.proofs.Crowds.{crowd-before, crowd-later, overfull-added}
 -- there is one first moment of a test
 first-unique : (p q : ℕ → Bool) → ((t : ℕ) → p t ≡ q t) → (o r : Option ℕ) → IsFirstMoment p o → IsFirstMoment q r → o ≡ r
 first-unique p q same None None f g = refl
-first-unique p q same None (Some m) f g = absurd (both_ways (q m) (sym (same m) ∙ f m) g.0)
-first-unique p q same (Some m) None f g = absurd (both_ways (q m) (g m) (sym (same m) ∙ f.0))
-first-unique p q same (Some m) (Some n) f g =
-    let e : m ≡ n = grind (arith, nat_tests, same m, same n, f.0, g.0, f.1 n, g.1 m) in ap (λ x. Some x) e
+first-unique p q same None (Some m) f g = grind (arith, same m, f m, g.0)
+first-unique p q same (Some m) None f g = grind (arith, same m, f.0, g m)
+first-unique p q same (Some m) (Some n) f g = grind (arith, nat_tests, same m, same n, f.0, g.0, f.1 n, g.1 m)
 
 ever-unique : (p q : ℕ → Bool) → ((t : ℕ) → p t ≡ q t) → (a b : Bool) → IsEver p a → IsEver q b → a ≡ b
 ever-unique p q same true true f g = refl
 ever-unique p q same false false f g = refl
-ever-unique p q same true false f g = absurd (both_ways (q f.0) (g f.0) (sym (same f.0) ∙ f.1))
-ever-unique p q same false true f g = absurd (both_ways (q g.0) (sym (same g.0) ∙ f g.0) g.1)
+ever-unique p q same true false f g = grind (arith, same f.0, f.1, g f.0)
+ever-unique p q same false true f g = grind (arith, same g.0, g.1, f g.0)
 
 -- alone and too many at the same moments: refused alike
 tested-same : (xs ys : List Stay) (c : ℕ) (full : Bool)
     → ((t : ℕ) → is_lone_in_by xs c t ≡ is_lone_in_by ys c t) → ((t : ℕ) → is_crowd_in_by xs c t ≡ is_crowd_in_by ys c t)
     → occupancy_refusal xs c full ≡ occupancy_refusal ys c full
-tested-same xs ys c full lone crowd = rw (
-  first-unique (is_lone_in_by xs c) (is_lone_in_by ys c) lone _ _ (first_lone-is_first xs c) (first_lone-is_first ys c),
-  ever-unique (is_crowd_in_by xs c) (is_crowd_in_by ys c) crowd _ _ (crowded-is_ever xs c) (crowded-is_ever ys c),
-)
+tested-same xs ys c full lone crowd =
+    let alone = first-unique (is_lone_in_by xs c) (is_lone_in_by ys c) lone _ _ (first_lone-is_first xs c) (first_lone-is_first ys c) in
+    rw (alone, ever-unique (is_crowd_in_by xs c) (is_crowd_in_by ys c) crowd _ _ (crowded-is_ever xs c) (crowded-is_ever ys c))
 
 -- so it is if as many people are there at each moment
 pub refused-same : (xs ys : List Stay) (c : ℕ) (full : Bool) → ((t : ℕ) → headcount_in_by xs c t ≡ headcount_in_by ys c t)
@@ -50,14 +41,8 @@ module _ (stays : List Stay) (c : ℕ) (way : Way) (at : ℕ) (people : List (Li
   -- a test of how many people are there that held never before, and does not hold of nobody
   test-later : (test : ℕ → Bool) → test 0 ≡ false → ((t : ℕ) → test (headcount_in_by stays c t) ≡ false) → (t : ℕ)
       → test (headcount_in_by (stays_from_moment stays c way people at) c t) ≡ test (headcount_in_by (added c way at people stays) c t)
-  test-later test none never t = ap test (crowd-later stays c way at t people) ∙ by_moment (nat_le at t) refl
-    where
-      by_moment : (b : Bool) → nat_le at t ≡ b
-          → test (cond b (headcount_in_by (added c way at people stays) c t) 0) ≡ test (headcount_in_by (added c way at people stays) c t)
-      by_moment true e = refl
-      by_moment false e =
-          let before : nat_lt t at ≡ true = grind (arith, nat_tests, e) in
-          none ∙ sym (ap test (crowd-before stays c way at t people before) ∙ never t)
+  test-later test none never t =
+      grind (arith, nat_tests, none, never t, crowd-later stays c way at t people, crowd-before stays c way at t people)
 
   settled-refusal : (full : Bool)
       → occupancy_refusal (stays_from_moment stays c way people at) c (full || is_overfull (stay_count stays c) way people)
@@ -77,19 +62,8 @@ find-same p q same (who ∷ rest) = rw (same who, find-same p q same rest)
 pub same_stays : SameStays
 same_stays rows s c mark full way people at a h = sym (same-added rows s c way at people a (taken rows c mark full way people at h).0)
 
--- the last of three matters if the second is none
-third-alike : (a b c d : Option Refusal) → (b ≡ None → c ≡ d) → first_of (a ∷ b ∷ c ∷ []) ≡ first_of (a ∷ b ∷ d ∷ [])
-third-alike (Some r) b c d h = refl
-third-alike None (Some r) c d h = refl
-third-alike None None c d h = rw (h refl)
-
 -- of a sheet made in turn, where in the room of the ceremony nobody was ever alone, nor too many, rows and stays refuse a request alike
 pub same_refusal : SameRefusal
 same_refusal rows s c mark full way people at a settled =
-    let stays = stays_by rows in
-    let refused = occupancy_refusal (stays_from_moment stays c way people at) c (full || is_overfull (stay_count stays c) way people) in
-    ap (λ o. first_of (when (nat_le at mark) (Late mark) ∷ turn_refusal o ∷ refused ∷ []))
-    (sym (find-same (is_out_of_turn_by rows c way at) (is_out_of_turn_in stays c way at) (same-turns rows s c way at) people))
-    ∙ third-alike (when (nat_le at mark) (Late mark)) (turn_refusal (find (is_out_of_turn_by rows c way at) people)) _ _ (λ k.
-    settled-refusal stays c way at people settled full
-    ∙ ap (λ all. sheet_refusal all c full way) (sym (rows-added c way at people rows s a k)))
+    let turns = find-same (is_out_of_turn_by rows c way at) (is_out_of_turn_in (stays_by rows) c way at) (same-turns rows s c way at) people in
+    grind (arith, nat_tests, rows-added c way at people rows s a, settled-refusal (stays_by rows) c way at people settled full)

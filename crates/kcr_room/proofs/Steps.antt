@@ -1,24 +1,15 @@
 -- Steps in order, gone through from the last one back, tell each row's end.
-use Rattle.std.proofs.Common.{◌≡◌, ℕ, suc, ◌+◌, ◌<◌, ◌≤◌, Bool, false, cond, not, ◌||◌, ◌&&◌, ◌==◌, nat_le, nat_lt, List, [], ◌∷◌, ◌++◌, length, get_or, map}
-use Rattle.std.proofs.Common.{set, drop, Option, Some, None, refl, sym, ap, ◌∙◌, subst, arith, append-nil, append_assoc}
-use Rattle.std.specs.List.{list_any, count_by, AllByRecursion}
-use Rattle.std.specs.List.Sorted.{IsPermutation, IsSortedBy}
-use Rattle.std.specs.declared.cmp.Ordering.{Ordering}
-use Rattle.std.specs.Ordering.{nat_cmp, is_lt, ordering_then}
-use Rattle.std.specs.Cmp.{IsStrictWeakOrder, on_total}
-use Rattle.std.specs.Cmp.Lexicographic.{slice_cmp}
-use Rattle.std.proofs.lemmas.Bool.{eq-eqb, eqb-false}
-use Rattle.std.proofs.lemmas.Cmp.{then_total, nat_cmp_total, nat_list_cmp_total}
-use Rattle.std.proofs.lemmas.List.{length-set, drop_at, drop_all, get_or-set_same, get_or-set_other, get_or-append-add, get_or_append_left, length-append}
-use Rattle.std.proofs.lemmas.List.Elements.{All-from_recursion, recursion_from_All}
-use Rattle.std.proofs.lemmas.List.Folds.{list_any-append}
-use Rattle.std.proofs.lemmas.List.Sorted.{ranks_by, sorted_far, All-permutation, IsPermutation-sym, sum_by-IsPermutation, list_any-IsPermutation}
-use Rattle.kcr_room.specs.declared.stays.SheetEvent.{SheetEvent}
-use Rattle.kcr_room.specs.Stays.{ends_after, next_of}
+use Rattle.kcr_room.proofs.Common.{◌≡◌, ℕ, suc, ◌+◌, ◌<◌, ◌≤◌, Bool, false, cond, not, ◌||◌, ◌&&◌, ◌==◌, nat_le, nat_lt, List, [], ◌∷◌, ◌++◌, length}
+use Rattle.kcr_room.proofs.Common.{get_or, map, set, drop, Option, Some, None, refl, sym, ap, ◌∙◌, subst, arith, append-nil, append_assoc, list_any}
+use Rattle.kcr_room.proofs.Common.{count_by, AllByRecursion, IsPermutation, IsSortedBy, Ordering, nat_cmp, is_lt, ordering_then, IsStrictWeakOrder}
+use Rattle.kcr_room.proofs.Common.{on_total, slice_cmp, eq-eqb, eqb-false, then_total, nat_cmp_total, nat_list_cmp_total, length-set, drop_at}
+use Rattle.kcr_room.proofs.Common.{drop_all, get_or-set_same, get_or-set_other, get_or-append-add, get_or_append_left, All-from_recursion}
+use Rattle.kcr_room.proofs.Common.{recursion_from_All, list_any-append, ranks_by, sorted_far, All-permutation, IsPermutation-sym}
+use Rattle.kcr_room.proofs.Common.{sum_by-IsPermutation, list_any-IsPermutation, SheetEvent, ends_after, next_of, followed_rows, sheet_events_from}
+use Rattle.kcr_room.proofs.Common.{sheet_events_by}
+use Rattle.std.proofs.lemmas.List.{length-append}
 use Rattle.kcr_room.proofs.Words.{nat_tests, same_text, SheetRow}
 use Rattle.kcr_room.proofs.Lists.{count-cons, none-behind}
-use Rattle.kcr_room.specs.Room.{followed_rows}
-use Rattle.kcr_room.specs.Events.{sheet_events_from, sheet_events_by}
 use Rattle.kcr_room.proofs.Ends.{follows, IsEnd, ends-next}
 
 -- THE ORDER OF STEPS
@@ -103,7 +94,7 @@ followed : (front back : List SheetEvent) (step : SheetEvent) (t : ℕ) → AreS
 followed front back step t sorted once =
     let none = followed-front step t front (ahead front back step sorted) in
     let same = followed-back step t back (behind front back step sorted) (apart front back step once) in
-    list_any-append (λ other. follows step other && nat_le other.at t) front (step ∷ back) ∙ grind (arith, nat_tests, none, same)
+    grind (arith, nat_tests, list_any-append)
 
 -- GONE THROUGH FROM THE LAST ONE BACK
 
@@ -119,12 +110,7 @@ pub told-init : (rows : List SheetRow) (all : List SheetEvent) (next : List ℕ 
     → length ends ≡ length rows → Told rows all all next ends
 told-init rows all next ends none many =
     let e : drop (length all) all ≡ [] = drop_all (length all) all (omega arith) in
-    record {
-      left = ap (λ rest. all ++ rest) e ∙ append-nil all;
-      soon = λ who t. ap (ends_after t) (none who) ∙ ap (λ rest. not (is_next_by rest who t)) (sym e);
-      ended = subst (AllByRecursion (λ step. IsEnd (sheet_events_by rows) step (get_or ends step.place None))) (sym e) tt;
-      many = many;
-    }
+    record { left = rw e (append-nil all); soon = λ who t. rw (none who, e); ended = rw e tt; many = many }
 
 none-next : (step : SheetEvent) (t : ℕ) (who : List ℕ) (back : List SheetEvent) → AllByRecursion (λ other. before other step ≡ false) back → nat_le step.at t ≡ false
     → is_next_by back who t ≡ false
@@ -166,13 +152,10 @@ module _ (rows : List SheetRow) (all front : List SheetEvent) (step : SheetEvent
   -- the step has its place among the ends
   pub place-within : step.place < length ends
   place-within =
-      let w =
-      All-permutation (λ step. step.place < length rows) (sheet_events_by rows) all moved
-      (All-from_recursion (λ step. step.place < length rows) (sheet_events_by rows) (places-within (length rows) 0 rows (omega arith))) in
-      let h =
-      in-middle (λ step. step.place < length rows) front back step
-      (subst (AllByRecursion (λ step. step.place < length rows)) (sym split) (recursion_from_All (λ step. step.place < length rows) all w)) in
-      omega (arith, h, told.many)
+      let P : SheetEvent → Type 0 = λ step. step.place < length rows in
+      let within = All-from_recursion P (sheet_events_by rows) (places-within (length rows) 0 rows (omega arith)) in
+      let all_within = recursion_from_All P all (All-permutation P (sheet_events_by rows) all moved within) in
+      omega (arith, in-middle P front back step (subst (AllByRecursion P) (sym split) all_within), told.many)
 
   module _ (sorted : AreSorted all) where
     in-order : AreSorted (front ++ (step ∷ back))
@@ -180,10 +163,8 @@ module _ (rows : List SheetRow) (all front : List SheetEvent) (step : SheetEvent
 
     once : count_by (λ other. other.place == step.place) (front ++ (step ∷ back)) ≤ 1
     once =
-        let a = sum_by-IsPermutation (λ other. cond (other.place == step.place) 1 0) (sheet_events_by rows) all moved in
-        let b = ap (count_by (λ other. other.place == step.place)) split in
-        let n = places-once step.place 0 rows in
-        omega (arith, a, b, n)
+        let same = sum_by-IsPermutation (λ other. cond (other.place == step.place) 1 0) (sheet_events_by rows) all moved in
+        rw split (omega (arith, same, places-once step.place 0 rows))
 
     rest-is : drop (length front) all ≡ step ∷ back
     rest-is = ap (drop (length front)) (sym split) ∙ drop_at front (step ∷ back) (length front) refl
@@ -191,25 +172,21 @@ module _ (rows : List SheetRow) (all front : List SheetEvent) (step : SheetEvent
     its-end : IsEnd (sheet_events_by rows) step (next step.who)
     unfolding back
     its-end = λ t.
-        told.soon step.who t
-        ∙ ap not (sym (followed front back step t in-order once) ∙ ap (list_any (λ other. follows step other && nat_le other.at t)) split
-        ∙ sym (list_any-IsPermutation (λ other. follows step other && nat_le other.at t) (sheet_events_by rows) all moved))
+        let same = list_any-IsPermutation (λ other. follows step other && nat_le other.at t) (sheet_events_by rows) all moved in
+        let behind = rw split at (followed front back step t in-order once) in
+        cc (told.soon step.who t)
 
     -- once this step has its end, what was known with it left is known with only those before it left
     pub told-next : (later : List ℕ → Option ℕ) → ((who : List ℕ) → later who ≡ cond (same_text step.who who) (Some step.at) (next who))
         → Told rows all front later (set ends step.place (next step.who))
     unfolding back
     told-next later e = record {
-      left = ap (λ rest. front ++ rest) rest-is ∙ split;
-      soon = λ who t.
-          ap (ends_after t) (e who)
-          ∙ soon-more step back (next who) who t (behind front back step in-order) (told.soon who t)
-          ∙ ap (λ rest. not (is_next_by rest who t)) (sym rest-is);
-      ended =
-          subst (AllByRecursion (λ other. IsEnd (sheet_events_by rows) other (get_or (set ends step.place (next step.who)) other.place None))) (sym rest-is) (
-            subst (IsEnd (sheet_events_by rows) step) (sym (get_or-set_same ends step.place (next step.who) None place-within)) its-end,
-            kept (sheet_events_by rows) ends step.place (next step.who) back (apart front back step once) told.ended,
-          );
+      left = rw rest-is split;
+      soon = λ who t. rw (rest-is, e who) (soon-more step back (next who) who t (behind front back step in-order) (told.soon who t));
+      ended = rw rest-is (
+        rw (get_or-set_same ends step.place (next step.who) None place-within) its-end,
+        kept (sheet_events_by rows) ends step.place (next step.who) back (apart front back step once) told.ended,
+      );
       many = length-set ends step.place (next step.who) ∙ told.many;
     }
 
@@ -217,7 +194,6 @@ module _ (rows : List SheetRow) (all front : List SheetEvent) (step : SheetEvent
 pub told-all : (rows : List SheetRow) (all : List SheetEvent) (next : List ℕ → Option ℕ) (ends : List (Option ℕ)) → IsPermutation (sheet_events_by rows) all
     → Told rows all [] next ends → ends ≡ map next_of (followed_rows rows)
 told-all rows all next ends moved told =
-    ends-next rows ends 0 [] rows refl refl (omega (arith, told.many))
-    (recursion_from_All (λ step. IsEnd (sheet_events_by rows) step (get_or ends step.place None)) (sheet_events_by rows)
-    (All-permutation (λ step. IsEnd (sheet_events_by rows) step (get_or ends step.place None)) all (sheet_events_by rows) (IsPermutation-sym (sheet_events_by rows) all moved)
-    (All-from_recursion (λ step. IsEnd (sheet_events_by rows) step (get_or ends step.place None)) all told.ended)))
+    let P : SheetEvent → Type 0 = λ step. IsEnd (sheet_events_by rows) step (get_or ends step.place None) in
+    let ended = All-permutation P all (sheet_events_by rows) (IsPermutation-sym _ all moved) (All-from_recursion P all told.ended) in
+    ends-next rows ends 0 [] rows refl refl (omega (arith, told.many)) (recursion_from_All P (sheet_events_by rows) ended)

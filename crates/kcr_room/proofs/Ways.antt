@@ -1,13 +1,9 @@
 -- A way is found by its text.
-use Rattle.std.proofs.Common.{◌≡◌, ℕ, List, [], ◌∷◌, Option, arith}
+use Rattle.kcr_room.proofs.Common.{◌≡◌, ℕ, List, [], ◌∷◌, Option, arith, IsIn, Way, Enter, Leave, way_text}
 use Rattle.std.specs.Bool.{⊤}
 use Rattle.kcr_base.specs.Reads.{HasText, ReadsText}
-use Rattle.kcr_base.proofs.Members.{IsIn}
 use Rattle.kcr_base.proofs.TextLemmas.{by_text-read}
-use Rattle.kcr_room.specs.declared.Way.{Way}
-use Rattle.kcr_room.specs.declared.Way.TheVariants.{Enter, Leave}
 use Rattle.kcr_room.specs.Forms.{way_of}
-use Rattle.kcr_room.specs.Room.{way_text}
 
 in-ways : (v : Way) → IsIn v (Enter ∷ Leave ∷ [])
 in-ways v = grind arith

@@ -1,29 +1,15 @@
 -- What CREATE TABLE does to tables, and what tables without rows keep.
-use Rattle.std.proofs.Common.{◌≡◌, Err, ℕ, List, [], ◌∷◌, map, false, Option, None, Ok, refl, sym, ap, subst, ◌∙◌}
-use Rattle.sqlite.specs.Tree.{Trees}
-use Rattle.sqlite.specs.Schema.{Schema}
-use Rattle.sqlite.specs.Table.{Table}
-use Rattle.sqlite.specs.Command.{Command}
-use Rattle.sqlite.specs.Command.TheVariants.{CreateTable}
+use Rattle.kcr_rows.proofs.Common.{◌≡◌, Err, ℕ, List, [], ◌∷◌, false, Option, None, Ok, refl, ap, subst, ◌∙◌, rules, Trees, Schema, Table, Command}
+use Rattle.kcr_rows.proofs.Common.{CreateTable, first, planned, with_command, table_in, lacks_sequence, State, Executes, text_of, IsPlain, command_of}
+use Rattle.kcr_rows.proofs.Common.{statement_of, runs_as, IsSound, Writes, IsPermutation-same, AreEmpty, TableLayout, TreeHolds}
 use Rattle.sqlite.specs.Compile.{table_defined_by}
-use Rattle.sqlite_resolve.specs.Compile.{first, planned, with_command, compiled, table_in}
+use Rattle.sqlite_resolve.specs.Compile.{compiled}
 use Rattle.sqlite_resolve.specs.declared.compiled.Compiled.{Compiled}
 use Rattle.sqlite_resolve.specs.Lowering.{Checked, and_then}
 use Rattle.sqlite_schema.specs.declared.command.Returning.{Returning}
 use Rattle.sqlite.specs.Change.{created, next_tree}
-use Rattle.sqlite.specs.Does.{Tally, lacks_sequence}
-use Rattle.sqlite.specs.Effect.{Database}
-use Rattle.sqlite.specs.State.{State, Executes, text_of}
 use Rattle.sqlite.specs.Listing.{understood}
-use Rattle.sqlite.proofs.Callers.{IsPlain, command_of, statement_of, runs_as}
-use Rattle.sqlite_catalog.specs.Listing.{IsSound}
 use Rattle.sqlite.specs.Change.{KeepsRows}
-use Rattle.sqlite.specs.State.{Writes}
-use Rattle.sqlite_trees.proofs.ListLemmas.{IsPermutation-same}
-use Rattle.sqlite_trees.specs.View.{IsShaped}
-use Rattle.sqlite_trees.specs.declared.store.Shape.TheVariants as shape
-use Rattle.kcr_rows.specs.Columns.{AreEmpty}
-use Rattle.kcr_rows.specs.Keyed.{cells, TableLayout, TreeHolds}
 use Rattle.kcr_rows.proofs.WriteLemmas.{went, same_value}
 
 -- rows that are kept are none if there were none
@@ -71,37 +57,15 @@ module _ (schema : Schema) (text : List ℕ) (table : Table) (after : Schema) (m
   reads : (command_of (understood schema text) ≡ CreateTable) × (statement_of text (understood schema text) ≡ text)
       × IsPlain (understood schema text) × (table_defined_by text ≡ Ok (record table { tree = 0 }))
   unfolding understood compiled table_defined_by
-  reads =
-      let (made, made_is, is) = then_ok (creation schema text) (gist text) _ makes.0 in
-      let both : (compiled schema text ≡ Ok made.0) × (table_defined_by text ≡ Ok made.1)
-      = read_as (first text) (planned schema) (λ p. table_in p.formats p.statement) with_command made made_is in
-      rw (both.0, both.1) (ap (λ q. q.0) is, ap (λ q. q.1) is, (ap (λ q. q.2) is, ap (λ q. q.3) is), ap (λ q. Ok q.4) is)
+  reads = search (rules, then_ok, read_as)
 
   -- the statement leaves the schema after it, the rows of the tables that were there, and none in the new one
   pub creates : (old new : State) (count : ℕ) → old.now.schema ≡ schema → Executes text [] old new (Ok count)
       → (new.now.schema ≡ after) × KeepsRows schema.tables old.now.trees new.now.trees × (new.now.trees table.tree ≡ []) × IsSound after new.now.trees
   creates old new count has h =
       let w = subst (λ t. Writes old new None CreateTable t [] count) reads.1 (runs_as text [] old new schema has CreateTable reads.0 reads.2 count h) in
-      let all = went w.changed in
-      let first = went all.1 in
-      let made = first.1 in
-      let found : made.table ≡ record table { tree = 0 } = same_value (sym made.defined ∙ reads.3) in
-      let schema_is : first.0.schema ≡ after = made.is ∙ ap (λ s. created s made.table) has ∙ ap (created schema) found ∙ makes.1 in
-      let lacks : lacks_sequence first.0.schema ≡ false = ap lacks_sequence schema_is ∙ makes.3 in
-      let now : new.now ≡ first.0 = ap (λ (p : Tally × Database). p.1) (same_value all.2) ∙ same_value (rw lacks at first.2) in
-      let trees : new.now.trees ≡ first.0.trees = ap (λ (d : Database). d.trees) now in
-      let is : new.now.schema ≡ after = ap (λ (d : Database). d.schema) now ∙ schema_is in (
-        is,
-        subst (KeepsRows schema.tables old.now.trees) (sym trees) (subst (λ s. KeepsRows s.tables old.now.trees first.0.trees) has made.others),
-        ap (λ (db : Trees). db table.tree) trees ∙ subst (λ t. first.0.trees t ≡ []) (ap next_tree has ∙ makes.2) made.empty,
-        subst (λ s. IsSound s new.now.trees) is w.sound,
-      )
+      search (rules, went, same_value, reads)
 
 -- a tree without entries keeps no rows
 pub bare : (place : TableLayout) (db : Trees) → db place.tree ≡ [] → TreeHolds place db []
-bare place db none = record {
-  same = IsPermutation-same [] _ (sym (ap (map (cells place)) none));
-  rising = tt;
-  full = tt;
-  shaped = subst (IsShaped shape.Table) (sym none) (tt, tt);
-}
+bare place db none = search (rules, IsPermutation-same)

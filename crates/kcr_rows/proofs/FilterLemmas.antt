@@ -1,11 +1,7 @@
 -- The tests of WHERE on values.
-use Rattle.std.proofs.Common.{◌≡◌, ℕ, ◌&&◌, Bool, true, false, List, filter, refl, sym, ◌∙◌, arith}
-use Rattle.sqlite.specs.declared.types.Value.{Value}
-use Rattle.sqlite.specs.declared.types.Value.TheVariants.{Null}
-use Rattle.sqlite.specs.Ops.{is_null, binary}
-use Rattle.sqlite.specs.Order.{Row, column}
-use Rattle.sqlite_schema.specs.Rules.{equal}
-use Rattle.sqlite.specs.Collation.TheVariants.{Binary}
+use Rattle.kcr_rows.proofs.Common.{◌≡◌, ℕ, ◌&&◌, Bool, true, false, List, filter, refl, sym, ◌∙◌, arith, Value, Null, is_null, Row, column, equal}
+use Rattle.kcr_rows.proofs.Common.{Binary}
+use Rattle.sqlite.specs.Ops.{binary}
 use Rattle.kcr_rows.proofs.KeyLemmas.{equal_is}
 use Rattle.kcr_rows.proofs.SameLemmas.{ties, ties_is}
 

@@ -1,6 +1,5 @@
 -- One call after the other in a transaction, by what each leaves.
-use Rattle.std.proofs.Common.{◌≡◌, sym, subst, ◌∙◌, Result, Ok, Err, IfErr, IsErrAnd}
-use Rattle.sqlite.specs.State.{HasCleanDisk}
+use Rattle.kcr_rows.proofs.Common.{◌≡◌, Result, Ok, Err, IfErr, IsErrAnd, rules, HasCleanDisk}
 use Rattle.sqlite.specs.Store.{Ghosts}
 use Rattle.sqlite.specs.declared.transaction.Transaction.{Transaction}
 use Rattle.kcr_rows.proofs.FailLemmas.{on_ok}
@@ -16,37 +15,15 @@ module _ {S A B E F : Type 0} {g : Ghosts S} {MayFail : E → Type 0} {MayRefuse
   -- a call behind one that had an answer
   pub within_then : {old mid new : Transaction S} {a : A} {r : Result B F} → StaysInTransaction g MayFail old mid (Ok a)
       → StaysInTransaction g MayRefuse mid new r → StaysInTransaction g MayRefuse old new r
-  within_then {old} {mid} {new} one two =
-      let first = state_in g old in
-      let second = state_in g mid in
-      let third = state_in g new in
-      let before = clean_before two in record {
-        same_reference = two.same_reference ∙ one.same_reference;
-        inside = λ clean inside. two.inside clean (one.inside (before clean) inside);
-        kept = λ clean inside. keeps_then first second third (one.kept (before clean) inside) (two.kept clean (one.inside (before clean) inside));
-        survives = survives_on first second third one.survives two.survives;
-        cause = two.cause;
-      }
+  within_then {old} {mid} {new} one two = search (rules, clean_before, keeps_then, survives_on)
 
   -- what is made of the answer of a call
   pub within_to : {old new : Transaction S} {a : A} (r : Result B F) → IfErr r MayRefuse → StaysInTransaction g MayFail old new (Ok a)
       → StaysInTransaction g MayRefuse old new r
-  within_to r cause one = record {
-    same_reference = one.same_reference;
-    inside = λ clean inside. on_ok _ r (one.inside clean inside);
-    kept = one.kept;
-    survives = one.survives;
-    cause = cause;
-  }
+  within_to r cause one = search (rules, on_ok)
 
 -- the error of a call, as the error of the one around it
 pub within_fails : {S A B E : Type 0} {g : Ghosts S} {MayFail MayRefuse : E → Type 0} {old new : Transaction S} {e : E} (r : Result B E)
     → IsErrAnd r (λ y. y ≡ e) → (MayFail e → MayRefuse e) → StaysInTransaction {A = A} g MayFail old new (Err e) → StaysInTransaction g MayRefuse old new r
 within_fails (Ok x) is may one = absurd is
-within_fails {MayRefuse = MayRefuse} (Err y) is may one = record {
-  same_reference = one.same_reference;
-  inside = λ clean inside. tt;
-  kept = one.kept;
-  survives = one.survives;
-  cause = subst MayRefuse (sym is) (may one.cause);
-}
+within_fails {MayRefuse = MayRefuse} (Err y) is may one = search rules

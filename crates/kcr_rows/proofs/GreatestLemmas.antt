@@ -1,33 +1,14 @@
 -- A query for the row with the greatest number, among those that pass a test.
-use Rattle.std.proofs.Common.{◌≡◌, inl, inr, ℕ, suc, ◌≤◌, ◌^◌, nat_le, pos, length, List, [], ◌∷◌, map, filter, take, slice_index_or, true, false}
-use Rattle.std.proofs.Common.{Bool, Ordering, is_lt, IsSorted, refl, sym, ap, subst, ◌∙◌, arith}
-use Rattle.std.specs.Bool.{⊤}
-use Rattle.std.specs.List.{AllByRecursion, list_all}
-use Rattle.std.specs.List.Sorted.{IsPermutation}
-use Rattle.std.specs.Ordering.{is_gt, int_cmp, ordering_reverse}
-use Rattle.std.specs.Cmp.{IsTotalOrder}
-use Rattle.std.proofs.lemmas.Cmp.{upto}
-use Rattle.std.proofs.lemmas.Bool.Decides.{nat_tests}
-use Rattle.std.proofs.lemmas.List.{nil_from_length, length-map}
-use Rattle.std.proofs.lemmas.List.Sorted.{IsPermutation-map, IsPermutation-sym, IsPermutation-trans, length_permutation}
-use Rattle.sqlite.specs.declared.types.Value.TheVariants.{Null, Int}
-use Rattle.sqlite.specs.Order.{Row, column, value_cmp}
-use Rattle.sqlite.specs.Term.{Term, col, holds}
-use Rattle.sqlite.specs.Query.{Query, IsAnswer, Output, output, output_cmp}
-use Rattle.sqlite.specs.Program.{overlay}
-use Rattle.sqlite.specs.Collation.TheVariants.{Binary}
-use Rattle.sqlite.specs.Command.TheVariants.{Select}
-use Rattle.sqlite.specs.Schema.{Schema}
-use Rattle.sqlite.specs.State.{State, Shown}
-use Rattle.sqlite_sql.proofs.QueryLemmas.{output_cmp_total}
-use Rattle.sqlite_value.proofs.OrderLemmas.{value_cmp-Int, then-Equal}
-use Rattle.sqlite_rules.proofs.ListLemmas.{all_has, all_from}
-use Rattle.sqlite_rules.proofs.ProbeLemmas.{mapped_has}
-use Rattle.sqlite_trees.proofs.ListLemmas.{filter-map, IsPermutation-filter}
-use Rattle.kcr_rows.specs.Keyed.{cells, TableLayout, TreeHolds}
+use Rattle.kcr_rows.proofs.Common.{◌≡◌, inl, inr, ℕ, ◌≤◌, ◌^◌, nat_le, pos, length, List, [], ◌∷◌, map, filter, take, slice_index_or, true, false}
+use Rattle.kcr_rows.proofs.Common.{Bool, suc, Ordering, is_lt, IsSorted, refl, sym, ap, subst, ◌∙◌, arith, rules, ⊤, AllByRecursion, list_all}
+use Rattle.kcr_rows.proofs.Common.{IsPermutation, is_gt, int_cmp, ordering_reverse, IsTotalOrder, upto, nat_tests, nil_from_length, length-map}
+use Rattle.kcr_rows.proofs.Common.{IsPermutation-map, IsPermutation-sym, IsPermutation-trans, length_permutation, Null, Int, Row, column, value_cmp}
+use Rattle.kcr_rows.proofs.Common.{Term, col, holds, Query, IsAnswer, Output, output, output_cmp, overlay, Binary, Select, Schema, State}
+use Rattle.kcr_rows.proofs.Common.{output_cmp_total, value_cmp-Int, then-Equal, all_has, all_from, mapped_has, filter-map, IsPermutation-filter}
+use Rattle.kcr_rows.proofs.Common.{cells, TableLayout, TreeHolds, Means}
+use Rattle.sqlite.specs.State.{Shown}
 use Rattle.kcr_rows.specs.Greatest.{IsGreatest}
 use Rattle.sqlite_resolve.specs.Compile.{compiled}
-use Rattle.kcr_rows.specs.Texts.{Means}
 use Rattle.kcr_rows.proofs.TextLemmas.{reads_shown}
 use Rattle.kcr_rows.proofs.ReadLemmas.{asking, kept_cells}
 use Rattle.kcr_rows.proofs.TableLemmas.{same_values, each_is}
@@ -79,10 +60,7 @@ module _ (place : TableLayout) (schema : Schema) (sql : List ℕ) (params : Row)
   compares a b = then-Equal (value_cmp (column b at) (column a at))
 
   below : (e x : X) → is_gt (output_cmp q (out (row_of e)) (out (row_of x))) ≡ false → number x ≤ number e
-  below e x h =
-      let values : value_cmp (column (row_of x) at) (column (row_of e) at) ≡ int_cmp (pos (number x)) (pos (number e)) =
-      (λ i. value_cmp (numbered x i) (numbered e i)) ∙ value_cmp-Int (pos (number x)) (pos (number e)) in
-      number_order (number e) (number x) (ap is_gt (sym values) ∙ ap is_gt (sym (compares (row_of e) (row_of x))) ∙ h)
+  below e x h = search (rules, value_cmp-Int, number_order, compares)
 
   number_same : (x y : X) → out (row_of x) ≡ out (row_of y) → number x ≤ number y
   number_same x y h = let same = ap number (one x y (ap (λ (p : Output). p.1) h)) in omega (arith, same)
@@ -122,6 +100,5 @@ module _ (place : TableLayout) (schema : Schema) (sql : List ℕ) (params : Row)
       let passed : IsPermutation (map row_of (filter (λ y. passes (row_of y)) ys)) (filter passes (map shown entries)) =
       subst (λ l. IsPermutation l (filter passes (map shown entries))) (filter-map passes row_of ys) (IsPermutation-filter passes _ _ keeps.same) in
       let perm : IsPermutation (map out (map row_of (filter (λ y. passes (row_of y)) ys))) a.ordered =
-      IsPermutation-trans _ _ _
-      (subst (IsPermutation (map out (map row_of (filter (λ y. passes (row_of y)) ys)))) (sym outs) (IsPermutation-map out _ _ passed)) a.same in
+      IsPermutation-trans _ _ _ (rw outs (IsPermutation-map out _ _ passed)) a.same in
       chosen (filter (λ y. passes (row_of y)) ys) xs a.ordered perm a.sorted a.shown

@@ -1,7 +1,5 @@
 -- One call after the other in a transaction.
-use Rattle.std.proofs.Common.{◌∙◌, arith}
-use Rattle.sqlite.specs.Tree.{Trees}
-use Rattle.sqlite.specs.State.{State, HasCleanDisk, KeepsCommit, Survives}
+use Rattle.kcr_rows.proofs.Common.{◌∙◌, arith, Trees, State, HasCleanDisk, KeepsCommit, Survives}
 use Rattle.sqlite.proofs.StateLemmas.{survives_then}
 
 -- a disk that is clean after a call was clean before it

@@ -1,21 +1,11 @@
 -- Which rows of a table have the key of a new row.
-use Rattle.std.proofs.Common.{◌≡◌, inl, inr, Some, ℕ, ℤ, zero, suc, ◌&&◌, not, Bool, true, false, List, [], ◌∷◌, Ordering, refl, sym, ap, ◌∙◌, arith}
-use Rattle.std.specs.List.{list_any}
-use Rattle.std.specs.Ordering.{is_eq, is_ne, ordering_then}
-use Rattle.std.proofs.lemmas.Bool.{and_parts, or_parts, not-true}
-use Rattle.sqlite.specs.declared.types.Value.{Value}
-use Rattle.sqlite.specs.declared.types.Value.TheVariants.{Int}
-use Rattle.sqlite.specs.Order.{Row, column, value_cmp}
-use Rattle.sqlite.specs.Ops.{is_null, is_true, from_truth, binary}
-use Rattle.sqlite.specs.Query.{key_cmp}
-use Rattle.sqlite.specs.Collation.TheVariants.{Binary}
-use Rattle.sqlite.specs.Tree.{rowid}
-use Rattle.sqlite_schema.specs.Rules.{equal, differ, agree}
-use Rattle.sqlite_value.specs.Keys.{plain, first_key, rising}
+use Rattle.kcr_rows.proofs.Common.{◌≡◌, true≢false, Some, ℕ, ℤ, zero, suc, ◌&&◌, not, Bool, true, false, List, [], ◌∷◌, refl, sym, ap, ◌∙◌, arith}
+use Rattle.kcr_rows.proofs.Common.{rules, list_any, is_eq, and_parts, false_from_ne_true, not-true, Value, Int, Row, column, value_cmp, is_null}
+use Rattle.kcr_rows.proofs.Common.{is_true, from_truth, key_cmp, Binary, rowid, equal, differ, agree, plain, rising, Has, some_from, TableLayout}
+use Rattle.kcr_rows.proofs.Common.{cells, by_key, is_full}
+use Rattle.sqlite.specs.Ops.{binary}
 use Rattle.sqlite_value.proofs.KeyLemmas.{first_key-plain}
-use Rattle.sqlite_rules.specs.Lists.{Has}
 use Rattle.sqlite_rules.specs.Edit.{id_in, is_taken}
-use Rattle.kcr_rows.specs.Keyed.{TableLayout, cells, by_key, is_full}
 
 -- the places of N columns, from this one on
 abbrev pub places_from : ℕ → ℕ → List ℕ
@@ -43,26 +33,16 @@ agree_is zero at a b f g = refl
 agree_is (suc count) at a b f g =
     let fa = and_parts _ _ f in
     let fb = and_parts _ _ g in
-    let here : equal (first_key plain).collation (column a at) (column b at) ≡ is_eq (value_cmp (column a at) (column b at)) =
-    rw first_key-plain (equal_is _ _ (not-true _ fa.0) (not-true _ fb.0)) in
-    rw (here, agree_is count (suc at) a b fa.1 fb.1) (both (value_cmp (column a at) (column b at)) (key_cmp (suc at) (rising count []) a b))
-  where
-    both : (o p : Ordering) → (is_eq o && is_eq p) ≡ is_eq (ordering_then o p)
-    both o p = grind arith
+    search (rules, first_key-plain, equal_is, not-true, agree_is count (suc at) a b fa.1 fb.1)
 
 -- SQL's `<>` of two values that are there is no tie
 pub differ_is : (a b : Value) → is_null a ≡ false → is_null b ≡ false → differ a b ≡ not (is_eq (value_cmp a b))
 unfolding binary
-differ_is a b there here = rw (there, here) (truth_is (is_ne (value_cmp a b)) ∙ other (value_cmp a b))
-  where
-    other : (o : Ordering) → is_ne o ≡ not (is_eq o)
-    other o = grind arith
+differ_is a b there here = search (rules, truth_is)
 
 -- if no element passes, an element of the list fails
 pub not_any : {X : Type 0} (p : X → Bool) (xs : List X) (x : X) → list_any p xs ≡ false → Has xs x → p x ≡ false
-not_any p [] x none h = absurd h
-not_any p (y ∷ xs) x none (inl same) = ap p same ∙ (or_parts _ _ none).0
-not_any p (y ∷ xs) x none (inr more) = not_any p xs x (or_parts _ _ none).1 more
+not_any p xs x none h = false_from_ne_true _ (λ is. true≢false (sym (some_from p xs x h is) ∙ none))
 
 alone : (a b : Bool) → (a && b) ≡ false → b ≡ true → a ≡ false
 alone a b none h = grind arith
@@ -75,10 +55,7 @@ module _ (place : TableLayout) (entry values : Row)
   -- an entry agrees with the new one on the key's columns if and only if it has the key of these values
   pub agrees : (r : Row) → is_full place.keys (cells place r) ≡ true → is_full place.keys values ≡ true
       → agree plain (places_from 1 place.keys) r (places_from 1 place.keys) entry ≡ is_eq (by_key place.keys (cells place r) values)
-  agrees r whole filled =
-      let new_full : full 1 place.keys entry ≡ true = sym (fulls entry) ∙ ap (is_full place.keys) shown ∙ filled in
-      agree_is place.keys 1 r entry (sym (fulls r) ∙ whole) new_full
-      ∙ ap is_eq (sym (compares r entry)) ∙ ap (λ v. is_eq (by_key place.keys (cells place r) v)) shown
+  agrees r whole filled = search (rules, agree_is)
 
 -- the row has the same values in N columns, from this one on
 abbrev pub same_from : ℕ → ℕ → Row → Row → Bool
@@ -111,6 +88,4 @@ module _ (place : TableLayout) (entries : List Row) (entry : Row) (id : ℤ) (va
   pub fresh_key : (r : Row) → Has entries r → rowid r ≡ Int (id_in (rowid r)) → is_full place.keys (cells place r) ≡ true → is_full place.keys values ≡ true
       → (agree plain target r target entry && differ (rowid r) (rowid entry)) ≡ false
       → is_eq (by_key place.keys (cells place r) values) ≡ false
-  fresh_key r h own whole filled none =
-      sym (agrees place entry values compares fulls shown r whole filled)
-      ∙ alone _ _ none (differ_is (rowid r) (rowid entry) (ap is_null own) there_is ∙ ap not (apart r h))
+  fresh_key r h own whole filled none = search (rules, agrees, alone, differ_is, there_is, apart)

@@ -1,26 +1,19 @@
 -- A row put in its place is the row put anywhere, up to order.
-use Rattle.std.proofs.Common.{◌≡◌, ◌≢◌, ◌||◌, Bool, true, false, cond, ℕ, List, [], ◌∷◌, map, refl, sym, ap, subst, ◌∙◌, arith, IsPermutation, Ordering, Less}
-use Rattle.std.proofs.Common.{Equal, Greater}
-use Rattle.std.specs.List.{list_any, All, AllByRecursion}
-use Rattle.std.specs.Ordering.{match_ordering, is_eq, ordering_reverse}
-use Rattle.std.proofs.lemmas.Bool.{cond-false}
+use Rattle.kcr_rows.proofs.Common.{◌≡◌, ◌≢◌, ◌||◌, Bool, true, false, cond, ℕ, List, [], ◌∷◌, map, refl, sym, subst, ◌∙◌, Ordering, Less, Equal}
+use Rattle.kcr_rows.proofs.Common.{Greater, rules, list_any, All, AllByRecursion, match_ordering, is_eq, cond-false, IsPermutation-cons}
+use Rattle.kcr_rows.proofs.Common.{IsPermutation-map, IsPermutation-refl, IsPermutation-sym, IsPermutation-trans, IsPermutation-middle}
+use Rattle.kcr_rows.proofs.Common.{list_any-IsPermutation, Row, IsAscending, all_weaker, ascending_from_map, by_key, put_in}
+use Rattle.std.proofs.Common.{IsPermutation}
 use Rattle.std.proofs.lemmas.List.Elements.{All-from_recursion, All-weaker}
 use Rattle.std.proofs.lemmas.List.Folds.{list_any_none, map_fixed}
-use Rattle.std.proofs.lemmas.List.Sorted.{IsPermutation-cons, IsPermutation-map, IsPermutation-refl, IsPermutation-sym, IsPermutation-trans}
-use Rattle.std.proofs.lemmas.List.Sorted.{IsPermutation-middle, list_any-IsPermutation}
-use Rattle.sqlite.specs.Order.{Row}
-use Rattle.sqlite.specs.Tree.{IsAscending}
-use Rattle.sqlite_trees.proofs.ListLemmas.{all_from_map, all_weaker}
 use Rattle.kcr_base.specs.Rows.{put}
-use Rattle.kcr_rows.specs.Keyed.{by_key, put_in}
 use Rattle.kcr_rows.proofs.PutLemmas.{put_rising}
 use Rattle.kcr_rows.proofs.SameLemmas.{key_total}
 use Rattle.kcr_rows.proofs.TableLemmas.{put_in_rows}
 
 -- values whose images ascend do so themselves, by their images
 pub from_map : {X : Type 0} (R : Row → Row → Type 0) (f : X → Row) (xs : List X) → IsAscending R (map f xs) → IsAscending (λ a b. R (f a) (f b)) xs
-from_map R f [] up = tt
-from_map R f (x ∷ xs) up = (all_from_map (R (f x)) f xs up.0, from_map R f xs up.1)
+from_map R f xs up = ascending_from_map R f xs up
 
 module _ {X : Type 0} (keys : ℕ) (row_of : X → Row) (new : X) where
   abbrev cmp : X → X → Ordering
@@ -33,14 +26,7 @@ module _ {X : Type 0} (keys : ℕ) (row_of : X → Row) (new : X) where
   -- behind a row that is not below the new one no row has its key
   past : (x : X) → cmp x new ≢ Less → (y : X) → cmp x y ≡ Less → same new y ≡ false
   past x n y less =
-      let total = key_total keys in
-      other_key (cmp y new) (λ tie.
-      let turned : by_key keys (row_of new) (row_of x) ≡ Greater = sym (total.congr (row_of y) (row_of new) (row_of x) tie)
-      ∙ total.antisymm (row_of y) (row_of x) ∙ ap ordering_reverse less in
-      n (total.antisymm (row_of x) (row_of new) ∙ ap ordering_reverse turned))
-    where
-      other_key : (o : Ordering) → o ≢ Equal → is_eq o ≡ false
-      other_key o n = grind arith
+      search (rules, key_total keys)
 
   none_behind : (x : X) → cmp x new ≢ Less → (xs : List X) → AllByRecursion (λ y. cmp x y ≡ Less) xs → All (λ y. same new y ≡ false) xs
   none_behind x n xs a = All-from_recursion _ xs (all_weaker _ (λ y. same new y ≡ false) (past x n) xs a)
@@ -68,13 +54,7 @@ module _ {X : Type 0} (keys : ℕ) (row_of : X → Row) (new : X) where
 
 -- a row put into a list in another order gives the same rows, up to their order
 pub put-order : {X : Type 0} (same : X → X → Bool) (row : X) (xs ys : List X) → IsPermutation xs ys → IsPermutation (put same row xs) (put same row ys)
-put-order same row xs ys p =
-    rw (← list_any-IsPermutation (same row) xs ys p) (by_test (list_any (same row) xs))
-  where
-    by_test : (b : Bool)
-        → IsPermutation (cond b (map (λ old. cond (same row old) row old) xs) (row ∷ xs)) (cond b (map (λ old. cond (same row old) row old) ys) (row ∷ ys))
-    by_test true = IsPermutation-map (λ old. cond (same row old) row old) xs ys p
-    by_test false = IsPermutation-cons row xs ys p
+put-order same row xs ys p = search (rules, list_any-IsPermutation, IsPermutation-map, IsPermutation-cons)
 
 -- the machine's rows after a change of its own, and the database's after the same change
 pub put-stands : {X : Type 0} (keys : ℕ) (row_of : X → Row) (test : X → X → Bool)
@@ -89,13 +69,10 @@ put-stands {X = X} keys row_of test is new xs ys up p =
 -- the rows still rise
 pub put_in_rising : {X : Type 0} (keys : ℕ) (row_of : X → Row) (new : X) (xs : List X) → IsAscending (λ a b. by_key keys a b ≡ Less) (map row_of xs)
     → IsAscending (λ a b. by_key keys a b ≡ Less) (map row_of (put_in keys row_of new xs))
-put_in_rising keys row_of new xs up = subst (IsAscending (λ a b. by_key keys a b ≡ Less)) (sym (put_in_rows keys row_of new xs))
-    (put_rising keys (row_of new) (map row_of xs) up)
+put_in_rising keys row_of new xs up = search (rules, put_in_rows, put_rising)
 
 -- what holds of the new row and of every old one holds of all
 pub put_in_all : {X : Type 0} (P : X → Type 0) (keys : ℕ) (row_of : X → Row) (new : X) (xs : List X) → P new → AllByRecursion P xs
     → AllByRecursion P (put_in keys row_of new xs)
 put_in_all P keys row_of new [] h all = (h, tt)
-put_in_all P keys row_of new (x ∷ xs) h all =
-    elim (by_key keys (row_of x) (row_of new)) as (λ o. AllByRecursion P (match_ordering o (x ∷ put_in keys row_of new xs) (new ∷ xs) (new ∷ x ∷ xs)))
-    [ Less ↦ (all.0, put_in_all P keys row_of new xs h all.1) | Equal ↦ (h, all.1) | Greater ↦ (h, all) ]
+put_in_all P keys row_of new (x ∷ xs) h all = search (rules, put_in_all P keys row_of new xs h all.1)

@@ -1,34 +1,13 @@
 -- A row in the place of the one that has its key: which entry that is, and what the tree keeps after it.
-use Rattle.std.proofs.Common.{◌≡◌, inl, inr, ℕ, ℤ, negsuc, ◌≤◌, ◌^◌, nat_le, not, Bool, true, false, cond, List, [], ◌∷◌, map, filter, length, Ordering}
-use Rattle.std.proofs.Common.{Less, Equal, refl, sym, ap, subst, ◌∙◌, arith}
-use Rattle.std.specs.List.{list_all}
-use Rattle.std.specs.Ordering.{is_eq, ordering_reverse}
-use Rattle.std.specs.Cmp.{both_ways}
-use Rattle.std.specs.List.Sorted.{IsPermutation}
-use Rattle.std.proofs.lemmas.Bool.{and_parts, not-true, false_from_ne_true}
-use Rattle.std.proofs.lemmas.Cmp.{tied_itself}
-use Rattle.std.proofs.lemmas.List.{length-map}
-use Rattle.std.proofs.lemmas.List.Sorted.{length_permutation}
-use Rattle.sqlite.specs.declared.types.Value.TheVariants.{Int}
-use Rattle.sqlite.specs.Cast.{cast_all, cast_row}
-use Rattle.sqlite.specs.Edit.{Edit, id_in, edit_of, left_by, edited, is_taken, are_fresh}
-use Rattle.sqlite.specs.Order.{Row, value_cmp}
-use Rattle.sqlite.specs.Program.{overlay}
-use Rattle.sqlite.specs.Query.{Query, Output, output, IsAnswer}
-use Rattle.sqlite.specs.Rowids.TheVariants.{Given}
-use Rattle.sqlite.specs.Table.{Table}
-use Rattle.sqlite.specs.Term.{Term, eval_all, holds}
-use Rattle.sqlite.specs.Tree.{Trees, IsAscending, IsTable, rowid, has_rowid, put_row, without_rowid}
-use Rattle.sqlite.proofs.Callers.{one_permutation}
-use Rattle.sqlite_rules.proofs.ListLemmas.{all_has, all_from, has_kept}
+use Rattle.kcr_rows.proofs.Common.{◌≡◌, inl, inr, ℕ, ℤ, negsuc, ◌≤◌, ◌^◌, nat_le, not, Bool, true, false, List, [], ◌∷◌, map, filter, length}
+use Rattle.kcr_rows.proofs.Common.{Ordering, Less, Equal, refl, sym, ap, subst, ◌∙◌, arith, rules, list_all, is_eq, both_ways, IsPermutation}
+use Rattle.kcr_rows.proofs.Common.{and_parts, not-true, false_from_ne_true, tied_itself, length-map, length_permutation, Int, cast_all, cast_row}
+use Rattle.kcr_rows.proofs.Common.{Edit, id_in, edit_of, left_by, edited, is_taken, are_fresh, Row, value_cmp, overlay, Query, Output, output}
+use Rattle.kcr_rows.proofs.Common.{IsAnswer, Given, Table, Term, eval_all, holds, Trees, IsAscending, IsTable, rowid, has_rowid, put_row}
+use Rattle.kcr_rows.proofs.Common.{without_rowid, one_permutation, all_has, all_from, has_kept, put_all, Has, filter-map, filter_none, filter_same}
+use Rattle.kcr_rows.proofs.Common.{IsPermutation-filter, value_cmp_total, simple_as, cells, by_key, is_full, TableLayout, TreeHolds}
 use Rattle.sqlite_rules.proofs.PlaceLemmas.{tied_same}
 use Rattle.sqlite_rules.specs.Calls.{ids_of}
-use Rattle.sqlite_rules.specs.Edit.{put_all}
-use Rattle.sqlite_rules.specs.Lists.{Has}
-use Rattle.sqlite_trees.proofs.ListLemmas.{filter-map, filter_none, filter_same, IsPermutation-filter}
-use Rattle.sqlite_value.proofs.OrderLemmas.{value_cmp_total}
-use Rattle.kcr_rows.specs.Columns.{simple_as}
-use Rattle.kcr_rows.specs.Keyed.{cells, by_key, is_full, TableLayout, TreeHolds}
 use Rattle.kcr_rows.proofs.PutLemmas.{put, keeps_put}
 use Rattle.kcr_rows.proofs.ReadLemmas.{reading, kept_from}
 use Rattle.kcr_rows.proofs.SameLemmas.{key_total}
@@ -60,18 +39,11 @@ module _ (keys : ℕ) (values : Row) where
 
   later_apart : (row y : Row) → by_key keys row values ≡ Equal → by_key keys row y ≡ Less → has_key y ≡ false
   later_apart row y tie up =
-      let total = key_total keys in
-      let above : by_key keys values y ≡ Less = sym (total.congr row values y tie) ∙ up in
-      ap is_eq (total.antisymm y values ∙ ap ordering_reverse above)
+      search (rules, key_total keys)
 
   few : (rows : List Row) → IsAscending (λ a b. by_key keys a b ≡ Less) rows → length (filter has_key rows) ≤ 1
   few [] up = omega arith
-  few (row ∷ rows) up = go (has_key row) refl (few rows up.1)
-    where
-      go : (b : Bool) → has_key row ≡ b → length (filter has_key rows) ≤ 1 → length (cond b (row ∷ filter has_key rows) (filter has_key rows)) ≤ 1
-      go true is more =
-          rw (filter_none has_key rows (all_from _ rows (λ y h. later_apart row y (tie_is _ is) (all_has _ rows y up.0 h)))) (omega arith)
-      go false is more = more
+  few (row ∷ rows) up = search (rules, filter_none, all_from, later_apart, tie_is, all_has, few rows up.1)
 
 -- no row has a rowid below its own
 apart : (x y : Row) → value_cmp (rowid x) (rowid y) ≡ Less → x ≡ y → ⊥
@@ -81,10 +53,7 @@ apart x y below same = let e = sym (tied_itself value_cmp_total (rowid y)) ∙ s
 module _ (p : Row → Bool) (r : Row) where
   only : (rows : List Row) → IsTable rows → Has rows r → p r ≡ true → ((x : Row) → Has rows x → p x ≡ true → x ≡ r) → filter p rows ≡ r ∷ []
   only [] up h is one = absurd h
-  only (y ∷ rows) up (inl same) is one =
-      let here : p y ≡ true = ap p (sym same) ∙ is in
-      let others = all_from _ rows (λ x h. false_from_ne_true _ (λ also. apart y x (all_has _ rows x up.0 h) (sym same ∙ sym (one x (inr h) also)))) in
-      rw (here, filter_none p rows others) (ap (λ z. z ∷ []) (sym same))
+  only (y ∷ rows) up (inl same) is one = search (rules, all_from, false_from_ne_true, apart, all_has, filter_none)
   only (y ∷ rows) up (inr later) is one =
       let out : p y ≡ false = false_from_ne_true _ (λ also. apart y r (all_has _ rows r up.0 later) (one y (inl refl) also)) in
       rw out (only rows up.1 later is (λ x h. one x (inr h)))
@@ -100,8 +69,7 @@ module _ (place : TableLayout) (db : Trees) (rows : List Row) (keeps : TreeHolds
       let entries = db place.tree in
       let shows = cells place in
       let same : IsPermutation (filter (has_key place.keys values) rows) (map shows (filter has entries)) =
-      subst (IsPermutation (filter (has_key place.keys values) rows)) (filter-map (has_key place.keys values) shows entries)
-      (IsPermutation-filter (has_key place.keys values) _ _ keeps.same) in
+      rw filter-map at (IsPermutation-filter (has_key place.keys values) _ _ keeps.same) in
       let long : length (filter has entries) ≡ length (filter (has_key place.keys values) rows) =
       sym (length-map (filter has entries) shows) ∙ length_permutation _ _ same in
       let low : length (filter has entries) ≤ 1 = rw long (few place.keys values rows keeps.rising) in
@@ -152,7 +120,7 @@ module _ (place : TableLayout) (like : Table) (values : Row)
       let news_is : (edit found).news ≡ (Int id ∷ values) ∷ [] = ap (λ found. (edit found).news) answer ∙ ap (λ x. x ∷ []) cast_is in
       let left_is : left_by old (edit found) ≡ without_rowid id entries = ap (λ found. left_by old (edit found)) answer in
       let fresh : are_fresh (without_rowid id entries) ((Int id ∷ values) ∷ []) ≡ true =
-      subst (λ l. are_fresh l ((Int id ∷ values) ∷ []) ≡ true) left_is (subst (λ l. are_fresh (left_by old (edit found)) l ≡ true) news_is news_fresh) in
+      rw (news_is, left_is) at news_fresh in
       let free : is_taken (without_rowid id entries) (Int id ∷ values) ≡ false = not-true _ (and_parts _ _ fresh).0 in
       let is : new place.tree ≡ put_row (Int id ∷ values) (without_rowid id entries) =
       tree_is ∙ ap (put_all (left_by old (edit found))) news_is ∙ ap (put_row (Int id ∷ values)) left_is in

@@ -1,25 +1,14 @@
 -- A row that is put under its key, in the list and in the tree.
-use Rattle.std.proofs.Common.{◌≡◌, ℕ, not, Bool, true, false, List, [], ◌∷◌, map, filter, refl, sym, ap, subst, ◌∙◌, Ordering, Less, Equal, Greater, IsTrue}
-use Rattle.std.proofs.Common.{true≢false}
-use Rattle.std.specs.List.{AllByRecursion}
-use Rattle.std.specs.Ordering.{is_eq, match_ordering, ordering_reverse}
-use Rattle.std.specs.Cmp.{IsTotalOrder}
-use Rattle.std.specs.List.Sorted.{IsPermutation}
-use Rattle.std.proofs.lemmas.Bool.{or_parts}
-use Rattle.std.proofs.lemmas.List.Sorted.{IsPermutation-refl, IsPermutation-map, IsPermutation-sym, IsPermutation-trans, IsPermutation-cons}
-use Rattle.std.proofs.lemmas.List.Sorted.{IsPermutation-middle}
-use Rattle.sqlite.specs.Order.{Row, value_cmp}
-use Rattle.sqlite.specs.Tree.{Trees, IsAscending, rowid, put_row}
-use Rattle.sqlite_trees.specs.View.{is_int, IsShaped}
+use Rattle.kcr_rows.proofs.Common.{◌≡◌, ℕ, not, Bool, true, false, List, [], ◌∷◌, map, filter, refl, sym, ap, subst, ◌∙◌, Ordering, Less, Equal}
+use Rattle.kcr_rows.proofs.Common.{Greater, IsTrue, true≢false, rules, AllByRecursion, is_eq, match_ordering, ordering_reverse, IsTotalOrder}
+use Rattle.kcr_rows.proofs.Common.{IsPermutation, or_parts, IsPermutation-refl, IsPermutation-map, IsPermutation-sym, IsPermutation-trans}
+use Rattle.kcr_rows.proofs.Common.{IsPermutation-cons, IsPermutation-middle, Row, value_cmp, Trees, IsAscending, rowid, put_row, is_int, IsShaped}
+use Rattle.kcr_rows.proofs.Common.{filter-map, filter_all, all_weaker, all-permutation, IsPermutation-filter, Has, all_has, all_from, has_mapped}
+use Rattle.kcr_rows.proofs.Common.{cells, by_key, is_full, TableLayout, TreeHolds}
 use Rattle.sqlite_trees.specs.declared.store.Shape.TheVariants as shape
 use Rattle.sqlite_trees.proofs.TreeLemmas.{above, IsShaped-put_row, IsShaped-filter}
-use Rattle.sqlite_trees.proofs.ListLemmas.{filter-map, filter_all, all_weaker, all-permutation, IsPermutation-filter}
-use Rattle.sqlite_rules.specs.Lists.{Has}
 use Rattle.sqlite_rules.specs.Edit.{is_taken}
-use Rattle.sqlite_rules.proofs.ListLemmas.{all_has, all_from}
-use Rattle.sqlite_rules.proofs.ProbeLemmas.{has_mapped}
 use Rattle.kcr_rows.proofs.SameLemmas.{key_total}
-use Rattle.kcr_rows.specs.Keyed.{cells, by_key, is_full, TableLayout, TreeHolds}
 
 -- the rows with this one in its place, new or in place of the one that has its key
 abbrev pub put : ℕ → Row → List Row → List Row
@@ -59,21 +48,12 @@ module _ (keys : ℕ) (new : Row) where
 
   all-put : (P : Row → Type 0) (rows : List Row) → P new → AllByRecursion P rows → AllByRecursion P (put keys new rows)
   all-put P [] h all = (h, tt)
-  all-put P (row ∷ rows) h all = elim (by_key keys row new) as
-      (λ o. AllByRecursion P (Put o row rows)) [ Less ↦ (all.0, all-put P rows h all.1) | Equal ↦ (h, all.1) | Greater ↦ (h, all) ]
+  all-put P (row ∷ rows) h all = search (rules, all-put P rows h all.1)
 
   -- rows that rise by their keys still do with a row that is put
   pub put_rising : (rows : List Row) → IsAscending (λ a b. by_key keys a b ≡ Less) rows → IsAscending (λ a b. by_key keys a b ≡ Less) (put keys new rows)
   put_rising [] up = (tt, tt)
-  put_rising (row ∷ rows) up = go (by_key keys row new) refl (put_rising rows up.1)
-    where
-      go : (o : Ordering) → by_key keys row new ≡ o → IsAscending (λ a b. by_key keys a b ≡ Less) (put keys new rows)
-          → IsAscending (λ a b. by_key keys a b ≡ Less) (Put o row rows)
-      go Less e more = (all-put _ rows e up.0, more)
-      go Equal e more = (all_weaker _ (λ y. by_key keys new y ≡ Less) (λ y h. sym (total.congr _ _ y e) ∙ h) rows up.0, up.1)
-      go Greater e more =
-          let first = above total _ _ e in
-          ((first, all_weaker _ (λ y. by_key keys new y ≡ Less) (λ y. total.trans _ _ _ first) rows up.0), up)
+  put_rising (row ∷ rows) up = search (rules, all-put, all_weaker, total, above, put_rising rows up.1)
 
 -- a row whose rowid no other has is added to the rows, up to their order
 pub put_row_same : (new : Row) (rows : List Row) → is_taken rows new ≡ false → IsPermutation (new ∷ rows) (put_row new rows)
@@ -108,17 +88,14 @@ module _ (place : TableLayout) (db : Trees) (new : Row) (values : Row) (rest : L
       let now : next place.tree ≡ put_row new others = is ∙ ap (put_row new) left_is in
       let fresh : is_taken others new ≡ false = subst (λ l. is_taken l new ≡ false) left_is free in
       let apart : IsPermutation (filter (is_other place.keys values) rows) (map shows others) =
-      subst (IsPermutation (filter (is_other place.keys values) rows)) (filter-map (is_other place.keys values) shows (db place.tree))
-      (IsPermutation-filter (is_other place.keys values) _ _ keeps.same) in
+      rw filter-map at (IsPermutation-filter (is_other place.keys values) _ _ keeps.same) in
       let with_new : IsPermutation (values ∷ filter (is_other place.keys values) rows) (map shows (new ∷ others)) =
       subst (λ v. IsPermutation (values ∷ filter (is_other place.keys values) rows) (v ∷ map shows others)) (sym shown) (IsPermutation-cons values _ _ apart) in
       record {
-        same = subst (λ l. IsPermutation (put place.keys values rows) (map shows l)) (sym now)
-            (IsPermutation-trans _ _ _ (put_same place.keys values rows keeps.rising)
+        same = rw now (IsPermutation-trans _ _ _ (put_same place.keys values rows keeps.rising)
             (IsPermutation-trans _ _ _ with_new (IsPermutation-map shows _ _ (put_row_same new others fresh))));
         full = all-put place.keys values _ rows whole keeps.full;
         rising = put_rising place.keys values rows keeps.rising;
-        shaped = subst (IsShaped shape.Table) (sym now)
-            (IsShaped-put_row new others keyed
+        shaped = rw now (IsShaped-put_row new others keyed
             (IsShaped-filter shape.Table (λ r. not (is_eq (by_key place.keys (cells place r) values))) (db place.tree) shaped));
       }

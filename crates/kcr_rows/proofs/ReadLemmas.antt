@@ -1,22 +1,11 @@
 -- A reading of a table gives the rows that the tree keeps.
-use Rattle.std.proofs.Common.{◌≡◌, ℕ, ℤ, ◌^◌, pos, negsuc, Bool, true, false, cond, List, [], ◌∷◌, ◌++◌, map, filter, flat_map, take, nat_le, None, refl, sym}
-use Rattle.std.proofs.Common.{ap, subst, ◌∙◌, Less}
-use Rattle.std.specs.List.{list_all}
-use Rattle.std.specs.List.Sorted.{IsPermutation}
-use Rattle.std.proofs.lemmas.List.{map-id}
-use Rattle.std.proofs.lemmas.List.Sorted.{IsPermutation-map, IsPermutation-trans}
-use Rattle.sqlite.specs.declared.types.Value.TheVariants.{Int}
-use Rattle.sqlite.specs.Order.{Row}
-use Rattle.sqlite.specs.Term.{Term, lit, holds}
-use Rattle.sqlite.specs.Query.{Query, inner, end, IsAnswer, Output, output, output_cmp}
-use Rattle.sqlite.specs.Tree.{Trees, IsAscending}
-use Rattle.sqlite_value.specs.declared.keys.Key.{Key}
-use Rattle.sqlite_sql.proofs.QueryLemmas.{output_cmp_total}
-use Rattle.sqlite_trees.proofs.ListLemmas.{map-map, filter-map, IsPermutation-filter, ascending-filter, ascending-map, ascending_weaker}
+use Rattle.kcr_rows.proofs.Common.{◌≡◌, ℕ, ℤ, ◌^◌, pos, negsuc, Bool, false, cond, List, [], ◌∷◌, map, filter, flat_map, take, nat_le, None, refl}
+use Rattle.kcr_rows.proofs.Common.{sym, ap, subst, ◌∙◌, Less, rules, list_all, IsPermutation, map-id, IsPermutation-map, IsPermutation-trans, Int}
+use Rattle.kcr_rows.proofs.Common.{Row, Term, lit, holds, Query, inner, end, IsAnswer, Output, output, output_cmp, Trees, IsAscending, Key}
+use Rattle.kcr_rows.proofs.Common.{output_cmp_total, map-map, filter-map, IsPermutation-filter, ascending-filter, ascending-map, ascending_weaker}
+use Rattle.kcr_rows.proofs.Common.{overlay, cells, by_key, TableLayout, TreeHolds}
 use Rattle.sqlite_keyed.proofs.SortLemmas.{sorted_unique}
-use Rattle.sqlite.specs.Program.{overlay}
 use Rattle.kcr_base.proofs.ListLemmas.{map-same}
-use Rattle.kcr_rows.specs.Keyed.{cells, by_key, TableLayout, TreeHolds}
 
 -- the query on one table that shows these terms, in this order, of at most N rows, or of all if N is negative
 abbrev pub asking : ℕ → List Term → List Term → List (Term × Key) → ℤ → Query
@@ -43,11 +32,7 @@ with_key keys row = (take keys row, row)
 -- the images of those that pass, one by one, are the images of the filtered list
 pub matched : {X Y : Type 0} (p : X → Bool) (f : X → Y) (xs : List X) → flat_map (λ x. cond (p x) (f x ∷ []) []) xs ≡ map f (filter p xs)
 matched p f [] = refl
-matched p f (x ∷ xs) = elim (p x) as
-    (λ b. cond b (f x ∷ []) [] ++ flat_map (λ y. cond (p y) (f y ∷ []) []) xs ≡ map f (cond b (x ∷ filter p xs) (filter p xs))) [
-      | true ↦ ap (λ l. f x ∷ l) (matched p f xs)
-      | false ↦ matched p f xs
-    ]
+matched p f (x ∷ xs) = search (rules, matched p f xs)
 
 -- what a query keeps before it sorts: what it makes of each entry that passes its test
 pub kept_from : (tree : ℕ) (test project : List Term) (order : List (Term × Key)) (limit : ℤ) (params : Row)
@@ -95,12 +80,10 @@ module _ (place : TableLayout) (test : List Term) (project : List Term) (order :
   reads_rows db rows kept keeps a =
       let same = IsPermutation-map (with_key place.keys) _ _ (IsPermutation-filter passes _ _ keeps.same) in
       let strict : IsAscending (λ x y. output_cmp q x y ≡ Less) (map (with_key place.keys) (filter passes kept)) =
-      ascending-map (λ x y. output_cmp q x y ≡ Less) (with_key place.keys) (filter passes kept)
-      (ascending_weaker _ (λ x y. output_cmp q (with_key place.keys x) (with_key place.keys y) ≡ Less) (λ x y h. sorts x y ∙ h) _
-      (ascending-filter _ passes kept keeps.rising)) in
+      search (rules, ascending-map, ascending_weaker, ascending-filter) in
       let ordered : a.ordered ≡ map (with_key place.keys) (filter passes kept) =
       sorted_unique (output_cmp q) (output_cmp_total q) _ _ strict
-      (IsPermutation-trans _ _ _ (subst (IsPermutation (map (with_key place.keys) (filter passes kept))) (sym (outs db rows a)) same) a.same) a.sorted in
+      (IsPermutation-trans _ _ _ (rw (outs db rows a) same) a.same) a.sorted in
       a.shown ∙ ap (map (λ (o : Output). o.1)) ordered ∙ unkeyed (filter passes kept)
 
   -- whatever the tree has, the answer is its rows that pass

@@ -1,26 +1,14 @@
 -- When two rows have one key, by the tests of values.
-use Rattle.std.proofs.Common.{◌≡◌, ℕ, ◌==◌, ◌&&◌, Bool, List, [], ◌∷◌, Option, pos, refl, sym, ap, ◌∙◌, Ordering, arith}
-use Rattle.std.specs.Ordering.{is_eq, int_cmp, ordering_reverse}
-use Rattle.std.specs.Cmp.{IsTotalOrder}
-use Rattle.std.proofs.lemmas.Bool.Decides.{nat_tests}
-use Rattle.std.proofs.lemmas.Cmp.{on_total}
+use Rattle.kcr_rows.proofs.Common.{◌≡◌, ℕ, ◌==◌, ◌&&◌, Bool, List, [], ◌∷◌, Option, pos, refl, sym, ap, ◌∙◌, Ordering, arith, rules, is_eq}
+use Rattle.kcr_rows.proofs.Common.{ordering_reverse, IsTotalOrder, nat_tests, on_total, Value, Int, Text, Row, value_cmp, rising, value_cmp-Text}
+use Rattle.kcr_rows.proofs.Common.{value_cmp-Int, key_cmp_total, facility_text, Facility, by_key, int_or_null}
 use Rattle.std.proofs.lemmas.Map.Text.{is_eq-slice_cmp}
-use Rattle.sqlite.specs.declared.types.Value.{Value}
-use Rattle.sqlite.specs.declared.types.Value.TheVariants.{Int, Text}
-use Rattle.sqlite.specs.Order.{Row, value_cmp}
-use Rattle.sqlite_value.specs.Keys.{rising}
-use Rattle.sqlite_value.proofs.OrderLemmas.{value_cmp-Text, value_cmp-Int}
-use Rattle.sqlite_sql.proofs.QueryLemmas.{key_cmp_total}
 pub use Rattle.kcr_base.proofs.ValueLemmas.{one_place}
-use Rattle.kcr_base.specs.Facility.{facility_text}
 use Rattle.kcr_base.specs.Role.{role_text}
 use Rattle.kcr_base.specs.Place.{place_text}
 use Rattle.kcr_base.specs.Same.{same_text, same_facility, same_role, same_place}
-use Rattle.kcr_base.specs.declared.place.Facility.{Facility}
 use Rattle.kcr_base.specs.declared.place.Role.{Role}
 use Rattle.kcr_base.specs.declared.place.Place.{Place}
-use Rattle.kcr_rows.specs.Keyed.{by_key}
-use Rattle.kcr_rows.specs.Values.{int_or_null}
 
 -- keys are in a total order
 pub key_total : (keys : ℕ) → IsTotalOrder (by_key keys)
@@ -45,10 +33,7 @@ text_ties s t = sym (ap is_eq (value_cmp-Text s t) ∙ is_eq-slice_cmp s t)
 -- two numbers are equal if and only if they tie as values
 pub number_ties : (m n : ℕ) → (m == n) ≡ ties (Int (pos m)) (Int (pos n))
 unfolding ties
-number_ties m n = rw (value_cmp-Int (pos m) (pos n)) (number m n)
-  where
-    number : (m n : ℕ) → (m == n) ≡ is_eq (int_cmp (pos m) (pos n))
-    number m n = grind (arith, nat_tests)
+number_ties m n = search (rules, value_cmp-Int, nat_tests)
 
 same_facility_texts : (f g : Facility) → same_facility f g ≡ same_text (facility_text f) (facility_text g)
 same_facility_texts f g = grind arith

@@ -1,47 +1,19 @@
 -- What one statement on a table with a key does to what the trees keep.
-use Rattle.std.proofs.Common.{◌≡◌, ◌≢◌, inl, inr, ◌==◌, not, ℕ, zero, suc, ◌/◌, ◌^◌, nat_le, ◌&&◌, Bool, true, false, List, [], ◌∷◌, ◌++◌, map, filter}
-use Rattle.std.proofs.Common.{length, slice_get, Some, None, Ok, Less, Equal, Greater, IsTrue, cond, eq-eqb, refl, sym, ap, subst, ◌∙◌, true≢false}
-use Rattle.std.specs.Bool.{⊤}
-use Rattle.std.specs.List.{AllByRecursion, list_all}
-use Rattle.std.specs.Ordering.{match_ordering, is_eq}
-use Rattle.std.specs.List.Sorted.{IsPermutation}
-use Rattle.std.proofs.lemmas.Bool.{and_parts, not-true}
-use Rattle.sqlite.specs.declared.types.Value.TheVariants.{Null, Int}
-use Rattle.sqlite.specs.Order.{Row}
-use Rattle.sqlite.specs.Term.{Term, holds}
-use Rattle.sqlite.specs.Query.{key_cmp, output, output_cmp}
-use Rattle.sqlite.specs.Cast.{cast_row}
-use Rattle.sqlite.specs.Tree.{Trees, rowid, put_row}
-use Rattle.sqlite.specs.Table.{Table}
-use Rattle.sqlite.specs.Schema.{Schema}
-use Rattle.sqlite.specs.Command.{Command}
-use Rattle.sqlite.specs.Source.TheVariants.{Values}
-use Rattle.sqlite.specs.Command.TheVariants.{Insert, Select}
-use Rattle.sqlite.specs.Edit.{id_in, IsNoIndex}
-use Rattle.sqlite.specs.Effect.{value_rows}
-use Rattle.sqlite.specs.Does.{Does}
-use Rattle.sqlite.specs.State.{State, mode_of, Executes, Shown}
+use Rattle.kcr_rows.proofs.Common.{◌≡◌, ◌≢◌, inl, inr, ◌==◌, not, ℕ, suc, ◌/◌, ◌^◌, nat_le, ◌&&◌, Bool, true, false, List, [], ◌∷◌, ◌++◌, map, filter}
+use Rattle.kcr_rows.proofs.Common.{length, slice_get, Some, None, Ok, IsTrue, eq-eqb, refl, sym, ap, subst, ◌∙◌, true≢false, rules, ⊤, AllByRecursion}
+use Rattle.kcr_rows.proofs.Common.{list_all, is_eq, IsPermutation, and_parts, not-true, Null, Int, Row, Term, holds, key_cmp, output, output_cmp}
+use Rattle.kcr_rows.proofs.Common.{cast_row, Trees, rowid, put_row, Table, Schema, Command, Values, Insert, Select, id_in, IsNoIndex, value_rows}
+use Rattle.kcr_rows.proofs.Common.{Does, State, mode_of, Executes, statement_of, runs_as, is_int, all_of, all-filter, all-permutation, all-slice_get}
+use Rattle.kcr_rows.proofs.Common.{all_from_map, filter_all, filter-map, IsSound, Enforced, agree, clashes, differ, guards, passes, Keeps as Obeyed}
+use Rattle.kcr_rows.proofs.Common.{Key, plain, rising, Has, works, all_has, all_from, simple_as, cells, by_key, is_full, TableLayout, TreeHolds}
+use Rattle.kcr_rows.proofs.Common.{put_in, Means}
+use Rattle.sqlite.specs.State.{Shown}
 use Rattle.sqlite.specs.Listing.{understood}
-use Rattle.sqlite.proofs.Callers.{statement_of, runs_as}
-use Rattle.sqlite_trees.specs.View.{is_int, IsShaped}
-use Rattle.sqlite_trees.specs.declared.store.Shape.TheVariants as shape
-use Rattle.sqlite_trees.proofs.ListLemmas.{all-permutation, all_from_map, filter_all, filter-map}
-use Rattle.sqlite_catalog.specs.Listing.{IsSound}
 use Rattle.sqlite_schema.specs.declared.schema.Index.{Index}
-use Rattle.sqlite_schema.specs.declared.schema.Keys.TheVariants.{Enforced}
 use Rattle.sqlite_schema.specs.declared.schema.Constraint.{Constraint}
 use Rattle.sqlite_schema.specs.declared.schema.Constraint.TheVariants.{Unique}
-use Rattle.sqlite_schema.specs.Rules.{agree, clashes, differ, guards, passes, Keeps as Obeyed}
-use Rattle.sqlite_value.specs.declared.keys.Key.{Key}
-use Rattle.sqlite_value.specs.Keys.{plain, rising}
-use Rattle.sqlite_rules.specs.Lists.{Has}
-use Rattle.sqlite_rules.specs.Action.{works}
-use Rattle.sqlite_rules.proofs.ListLemmas.{all_has, all_from}
 use Rattle.sqlite_rules.proofs.TableLemmas.{int_is}
-use Rattle.kcr_rows.specs.Columns.{simple_as}
-use Rattle.kcr_rows.specs.Keyed.{cells, by_key, is_full, TableLayout, TreeHolds, put_in}
 use Rattle.sqlite_resolve.specs.Compile.{compiled}
-use Rattle.kcr_rows.specs.Texts.{Means}
 use Rattle.kcr_rows.proofs.TextLemmas.{command_is, is_plain, reads_shown}
 use Rattle.kcr_rows.proofs.ReadLemmas.{reading, with_key, reads_rows, reads_exact}
 use Rattle.kcr_rows.proofs.PutLemmas.{put, keeps_put, put_row_same, has_same}
@@ -55,15 +27,10 @@ pub record Changes (place : TableLayout) (schema : Schema) (values : Row) (old n
   pub others : (t : ℕ) → t ≢ place.tree → IsNoIndex schema t → new t ≡ old t
 
 -- what holds of each table of a schema holds of the one at a place
-all_at : {X : Type 0} (P : X → Type 0) (xs : List X) (at : ℕ) (x : X) → slice_get xs at ≡ Some x → AllByRecursion P xs → P x
-all_at P [] at x e all = absurd (cc)
-all_at P (y ∷ ys) zero x e all = let same : y ≡ x = cc in subst P same all.0
-all_at P (y ∷ ys) (suc at) x e all = all_at P ys at x e all.1
-
 rule_of : (rule : Constraint) (schema : Schema) (db : Trees) (at : ℕ) (table : Table) → slice_get schema.tables at ≡ Some table → Obeyed rule schema db
     → AllByRecursion (λ row. passes rule schema db table row ≡ true) (db table.tree)
-rule_of rule schema db at table here kept = all_at
-    (λ (t : Table). AllByRecursion (λ row. passes rule schema db t row ≡ true) (db t.tree)) schema.tables at table here kept
+rule_of rule schema db at table =
+    all-slice_get (λ (t : Table). AllByRecursion (λ row. passes rule schema db t row ≡ true) (db t.tree)) schema.tables at table
 
 -- the entries that a tree keeps have integers as rowids, and no NULL in their keys
 module _ (place : TableLayout) (db : Trees) (rows : List Row) (keeps : TreeHolds place db rows) (r : Row) (h : Has (db place.tree) r) where
@@ -125,8 +92,7 @@ module _ (place : TableLayout) (schema : Schema) (at : ℕ) (like : Table)
   insert_keeps old new p rows keeps =
       let entries = old place.tree in
       let none = all_from _ entries (λ r h. ap not (other_key old new p rows keeps r h)) in
-      let left = sym (filter_all (λ r. not (is_eq (by_key place.keys (cells place r) values))) entries none) in
-      keeps_put place old (entered entries given) values entries keeps.shaped left rows keeps new filled (shown entries) (numbered entries) p.free p.is
+      search (rules, filter_all, keeps_put, entered)
 
   abbrev Inserts : Command
   Inserts = Insert at (Values terms (suc (length place.at)))
@@ -149,18 +115,12 @@ no_index_in t (i ∷ more) h = let parts = and_parts _ _ h in ((λ e. true≢fal
 
 -- a tree that is no index and not the changed one keeps what it has
 pub keeps_on : (place : TableLayout) (old new : Trees) (rows : List Row) → new place.tree ≡ old place.tree → TreeHolds place old rows → TreeHolds place new rows
-keeps_on place old new rows same k = record {
-  same = subst (λ l. IsPermutation rows (map (cells place) l)) (sym same) k.same;
-  rising = k.rising;
-  full = k.full;
-  shaped = subst (IsShaped shape.Table) (sym same) k.shaped;
-}
+keeps_on place old new rows same k = search (rules, full)
 
 -- a table keeps its rows if the tree that was changed is another, and its own is no index
 pub keeps_still : (schema : Schema) (tree : ℕ) (place : TableLayout) (old new : Trees) (rows : List Row) → ((t : ℕ) → t ≢ tree → IsNoIndex schema t → new t ≡ old t)
     → (place.tree == tree) ≡ false → list_all (λ i. not (i.tree == place.tree)) schema.indexes ≡ true → TreeHolds place old rows → TreeHolds place new rows
-keeps_still schema tree place old new rows others apart bare =
-    keeps_on place old new rows (others place.tree (λ e. true≢false (sym (eq-eqb place.tree tree e) ∙ apart)) (no_index_in place.tree schema.indexes bare))
+keeps_still schema tree place old new rows others apart bare = search (rules, keeps_on, true≢false, eq-eqb, no_index_in)
 
 -- ---- values in place of rows
 
@@ -168,10 +128,7 @@ module _ {X : Type 0} (keys : ℕ) (row_of : X → Row) where
   -- a value put in its place gives the rows with its row put in its place
   pub put_in_rows : (new : X) (xs : List X) → map row_of (put_in keys row_of new xs) ≡ put keys (row_of new) (map row_of xs)
   put_in_rows new [] = refl
-  put_in_rows new (x ∷ xs) =
-      elim (by_key keys (row_of x) (row_of new)) as (λ o. map row_of (match_ordering o (x ∷ put_in keys row_of new xs) (new ∷ xs) (new ∷ x ∷ xs))
-      ≡ match_ordering o (row_of x ∷ put keys (row_of new) (map row_of xs)) (row_of new ∷ map row_of xs) (row_of new ∷ row_of x ∷ map row_of xs))
-      [ Less ↦ ap (λ l. row_of x ∷ l) (put_in_rows new xs) | Equal ↦ refl | Greater ↦ refl ]
+  put_in_rows new (x ∷ xs) = search (rules, put, put_in_rows new xs)
 
 -- rows of values of which one list was read and the other was put
 module _ {X : Type 0} (row_of : X → Row) (IsRead IsStored : X → Type 0) (one : (x y : X) → IsRead x → IsStored y → row_of x ≡ row_of y → x ≡ y) where
@@ -183,16 +140,9 @@ module _ {X : Type 0} (row_of : X → Row) (IsRead IsStored : X → Type 0) (one
   same_values (x ∷ xs) (y ∷ ys) r p h =
       let head : row_of x ≡ row_of y = cc in let tail : map row_of xs ≡ map row_of ys = cc in λ i. one x y r.0 p.0 head i ∷ same_values xs ys r.1 p.1 tail i
 
--- what holds of all elements holds of those that a test keeps
-pub all_filter : {X : Type 0} (P : X → Type 0) (p : X → Bool) (xs : List X) → AllByRecursion P xs → AllByRecursion P (filter p xs)
-all_filter P p [] all = tt
-all_filter P p (x ∷ xs) all = elim (p x) as
-    (λ b. AllByRecursion P (cond b (x ∷ filter p xs) (filter p xs))) [ true ↦ (all.0, all_filter P p xs all.1) | false ↦ all_filter P p xs all.1 ]
-
 -- what is known of every value
 pub each_is : {X : Type 0} (xs : List X) → AllByRecursion (λ _. ⊤) xs
-each_is [] = tt
-each_is (x ∷ xs) = (tt, each_is xs)
+each_is xs = all_of (λ _. ⊤) (λ _. tt) xs
 
 -- what a query on one table shows, as values
 module _ (place : TableLayout) (schema : Schema) (sql : List ℕ) (params : Row) (test project : List Term) (order : List (Term × Key)) (names : List (List ℕ))
@@ -211,8 +161,7 @@ module _ (place : TableLayout) (schema : Schema) (sql : List ℕ) (params : Row)
   shown_checked IsRead IsStored one old new xs has h read ys held keeps =
       let it = reads_shown schema sql _ is params old new has (map row_of xs) h in
       let rows = reads_rows place test project order params passes shows tests sorts low old.now.trees (map row_of xs) (map row_of ys) keeps (it.answer Null) in
-      same_values row_of IsRead IsStored one xs (filter (λ y. passes (row_of y)) ys) read (all_filter IsStored (λ y. passes (row_of y)) ys held)
-      (rows ∙ filter-map passes row_of ys)
+      search (rules, same_values, all-filter, filter-map)
 
   -- also if the tree is no register's
   pub shown_exact : (old new : State) (xs : List X) → old.now.schema ≡ schema → Shown sql params old new (map row_of xs)

@@ -1,24 +1,14 @@
 -- What the calls of the database do with a text, from what it means.
-use Rattle.std.proofs.Common.{◌≡◌, ℕ, List, false, if◌then◌else◌, Ok, Err, refl}
-use Rattle.sqlite.specs.Command.{Command}
-use Rattle.sqlite.specs.Effect.{Reads}
-use Rattle.sqlite.specs.Listing.{understood, reads_listing, misses_table, if_select, listing_schema}
-use Rattle.sqlite.specs.Order.{Row}
-use Rattle.sqlite.specs.Schema.{Schema}
-use Rattle.sqlite.specs.State.{State, Shown}
-use Rattle.sqlite.proofs.Callers.{IsPlain, command_of, reads_as}
+use Rattle.kcr_rows.proofs.Common.{◌≡◌, ℕ, List, false, rules, Command, Reads, reads_listing, Row, Schema, State, IsPlain, command_of, reads_as}
+use Rattle.kcr_rows.proofs.Common.{Means}
+use Rattle.sqlite.specs.Listing.{understood}
+use Rattle.sqlite.specs.State.{Shown}
 use Rattle.sqlite_resolve.specs.Compile.{compiled}
-use Rattle.kcr_rows.specs.Texts.{Means}
 
 module _ (schema : Schema) (sql : List ℕ) (command : Command) (means : Means command (compiled schema sql)) where
   known : (command_of (understood schema sql) ≡ command) × (reads_listing schema sql ≡ false) × IsPlain (understood schema sql)
   unfolding understood
-  known = (elim (compiled schema sql) as (λ r. Means command r →
-      let u = if misses_table r then if_select (compiled listing_schema sql) else r in
-      (command_of u ≡ command) × (misses_table r ≡ false) × IsPlain u) [
-        | Ok c ↦ λ h. (h.0, refl, (h.1, h.2))
-        | Err e ↦ λ h. absurd h
-      ]) means
+  known = search (rules, command_of)
 
   -- the database takes it for this command
   pub command_is : command_of (understood schema sql) ≡ command

@@ -1,37 +1,13 @@
 -- What UPDATE does to a table with a key, if it finds the row that has the key and sets each column.
-use Rattle.std.proofs.Common.{◌≡◌, ◌≢◌, inl, ℕ, ℤ, pos, zero, suc, ◌^◌, nat_le, Bool, true, false, List, [], ◌∷◌, map, filter, length, slice_get}
-use Rattle.std.proofs.Common.{unwrap_or, Some, None, Ok, refl, sym, ap, subst, ◌∙◌, arith}
-use Rattle.std.specs.List.{list_all}
-use Rattle.std.proofs.lemmas.List.{length-map}
-use Rattle.std.proofs.lemmas.List.Sorted.{length_permutation}
-use Rattle.sqlite.specs.declared.types.Value.TheVariants.{Null, Int}
-use Rattle.sqlite.specs.Cast.{cast_all}
-use Rattle.sqlite.specs.Command.{Command}
-use Rattle.sqlite.specs.Command.TheVariants.{Update}
-use Rattle.sqlite.specs.Does.{Tally, Does}
-use Rattle.sqlite.specs.Edit.{left_by, edited, are_fresh, IsNoIndex, taken_by}
-use Rattle.sqlite.specs.Effect.{Database}
+use Rattle.kcr_rows.proofs.Common.{◌≡◌, ◌≢◌, inl, ℕ, ℤ, pos, zero, suc, ◌^◌, nat_le, Bool, true, false, List, [], ◌∷◌, map, filter, length, slice_get}
+use Rattle.kcr_rows.proofs.Common.{unwrap_or, Some, None, Ok, refl, sym, ap, subst, ◌∙◌, arith, rules, list_all, length-map, length_permutation, Null}
+use Rattle.kcr_rows.proofs.Common.{Int, cast_all, Command, Update, Tally, Does, left_by, edited, are_fresh, IsNoIndex, taken_by, Database, Row}
+use Rattle.kcr_rows.proofs.Common.{overlay, IsAnswer, key_cmp, Schema, State, mode_of, Executes, Table, Term, eval_all, holds, Trees, rowid}
+use Rattle.kcr_rows.proofs.Common.{statement_of, runs_as, one_step, IsSound, has_filtered, works, Has, Enforced, rising, simple_as, cells, by_key}
+use Rattle.kcr_rows.proofs.Common.{is_full, TableLayout, TreeHolds, Means}
 use Rattle.sqlite.specs.Listing.{understood}
-use Rattle.sqlite.specs.Order.{Row}
-use Rattle.sqlite.specs.Program.{overlay}
-use Rattle.sqlite.specs.Query.{IsAnswer, key_cmp}
 use Rattle.sqlite.specs.Rows.{Written}
-use Rattle.sqlite.specs.Schema.{Schema}
-use Rattle.sqlite.specs.State.{State, mode_of, Executes}
-use Rattle.sqlite.specs.Table.{Table}
-use Rattle.sqlite.specs.Term.{Term, eval_all, holds}
-use Rattle.sqlite.specs.Tree.{Trees, rowid}
-use Rattle.sqlite.proofs.Callers.{statement_of, runs_as, one_step}
-use Rattle.sqlite_catalog.specs.Listing.{IsSound}
-use Rattle.sqlite_rules.proofs.ListLemmas.{has_filtered}
-use Rattle.sqlite_rules.specs.Action.{works}
-use Rattle.sqlite_rules.specs.Lists.{Has}
-use Rattle.sqlite_schema.specs.declared.schema.Keys.TheVariants.{Enforced}
-use Rattle.sqlite_value.specs.Keys.{rising}
-use Rattle.kcr_rows.specs.Columns.{simple_as}
-use Rattle.kcr_rows.specs.Keyed.{cells, by_key, is_full, TableLayout, TreeHolds}
 use Rattle.sqlite_resolve.specs.Compile.{compiled}
-use Rattle.kcr_rows.specs.Texts.{Means}
 use Rattle.kcr_rows.proofs.TextLemmas.{command_is, is_plain}
 use Rattle.kcr_rows.proofs.PutLemmas.{put}
 use Rattle.kcr_rows.proofs.KeyLemmas.{full, agrees, same_from, same_is}
@@ -53,17 +29,12 @@ Updated place schema values old new (suc more) = Changes place schema values old
 -- an update that changed some row has put one row
 pub row_changed : (place : TableLayout) (schema : Schema) (values : Row) (old new : Trees) (count : ℕ) → count ≢ 0 → Updated place schema values old new count
     → Changes place schema values old new
-row_changed place schema values old new zero some u = absurd (some refl)
-row_changed place schema values old new (suc more) some u = u
+row_changed place schema values old new count some u = grind arith
 
 -- a row that is put if all is as it was before
 pub changes_then : (place : TableLayout) (schema : Schema) (values : Row) (old mid new : Trees) → Stays place schema old mid → Changes place schema values mid new
     → Changes place schema values old new
-changes_then place schema values old mid new one two = record {
-  rows = λ rows keeps. two.rows rows (keeps_on place old mid rows one.rows keeps);
-  sound = two.sound;
-  others = λ t apart bare. two.others t apart bare ∙ one.others t apart bare;
-}
+changes_then place schema values old mid new one two = search (rules, keeps_on)
 
 -- the rows that an update finds are edited, and counted
 pub record IsUpdated (schema : Schema) (table : Table) (tree : ℕ) (test sets : List Term) (old new : Trees) (values : Row) (count : ℕ) : Type 0 where
@@ -164,10 +135,8 @@ module _ (place : TableLayout) (schema : Schema) (at : ℕ) (like : Table)
   updated : (old new : Trees) → IsSound schema new → (count : ℕ) (u : Is old new count) (answer : List Row) → u.answer ≡ answer
       → Updated place schema values old new count
   updated old new sound zero u [] is_none = record { rows = u.rows ∙ ap (λ l. edited old (rewriting old that l)) is_none; others = u.others }
-  updated old new sound zero u (y ∷ more) some =
-      let e : 0 ≡ suc _ = u.counted ∙ ap (λ l. length (rewriting old that l).news) some in absurd (omega (arith, e))
-  updated old new sound (suc n) u [] is_none =
-      let e : suc n ≡ 0 = u.counted ∙ ap (λ l. length (rewriting old that l).news) is_none in absurd (omega (arith, e))
+  updated old new sound zero u (y ∷ more) some = search (rules, rewriting)
+  updated old new sound (suc n) u [] is_none = search (rules, rewriting)
   updated old new sound (suc n) u (y ∷ more) some =
       record { sound = sound; rows = changed old new (suc n) u y more some; others = u.others }
 

@@ -1,29 +1,10 @@
 -- What INSERT of one row does to a table.
-use Rattle.std.proofs.Common.{◌≡◌, ◌≢◌, ◌⊎◌, inl, inr, ℕ, ℤ, ◌/◌, Bool, true, false, cond, List, [], ◌∷◌, ◌++◌, length, slice_get, Option, Some, None}
-use Rattle.std.proofs.Common.{Result, Ok, Err, sym, ap, subst, ◌∙◌, arith}
-use Rattle.std.proofs.lemmas.Bool.{and_parts, not-true}
-use Rattle.sqlite.specs.declared.types.Value.TheVariants.{Null, Int}
-use Rattle.sqlite.specs.Order.{Row}
-use Rattle.sqlite.specs.Term.{Term}
+use Rattle.kcr_rows.proofs.Common.{◌≡◌, ◌≢◌, ◌⊎◌, inl, inr, ℕ, ℤ, ◌/◌, Bool, false, cond, List, [], ◌∷◌, ◌++◌, length, slice_get, Option, Some, None}
+use Rattle.kcr_rows.proofs.Common.{Result, Ok, Err, arith, rules, and_parts, not-true, Null, Int, Row, Term, cast, cast_row, Trees, put_row, Table}
+use Rattle.kcr_rows.proofs.Common.{Schema, Values, Insert, edit_of, is_taken, IsNoIndex, taken_by, with_rowid, Chosen, Fits, Enforced, works, Tally}
+use Rattle.kcr_rows.proofs.Common.{Does, Database, value_rows, one_step, simple_as}
 use Rattle.sqlite.specs.Ops.{unary}
-use Rattle.sqlite.specs.Cast.{cast, cast_row}
-use Rattle.sqlite.specs.Tree.{Trees, put_row}
-use Rattle.sqlite.specs.Table.{Table}
-use Rattle.sqlite.specs.Schema.{Schema}
 use Rattle.sqlite.specs.Kind.TheVariants as kind
-use Rattle.sqlite.specs.Source.TheVariants.{Values}
-use Rattle.sqlite.specs.Command.TheVariants.{Insert}
-use Rattle.sqlite.specs.Edit.{edit_of, is_taken, are_fresh, IsNoIndex, taken_by, with_rowid}
-use Rattle.sqlite.specs.Rowids.TheVariants.{Chosen}
-use Rattle.sqlite_schema.specs.Rules.{Fits}
-use Rattle.sqlite_schema.specs.declared.schema.Keys.TheVariants.{Enforced}
-use Rattle.sqlite_rules.specs.Edit.{put_all}
-use Rattle.sqlite_rules.specs.Action.{works}
-use Rattle.sqlite.specs.Does.{Tally, Does}
-use Rattle.sqlite.specs.Effect.{Database, value_rows}
-use Rattle.sqlite.specs.Rows.{Written}
-use Rattle.sqlite.proofs.Callers.{one_step}
-use Rattle.kcr_rows.specs.Columns.{simple_as}
 
 either : {X : Type 0} (b : Bool) (x : X) → cond b x x ≡ x
 either b x = grind arith
@@ -73,22 +54,11 @@ module _ (schema : Schema) (at : ℕ) (tree : ℕ) (like : Table) (terms : List 
       (Insert at (Values terms width)) (Ok (tally, next))
       → (next.schema ≡ schema) × IsInserted schema tree trees next.trees (entered (trees tree) given)
   inserts limit trees text tally next h =
-      let entry = entered (trees tree) given in
       let on = rw here at h in
       let done = went on in
-      let now = ap (λ (p : Tally × Database). p.1) (same_value (went (went done.2).2).2) in
       let wrote = went done.1 in
-      let rows_is : wrote.0 ≡ given ∷ [] = wrote.1.1 ∙ gives in
       let counted = went wrote.2 in
       let edited_as = went counted.2 in
-      let last = went edited_as.2 in
       let edit = λ (rows : List Row). edit_of trees table [] Chosen 0 rows in
-      let news_is : (edit wrote.0).news ≡ entry ∷ [] = ap (λ rows. (edit rows).news) rows_is ∙ ap (λ r. entered (trees tree) r ∷ []) casts in
       let applies = one_step schema Enforced trees edited_as.0 (edit wrote.0) (alone (taken_by trees (edit wrote.0)) (edit wrote.0).news) edited_as.1 in
-      let free : is_taken (trees tree) entry ≡ false =
-      not-true _ (and_parts _ _ (subst (λ rows. are_fresh (trees tree) rows ≡ true) news_is applies.fresh)).0 in
-      let row_is : edited_as.0 tree ≡ put_row entry (trees tree) = applies.rows ∙ ap (put_all (trees tree)) news_is in
-      let trees_is : next.trees ≡ edited_as.0 = ap (λ (d : Database). d.trees) now ∙ ap (λ (w : Written). w.trees) (same_value last.2) ∙ same_value last.1 in (
-        ap (λ (d : Database). d.schema) now,
-        subst (λ t. IsInserted schema tree trees t entry) (sym trees_is) (record { free = free; is = row_is; fits = applies.fits; others = applies.others }),
-      )
+      search (rules, not-true, and_parts, same_value)

@@ -1,11 +1,6 @@
 -- What the check of an act tells, by its test.
-use Rattle.std.proofs.Common.{◌≡◌, Bool, false, Some, None, Result, Ok, Err}
-use Rattle.std.specs.Prelude.{MatchResult, OnOk}
-use Rattle.kcr_base.specs.Refuse.{IsTestResult}
-use Rattle.kcr_base.specs.declared.refusal.Refusal.{Refusal}
-use Rattle.kcr_history.specs.declared.commands.Act.{Act}
-use Rattle.kcr_history.specs.declared.views.View.{View}
-use Rattle.kcr_rules.specs.ByRows.{IsCheckResult, early_refusal_by, has_too_many_steps}
+use Rattle.kcr_rules.proofs.Common.{◌≡◌, Bool, false, Some, None, Result, Ok, Err, MatchResult, OnOk, IsTestResult, Refusal, Act, View, IsCheckResult}
+use Rattle.kcr_rules.proofs.Common.{early_refusal_by, has_too_many_steps}
 
 -- if the rows have no more steps done than a script has, what the act's test gives is the check's result
 pub checked : {X : Type 0} (view : View) (full : Bool) (act : Act) (result : Result X Refusal) → has_too_many_steps view act ≡ false

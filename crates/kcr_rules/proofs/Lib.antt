@@ -1,3 +1,4 @@
+mod Common
 pub mod Own
 pub mod Unless
 pub mod Plain

@@ -1,13 +1,6 @@
 -- An act without a refusal is not decided over a full register: each kind of act has that among its refusals, early or late.
-use Rattle.std.proofs.Common.{◌≡◌, Bool, false, None, Result, Ok, Err, arith}
-use Rattle.std.specs.Prelude.{OnOk}
-use Rattle.kcr_base.specs.declared.refusal.Refusal.{Refusal}
-use Rattle.kcr_history.specs.declared.commands.Act.{Act}
-use Rattle.kcr_history.specs.declared.commands.Act.TheVariants.{Ceremony}
-use Rattle.kcr_history.specs.declared.commands.Deed.TheVariants.{Open, RecordSheet}
-use Rattle.kcr_history.specs.declared.views.View.{View}
-use Rattle.kcr_rules.specs.declared.effects.Effect.{Effect}
-use Rattle.kcr_rules.specs.ByRows.{early_refusal_by, late_refusal_by, IsEffectResult}
+use Rattle.kcr_rules.proofs.Common.{◌≡◌, Bool, false, None, Result, Ok, Err, arith, OnOk, Refusal, Act, Ceremony, Open, RecordSheet, View, Effect}
+use Rattle.kcr_rules.proofs.Common.{early_refusal_by, late_refusal_by, IsEffectResult}
 
 not-full : (view : View) (full : Bool) (act : Act) → early_refusal_by view full act ≡ None → late_refusal_by view full act ≡ None → full ≡ false
 not-full view full (Ceremony ceremony at Open) e l = grind (arith, l)

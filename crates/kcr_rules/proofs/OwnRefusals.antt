@@ -1,40 +1,26 @@
 -- The first refusal of an act is one that its kind may get.
-use Rattle.std.proofs.Common.{◌≡◌, ◌≢◌, inl, inr, ℕ, Bool, true, false, List, ◌∷◌, option_map, Option, Some, None, Result, Ok, Err, refl, sym, subst, ap, ◌∙◌}
-use Rattle.std.specs.Prelude.{IfErr, MatchOption}
-use Rattle.kcr_base.specs.Refuse.{first_of, when, before_mark_refusal, not_after_mark_refusal}
+use Rattle.kcr_rules.proofs.Common.{◌≡◌, inl, inr, ℕ, Bool, true, false, List, ◌∷◌, option_map, Option, Some, None, Result, Ok, Err, refl, sym, subst}
+use Rattle.kcr_rules.proofs.Common.{IfErr, MatchOption, first_of, when, before_mark_refusal, not_after_mark_refusal, Refusal, Absent, Late, Script}
+use Rattle.kcr_rules.proofs.Common.{Settled, Unknown, no_holder_refusal, shut_refusal, unknown_box_refusal, settled_refusal, Act, Ceremony}
+use Rattle.kcr_rules.proofs.Common.{RecordSheet, Sign, RecordException, View, Effect, late_refusal_by, by_rows, has_too_many_steps, seat_request_by}
+use Rattle.kcr_rules.proofs.Common.{IsCheckResult, IsEffectResult, IsUnseatedFor, room_refusal}
 use Rattle.kcr_base.specs.declared.place.Place.{Place}
 use Rattle.kcr_base.specs.declared.refusal.Absentee.TheVariants as Absentees
 use Rattle.kcr_base.specs.declared.refusal.Thing.TheVariants as Things
 use Rattle.kcr_base.specs.declared.refusal.Refusal.TheVariants as Refusals
-use Rattle.kcr_base.specs.declared.refusal.Refusal.{Refusal}
-use Rattle.kcr_base.specs.declared.refusal.Refusal.TheVariants.{Absent, Late, Memory, Script, Settled, Unknown}
 use Rattle.kcr_base.proofs.RefuseLemmas.{is_memory}
-use Rattle.kcr_custody.specs.Custody.{no_holder_refusal, shut_refusal, unknown_box_refusal}
 use Rattle.kcr_custody.specs.declared.SafeNumber.{SafeNumber}
-use Rattle.kcr_people.specs.People.{settled_refusal}
 use Rattle.kcr_script.specs.declared.script.Step.{Step}
 use Rattle.kcr_room.specs.declared.Stay.{Stay}
 use Rattle.kcr_room.specs.declared.Way.{Way}
-use Rattle.kcr_history.specs.declared.commands.Act.{Act}
 use Rattle.kcr_history.specs.declared.commands.Deed.{Deed}
-use Rattle.kcr_history.specs.declared.commands.Act.TheVariants.{Ceremony}
-use Rattle.kcr_history.specs.declared.commands.Deed.TheVariants.{RecordSheet, Sign, RecordException}
-use Rattle.kcr_history.specs.declared.views.View.{View}
 use Rattle.kcr_history.specs.Conditions.{Facts, early_of_deed, script_refusal}
-use Rattle.kcr_rules.specs.declared.effects.Effect.{Effect}
-use Rattle.kcr_rules.specs.ByRows.{late_refusal_by, by_rows, has_too_many_steps, seat_request_by}
-use Rattle.kcr_rules.specs.ByRows.{IsCheckResult, IsEffectResult, IsRefusalOf, IsUnseatedFor}
 use Rattle.kcr_rules.specs.Refusals.{may_refuse}
-use Rattle.kcr_rules.specs.SheetRows.{room_refusal}
 
 -- a refusal, if one is told, is one that the act may get
 Own : Act → Option Refusal → Type 0
 Own act None = Unit {0}
 Own act (Some refusal) = may_refuse act refusal ≡ true
-
-told-own : (act : Act) (o : Option Refusal) (refusal : Refusal) → Own act o → o ≡ Some refusal → may_refuse act refusal ≡ true
-unfolding Own
-told-own act o refusal own is = subst (Own act) is own
 
 absent-own : (act : Act) → Own act None
 unfolding Own
@@ -109,40 +95,33 @@ own-late view full act = search own_rules depth 20
 
 -- RESULTS
 
--- what holds of out of memory, and of a refusal that is no such
-by_memory : (P : Refusal → Bool) → P Memory ≡ true → (r : Refusal) → (r ≢ Memory → P r ≡ true) → P r ≡ true
-by_memory P memory r other = elim (is_memory r) [
-  | inl e ↦ subst (λ q. P q ≡ true) (sym e) memory
-  | inr ne ↦ other ne
-]
-
 -- an act whose seats are not filled is refused for that, or because the rows are impossible
 own-unseated : (view : View) (act : Act) (r : Refusal) → IsUnseatedFor view (seat_request_by view act) r → may_refuse act r ≡ true
-own-unseated view (Ceremony c at (Sign step)) r (inl short) = subst (λ q. may_refuse (Ceremony c at (Sign step)) q ≡ true) (sym short.2) refl
-own-unseated view (Ceremony c at (Sign step)) r (inr crowd) = subst (λ q. may_refuse (Ceremony c at (Sign step)) q ≡ true) (sym crowd.0) refl
-own-unseated view (Ceremony c at (RecordException text true)) r (inl short) =
-    subst (λ q. may_refuse (Ceremony c at (RecordException text true)) q ≡ true) (sym short.2) refl
-own-unseated view (Ceremony c at (RecordException text true)) r (inr crowd) =
-    subst (λ q. may_refuse (Ceremony c at (RecordException text true)) q ≡ true) (sym crowd.0) refl
+own-unseated view (Ceremony c at (Sign step)) r (inl short) = rw short.2
+own-unseated view (Ceremony c at (Sign step)) r (inr crowd) = rw crowd.0
+own-unseated view (Ceremony c at (RecordException text true)) r (inl short) = rw short.2
+own-unseated view (Ceremony c at (RecordException text true)) r (inr crowd) = rw crowd.0
 own-unseated view act r u = absurd u
 
-own : (view : View) (full : Bool) (act : Act) (r : Refusal) → IsRefusalOf view full act r → may_refuse act r ≡ true
-own view full act r is = by_late (late_refusal_by view full act) refl is
-  where
-    by_late : (o : Option Refusal) → late_refusal_by view full act ≡ o → MatchOption o (IsUnseatedFor view (seat_request_by view act) r) (λ told. r ≡ told)
-        → may_refuse act r ≡ true
-    by_late None e u = own-unseated view act r u
-    by_late (Some told) e same = told-own act _ r (own-late view full act) (e ∙ ap Some (sym same))
+own : (view : View) (act : Act) (r : Refusal) (o : Option Refusal) → Own act o
+    → MatchOption o (IsUnseatedFor view (seat_request_by view act) r) (λ told. r ≡ told) → may_refuse act r ≡ true
+unfolding Own
+own view act r None late u = own-unseated view act r u
+own view act r (Some told) late same = subst (λ q. may_refuse act q ≡ true) (sym same) late
 
 -- an act is refused only for what acts of its kind may be refused for
 pub effect-kind : (view : View) (full : Bool) (act : Act) (result : Result Effect Refusal) → IsEffectResult view full act result
     → IfErr result (λ r. may_refuse act r ≡ true)
 effect-kind view full act (Ok acted) is = tt
-effect-kind view full act (Err r) is = by_memory (may_refuse act) refl r (λ ne. own view full act r (is ne))
+effect-kind view full act (Err r) is = elim (is_memory r) [
+  | inl e ↦ subst (λ q. may_refuse act q ≡ true) (sym e) refl
+  | inr ne ↦ own view act r _ (own-late view full act) (is ne)
+]
 
 -- what the first stage tells of an act in a ceremony, if the rows have no more steps done than a script has
 pub check_kind : {X : Type 0} (view : View) (full : Bool) (c at : ℕ) (deed : Deed) (result : Result X Refusal)
     → has_too_many_steps view (Ceremony c at deed) ≡ false → IsCheckResult view full (Ceremony c at deed) result
     → IfErr result (λ r. may_refuse (Ceremony c at deed) r ≡ true)
+unfolding Own
 check_kind view full c at deed (Ok x) few is = tt
-check_kind view full c at deed (Err r) few is = told-own (Ceremony c at deed) _ r (own-early (by_rows view full) c at deed) (is few)
+check_kind view full c at deed (Err r) few is = subst (Own (Ceremony c at deed)) (is few) (own-early (by_rows view full) c at deed)

@@ -1,7 +1,6 @@
 -- Worked examples of scripts and of seat texts.
-use Rattle.std.specs.Prelude.{◌≡◌, [], ◌++◌, Ok, Err, Some, None, codes, replicate}
-use Rattle.std.proofs.Common.{refl}
-use Rattle.kcr_script.specs.declared.seat.Seat.TheVariants.{AnyCo}
+use Rattle.kcr_script.proofs.Common.{Ok, Err, codes, refl, AnyCo}
+use Rattle.std.specs.Prelude.{◌≡◌, [], ◌++◌, Some, None, replicate}
 use Rattle.kcr_script.specs.Examples.{first_row, two_rows, two_steps, mark}
 use Rattle.kcr_script.specs.Reading.{seats_of, script_of}
 use Rattle.kcr_script.proofs.OnLiterals.{script_on_literals}

@@ -1,9 +1,6 @@
 -- Laws of scripts: what is read of a text is what the text stands for, and has its form.
-use Rattle.std.specs.Prelude.{◌≡◌, ◌↔◌, ℕ, List, Some, Ok, Err}
-use Rattle.kcr_script.specs.declared.seat.Seat.{Seat}
-use Rattle.kcr_script.specs.declared.script.Step.{Step}
-use Rattle.kcr_script.specs.Seats.{StandsFor, IsSeats}
-use Rattle.kcr_script.specs.Script.{IsScript, BreaksScript}
+use Rattle.kcr_script.proofs.Common.{◌↔◌, Ok, Err, Seat, Step, StandsFor, IsSeats, IsScript, BreaksScript}
+use Rattle.std.specs.Prelude.{◌≡◌, ℕ, List, Some}
 use Rattle.kcr_script.specs.Reading.{seats_of, script_of}
 use Rattle.kcr_script.proofs.SeatLemmas.{stands_are_seats}
 use Rattle.kcr_script.proofs.SeatReading.{seats_read, seats_stand}

@@ -1,5 +1,5 @@
 -- What an answer unfolds to compute the readers of scripts and seats on a text that is written out.
-use Rattle.std.specs.Prelude.{⊤}
+use Rattle.kcr_script.proofs.Common.{⊤}
 use Rattle.std.specs.Char.{encode_utf8}
 use Rattle.std.specs.Str.{chars, is_utf8}
 use Rattle.std.specs.Fmt.{digits}

@@ -1,33 +1,27 @@
 -- A text is the script of the steps that `script_of` gives, or breaks a rule at the row that it gives.
-use Rattle.std.proofs.Common.{◌≡◌, ℕ, ◌+◌, ◌≤◌, inl, inr, true, not, ◌&&◌, List, [], ◌∷◌, length, All, Option, Some, None, Result, Ok, Err, IfOk, IfErr}
-use Rattle.std.proofs.Common.{MatchResult, refl, sym, ap, ◌∙◌, arith}
-use Rattle.std.specs.Prelude.{◌==◌, nat_lt, nat_le, option_map}
+use Rattle.kcr_script.proofs.Common.{◌≡◌, ℕ, ◌+◌, ◌≤◌, inl, inr, true, not, List, [], ◌∷◌, length, All, Option, Some, None, Result, IfOk, IfErr}
+use Rattle.kcr_script.proofs.Common.{MatchResult, refl, sym, ap, ◌∙◌, arith, ◌==◌, nat_le, option_map, AllByRecursion, list_all, decimal}
+use Rattle.kcr_script.proofs.Common.{bytes_decides, pointwise, le-leb, leb-true, le-ltb, ltb-true, ltb-false, cond_both, both_ways}
+use Rattle.kcr_script.proofs.Common.{false_from_ne_true, Decides-and, Decides-not, Decides-eqb, Decides-by_and, All-from_recursion, nat_tests}
+use Rattle.kcr_script.proofs.Common.{records, default_config, same_text, Seat, Step, IsSeats, HasSteps, Fields, AreRows, header, IsRow, AreSteps}
+use Rattle.kcr_script.proofs.Common.{IsScriptRows, BreaksFrom, BreaksAt, IsScript, BreaksScript, is_printing, is_activity, step_of, join_steps}
+use Rattle.kcr_script.proofs.Common.{steps_from, some_steps, steps_of_rows}
+use Rattle.std.proofs.Common.{Ok, Err}
+use Rattle.std.specs.Prelude.{nat_lt}
 use Rattle.std.specs.Bool.{Decides}
-use Rattle.std.specs.List.{AllByRecursion, list_all}
-use Rattle.std.specs.Str.{is_utf8}
-use Rattle.std.specs.Fmt.{decimal}
-use Rattle.std.specs.Cmp.Lexicographic.{bytes_decides, pointwise}
-use Rattle.std.proofs.lemmas.Bool.{le-leb, leb-true, le-ltb, lt-ltb, ltb-true, ltb-false, cond_both, and_parts, both_ways, false_from_ne_true}
-use Rattle.std.proofs.lemmas.Bool.Decides.{Decides-and, Decides-not, Decides-eqb, Decides-by_and}
-use Rattle.std.proofs.lemmas.List.Elements.{All-from_recursion}
+use Rattle.std.proofs.lemmas.Result.{MatchResult-weaker, MatchResult-from_both}
 use Rattle.std.proofs.lemmas.Slice.Eq.{slice_eq-Decides}
 use Rattle.std.proofs.lemmas.Str.{IsUtf8-from_is_utf8, is_utf8-from_IsUtf8}
-use Rattle.csv.specs.Reading.{records, default_config, strip_bom}
+use Rattle.csv.specs.Reading.{strip_bom}
 use Rattle.kcr_base.specs.Line.{IsLine, IsPrinting}
-use Rattle.kcr_base.specs.Same.{same_text}
 use Rattle.kcr_base.specs.declared.refusal.Refusal.{Refusal}
 use Rattle.kcr_base.specs.declared.refusal.Refusal.TheVariants.{Memory, Script}
-use Rattle.kcr_script.specs.declared.seat.Seat.{Seat}
-use Rattle.kcr_script.specs.declared.script.Step.{Step}
 use Rattle.kcr_script.specs.Fault.{IfRow}
-use Rattle.kcr_script.specs.Seats.{IsSeats}
-use Rattle.kcr_script.specs.Steps.{HasSteps}
-use Rattle.kcr_script.specs.Script.{Fields, AreRows, header, IsRow, AreSteps, IsScriptRows, BreaksFrom, BreaksAt, IsScript, BreaksScript}
-use Rattle.kcr_script.specs.Reading.{is_printing, is_activity, seats_of, step_of, join_steps, steps_from, some_steps, steps_of_rows, script_of}
+use Rattle.kcr_script.specs.Reading.{seats_of, script_of}
 use Rattle.kcr_script.proofs.SeatLemmas.{stands_are_seats}
 use Rattle.kcr_script.proofs.SeatReading.{seats_read, seats_stand}
 use Rattle.kcr_script.proofs.StepLemmas.{has_steps}
-use Rattle.kcr_script.proofs.RowLemmas.{chosen, rows_there, rows_are}
+use Rattle.kcr_script.proofs.RowLemmas.{rows_there, rows_are}
 
 -- ---- one row
 
@@ -37,20 +31,16 @@ all_print text =
     (λ b. Decides-and (nat_le 32 b) (not (b == 127)) (leb-true 32 b, le-leb 32 b) (Decides-not (b == 127) (Decides-eqb b 127))) refl (λ b bytes. refl) text
 
 activity_passes : (text : List ℕ) → IsLine 500 text → is_activity text ≡ true
-activity_passes text h = rw
-    (le-leb 1 (length text) h.not_empty, le-leb (length text) 500 h.short, is_utf8-from_IsUtf8 text h.text, (all_print text).1 h.printing) refl
+activity_passes text h =
+    grind (arith, nat_tests, h.not_empty, h.short, is_utf8-from_IsUtf8 text h.text, (all_print text).1 h.printing)
 
 passed_activity : (text : List ℕ) → is_activity text ≡ true → IsLine 500 text
-passed_activity text e =
-    let a = and_parts (nat_le 1 (length text) && nat_le (length text) 500 && is_utf8 text) (list_all is_printing text) e in
-    let b = and_parts (nat_le 1 (length text) && nat_le (length text) 500) (is_utf8 text) a.0 in
-    let c = and_parts (nat_le 1 (length text)) (nat_le (length text) 500) b.0 in
-    record {
-      not_empty = leb-true 1 (length text) c.0;
-      short = leb-true (length text) 500 c.1;
-      text = IsUtf8-from_is_utf8 text b.1;
-      printing = (all_print text).0 a.1;
-    }
+passed_activity text e = record {
+  not_empty = grind (arith, nat_tests);
+  short = grind (arith, nat_tests);
+  text = IsUtf8-from_is_utf8 text (grind (arith, nat_tests));
+  printing = (all_print text).0 (grind (arith, nat_tests));
+}
 
 step_read : (k : ℕ) (row : Fields) (step : Step) → IsRow k row step → step_of k row ≡ Some step
 step_read k row step h =
@@ -60,27 +50,14 @@ step_read k row step h =
 with_seats : (activity : List ℕ) (found : Option (List Seat)) (step : Step)
     → option_map (λ seats. record { activity = activity; seats = seats }) found ≡ Some step
     → (found ≡ Some step.seats) × (activity ≡ step.activity)
-with_seats activity None step e = cc
-with_seats activity (Some seats) step e =
-    let made : Step = record { activity = activity; seats = seats } in
-    let same : made ≡ step = cc in
-    (ap (λ (s : Step). Some s.seats) same, ap (λ (s : Step). s.activity) same)
+with_seats activity found step e = grind arith
 
 row_of : (k : ℕ) (row : Fields) (step : Step) → step_of k row ≡ Some step → IsRow k row step
 row_of k (a ∷ b ∷ c ∷ []) step e =
-    elim (chosen (same_text a (decimal k) && is_activity b) _ _ (Some step) e) [
-      | inr fails ↦ let clash = fails.1 in cc
-      | inl holds ↦
-          let t = and_parts (same_text a (decimal k)) (is_activity b) holds.0 in
-          let s = with_seats b (seats_of c) step holds.1 in
-          let number = (bytes_decides a (decimal k)).0 t.0 in
-          record {
-            seat_text = c;
-            three = λ i. number i ∷ s.1 i ∷ c ∷ [];
-            activity = rw s.1 at (passed_activity b t.1);
-            seats = seats_stand c step.seats s.0;
-          }
-    ]
+    let t : (same_text a (decimal k) ≡ true) × (is_activity b ≡ true) = grind arith in
+    let s = with_seats b (seats_of c) step (grind arith) in
+    let number = (bytes_decides a (decimal k)).0 t.0 in
+    record { seat_text = c; three = cc; activity = rw s.1 at (passed_activity b t.1); seats = seats_stand c step.seats s.0 }
 row_of k other step e = cc
 
 no_step : (k : ℕ) (row : Fields) → ((step : Step) → ¬ (IsRow k row step)) → (found : Option Step) → step_of k row ≡ found → found ≡ None
@@ -97,11 +74,9 @@ steps_read k (row ∷ rows) (step ∷ steps) h = rw (le-ltb 400 k h.0, step_read
 
 fault_read : (k : ℕ) (rows : List Fields) (r : ℕ) → BreaksFrom k rows r → steps_from k rows ≡ Err r
 fault_read k [] r h = absurd h
-fault_read k (row ∷ rows) r (inl (inl above, at)) = rw (lt-ltb 400 k above) (ap (λ (n : ℕ). Err n) (sym at))
-fault_read k (row ∷ rows) r (inl (inr none, at)) =
-    let this : join_steps k (step_of k row) (steps_from (k + 1) rows) ≡ Err (k + 1) = rw (no_step k row none (step_of k row) refl) refl in
-    cond_both (nat_lt 400 k) (Err (k + 1)) _ (λ (x : Result (List Step) ℕ). x ≡ Err (k + 1)) (λ e. refl) (λ e. this) ∙ ap (λ (n : ℕ). Err n) (sym at)
-fault_read k (row ∷ rows) r (inr (low, step, is, more)) = rw (le-ltb 400 k low, step_read k row step is, fault_read (k + 1) rows r more) refl
+fault_read k (row ∷ rows) r (inl (inl above, at)) = grind (arith, nat_tests)
+fault_read k (row ∷ rows) r (inl (inr none, at)) = grind (arith, nat_tests, no_step k row none (step_of k row) refl)
+fault_read k (row ∷ rows) r (inr (low, step, is, more)) = grind (arith, nat_tests, step_read k row step is, fault_read (k + 1) rows r more)
 
 -- what is told of the rows: they are those of the steps, or break a rule at the row
 abbrev Told : ℕ → List Fields → Result (List Step) ℕ → Type 0
@@ -144,14 +119,10 @@ told_rows (first ∷ rows) =
     cond_both (pointwise same_text first header) (some_steps rows) (Err 1) (λ found. MatchResult found (IsScriptRows (first ∷ rows)) (BreaksAt (first ∷ rows)))
     (λ e. by rows ((is_header first).0 e)) (λ e. inl (λ is. both_ways _ e ((is_header first).1 is), refl))
   where
-    under : (rows : List Fields) (found : Result (List Step) ℕ) → first ≡ header → 1 ≤ length rows → Told 1 rows found
-        → MatchResult found (IsScriptRows (first ∷ rows)) (BreaksAt (first ∷ rows))
-    under rows (Ok steps) is some h = (is, some, h)
-    under rows (Err r) is some h = inr (is, inr h)
-
     by : (rows : List Fields) → first ≡ header → MatchResult (some_steps rows) (IsScriptRows (first ∷ rows)) (BreaksAt (first ∷ rows))
     by [] is = inr (is, inl (refl, refl))
-    by (row ∷ rows) is = under (row ∷ rows) (steps_from 1 (row ∷ rows)) is (omega arith) (told 1 (row ∷ rows))
+    by (row ∷ rows) is =
+        MatchResult-weaker (steps_from 1 (row ∷ rows)) (told 1 (row ∷ rows)) (λ steps h. (is, omega arith, h)) (λ r h. inr (is, inr h))
 
 -- ---- a text
 
@@ -165,35 +136,31 @@ pub break_read : (text : List ℕ) (row : ℕ) → BreaksScript text row → scr
 unfolding script_of
 break_read text row h = ap steps_of_rows (rows_are text h.0 h.1) ∙ row_read h.0 row h.2
 
--- what is read is the script, or breaks a rule there
-told_text : (text : List ℕ) → MatchResult (script_of text) (IsScript text) (BreaksScript text)
-unfolding script_of
-told_text text = by (steps_of_rows rows) (told_rows rows)
-  where
-    rows : List Fields
-    rows = records default_config (strip_bom text)
-
-    by : (found : Result (List Step) ℕ) → MatchResult found (IsScriptRows rows) (BreaksAt rows) → MatchResult found (IsScript text) (BreaksScript text)
-    by (Ok steps) h = (rows, rows_there text, h)
-    by (Err row) h = (rows, rows_there text, h)
-
 -- the steps that are read are those of the script that the text is
 pub read_is_script : (text : List ℕ) (steps : List Step) → script_of text ≡ Ok steps → IsScript text steps
-read_is_script text steps e = rw e at (told_text text)
+unfolding script_of
+read_is_script text steps e =
+    let rows = records default_config (strip_bom text) in (rows, rows_there text, rw e at (told_rows rows))
 
 -- the row that is named is the first that breaks a rule
 pub read_breaks : (text : List ℕ) (row : ℕ) → script_of text ≡ Err row → BreaksScript text row
-read_breaks text row e = rw e at (told_text text)
+unfolding script_of
+read_breaks text row e =
+    let rows = records default_config (strip_bom text) in (rows, rows_there text, rw e at (told_rows rows))
 
 -- ---- the form of what is read
 
+-- under row 1 a script has a row for each step, and one at least
+script_rows : (text : List ℕ) (steps : List Step) → script_of text ≡ Ok steps → (rows : List Fields) × (1 ≤ length rows) × AreSteps 1 rows steps
+script_rows text steps e = by (read_is_script text steps e)
+  where
+    by : IsScript text steps → (rows : List Fields) × (1 ≤ length rows) × AreSteps 1 rows steps
+    by ([], are, h) = absurd h
+    by (first ∷ rows, are, h) = (rows, h.1, h.2)
+
 -- a script has 1 to `MAX_STEPS` steps
 pub script_has_steps : (text : List ℕ) (steps : List Step) → script_of text ≡ Ok steps → HasSteps steps
-script_has_steps text steps e = by (read_is_script text steps e)
-  where
-    by : IsScript text steps → HasSteps steps
-    by ([], are, h) = absurd h
-    by (first ∷ rows, are, h) = has_steps rows steps h.2 h.1
+script_has_steps text steps e = let r = script_rows text steps e in has_steps r.0 steps r.2 r.1
 
 -- the activity is a line of at most 500 bytes, and the seats are such as a text can stand for
 abbrev pub HasForm : Step → Type 0
@@ -207,11 +174,7 @@ each_step k (row ∷ rows) (step ∷ steps) h = ((h.1.activity, stands_are_seats
 
 -- each step of a script has an activity of 1 to 500 bytes, and 1 to 16 seats whose numbers are 1 to 7
 pub steps_have_form : (text : List ℕ) (steps : List Step) → script_of text ≡ Ok steps → All HasForm steps
-steps_have_form text steps e = by (read_is_script text steps e)
-  where
-    by : IsScript text steps → All HasForm steps
-    by ([], are, h) = absurd h
-    by (first ∷ rows, are, h) = All-from_recursion HasForm steps (each_step 1 rows steps h.2)
+steps_have_form text steps e = let r = script_rows text steps e in All-from_recursion HasForm steps (each_step 1 r.0 steps r.2)
 
 -- ---- what a reader of scripts answers
 
@@ -224,6 +187,6 @@ row_named P Q other f h = absurd h
 pub script_is : (text : List ℕ) (rows : List Fields) → AreRows text rows → (found : Result (List Step) Refusal) → IfOk found (IsScriptRows rows)
     → IfErr found (IfRow (BreaksAt rows))
     → MatchResult found (λ steps. script_of text ≡ Ok steps) (IfRow (λ row. script_of text ≡ Err row))
-script_is text rows are (Ok steps) is breaks = script_read text steps (rows, are, is)
-script_is text rows are (Err refusal) is breaks = row_named (BreaksAt rows) (λ row. script_of text ≡ Err row) refusal
-    (λ row h. break_read text row (rows, are, h)) breaks
+script_is text rows are found is breaks =
+    MatchResult-weaker found (MatchResult-from_both found _ _ is breaks) (λ steps h. script_read text steps (rows, are, h)) (λ refusal h.
+    row_named (BreaksAt rows) (λ row. script_of text ≡ Err row) refusal (λ row h. break_read text row (rows, are, h)) h)

@@ -1,17 +1,11 @@
 -- How a text of items begins.
-use Rattle.std.proofs.Common.{rules, ◌≡◌, ◌≢◌, ℕ, ◌+◌, ◌≤◌, Bool, true, false, cond, eqb, List, [], ◌∷◌, ◌++◌, length, replicate, Option, Some, None, refl, sym}
-use Rattle.std.proofs.Common.{ap, ◌∙◌, arith, All, append_assoc, append-nil, length-append}
-use Rattle.std.specs.List.{flat_map, AllByRecursion}
+use Rattle.kcr_script.proofs.Common.{◌≡◌, ◌≢◌, ℕ, ◌+◌, ◌≤◌, Bool, true, cond, eqb, List, [], ◌∷◌, ◌++◌, length, replicate, Option, Some, None, refl}
+use Rattle.kcr_script.proofs.Common.{sym, ap, ◌∙◌, arith, All, append_assoc, append-nil, length-append, flat_map, AllByRecursion, length-replicate}
+use Rattle.kcr_script.proofs.Common.{All-head, All-tail, All-nil, All-append, All-same, All-from_recursion, All-replicate, both_ways, Seat, seat_text}
+use Rattle.kcr_script.proofs.Common.{IsSeat, can_repeat, Item, IsItem, star_text, item_text, after_semicolon, joined, item_seats, pair_item, Spells}
+use Rattle.kcr_script.proofs.Common.{StandsFor, IsSeats, Leads, IsLast}
 use Rattle.std.specs.Option.{MatchOption}
 use denote.Ref.{Bor}
-use Rattle.std.proofs.lemmas.List.{length-replicate}
-use Rattle.std.proofs.lemmas.List.Elements.{All-head, All-tail, All-nil, All-append, All-same, All-from_recursion, All-replicate}
-use Rattle.std.proofs.lemmas.Bool.{both_ways}
-use Rattle.kcr_script.specs.declared.seat.Seat.{Seat}
-use Rattle.kcr_script.specs.declared.seat.Seat.TheVariants.{Staff, Co, Rksh}
-use Rattle.kcr_script.specs.Seat.{seat_text, IsSeat, can_repeat}
-use Rattle.kcr_script.specs.Seats.{Item, IsItem, star_text, item_text, after_semicolon, joined, item_seats, pair_item, Spells, StandsFor, IsSeats, Leads}
-use Rattle.kcr_script.specs.Seats.{IsLast}
 
 -- ITEMS
 
@@ -28,14 +22,10 @@ abbrev pub Plain : ℕ → Type 0
 Plain b = b ≢ 59
 
 seat_plain : (s : Seat) → IsSeat s → AllByRecursion Plain (seat_text s)
-seat_plain (Co n) h = (omega arith, (omega arith, (omega arith, (omega arith, tt))))
-seat_plain (Rksh n) h = (omega arith, (omega arith, (omega arith, (omega arith, (omega arith, (omega arith, tt))))))
-seat_plain (Staff Ca) h = search (rules, arith)
-seat_plain other h = search (rules, arith)
+seat_plain s h = grind arith
 
 star_plain : (n : ℕ) → n ≤ 7 → (b : Bool) → AllByRecursion Plain (cond b [] (42 ∷ (48 + n) ∷ []))
-star_plain n h true = tt
-star_plain n h false = (omega arith, (omega arith, tt))
+star_plain n h b = grind arith
 
 -- an item has no semicolon
 pub item_plain : (item : Item) → IsItem item → All Plain (item_text item)
@@ -46,19 +36,15 @@ item_plain item h =
 -- a text is cut at its first semicolon in one way
 cut_same : (a b x y : List ℕ) → All Plain a → All Plain b → a ++ 59 ∷ x ≡ b ++ 59 ∷ y → (a ≡ b) × (x ≡ y)
 cut_same [] [] x y fa fb e = (refl, cc)
-cut_same [] (c ∷ b) x y fa fb e = let h : c ≡ 59 = cc in absurd (All-head Plain c b fb h)
-cut_same (c ∷ a) [] x y fa fb e = let h : c ≡ 59 = cc in absurd (All-head Plain c a fa h)
-cut_same (c ∷ a) (d ∷ b) x y fa fb e =
-    let head : c ≡ d = cc in
-    let tail : a ++ 59 ∷ x ≡ b ++ 59 ∷ y = cc in
-    let r = cut_same a b x y (All-tail Plain c a fa) (All-tail Plain d b fb) tail in
-    (λ i. head i ∷ r.0 i, r.1)
+cut_same [] (c ∷ b) x y fa fb e = grind (arith, All-head Plain c b fb)
+cut_same (c ∷ a) [] x y fa fb e = grind (arith, All-head Plain c a fa)
+cut_same (c ∷ a) (d ∷ b) x y fa fb e = grind (arith, cut_same a b x y (All-tail Plain c a fa) (All-tail Plain d b fb))
 
 cut_none : (a x b : List ℕ) → All Plain b → a ++ 59 ∷ x ≡ b → ⊥
 cut_none [] x [] f e = cc
-cut_none [] x (c ∷ b) f e = let h : c ≡ 59 = cc in All-head Plain c b f h
+cut_none [] x (c ∷ b) f e = grind (arith, All-head Plain c b f)
 cut_none (d ∷ a) x [] f e = cc
-cut_none (d ∷ a) x (c ∷ b) f e = let tail : a ++ 59 ∷ x ≡ b = cc in cut_none a x b (All-tail Plain c b f) tail
+cut_none (d ∷ a) x (c ∷ b) f e = grind (arith, cut_none a x b (All-tail Plain c b f))
 
 -- a text of one item, and one of an item before others
 pub spells_one : (item : Item) → IsItem item → Spells (item_text item) (item_seats item)
@@ -114,24 +100,15 @@ first_item front rest all free h = by h.more h.each_more h.text_is h.seats_are
     by [] each t s = absurd (cut_none front rest (item_text h.first) (item_plain h.first h.is_first) (t ∙ append-nil (item_text h.first)))
     by (item ∷ more) each t s =
         let r = cut_same front (item_text h.first) rest (joined item more) free (item_plain h.first h.is_first) t in
-        let spells : Spells rest
-        (flat_map item_seats (item ∷ more)) = record {
-          first = item;
-          more = more;
-          is_first = each.0;
-          each_more = each.1;
-          text_is = r.1;
-          seats_are = refl;
-        } in
+        let spells : Spells rest (flat_map item_seats (item ∷ more)) =
+        record { first = item; more = more; is_first = each.0; each_more = each.1; text_is = r.1; seats_are = refl } in
         record { item = h.first; is = h.is_first; text_is = sym r.0; holds = (flat_map item_seats (item ∷ more), spells, s) }
 
 -- ---- what a step of the reader answers
 
 same_replicate : (item : Item) (seat : Seat) (count : ℕ) → ◌≡◌ {A = Option (Seat × ℕ)} (Some (seat, count)) (Some (item.seat, item.count))
     → item_seats item ≡ replicate count seat
-same_replicate item seat count e =
-    let t : ◌≡◌ {A = Seat × ℕ} (item.seat, item.count) (seat, count) = cc in
-    ap (λ (p : Seat × ℕ). replicate p.1 p.0) t
+same_replicate item seat count e = grind arith
 
 -- the text is cut behind its front, if a rest is left
 abbrev IsCut : List ℕ → List ℕ → Option (Bor (List ℕ)) → Type 0
@@ -191,7 +168,7 @@ module _ (text rest : List ℕ) (done new : List Seat) (seat : Seat) (count : �
   back_step after back leads all h =
       let b = back all h in
       let l = leads.back b.0 b.1 in
-      (l.0, l.1, b.2 ∙ ap (λ (xs : List Seat). done ++ xs) l.2 ∙ rw e (sym (append_assoc done (replicate count seat) l.0)))
+      (l.0, l.1, grind (arith, append_assoc done (replicate count seat) l.0))
 
   -- if the item is the last, all seats of the text are those done and the item's own
   pub last_step : Back rest done → IsLast rest seat count → (all : List Seat) → Spells text all → new ≡ all
@@ -209,13 +186,7 @@ pub stands_are_seats : (text : List ℕ) (seats : List Seat) → StandsFor text 
 stands_are_seats text seats h =
     let s = h.spells in
     record {
-      some_seat = omega (
-        arith,
-        ap length s.seats_are,
-        length-append (item_seats s.first) (flat_map item_seats s.more),
-        length-replicate s.first.count s.first.seat,
-        s.is_first.one,
-      );
+      some_seat = omega (arith, ap length s.seats_are, length-append {A = Seat}, length-replicate {A = Seat}, s.is_first.one);
       sixteen = h.sixteen;
       each = All-same IsSeat seats (item_seats s.first ++ flat_map item_seats s.more) s.seats_are (items_seats (s.first ∷ s.more) (s.is_first, s.each_more));
     }

@@ -1,38 +1,20 @@
 -- A text stands for the seats that `seats_of` gives, and for no others.
-use Rattle.std.proofs.Common.{◌≡◌, ℕ, zero, suc, ◌≤◌, Bool, true, false, eqb, leb, List, [], ◌∷◌, ◌++◌, map, length, All, Option, Some, None, IfSome, refl, sym}
-use Rattle.std.proofs.Common.{ap, subst, ◌∙◌, arith, append-nil}
-use Rattle.std.specs.List.{flat_map, find, AllByRecursion, join_with_byte}
-use Rattle.std.specs.Cmp.Lexicographic.{bytes_decides}
-use Rattle.std.proofs.lemmas.Bool.{le-leb, leb-true, ne_eqb, cond_both}
+use Rattle.kcr_script.proofs.Common.{◌≡◌, ℕ, ◌≤◌, inl, inr, Bool, true, false, eqb, leb, List, [], ◌∷◌, ◌++◌, map, length, All, Option, Some, None}
+use Rattle.kcr_script.proofs.Common.{IfSome, refl, sym, ap, ◌∙◌, arith, append-nil, flat_map, AllByRecursion, join_with_byte, bytes_decides, le-leb}
+use Rattle.kcr_script.proofs.Common.{leb-true, ne_eqb, All-weaker, same_text, Ca, Seat, Staff, Co, Rksh, IsSeat, can_repeat, Item, IsItem, item_text}
+use Rattle.kcr_script.proofs.Common.{item_seats, pair_item, joined, Spells, StandsFor, one_to_seven, free_seats, repeated, all_items, item_of}
+use Rattle.kcr_script.proofs.Common.{between_semicolons, join_items, seats_of_items, at_most_sixteen, each-append, first-is}
 use Rattle.std.proofs.lemmas.Option.{cond_some, option_and_then_some}
-use Rattle.std.proofs.lemmas.List.Elements.{All-weaker}
 use Rattle.std.proofs.lemmas.List.Splits.{slice_split_none, slice_split_at, join_with_byte-slice_split, length-slice_split}
-use Rattle.kcr_base.specs.Same.{same_text}
-use Rattle.kcr_base.specs.declared.place.Role.TheVariants.{Ca}
-use Rattle.kcr_script.specs.declared.seat.Seat.{Seat}
-use Rattle.kcr_script.specs.declared.seat.Seat.TheVariants.{Staff, Co, Rksh}
-use Rattle.kcr_script.specs.Seat.{IsSeat, can_repeat}
-use Rattle.kcr_script.specs.Seats.{Item, IsItem, item_text, item_seats, pair_item, joined, Spells, StandsFor}
-use Rattle.kcr_script.specs.Reading.{one_to_seven, free_seats, repeated, all_items, item_of, between_semicolons, join_items, seats_of_items, at_most_sixteen}
+use Rattle.kcr_base.specs.Rows.{IsIn}
 use Rattle.kcr_script.specs.Reading.{seats_of}
 use Rattle.kcr_script.proofs.SeatLemmas.{Plain, item_plain, one_item, more_items, spells_one, spells_more}
-use Rattle.kcr_base.proofs.ListLemmas.{each-append}
 
 -- ---- the item with a text
 
--- what a search finds passes the test, and is like all in the list
-find_says : {X : Type 0} (P : X → Type 0) (test : X → Bool) (xs : List X) → AllByRecursion P xs → IfSome (find test xs) (λ x. (test x ≡ true) × P x)
-find_says P test [] h = tt
-find_says {X} P test (x ∷ xs) h =
-    cond_both (test x) (Some x) (find test xs) (λ (o : Option X). IfSome o (λ y. (test y ≡ true) × P y)) (λ e. (e, h.0)) (λ e. find_says P test xs h.1)
-
 -- what holds of 1 to 7, in a list
 from_seven : (P : ℕ → Type 0) → ((n : ℕ) → 1 ≤ n → n ≤ 7 → P n) → AllByRecursion P one_to_seven
-from_seven P f =
-    (f 1 (omega arith) (omega arith), (f 2 (omega arith) (omega arith), (f 3 (omega arith) (omega arith), (f 4 (omega arith) (omega arith), rest))))
-  where
-    rest : P 5 × (P 6 × (P 7 × Unit {0}))
-    rest = (f 5 (omega arith) (omega arith), (f 6 (omega arith) (omega arith), (f 7 (omega arith) (omega arith), tt)))
+from_seven P f = search (arith, f)
 
 free_items : (seats : List Seat) → AllByRecursion (λ seat. IsSeat seat × (can_repeat seat ≡ true)) seats → AllByRecursion IsItem (flat_map repeated seats)
 free_items [] h = tt
@@ -41,7 +23,7 @@ free_items (seat ∷ seats) h =
     (free_items seats h.1)
 
 nine_seats : AllByRecursion (λ seat. IsSeat seat × (can_repeat seat ≡ true)) free_seats
-nine_seats = ((tt, refl), ((tt, refl), ((tt, refl), ((tt, refl), ((tt, refl), ((tt, refl), ((tt, refl), ((tt, refl), ((tt, refl), tt)))))))))
+nine_seats = search (arith, refl {A = Bool})
 
 all_are_items : AllByRecursion IsItem all_items
 all_are_items =
@@ -55,34 +37,30 @@ all_are_items =
 
 item_found : (text : List ℕ) (item : Item) → item_of text ≡ Some item → IsItem item × (item_text item ≡ text)
 item_found text item e =
-    let P : Option Item → Type 0 = λ (o : Option Item). IfSome o (λ i. (same_text (item_text i) text ≡ true) × IsItem i) in
-    let f = subst P e (find_says IsItem (λ i. same_text (item_text i) text) all_items all_are_items) in
-    (f.1, (bytes_decides (item_text item) text).0 f.0)
+    let f = first-is (λ i. same_text (item_text i) text) IsItem item all_items all_are_items e in (f.1, (bytes_decides (item_text item) text).0 f.0)
+
+-- what holds of each element of a list
+each-in : {X : Type 0} (P : X → Type 0) (x : X) (xs : List X) → AllByRecursion P xs → IsIn x xs → P x
+each-in P x [] all i = absurd i
+each-in P x (y ∷ xs) all (inl e) = rw e all.0
+each-in P x (y ∷ xs) all (inr i) = each-in P x xs all.1 i
 
 -- what holds of 1 to 7
-of_seven : (P : ℕ → Type 0) → P 1 → P 2 → P 3 → P 4 → P 5 → P 6 → P 7 → (n : ℕ) → 1 ≤ n → n ≤ 7 → P n
-of_seven P one two three four five six seven zero low high = absurd (omega arith)
-of_seven P one two three four five six seven (suc zero) low high = one
-of_seven P one two three four five six seven (suc (suc zero)) low high = two
-of_seven P one two three four five six seven (suc (suc (suc zero))) low high = three
-of_seven P one two three four five six seven (suc (suc (suc (suc zero)))) low high = four
-of_seven P one two three four five six seven (suc (suc (suc (suc (suc zero))))) low high = five
-of_seven P one two three four five six seven (suc (suc (suc (suc (suc (suc zero)))))) low high = six
-of_seven P one two three four five six seven (suc (suc (suc (suc (suc (suc (suc zero))))))) low high = seven
-of_seven P one two three four five six seven (suc (suc (suc (suc (suc (suc (suc (suc n)))))))) low high = absurd (omega arith)
+of_seven : (P : ℕ → Type 0) → AllByRecursion P one_to_seven → (n : ℕ) → 1 ≤ n → n ≤ 7 → P n
+of_seven P all n low high = each-in P n one_to_seven all (grind arith)
 
 abbrev Again : Seat → ℕ → Type 0
 Again seat count = item_of (item_text (pair_item (seat, count))) ≡ Some (pair_item (seat, count))
 
 again : (seat : Seat) (count : ℕ) → IsItem (pair_item (seat, count)) → Again seat count
 again (Co n) count is =
-    let one = of_seven (λ (m : ℕ). Again (Co m) 1) refl refl refl refl refl refl refl n is.seat.0 is.seat.1 in
-    subst (Again (Co n)) (sym (is.numbered refl)) one
+    let one = of_seven (λ (m : ℕ). Again (Co m) 1) (refl, (refl, (refl, (refl, (refl, (refl, (refl, tt))))))) n is.seat.0 is.seat.1 in
+    rw (is.numbered refl) one
 again (Rksh n) count is =
-    let one = of_seven (λ (m : ℕ). Again (Rksh m) 1) refl refl refl refl refl refl refl n is.seat.0 is.seat.1 in
-    subst (Again (Rksh n)) (sym (is.numbered refl)) one
-again (Staff Ca) count is = of_seven (Again (Staff Ca)) refl refl refl refl refl refl refl count is.one is.seven
-again other count is = of_seven (Again other) refl refl refl refl refl refl refl count is.one is.seven
+    let one = of_seven (λ (m : ℕ). Again (Rksh m) 1) (refl, (refl, (refl, (refl, (refl, (refl, (refl, tt))))))) n is.seat.0 is.seat.1 in
+    rw (is.numbered refl) one
+again (Staff Ca) count is = of_seven (Again (Staff Ca)) (refl, (refl, (refl, (refl, (refl, (refl, (refl, tt))))))) count is.one is.seven
+again other count is = of_seven (Again other) (refl, (refl, (refl, (refl, (refl, (refl, (refl, tt))))))) count is.one is.seven
 
 -- an item is found by its text
 pub item_again : (item : Item) → IsItem item → item_of (item_text item) ≡ Some item
@@ -98,8 +76,7 @@ pieces : (first : Item) (more : List Item) → IsItem first → AllByRecursion I
 pieces first [] is each =
     ap between_semicolons (append-nil (item_text first)) ∙ slice_split_none (λ b. eqb b 59) (item_text first) (no_semicolon first is)
 pieces first (next ∷ more) is each =
-    slice_split_at (λ b. eqb b 59) (item_text first) 59 (joined next more) (no_semicolon first is) refl
-    ∙ ap (λ (texts : List (List ℕ)). item_text first ∷ texts) (pieces next more each.0 each.1)
+    slice_split_at (λ b. eqb b 59) (item_text first) 59 (joined next more) (no_semicolon first is) refl ∙ rw (pieces next more each.0 each.1)
 
 their_seats : (items : List Item) → AllByRecursion IsItem items → seats_of_items (map item_text items) ≡ Some (flat_map item_seats items)
 their_seats [] each = refl
@@ -108,10 +85,7 @@ their_seats (item ∷ items) each = rw (item_again item each.0, their_seats item
 -- the seats that a text spells are found by its parts between semicolons
 pub spelled : (text : List ℕ) (seats : List Seat) → Spells text seats → seats_of_items (between_semicolons text) ≡ Some seats
 spelled text seats h =
-    ap (λ (t : List ℕ). seats_of_items (between_semicolons t)) h.text_is
-    ∙ ap seats_of_items (pieces h.first h.more h.is_first h.each_more)
-    ∙ their_seats (h.first ∷ h.more) (h.is_first, h.each_more)
-    ∙ ap (λ (xs : List Seat). Some xs) (sym h.seats_are)
+    rw (h.text_is, h.seats_are, pieces h.first h.more h.is_first h.each_more) (their_seats (h.first ∷ h.more) (h.is_first, h.each_more))
 
 one_piece : (text : List ℕ) (found : Option Item) → item_of text ≡ found → IfSome (join_items found (Some [])) (Spells text)
 one_piece text None e = tt
@@ -153,9 +127,7 @@ seats_stand text seats e =
 -- what a reader answers that finds the seats of a text, and only those
 pub seats_are : (text : List ℕ) (found : Option (List Seat)) → IfSome found (StandsFor text)
     → ((seats : List Seat) → StandsFor text seats → found ≡ Some seats) → found ≡ seats_of text
-seats_are text None is only = by (seats_of text) refl
-  where
-    by : (found : Option (List Seat)) → seats_of text ≡ found → None ≡ seats_of text
-    by None e = sym e
-    by (Some seats) e = absurd (let none = only seats (seats_stand text seats e) in cc)
+seats_are text None is only =
+    let none = λ (seats : List Seat) (e : seats_of text ≡ Some seats). only seats (seats_stand text seats e) in
+    grind (arith, none)
 seats_are text (Some seats) is only = sym (seats_read text seats is)

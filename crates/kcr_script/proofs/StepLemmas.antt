@@ -1,8 +1,6 @@
 -- One more row of a script.
-use Rattle.std.proofs.Common.{◌≡◌, ℕ, ◌+◌, ◌≤◌, inl, inr, List, [], ◌∷◌, ◌++◌, length, Option, Some, None, refl, ap, ◌∙◌, arith, append_assoc}
-use Rattle.kcr_script.specs.declared.script.Step.{Step}
-use Rattle.kcr_script.specs.Script.{Fields, IsRow, AreSteps, BreaksFrom}
-use Rattle.kcr_script.specs.Steps.{HasSteps}
+use Rattle.kcr_script.proofs.Common.{◌≡◌, ℕ, ◌+◌, ◌≤◌, inl, inr, List, [], ◌∷◌, ◌++◌, length, Option, Some, None, refl, ap, ◌∙◌, arith, append_assoc}
+use Rattle.kcr_script.proofs.Common.{Step, Fields, IsRow, AreSteps, BreaksFrom, HasSteps}
 
 -- what a reader of a row answers
 abbrev pub Reads : ℕ → Fields → Option Step → Type 0
@@ -41,10 +39,7 @@ none_left rest k e = rw e tt
 
 few_steps : (k : ℕ) (rows : List Fields) (steps : List Step) → AreSteps k rows steps → k ≤ 401 → (length steps + k ≤ 401) × (length steps ≡ length rows)
 few_steps k [] [] h low = (omega arith, refl)
-few_steps k (row ∷ rows) (step ∷ steps) h low =
-    let next : k + 1 ≤ 401 = omega (arith, h.0) in
-    let rest = few_steps (k + 1) rows steps h.2 next in
-    (omega (arith, rest.0), omega (arith, rest.1))
+few_steps k (row ∷ rows) (step ∷ steps) h low = grind (arith, few_steps (k + 1) rows steps h.2)
 few_steps k rows steps h low = absurd h
 
 -- the steps of one row or more are 1 to 400

@@ -1,42 +1,17 @@
 -- Runs of seats and their groups, and the written text of a list, which stands for it.
-use Rattle.std.proofs.Common.{◌≡◌, ◌≢◌, ℕ, zero, suc, ◌+◌, ◌/◌, ◌%◌, ◌<◌, ◌≤◌, Bool, true, false, cond, eqb, nat_lt, ◌&&◌, List, [], ◌∷◌, length, drop, get_or}
-use Rattle.std.proofs.Common.{refl, sym, ap, subst, ◌∙◌, arith, ◌*◌, inl, inr, ◌++◌, replicate, All, append_assoc, append-nil}
-use Rattle.std.proofs.lemmas.Bool.Decides.{nat_tests}
-use Rattle.std.proofs.lemmas.Bool.{and_parts, eqb-true, false_from_ne_true, ltb-true, both_ways, cases_eq, cases_Bool}
-use Rattle.kcr_base.specs.declared.place.Role.TheVariants.{Ca, Iw, Sa, Ssc1, Ssc2, Rkos, Sw}
-use Rattle.kcr_script.specs.declared.seat.Seat.{Seat}
-use Rattle.kcr_script.specs.declared.seat.Seat.TheVariants.{Staff, AnyCo, AnyRksh, Co, Rksh}
-use Rattle.kcr_script.specs.Seat.{kind, can_repeat, IsSeat, seat_text}
-use Rattle.kcr_script.specs.Seats.{Item, runs, before_runs, groups, pair_item, IsItem, item_seats, star_text, after_semicolon, appended, all_appended}
-use Rattle.kcr_script.specs.Seats.{items_text, written, Spells, StandsFor, IsSeats}
-use Rattle.std.specs.List.{flat_map, AllByRecursion}
-use Rattle.std.proofs.lemmas.List.{replicate-append-replicate}
+use Rattle.kcr_script.proofs.Common.{◌≡◌, ◌≢◌, ℕ, zero, suc, ◌+◌, ◌/◌, ◌%◌, ◌<◌, ◌≤◌, true, false, cond, eqb, nat_lt, ◌&&◌, List, [], ◌∷◌, length}
+use Rattle.kcr_script.proofs.Common.{drop, get_or, refl, sym, ap, subst, ◌∙◌, arith, ◌*◌, inl, inr, ◌++◌, replicate, All, append_assoc, append-nil}
+use Rattle.kcr_script.proofs.Common.{nat_tests, cond_both, ne_eqb, false_from_ne_true, cases_Bool, Ca, Seat, Staff, kind, can_repeat, IsSeat}
+use Rattle.kcr_script.proofs.Common.{seat_text, Item, runs, before_runs, groups, pair_item, IsItem, item_seats, star_text, after_semicolon, appended}
+use Rattle.kcr_script.proofs.Common.{all_appended, items_text, Spells, StandsFor, IsSeats, flat_map, AllByRecursion, replicate-append-replicate}
+use Rattle.kcr_script.proofs.Common.{All-head, All-tail, each-append}
+use Rattle.kcr_script.specs.Seats.{written}
 use Rattle.std.proofs.lemmas.List.Concat.{flat_map-append}
-use Rattle.std.proofs.lemmas.List.Elements.{All-head, All-tail}
 use Rattle.kcr_script.proofs.SeatLemmas.{one_item, more_items}
-use Rattle.kcr_base.proofs.ListLemmas.{each-append}
-
-seat_of_kind : ℕ → Seat
-seat_of_kind n = get_or (Staff Ca ∷ Staff Iw ∷ Staff Sa ∷ Staff Ssc1 ∷ Staff Ssc2 ∷ Staff Rkos ∷ Staff Sw ∷ AnyCo ∷ AnyRksh ∷ []) n AnyCo
-
-seat_of_kind-kind : (s : Seat) → kind s < 9 → seat_of_kind (kind s) ≡ s
-unfolding seat_of_kind
-seat_of_kind-kind (Co n) h = absurd (omega arith)
-seat_of_kind-kind (Rksh n) h = absurd (omega arith)
-seat_of_kind-kind (Staff Ca) h = refl
-seat_of_kind-kind other h = refl
-
--- seats without a number are the same by their kind
-kind_same : (s t : Seat) → kind s < 9 → kind s ≡ kind t → s ≡ t
-kind_same s t h e = sym (seat_of_kind-kind s h) ∙ ap seat_of_kind e ∙ seat_of_kind-kind t (rw (← e) h)
 
 -- two seats of one kind, which have no number, are equal
 pub merged_same : (s t : Seat) → (nat_lt (kind s) 9 && eqb (kind s) (kind t)) ≡ true → s ≡ t
-merged_same s t h = let p = and_parts (nat_lt (kind s) 9) (eqb (kind s) (kind t)) h in kind_same s t (ltb-true (kind s) 9 p.0) (eqb-true (kind s) (kind t) p.1)
-
--- a test that fails
-not_merged : (s t : Seat) → (kind s < 9 → s ≢ t) → (nat_lt (kind s) 9 && eqb (kind s) (kind t)) ≡ false
-not_merged s t differ = false_from_ne_true _ (λ e. differ (ltb-true (kind s) 9 (and_parts (nat_lt (kind s) 9) (eqb (kind s) (kind t)) e).0) (merged_same s t e))
+merged_same s t h = grind (arith, nat_tests)
 
 merged : (s : Seat) → kind s < 9 → (nat_lt (kind s) 9 && eqb (kind s) (kind s)) ≡ true
 merged s h = grind (arith, nat_tests)
@@ -44,44 +19,31 @@ merged s h = grind (arith, nat_tests)
 -- the first of the runs is of the first seat
 first_run : (s : Seat) (rs : List Item) → (n : ℕ) × (more : List Item) × (before_runs s rs ≡ pair_item (s, n) ∷ more)
 first_run s [] = (1, [], refl)
-first_run s (run ∷ more) = by (nat_lt (kind s) 9 && eqb (kind s) (kind run.seat))
-  where
-    by : (b : Bool) → (n : ℕ) × (m : List Item)
-        × (cond b (record { seat = s; count = suc run.count } ∷ more) (record { seat = s; count = 1 } ∷ run ∷ more) ≡ pair_item (s, n) ∷ m)
-    by true = (suc run.count, more, refl)
-    by false = (1, run ∷ more, refl)
+first_run s (run ∷ more) =
+    cond_both (nat_lt (kind s) 9 && eqb (kind s) (kind run.seat)) _ _ (λ (rs : List Item). (n : ℕ) × (m : List Item) × (rs ≡ pair_item (s, n) ∷ m))
+    (λ e. (suc run.count, more, refl)) (λ e. (1, run ∷ more, refl))
 
 -- a seat before another makes a run of its own
-alone : (s : Seat) (rest : List Seat) → ((t : Seat) (ts : List Seat) → rest ≡ t ∷ ts → kind s < 9 → s ≢ t) → before_runs s (runs rest) ≡ pair_item (s, 1)
-    ∷ runs rest
+alone : (s : Seat) (rest : List Seat) → ((d : Seat) → 0 < length rest → get_or rest 0 d ≢ s)
+    → before_runs s (runs rest) ≡ pair_item (s, 1) ∷ runs rest
 alone s [] differ = refl
-alone s (t ∷ ts) differ =
-    let f = first_run t (runs ts) in
-    let no : (nat_lt (kind s) 9 && eqb (kind s) (kind t)) ≡ false = not_merged s t (differ t ts refl) in
-    let P : List Item → Type 0 = λ (rs : List Item). before_runs s rs ≡ pair_item (s, 1) ∷ rs in
-    subst P (sym f.2) (rw no refl)
+alone s (t ∷ ts) differ = rw ((first_run t (runs ts)).2, false_from_ne_true _ (λ e. differ t (omega arith) (sym (merged_same s t e))))
 
 -- the run of a seat that is there i more times, and then no more
 pub run_of : (xs : List Seat) (i : ℕ) (s : Seat) → kind s < 9 → i ≤ length xs → ((k : ℕ) (d : Seat) → k < i → get_or xs k d ≡ s)
     → ((d : Seat) → i < length xs → get_or xs i d ≢ s)
     → runs (s ∷ xs) ≡ pair_item (s, i + 1) ∷ runs (drop i xs)
-run_of xs zero s low h same differ = alone s xs (λ t ts e l g. differ t (omega (arith, ap length e)) (ap (λ (ys : List Seat). get_or ys 0 t) e ∙ sym g))
+run_of xs zero s low h same differ = alone s xs differ
 run_of [] (suc i) s low h same differ = absurd (omega arith)
 run_of (x ∷ xs) (suc i) s low h same differ =
     let again = run_of xs i s low (omega arith) (λ k d g. same (suc k) d (omega arith)) (λ d g. differ d (omega arith)) in
-    let one : i + 1 ≡ suc i = omega arith in
-    let two : suc i + 1 ≡ suc (suc i) = omega arith in
-    let P : List Item → Type 0 = λ (rs : List Item). before_runs s rs ≡ pair_item (s, suc i + 1) ∷ runs (drop i xs) in
-    ap (λ (y : Seat). runs (s ∷ y ∷ xs)) (same 0 x (omega arith)) ∙ subst P (sym again) (rw (merged s low, one, two) refl)
+    grind (arith, nat_tests, same 0 x (omega arith), merged s low)
 
 -- ---- groups of a run
 
 -- a run with seven more seats has one more group of seven in front
 pub groups_more : (s : Seat) (n : ℕ) → groups (pair_item (s, n + 7)) ≡ pair_item (s, 7) ∷ groups (pair_item (s, n))
-groups_more s n =
-    let q : (n + 7) / 7 ≡ suc (n / 7) = omega arith in
-    let r : (n + 7) % 7 ≡ n % 7 = omega arith in
-    rw (q, r) refl
+groups_more s n = grind arith
 
 -- ---- appending items
 
@@ -104,8 +66,7 @@ pub all_appended_is : (items : List Item) → all_appended [] items ≡ items_te
 all_appended_is [] = refl
 all_appended_is (first ∷ more) =
     let f = seat_front first.seat (star_text first.count) in
-    let P : List ℕ → Type 0 = λ (t : List ℕ). all_appended t more ≡ t ++ flat_map after_semicolon more in
-    subst P (sym f.2) (appended_after f.0 f.1 more)
+    rw f.2 (appended_after f.0 f.1 more)
 
 -- ---- the items of a list are items
 
@@ -122,18 +83,16 @@ record Are (P : Item → Type 0) (items : List Item) (seats : List Seat) : Type 
 -- the runs of a list
 
 before_runs_are : (s : Seat) (rs : List Item) (seats : List Seat) → IsSeat s → Are IsRun rs seats → Are IsRun (before_runs s rs) (s ∷ seats)
-before_runs_are s [] seats seat h = record {
-  each = (record { seat = seat; some = omega arith; numbered = λ _. refl }, tt);
-  are = ap (λ (xs : List Seat). s ∷ xs) h.are;
-}
+before_runs_are s [] seats seat h =
+    record { each = (record { seat = seat; some = omega arith; numbered = λ _. refl }, tt); are = ap (λ (xs : List Seat). s ∷ xs) h.are }
 before_runs_are s (run ∷ more) seats seat h = elim (cases_Bool (nat_lt (kind s) 9 && eqb (kind s) (kind run.seat))) [
   | inr apart ↦ rw apart
       (record { each = (record { seat = seat; some = omega arith; numbered = λ _. refl }, h.each); are = ap (λ (xs : List Seat). s ∷ xs) h.are })
   | inl joins ↦
-      let again : can_repeat s ≡ true = grind (arith, nat_tests) in
+      let same = merged_same s run.seat joins in
       rw joins (record {
-        each = (record { seat = seat; some = omega arith; numbered = λ e. absurd (both_ways _ e again) }, h.each.1);
-        are = ap (λ (t : Seat). s ∷ (replicate run.count t ++ flat_map item_seats more)) (merged_same s run.seat joins) ∙ ap (λ (xs : List Seat). s ∷ xs) h.are;
+        each = (record { seat = seat; some = omega arith; numbered = grind (arith, nat_tests) }, h.each.1);
+        are = grind (arith, h.are);
       })
 ]
 
@@ -144,38 +103,33 @@ runs_are (s ∷ more) h = before_runs_are s (runs more) more (All-head IsSeat s 
 -- the groups of a run
 
 join_items : (xs ys : List Item) (front back : List Seat) → Are IsItem xs front → Are IsItem ys back → Are IsItem (xs ++ ys) (front ++ back)
-join_items xs ys front back p q = record { each = each-append IsItem xs ys p.each q.each; are = flat_map-append item_seats xs ys ∙ rw (p.are, q.are) refl }
+join_items xs ys front back p q =
+    record { each = each-append IsItem xs ys p.each q.each; are = grind (arith, p.are, q.are, flat_map-append item_seats xs ys) }
 
 module _ (s : Seat) (seat : IsSeat s) (again : can_repeat s ≡ true) where
   sevens_are : (q : ℕ) → Are IsItem (replicate q (pair_item (s, 7))) (replicate (q * 7) s)
   sevens_are zero = record { each = tt; are = refl }
   sevens_are (suc q) =
-      let more : suc q * 7 ≡ 7 + q * 7 = omega arith in
       let rest = sevens_are q in
       record {
         each = (more_items s 7 seat again (omega arith) (omega arith), rest.each);
-        are = ap (λ (xs : List Seat). replicate 7 s ++ xs) rest.are ∙ replicate-append-replicate 7 (q * 7) s ∙ ap (λ (k : ℕ). replicate k s) (sym more);
+        are = grind (arith, rest.are, replicate-append-replicate 7 (q * 7) s);
       }
 
   rest_are : (r : ℕ) → r < 7 → Are IsItem (cond (eqb r 0) [] (pair_item (s, r) ∷ [])) (replicate r s)
-  rest_are r small = elim (cases_eq r 0) [
-    | inl e ↦ rw e (record { each = tt; are = refl })
-    | inr ne ↦ let t : eqb r 0 ≡ false = grind (arith, nat_tests) in rw t
-        (record { each = (more_items s r seat again (omega arith) (omega arith), tt); are = append-nil (replicate r s) })
-  ]
+  rest_are zero small = record { each = tt; are = refl }
+  rest_are (suc r) small = rw (ne_eqb (suc r) 0 (omega arith))
+      (record { each = (more_items s (suc r) seat again (omega arith) (omega arith), tt); are = append-nil (replicate (suc r) s) })
 
 groups_are : (run : Item) → IsRun run → Are IsItem (groups run) (item_seats run)
 groups_are run h = elim (cases_Bool (can_repeat run.seat)) [
   | inl again ↦
       let q = run.count / 7 in
       let r = run.count % 7 in
-      let whole : run.count / 7 * 7 + run.count % 7 ≡ run.count = omega arith in
-      let same : replicate (run.count / 7 * 7) run.seat ++ replicate (run.count % 7) run.seat ≡ item_seats run =
-      replicate-append-replicate (run.count / 7 * 7) (run.count % 7) run.seat ∙ ap (λ (k : ℕ). replicate k run.seat) whole in
+      let same : replicate (q * 7) run.seat ++ replicate r run.seat ≡ item_seats run =
+      grind (arith, replicate-append-replicate (q * 7) r run.seat) in
       subst (Are IsItem (groups run)) same (join_items _ _ _ _ (sevens_are run.seat h.seat again q) (rest_are run.seat h.seat again r (omega arith)))
-  | inr single ↦
-      let P : ℕ → Type 0 = λ (n : ℕ). Are IsItem (groups (pair_item (run.seat, n))) (replicate n run.seat) in
-      subst P (sym (h.numbered single)) (record { each = (one_item run.seat h.seat, tt); are = refl })
+  | inr single ↦ rw (h.numbered single) (record { each = (one_item run.seat h.seat, tt); are = refl })
 ]
 
 all_groups_are : (rs : List Item) → AllByRecursion IsRun rs → Are IsItem (flat_map groups rs) (flat_map item_seats rs)

@@ -1,5 +1,5 @@
 -- Which seatings a try rules out.
-use Rattle.std.proofs.Common.{◌≡◌, ℕ, ◌+◌, ◌<◌, ◌≤◌, inl, inr, Bool, ◌==◌, List, [], ◌∷◌, length, get_or, set, arith, sym, ◌∙◌, ap, eq-eqb}
+use Rattle.std.proofs.Common.{◌≡◌, ℕ, ◌+◌, ◌<◌, ◌≤◌, inl, inr, Bool, ◌==◌, List, [], ◌∷◌, length, get_or, set, arith, ◌∙◌, ap, eq-eqb}
 use Rattle.std.specs.Prelude.{SomeIndex}
 use Rattle.std.proofs.lemmas.Bool.{eqb-true}
 use Rattle.std.proofs.lemmas.List.{length-set}
@@ -37,10 +37,8 @@ enclosed {fits} {seats} {people} {root} {fixed} {w} {from} {v} (o ∷ os) long y
     let comes : (i : ℕ) → i < length (o ∷ os) → SomeIndex os (λ j. get_or w (get_or os j 0) 0 ≡ get_or v (seat i) 0) =
     λ (i : ℕ) (h : i < length (o ∷ os)). (
     let k = c.taken i (get_or v (seat i) 0) h (y.in_range (seat i) (low i h)) (y.fitting (seat i) (low i h)) in
-    let after : fixed ≤ k.0 = elim (below_or_not k.0 fixed) [
-      | inl b ↦ omega (arith, r.low i h, y.distinct k.0 (seat i) (rw long at k.1) (low i h) (same k.0 b ∙ k.2.1))
-      | inr b ↦ b
-    ] in
+    let after : fixed ≤ k.0 =
+    grind (arith, below_or_not k.0 fixed, r.low i h, same k.0, k.2.1, y.distinct k.0 (seat i) (rw long at k.1) (low i h)) in
     let j = later (λ k. k) o os k.0 (λ z. k.2.0 (z ∙ r.starts)) (m.only k.0 k.1 (k.2.2 after)) in
     (j.0, j.1, ap (λ n. get_or w n 0) j.2 ∙ k.2.1)) in
     let no_more = outnumbered (o ∷ os) os (λ k. get_or v k 0) (λ k. get_or w k 0) people (λ i h. y.in_range (seat i) (low i h)) comes
@@ -54,10 +52,7 @@ pub refused_stuck : {fits : ℕ → ℕ → Bool} {seats people seat person root
 refused_stuck {fits} {seats} {people} {seat} {person} {root} {w} y lo back c = record {
   same = back;
   none = λ v z same e. enclosed c.order (length-set w seat person ∙ y.each_seat) z
-      (λ k h. elim (set_at w seat person 0 k (rw y.each_seat (omega arith))) [
-        | inl a ↦ rw a.0 e ∙ sym a.1
-        | inr a ↦ same k (omega (arith, a.0)) ∙ sym a.1
-      ])
+      (λ k h. grind (arith, set_at w seat person 0 k (rw y.each_seat (omega arith)), same k))
       c.reached c.marks c.stuck;
 }
 

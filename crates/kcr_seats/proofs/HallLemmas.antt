@@ -1,7 +1,7 @@
 -- The theorem of Hall, by one seat after the other: of every relation there is a seating (`seating_or_short`) or there is a short list of seats, and never
 -- both (`not_both`).
 use Rattle.std.proofs.Common.{◌≡◌, ◌≢◌, ℕ, zero, suc, ◌+◌, ◌<◌, ◌≤◌, ◌⊎◌, inl, inr, Bool, true, false, cond, ◌==◌, List, [], ◌∷◌, ◌++◌}
-use Rattle.std.proofs.Common.{length, get_or, set, replicate, refl, arith, sym, ◌∙◌, subst, eq-eqb, add-one, length-append}
+use Rattle.std.proofs.Common.{length, get_or, set, replicate, refl, arith, sym, ◌∙◌, subst, eq-eqb, add-one, length-append, rules}
 use Rattle.std.proofs.lemmas.Bool.{eqb-true}
 use Rattle.std.proofs.lemmas.List.{length-set}
 use Rattle.std.proofs.Math.ListN.{get_or-append}
@@ -34,19 +34,15 @@ some_pair t n m = elim (first_below (λ i. (j : ℕ) × (j < m) × (t i j ≡ tr
 ]
   where
     row : (i : ℕ) → ((j : ℕ) × (j < m) × (t i j ≡ true)) ⊎ ((j : ℕ) → j < m → t i j ≡ false)
-    row i = elim (first_below (λ j. t i j ≡ true) (λ j. t i j ≡ false) (λ j. true_or_false (t i j)) m) [
-      | inl a ↦ inl (a.0, a.1, a.2)
-      | inr none ↦ inr none
-    ]
+    row i = elim (first_below (λ j. t i j ≡ true) (λ j. t i j ≡ false) (λ j. true_or_false (t i j)) m)
+        [ inl a ↦ inl (a.0, a.1, a.2) | inr none ↦ inr none ]
 
 -- what the second test says if the first one fails
 unless_yes : (m f : Bool) → cond m false f ≡ true → (m ≡ false) × (f ≡ true)
-unless_yes true f h = absurd (cc)
-unless_yes false f h = (refl, h)
+unless_yes m f h = (grind arith, grind arith)
 
 unless_no : (m f : Bool) → cond m false f ≡ false → f ≡ true → m ≡ true
-unless_no true f h k = refl
-unless_no false f h k = absurd (cc)
+unless_no m f h k = grind arith
 
 -- the seats reached from the root, if no further one is
 record Closure (fits : ℕ → ℕ → Bool) (root : ℕ) (w : List ℕ) : Type 0 where
@@ -98,15 +94,7 @@ walk {root = root} {index = index} {person = person} {w = w} {order = order} {fr
 
 -- the marked seats below n, rising
 list_of : (marked : List Bool) (n : ℕ) → (s : List ℕ) × IsListed marked n s
-list_of marked zero = (
-  [],
-  record {
-    rising = λ i h. absurd (omega arith);
-    low = λ i h. absurd (omega arith);
-    only = λ i h. absurd (omega arith);
-    all = λ j h. absurd (omega arith);
-  },
-)
+list_of marked zero = ([], search rules)
 list_of marked (suc n) = let r = list_of marked n in rw (← add-one) (elim (true_or_false (get_or marked n false)) [
   | inl passes ↦ (r.0 ++ n ∷ [], listed_more r.1 passes)
   | inr not_so ↦ (r.0, listed_same r.1 not_so)
@@ -186,15 +174,7 @@ module _ (fits : ℕ → ℕ → Bool) (seats people n : ℕ) (w : List ℕ) (y 
 
 up_to : (fits : ℕ → ℕ → Bool) (seats people n : ℕ) → n ≤ seats
     → ((w : List ℕ) × IsSeating fits n people w) ⊎ ((s : List ℕ) × IsShort fits seats people s)
-up_to fits seats people zero h = inl (
-  [],
-  record {
-    each_seat = refl;
-    in_range = λ k l. absurd (omega arith);
-    fitting = λ k l. absurd (omega arith);
-    distinct = λ j k l. absurd (omega arith);
-  },
-)
+up_to fits seats people zero h = inl ([], search rules)
 up_to fits seats people (suc n) h = elim (up_to fits seats people n (omega arith)) [
   | inl a ↦ rw (← add-one) (one_more fits seats people n a.0 a.1 (omega arith))
   | inr s ↦ inr s

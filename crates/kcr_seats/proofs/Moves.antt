@@ -1,5 +1,5 @@
 -- A seat is given to a person, and the others keep theirs.
-use Rattle.std.proofs.Common.{◌≡◌, ◌≢◌, ℕ, ◌+◌, ◌<◌, ◌≤◌, ◌⊎◌, inl, inr, Bool, true, List, length, get_or, set, refl, arith, sym, ◌∙◌}
+use Rattle.std.proofs.Common.{◌≡◌, ◌≢◌, ℕ, ◌+◌, ◌<◌, ◌≤◌, ◌⊎◌, Bool, true, List, length, get_or, set, refl, arith}
 use Rattle.std.proofs.lemmas.List.{length-set, get_or-set_same, get_or-set_other}
 use Rattle.kcr_seats.specs.Seating.{IsSeating}
 use Rattle.kcr_seats.specs.Search.{IsSeatedBut}
@@ -8,26 +8,17 @@ use Rattle.kcr_seats.proofs.Counting.{pigeonhole, same_or_not}
 -- a place of the list is the one that was set, or has what it had
 pub set_at : {X : Type 0} (w : List X) (seat : ℕ) (new d : X) (k : ℕ) → k < length w
     → ((k ≡ seat) × (get_or (set w seat new) k d ≡ new)) ⊎ ((k ≢ seat) × (get_or (set w seat new) k d ≡ get_or w k d))
-set_at w seat new d k h = elim (same_or_not k seat) [
-  | inl e ↦ inl (e, rw e (get_or-set_same w seat new d (rw e at h)))
-  | inr ne ↦ inr (ne, get_or-set_other w seat k new d ne)
-]
+set_at w seat new d k h = grind (arith, same_or_not k seat, get_or-set_same w seat new d, get_or-set_other w seat k new d)
 
 -- if the one who is left out is none of the list, it is a seating
 pub all_seated : {fits : ℕ → ℕ → Bool} {people root : ℕ} {w : List ℕ} (seats : ℕ) → length w ≡ seats → seats ≤ root
     → IsSeatedBut fits people root w → IsSeating fits seats people w
 all_seated {fits} {people} {root} {w} seats long past y = record {
   each_seat = long;
-  in_range = λ k l. y.in_range k (within k l) (other k l);
-  fitting = λ k l. y.fitting k (within k l) (other k l);
-  distinct = λ j k l m e. y.distinct j k (within j l) (within k m) (other j l) (other k m) e;
+  in_range = λ k l. y.in_range k (omega arith) (omega arith);
+  fitting = λ k l. y.fitting k (omega arith) (omega arith);
+  distinct = λ j k l m e. y.distinct j k (omega arith) (omega arith) (omega arith) (omega arith) e;
 }
-  where
-    within : (k : ℕ) → k < seats → k < length w
-    within k l = omega arith
-
-    other : (k : ℕ) → k < seats → k ≢ root
-    other k l e = absurd (omega arith)
 
 -- the seat is given to a person who had none but that of the new root
 pub given : {fits : ℕ → ℕ → Bool} {people root : ℕ} {w : List ℕ} (new seat person : ℕ) → IsSeatedBut fits people root w
@@ -35,26 +26,12 @@ pub given : {fits : ℕ → ℕ → Bool} {people root : ℕ} {w : List ℕ} (ne
     → ((k : ℕ) → k < length w → k ≢ new → k ≢ seat → (k ≢ root) × (get_or w k 0 ≢ person))
     → IsSeatedBut fits people new (set w seat person)
 given {fits} {people} {root} {w} new seat person y known fit others = record {
-  in_range = λ k l nk. elim (at k l) [ inl a ↦ rw a.1 known | inr a ↦ rw a.1 (y.in_range k (within k l) (others k (within k l) nk a.0).0) ];
-  fitting = λ k l nk. elim (at k l) [ inl a ↦ rw (a.1, a.0) fit | inr a ↦ rw a.1 (y.fitting k (within k l) (others k (within k l) nk a.0).0) ];
-  distinct = λ j k l m nj nk e. elim (at j l) [
-    | inl a ↦ elim (at k m) [
-      | inl b ↦ a.0 ∙ sym b.0
-      | inr b ↦ absurd ((others k (within k m) nk b.0).1 (sym b.1 ∙ sym e ∙ a.1))
-    ]
-    | inr a ↦ elim (at k m) [
-      | inl b ↦ absurd ((others j (within j l) nj a.0).1 (sym a.1 ∙ e ∙ b.1))
-      | inr b ↦ y.distinct j k (within j l) (within k m) (others j (within j l) nj a.0).0 (others k (within k m) nk b.0).0 (sym a.1 ∙ e ∙ b.1)
-    ]
-  ];
+  in_range = λ k l nk. (let l' = rw length-set at l in grind (arith, set_at w seat person 0 k l', others k l' nk, y.in_range k l'));
+  fitting = λ k l nk. (let l' = rw length-set at l in grind (arith, set_at w seat person 0 k l', others k l' nk, y.fitting k l'));
+  distinct = λ j k l m nj nk e. (
+      let l' = rw length-set at l in let m' = rw length-set at m in
+      grind (arith, set_at w seat person 0 j l', set_at w seat person 0 k m', others j l' nj, others k m' nk, y.distinct j k l' m'));
 }
-  where
-    within : (k : ℕ) → k < length (set w seat person) → k < length w
-    within k l = rw length-set at l
-
-    at : (k : ℕ) → k < length (set w seat person)
-        → ((k ≡ seat) × (get_or (set w seat person) k 0 ≡ person)) ⊎ ((k ≢ seat) × (get_or (set w seat person) k 0 ≡ get_or w k 0))
-    at k l = set_at w seat person 0 k (rw length-set at l)
 
 -- the same, whether or not they fit their seats
 pub any_fit : {fits : ℕ → ℕ → Bool} {people root : ℕ} {w : List ℕ} (more : ℕ) → people ≤ more → IsSeatedBut fits people root w
@@ -71,7 +48,5 @@ seats_few {fits} {people} {root} {w} y =
     let moved = given (length w) root people (any_fit (people + 1) (omega arith) y) (omega arith) refl
     (λ k l _ ne. (ne, λ e. let a : get_or w k 0 < people = y.in_range k l ne in absurd (omega arith))) in
     let all = all_seated (length w) (length-set w root people) (omega arith) moved in
-    pigeonhole_at (set w root people) (people + 1) (length-set w root people) all
-  where
-    pigeonhole_at : {fits : ℕ → ℕ → Bool} {n : ℕ} (v : List ℕ) (people : ℕ) → length v ≡ n → IsSeating fits n people v → n ≤ people
-    pigeonhole_at v people e s = rw e at (pigeonhole v people (λ i h. s.in_range i (rw e at h)) (λ i j h k. s.distinct i j (rw e at h) (rw e at k)))
+    let e = length-set w root people in
+    rw e at (pigeonhole (set w root people) (people + 1) (λ i h. all.in_range i (rw e at h)) (λ i j h k. all.distinct i j (rw e at h) (rw e at k)))

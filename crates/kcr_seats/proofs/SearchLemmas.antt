@@ -1,17 +1,18 @@
 -- The steps of the search keep what is known of it.
-use Rattle.std.proofs.Common.{◌≡◌, ◌≢◌, ℕ, suc, ◌+◌, ◌<◌, ◌≤◌, ◌⊎◌, inl, inr, Bool, true, false, List, [], ◌∷◌, ◌++◌, length, get_or}
+use Rattle.std.proofs.Common.{◌≡◌, ◌≢◌, ℕ, ◌+◌, ◌<◌, ◌≤◌, ◌⊎◌, inl, inr, Bool, true, false, List, [], ◌∷◌, ◌++◌, length, get_or}
 use Rattle.std.proofs.Common.{set, replicate, refl, arith, sym, ◌∙◌, ap, length-append}
 use Rattle.std.specs.Prelude.{SomeIndex}
-use Rattle.std.proofs.lemmas.List.{get_or_read, length-set, length-replicate, get_or-replicate, set-set, set-get_or, get_or-set_same, get_or-set_other}
+use Rattle.std.proofs.lemmas.List.{get_or_read, length-set, length-replicate, get_or-replicate}
+use Rattle.std.proofs.lemmas.List.{set-set, set-get_or, get_or-set_same, get_or-set_other}
 use Rattle.std.proofs.lemmas.List.Elements.{All-from_get_or}
-use Rattle.std.proofs.lemmas.List.Folds.{list_any_at, list_any_none}
+use Rattle.std.proofs.lemmas.List.Folds.{list_any_at, list_any_none, Any-from_list_any}
 use Rattle.std.proofs.Math.ListN.{get_or-append}
 use Rattle.std.proofs.Math.Seq.{get_or-append_seam}
 use Rattle.kcr_seats.specs.Seating.{can_take}
 use Rattle.kcr_seats.specs.Search.{IsRootAlone, IsReached, IsMarked, IsClosed, IsListed}
 use Rattle.kcr_seats.proofs.Between.{IsAlternatingPath, IsRow}
 use Rattle.kcr_seats.specs.Placement.{IsPlaced}
-use Rattle.kcr_seats.proofs.Counting.{pigeonhole, true_or_false, same_or_not}
+use Rattle.kcr_seats.proofs.Counting.{pigeonhole, same_or_not}
 use Rattle.kcr_seats.proofs.Moves.{all_seated, given, set_at}
 
 -- a person fits one of the seats, or none
@@ -25,21 +26,14 @@ can_take_none fits s p h = list_any_none (λ k. fits k p) s (All-from_get_or (λ
 
 -- a person who can take a seat of the list fits one of them
 pub can_take_at : (fits : ℕ → ℕ → Bool) (s : List ℕ) (p : ℕ) → can_take fits s p ≡ true → SomeIndex s (λ i. fits (get_or s i 0) p ≡ true)
-can_take_at fits [] p h = absurd (cc)
-can_take_at fits (x ∷ xs) p h = elim (true_or_false (fits x p)) [
-  | inl a ↦ (0, omega arith, a)
-  | inr a ↦ let w = can_take_at fits xs p (rw a at h) in (suc w.0, (let l = w.1 in omega arith), w.2)
-]
+can_take_at fits s p h = let w = Any-from_list_any (λ k. fits k p) s h in (w.0, w.2, rw (← get_or_read s w.0 w.1 w.2 (sym w.3) 0) w.4)
 
 -- an index of a longer list is one of the list, or the last
 pub last_or_not : (xs : List ℕ) (y i : ℕ) → i < length (xs ++ y ∷ [])
     → ((i < length xs) × (get_or (xs ++ y ∷ []) i 0 ≡ get_or xs i 0)) ⊎ ((i ≡ length xs) × (get_or (xs ++ y ∷ []) i 0 ≡ y))
 last_or_not xs y i l =
     let l' : i < length xs + 1 = simp length-append at l in
-    elim (same_or_not i (length xs)) [
-      | inl e ↦ inr (e, rw e (get_or-append_seam xs y [] 0))
-      | inr ne ↦ let m : i < length xs = omega arith in inl (m, get_or-append xs (y ∷ []) 0 i m)
-    ]
+    grind (arith, same_or_not i (length xs), get_or-append_seam xs y [] 0, get_or-append xs (y ∷ []) 0 i)
 
 -- what is in a list is in a longer one, and so is the last
 pub some_more : (xs : List ℕ) (y j : ℕ) → SomeIndex xs (λ i. get_or xs i 0 ≡ j) ⊎ (y ≡ j) → SomeIndex (xs ++ y ∷ []) (λ i. get_or (xs ++ y ∷ []) i 0 ≡ j)
@@ -74,30 +68,21 @@ module _ {fits : ℕ → ℕ → Bool} {root fixed : ℕ} {w order from : List �
         linked = simp length-append (omega arith);
         low = λ i l. elim (last_or_not order other i l) [ inl a ↦ rw a.1 (r.low i a.0) | inr a ↦ rw a.1 fi ];
         high = λ i l. elim (last_or_not order other i l) [ inl a ↦ rw a.1 (r.high i a.0) | inr a ↦ rw a.1 lo ];
-        distinct = λ i j l k e. elim (last_or_not order other i l) [
-          | inl a ↦ elim (last_or_not order other j k) [
-            | inl b ↦ r.distinct i j a.0 b.0 (sym a.1 ∙ e ∙ b.1)
-            | inr b ↦ absurd (new i a.0 (sym a.1 ∙ e ∙ b.1))
-          ]
-          | inr a ↦ elim (last_or_not order other j k) [ inl b ↦ absurd (new j b.0 (sym b.1 ∙ sym e ∙ a.1)) | inr b ↦ a.0 ∙ sym b.0 ]
-        ];
-        before = λ i p l. elim (last_or_not order other i l) [
-          | inl a ↦ rw (keeps_from i a.0) (r.before i p a.0)
-          | inr a ↦ rw (a.0, last_from) ne
-        ];
-        edge = λ i p l. elim (last_or_not order other i l) [
-          | inl a ↦
-              let below : get_or from i 0 < i = r.before i p a.0 in let inside : i < length order = a.0 in
-              rw (a.1, keeps_from i a.0, get_or-append order (other ∷ []) 0 (get_or from i 0) (omega arith)) (r.edge i p a.0)
-          | inr a ↦ rw (a.1, a.0, last_from, get_or-append order (other ∷ []) 0 next ne) fit
-        ];
+        distinct = λ i j l k e. grind (arith, last_or_not order other i l, last_or_not order other j k, new i, new j, r.distinct i j);
+        before = λ i p l. elim (last_or_not order other i l) [ inl a ↦ rw (keeps_from i a.0) (r.before i p a.0) | inr a ↦ rw (a.0, last_from) ne ];
+        edge = λ i p l. grind (
+          arith,
+          last_or_not order other i l,
+          keeps_from i,
+          r.before i p,
+          r.edge i p,
+          get_or-append order (other ∷ []) 0 (get_or from i 0),
+          get_or-append order (other ∷ []) 0 next,
+        );
       }
 
 still : (j other : ℕ) (marked : List Bool) → other < length marked → get_or marked j false ≡ true → get_or (set marked other true) j false ≡ true
-still j other marked l h = elim (same_or_not j other) [
-  | inl e ↦ rw e (get_or-set_same marked other true false l)
-  | inr ne ↦ get_or-set_other marked other j true false ne ∙ h
-]
+still j other marked l h = grind (arith, same_or_not j other, get_or-set_same marked other true false l, get_or-set_other marked other j true false)
 
 -- with one more seat reached and marked, still exactly the reached seats are marked
 pub marked_more : {w order : List ℕ} {marked : List Bool} (other : ℕ) → IsMarked w order marked → other < length w
@@ -106,14 +91,15 @@ marked_more {w} {order} {marked} other m lo =
     let table : length marked ≡ length w = m.table in
     record {
       table = length-set marked other true ∙ m.table;
-      all = λ i l. elim (last_or_not order other i l) [
-        | inl a ↦ rw a.1 (still (get_or order i 0) other marked (omega arith) (m.all i a.0))
-        | inr a ↦ rw a.1 (get_or-set_same marked other true false (omega arith))
-      ];
-      only = λ j l h. some_more order other j (elim (set_at marked other true false j (omega arith)) [
-        | inl a ↦ inr (sym a.0)
-        | inr a ↦ inl (m.only j l (sym a.1 ∙ h))
-      ]);
+      all = λ i l. grind (
+        arith,
+        last_or_not order other i l,
+        m.all i,
+        still (get_or order i 0) other marked (omega arith),
+        get_or-set_same marked other true false (omega arith),
+      );
+      only = λ j l h. some_more order other j
+          (elim (set_at marked other true false j (omega arith)) [ inl a ↦ inr (sym a.0) | inr a ↦ inl (m.only j l (sym a.1 ∙ h)) ]);
     }
 
 -- the root alone is reached from the root
@@ -141,10 +127,7 @@ module _ {root : ℕ} {w order from : List ℕ} {marked : List Bool} (alone : Is
       rw (alone.order_is, alone.marked_is) (record {
         table = length-set blank root true ∙ long;
         all = λ i l. (let z : i ≡ 0 = omega arith in rw z (get_or-set_same blank root true false (omega arith)));
-        only = λ j l h. elim (set_at blank root true false j (omega arith)) [
-          | inl a ↦ (0, omega arith, sym a.0)
-          | inr a ↦ let none : get_or blank j false ≡ false = get_or-replicate (length w) j false false l in absurd (cc (a.1, h))
-        ];
+        only = λ j l h. (0, omega arith, grind (arith, set_at blank root true false j (omega arith), get_or-replicate (length w) j false false l));
       })
 
 -- no seat has been asked yet at the next index
@@ -168,8 +151,7 @@ module _ {fits : ℕ → ℕ → Bool} {root fixed next other seat : ℕ} {w ord
         reached = reached_more r.reached next other r.marks lo fi un r.inside (rw r.here fit);
         marks = marked_more other r.marks lo;
         closed = λ i j l f h k.
-            let m : i < length order = omega arith in
-            still j other marked (omega arith) (r.closed i j l f h (rw (get_or-append order (other ∷ []) 0 i m) at k));
+            still j other marked (omega arith) (r.closed i j l f h (rw (get_or-append order (other ∷ []) 0 i (omega arith)) at k));
         row = λ j f h k. elim (same_or_not j other) [
           | inl e ↦ rw e (get_or-set_same marked other true false (omega arith))
           | inr ne ↦ still j other marked (omega arith) (r.row j f (omega arith) k)
@@ -194,10 +176,7 @@ module _ {fits : ℕ → ℕ → Bool} {root fixed next other seat : ℕ} {w ord
 
   -- after the row, the seat at the index is closed too
   pub row_closed : length w ≤ other → IsClosed fits fixed (next + 1) (length w) w order marked
-  row_closed h = λ i j l f k e. elim (same_or_not i next) [
-    | inl a ↦ r.row j f (omega arith) (rw (a, r.here) at e)
-    | inr ne ↦ r.closed i j (omega arith) f k e
-  ]
+  row_closed h = λ i j l f k e. grind (arith, same_or_not i next, r.row j f, r.closed i j, r.here)
 
 module _ {fits : ℕ → ℕ → Bool} {people root index person : ℕ} {w order from : List ℕ} (y : IsAlternatingPath fits people root index person w order from) where
   -- the seat that was read at the index is one of the list
@@ -225,11 +204,8 @@ module _ {fits : ℕ → ℕ → Bool} {people root index person : ℕ} {w order
         seated = given root seat person y.seated y.known (rw es y.fitting) (λ k l nk _. (nk, y.free k l nk));
         known = rw ep (y.seated.in_range seat within ns);
         free = λ k l nk e. (
-            let l' : k < length w = rw length-set at l in
-            elim (set_at w seat person 0 k l') [
-              | inl a ↦ y.free seat within ns (sym ep ∙ sym e ∙ a.1)
-              | inr a ↦ a.0 (y.seated.distinct k seat l' within nk ns (sym a.1 ∙ e ∙ ep))
-            ]);
+            let l' = rw length-set at l in
+            grind (arith, set_at w seat person 0 k l', y.free seat within ns, y.seated.distinct k seat l' within nk ns));
         inside = omega arith;
         fitting = rw (ei, ep, es) (y.edge index some (omega arith));
         before = λ i p l. y.before i p (omega arith);
@@ -275,5 +251,5 @@ listed_same {marked} {n} l not_so = record {
   rising = l.rising;
   low = λ i h. omega (arith, l.low i h);
   only = l.only;
-  all = λ j h e. elim (same_or_not j n) [ inl q ↦ (let passes : get_or marked n false ≡ true = rw q at e in absurd (cc)) | inr q ↦ l.all j (omega arith) e ];
+  all = λ j h e. l.all j (grind (arith, same_or_not j n)) e;
 }

@@ -1,5 +1,5 @@
 -- Rows of people.
-use Rattle.std.proofs.Common.{◌≡◌, ℕ, ◌+◌, ◌<◌, inl, inr, true, false, List, [], ◌∷◌, ◌++◌, length, get_or, refl, arith, subst}
+use Rattle.std.proofs.Common.{◌≡◌, ℕ, ◌+◌, ◌<◌, inl, inr, true, false, List, [], ◌∷◌, ◌++◌, length, get_or, refl, arith}
 use Rattle.std.proofs.lemmas.List.{get_or_past, get_or_push, get_or_append_left}
 use Rattle.std.proofs.lemmas.Nat.Bits.{bit_at-zero}
 use Rattle.kcr_seats.specs.People.{contains, nobody}
@@ -18,11 +18,7 @@ pub any_row : (rows : List People) (people n : ℕ) → length rows ≡ n
     → (i person : ℕ) → contains (get_or rows i nobody) person ≡ true → person < people
 any_row rows people n long old i person h = elim (below_or_not i n) [
   | inl low ↦ old i person low h
-  | inr high ↦
-      let past : get_or rows i nobody ≡ nobody = get_or_past rows i nobody (omega arith) in
-      let none : contains nobody person ≡ false = nobody_in person in
-      let some : contains nobody person ≡ true = subst (λ x. contains x person ≡ true) past h in
-      absurd (cc)
+  | inr high ↦ let past : get_or rows i nobody ≡ nobody = get_or_past rows i nobody (omega arith) in absurd (cc (nobody_in person))
 ]
 
 -- what holds of each row and of one more holds of each row with that one

@@ -1,37 +1,14 @@
 -- A command by the rows that the tables hold, and by the tables of a history.
-use Rattle.std.proofs.Common.{◌≡◌, ◌∙◌, inl, inr, Bool, false, true, ℕ, List, Some, None, Result, Ok, Err, IsTrue, refl, sym, ap, subst}
-use Rattle.std.proofs.lemmas.Bool.{true≢false}
-use Rattle.std.specs.Prelude.{◌⊎◌, ◌↔◌, IfOk, IsErrAnd}
-use Rattle.sqlite.specs.declared.error.Error.{Error}
-use Rattle.sqlite.specs.Effect.{Database}
-use Rattle.sqlite.specs.Held.{Held, state}
-use Rattle.sqlite.specs.State.{State, HasCleanDisk, Shows}
-use Rattle.sqlite.specs.Store.{Ghosts}
-use Rattle.sqlite.specs.declared.transaction.Transaction.{Transaction}
-use Rattle.kcr_base.specs.declared.refusal.Refusal.{Refusal}
-use Rattle.kcr_base.specs.declared.refusal.Refusal.TheVariants.{Disk}
-use Rattle.kcr_history.specs.AsksByKind.{asks_of}
-use Rattle.kcr_history.specs.Changes.{all_changed}
-use Rattle.kcr_history.specs.Tables.{Tables}
-use Rattle.kcr_history.specs.Views.{IsViewOf, row_of_key}
-use Rattle.kcr_history.specs.declared.commands.Command.{Command}
-use Rattle.kcr_history.specs.declared.commands.Reply.{Reply}
-use Rattle.kcr_history.specs.declared.row_types.KeyRow.{KeyRow}
-use Rattle.kcr_history.specs.declared.views.Change.{Change}
-use Rattle.kcr_history.specs.declared.views.Verdict.{Verdict}
-use Rattle.kcr_history.specs.declared.views.View.{View}
+use Rattle.kcr_store.proofs.Common.{arith, ◌≡◌, ◌∙◌, inl, inr, Bool, false, true, ℕ, Some, None, Result, Ok, Err, IsTrue, refl, sym, ap, subst}
+use Rattle.kcr_store.proofs.Common.{true≢false, ◌↔◌, IsErrAnd, Error, Database, Held, state, State, HasCleanDisk, Shows, Ghosts, Transaction, Refusal}
+use Rattle.kcr_store.proofs.Common.{Disk, asks_of, all_changed, Tables, IsViewOf, row_of_key, Command, Reply, KeyRow, Verdict, View, IsRowRepeat}
+use Rattle.kcr_store.proofs.Common.{is_full_by, HoldsTables, IsFault, DecidesBy, EndsByRows, IsDecidedBy, IsRefusedEarly, RefusesNew, RepliesBy}
+use Rattle.kcr_store.proofs.Common.{TakesStepByRows, number_by, rows_after, RowsLead, HasRows, RegisterState, is_in_doubt, last_number_after}
+use Rattle.kcr_store.proofs.Common.{result_of, TransactionResult, Accepted, Refused, InDoubt}
+use Rattle.std.specs.Prelude.{◌⊎◌, IfOk}
 use Rattle.kcr_rules.specs.ByRows.{IsCleared}
 use Rattle.kcr_machine.specs.NewDecision.{IsRowDecision}
-use Rattle.kcr_machine.specs.RowDecision.{IsRowRepeat, is_full_by}
-use Rattle.kcr_tables.specs.MachineTables.{HoldsTables}
-use Rattle.kcr_tables.specs.Refusals.{IsFault}
-use Rattle.kcr_store.specs.ByRows.{DecidesBy, EndsByRows, IsDecidedBy, IsRefusedEarly, RefusesNew, RepliesBy, TakesStepByRows, number_by, rows_after}
-use Rattle.kcr_store.specs.Calls.{RowsLead}
 use Rattle.kcr_store.proofs.StoreLemmas.{fault_steps}
-use Rattle.kcr_store.specs.Register.{HasRows, RegisterState}
-use Rattle.kcr_store.specs.TransactionResult.{is_in_doubt, last_number_after, result_of}
-use Rattle.kcr_store.specs.declared.transaction.TransactionResult.{TransactionResult}
-use Rattle.kcr_store.specs.declared.transaction.TransactionResult.TheVariants.{Accepted, Refused, InDoubt}
 
 module _ (m : Tables) (last : ℕ) (x : Command) (after : Database) where
   -- out of memory, or an I/O error, is a result by any rows
@@ -40,23 +17,17 @@ module _ (m : Tables) (last : ℕ) (x : Command) (after : Database) where
 
   -- a refusal that is handed on
   pub handed_on : (e : Refusal) (r : Result Verdict Refusal) → DecidesBy m last x (Err e) after → IsErrAnd r (λ y. y ≡ e) → DecidesBy m last x r after
-  handed_on e (Ok v) by is = absurd is
-  handed_on e (Err y) by is = subst (λ (z : Refusal). DecidesBy m last x (Err z) after) (sym is) by
+  handed_on e r by is = grind arith
 
   -- the key has this row
   pub by_repeat : (row : KeyRow) (r : Result Verdict Refusal) → row_of_key x.key m.keys ≡ Some row → IsRowRepeat row x r → HoldsTables m after
       → DecidesBy m last x r after
-  by_repeat row (Ok v) there is held = record {
-    decided = rw there is;
-    holds = subst (λ (l : List Change). HoldsTables (all_changed l m) after) (sym is.changes) held;
-  }
-  by_repeat row (Err e) there is held = record { decided = inr (rw there is); holds = tt }
+  by_repeat row r there is held = grind arith
 
   module _ (new : row_of_key x.key m.keys ≡ None) where
     -- a refusal by the rows that are read first is one by the tables, if the key is new; so is a fault
     pub by_early : (e : Refusal) → IsFault e ⊎ IsRefusedEarly m last x e → DecidesBy m last x (Err e) after
-    by_early e (inl fault) = by_fault e fault
-    by_early e (inr early) = record { decided = inr (rw new (inl early)); holds = tt }
+    by_early e h = grind arith
 
     -- a decision by the rows that are asked for is one by the tables, if the key is new and those read first clear it
     pub by_late : (view : View) (r : Result Verdict Refusal) → IsViewOf (asks_of x) m view → IsCleared view (is_full_by last) x.act
@@ -84,11 +55,7 @@ module _ {m : Tables} {last : ℕ} {x : Command} {end : State} where
   -- the commit stands
   pub committed_by : {v : Verdict} {mid : State} → DecidesBy m last x (Ok v) mid.now → Shows mid end mid.now mid.now false
       → RepliesBy m last x (Ok v.reply) end
-  committed_by {v} by shown = record {
-    decision = Ok v;
-    told = refl;
-    by = record { decided = by.decided; holds = subst (HoldsTables (all_changed v.changes.items m)) (sym shown.now_is) by.holds };
-  }
+  committed_by {v} by shown = grind arith
 
   -- it was refused
   pub refused_by : {e : Refusal} → IsDecidedBy m last x (Err e) → RepliesBy m last x (Err e) end
@@ -131,9 +98,7 @@ module _ {m : Tables} {last : ℕ} {x : Command} {end : State} where
 
 -- what is in doubt is told as a fault of the device
 certain : (ended : TransactionResult) → (result_of ended ≡ Err Disk → ⊥) → is_in_doubt ended ≡ false
-certain (Accepted v) never = refl
-certain (Refused e) never = refl
-certain (InDoubt error) never = absurd (never refl)
+certain ended never = grind arith
 
 module _ {S : Type 0} (g : Ghosts S) (old new : RegisterState S) (x : Command) where
   -- a command over a register that is not broken
@@ -159,4 +124,4 @@ module _ {S : Type 0} (g : Ghosts S) (old new : RegisterState S) (x : Command) w
 
 -- one that stays whole, and is told no fault of the device
 pub calm_breaks : {is_broken : Bool} {r : Result Reply Refusal} → is_broken ≡ false → (r ≡ Err Disk → ⊥) → IsTrue is_broken ↔ (r ≡ Err Disk)
-calm_breaks still other = (λ yes. absurd (true≢false (sym yes ∙ still)), λ disk. absurd (other disk))
+calm_breaks still other = grind arith

@@ -1,36 +1,21 @@
 -- What an opening finds.
-use Rattle.std.proofs.Common.{arith, refl, false, true, ◌≡◌, ◌≢◌, ◌⊎◌, inl, inr, ℕ, ◌+◌, ℤ, pos, [], length, Option, Some, None, Result, Ok, Err, IfOk, OnOk, IsTrue, sym, ap, subst, ◌∙◌}
-use Rattle.std.specs.Prelude.{IfErr, is_some}
-use Rattle.sqlite.specs.Schema.{Schema}
-use Rattle.sqlite.specs.Table.{Table}
-use Rattle.sqlite.specs.Effect.{Database}
+use Rattle.kcr_store.proofs.Common.{arith, refl, false, true, ◌≡◌, ◌≢◌, ◌⊎◌, inl, inr, ℕ, ◌+◌, ◌≤◌, pos, [], length, Some, Result, Ok, Err, IfOk}
+use Rattle.kcr_store.proofs.Common.{OnOk, IsTrue, sym, ap, subst, ◌∙◌, IfErr, is_some, Schema, Database, State, Opens, HasCleanDisk, IsLive}
+use Rattle.kcr_store.proofs.Common.{IsUnchanged, Survives, Ghosts, Trees, Held, state, History, tables, HoldsTables, StoredTables, Holds, AreTablesAs}
+use Rattle.kcr_store.proofs.Common.{HoldsFirst, HoldsHistoryAs, TreesHoldFirst, numbered, migrated_tables, number_of, OldVersion, IsForeign}
+use Rattle.kcr_store.proofs.Common.{IsOfOtherVersion, IsOfVersion, IsForeignSchema, IsTaken, no_schema, numbered_table, version_in, IsKnown}
+use Rattle.kcr_store.proofs.Common.{has_versions, held_version, is_numbered, older_version, only_version, Stores, IsTables, IsSynced, IsDurable}
+use Rattle.kcr_store.proofs.Common.{Image, IsAnswer, IsAnswerBy, IsMigrated, IsGenuine, HoldsHistory, HoldsRowsAs, FilesHoldHistory, FilesHoldRowsAs}
+use Rattle.kcr_store.proofs.Common.{IsOpened, MigratesRows, RefusesAs, ShowsRows, StaysOutside}
+use Rattle.std.proofs.lemmas.Grind.{common_steps}
 use Rattle.sqlite.proofs.ListingLemmas.{empty_is_sound}
 use Rattle.sqlite.specs.Start.{FindsIn}
-use Rattle.sqlite.specs.State.{State, Opens, HasCleanDisk, IsLive, IsUnchanged, Survives}
-use Rattle.sqlite.specs.Store.{Ghosts}
-use Rattle.sqlite.specs.Tree.{Trees}
-use Rattle.sqlite.specs.Held.{Held, state}
-use Rattle.kcr_history.specs.History.{History}
-use Rattle.kcr_history.specs.Tables.{tables}
 use Rattle.kcr_tables.specs.Schema.{register_schema}
 use Rattle.kcr_tables.specs.Creation.{schema_prefix}
-use Rattle.kcr_tables.specs.MachineTables.{HoldsTables}
-use Rattle.kcr_tables.specs.StoredTables.{StoredTables, Holds}
 use Rattle.kcr_tables.proofs.OpenLemmas.{one_schema}
-use Rattle.kcr_older.specs.OldFiles.{AreTablesAs, HoldsFirst, HoldsHistoryAs, TreesHoldFirst, numbered}
-use Rattle.kcr_older.specs.Migrated.{migrated_tables}
-use Rattle.kcr_older.specs.Versions.{number_of}
-use Rattle.kcr_older.specs.declared.migration.OldVersion.{OldVersion}
 use Rattle.kcr_older.specs.declared.migration.OldVersion.TheVariants as older
-use Rattle.kcr_older.specs.Kind.{IsForeign, IsOfOtherVersion, IsOfVersion, IsForeignSchema, IsTaken, no_schema, numbered_table, version_in}
-use Rattle.kcr_older.proofs.NumberHeld.{IsKnown, has_versions, held_version, is_numbered, older_version, only_version}
-use Rattle.kcr_store.specs.Stored.{Stores, IsTables}
-use Rattle.kcr_store.specs.Register.{IsSynced, IsDurable}
-use Rattle.sqlite_wal.specs.Recovery.{Image}
-use Rattle.kcr_store.specs.Opening.{IsAnswer, IsAnswerBy, IsMigrated, IsGenuine, HoldsHistory, HoldsRowsAs, FilesHoldHistory, FilesHoldRowsAs, IsOpened, MigratesRows, RefusesAs, ShowsRows}
 use Rattle.kcr_store.specs.declared.«open».OpenFault.{OpenFault}
 use Rattle.kcr_store.specs.declared.«open».OpenFault.TheVariants as fault
-use Rattle.kcr_store.specs.Frame.{StaysOutside}
 use Rattle.kcr_store.proofs.WholeLemmas.{begun_has, made_outside}
 
 -- how many tables a schema has
@@ -58,93 +43,55 @@ opened_with opened = (opened.shows, opened.live)
 
 -- ---- the schema of a version, or of none
 
+-- the schema of a version has as many tables as the version
+counts : (n : ℕ) → n ≤ 17 → count (schema_prefix n) ≡ n
+counts n below = grind (arith, common_steps)
+
+one_version : (m n : ℕ) (s : Schema) → m ≤ 17 → n ≤ 17 → s ≡ schema_prefix m → s ≡ schema_prefix n → m ≡ n
+one_version m n s below under one other = omega (arith, apart one other, counts m below, counts n under)
+
 -- a foreign schema is that of no version
 pub none_strange : (version : ℕ) (s : Schema) → IsForeignSchema s → s ≡ schema_prefix (14 + version) → IsKnown version → ⊥
-none_strange version s strange is (inl one) = strange.first (subst (λ v. s ≡ schema_prefix (14 + v)) one is)
-none_strange version s strange is (inr (inl two)) = strange.second (subst (λ v. s ≡ schema_prefix (14 + v)) two is)
-none_strange version s strange is (inr (inr three)) = strange.third (subst (λ v. s ≡ schema_prefix (14 + v)) three is)
+none_strange version s strange is known = grind arith
 
 never_taken : (db : Database) → IsForeignSchema db.schema → ¬ IsTaken db
-never_taken db strange (inl none) = strange.something none
-never_taken db strange (inr (inl one)) = strange.first one.0
-never_taken db strange (inr (inr (inl two))) = strange.second two.0
-never_taken db strange (inr (inr (inr three))) = strange.third three.0
+never_taken db strange taken = grind arith
 
 -- a database without the table of a number has none
-numberless : (schema : Schema) (trees : Trees) (found : Option Table) → numbered_table schema ≡ found → is_some found ≡ false
-    → ¬ IsOfOtherVersion (record { schema = schema; trees = trees })
-numberless schema trees None is none h = absurd (let e = rw is at h.1 in cc)
-numberless schema trees (Some table) is none h = absurd cc
-
-number_same : (db : Database) (n m : ℤ) → version_in db ≡ Some n → version_in db ≡ Some m → n ≡ m
-number_same db n m one other = let both = sym one ∙ other in cc
+numberless : (db : Database) → is_some (numbered_table db.schema) ≡ false → ¬ IsOfOtherVersion db
+numberless db none h = grind arith
 
 -- a number is not that of another version, and one of these
 other_taken : (db : Database) → IsOfOtherVersion db → ¬ IsTaken db
-other_taken db other (inl none) =
-    numberless db.schema db.trees _ refl (ap (λ (s : Schema). is_some (numbered_table s)) none) other
-other_taken db other (inr (inl one)) = other.2 (number_same db other.0 _ other.1 one.1)
-other_taken db other (inr (inr (inl two))) = other.3 (number_same db other.0 _ other.1 two.1)
-other_taken db other (inr (inr (inr three))) = other.4 (number_same db other.0 _ other.1 three.1)
+other_taken db other taken = grind arith
 
 -- ---- each answer is what its name says
 
 -- to an empty database each result is a right answer, if it fails only for memory or the disk
 pub empty_answer : {A : Type 0} (db : Database) (result : Result A OpenFault) → db.schema ≡ no_schema
     → IfErr result (λ e. (e ≡ fault.Memory) ⊎ (e ≡ fault.Disk)) → IsAnswer db result
-empty_answer db (Ok x) none kind = inl none
-empty_answer db (Err e) none (inl memory) = subst (RefusesAs db) (sym memory) tt
-empty_answer db (Err e) none (inr disk) = subst (RefusesAs db) (sym disk) tt
+empty_answer db result none kind = grind arith
 
 taken_at : (version : ℕ) → IsKnown version → (db : Database) → IsOfVersion version db → IsTaken db
-taken_at version (inl one) db h = inr (inl (subst (λ v. IsOfVersion v db) one h))
-taken_at version (inr (inl two)) db h = inr (inr (inl (subst (λ v. IsOfVersion v db) two h)))
-taken_at version (inr (inr three)) db h = inr (inr (inr (subst (λ v. IsOfVersion v db) three h)))
+taken_at version known db h = grind arith
 
 -- of a database with the schema of a version no other number is taken
 only_own : (version : ℕ) → IsKnown version → (db : Database) → db.schema ≡ schema_prefix (14 + version) → version_in db ≢ Some (pos version) → ¬ IsTaken db
-only_own version (inl one) db schema other (inl none) =
-    absurd (let e = apart none (subst (λ v. db.schema ≡ schema_prefix (14 + v)) one schema) in omega (arith, e))
-only_own version (inl one) db schema other (inr (inl h)) = other (h.1 ∙ ap (λ v. Some (pos v)) (sym one))
-only_own version (inl one) db schema other (inr (inr (inl h))) =
-    absurd (let e = apart h.0 (subst (λ v. db.schema ≡ schema_prefix (14 + v)) one schema) in omega (arith, e))
-only_own version (inl one) db schema other (inr (inr (inr h))) =
-    absurd (let e = apart h.0 (subst (λ v. db.schema ≡ schema_prefix (14 + v)) one schema) in omega (arith, e))
-only_own version (inr (inl two)) db schema other (inl none) =
-    absurd (let e = apart none (subst (λ v. db.schema ≡ schema_prefix (14 + v)) two schema) in omega (arith, e))
-only_own version (inr (inl two)) db schema other (inr (inl h)) =
-    absurd (let e = apart h.0 (subst (λ v. db.schema ≡ schema_prefix (14 + v)) two schema) in omega (arith, e))
-only_own version (inr (inl two)) db schema other (inr (inr (inl h))) = other (h.1 ∙ ap (λ v. Some (pos v)) (sym two))
-only_own version (inr (inl two)) db schema other (inr (inr (inr h))) =
-    absurd (let e = apart h.0 (subst (λ v. db.schema ≡ schema_prefix (14 + v)) two schema) in omega (arith, e))
-only_own version (inr (inr three)) db schema other (inl none) =
-    absurd (let e = apart none (subst (λ v. db.schema ≡ schema_prefix (14 + v)) three schema) in omega (arith, e))
-only_own version (inr (inr three)) db schema other (inr (inl h)) =
-    absurd (let e = apart h.0 (subst (λ v. db.schema ≡ schema_prefix (14 + v)) three schema) in omega (arith, e))
-only_own version (inr (inr three)) db schema other (inr (inr (inl h))) =
-    absurd (let e = apart h.0 (subst (λ v. db.schema ≡ schema_prefix (14 + v)) three schema) in omega (arith, e))
-only_own version (inr (inr three)) db schema other (inr (inr (inr h))) = other (h.1 ∙ ap (λ v. Some (pos v)) (sym three))
+only_own version known db schema other taken = grind (arith, one_version)
 
 -- an answer by the number of a version is right for a database with the schema of that version
 pub number_answer : {A : Type 0} (version : ℕ) → IsKnown version → (db : Database) (result : Result A OpenFault) → db.schema ≡ schema_prefix (14 + version)
     → IsAnswerBy (pos version) db result → IsAnswer db result
-number_answer version known db (Ok x) schema h = taken_at version known db (schema, h)
-number_answer version known db (Err fault.Version) schema h = h
-number_answer version known db (Err fault.Foreign) schema h = (only_own version known db schema h.0, h.1)
-number_answer version known db (Err fault.Memory) schema h = tt
-number_answer version known db (Err fault.Disk) schema h = tt
+number_answer version known db result schema h = grind (arith, only_own)
 
 -- a database with a foreign schema is refused rightly if its number decides between version and foreign
 pub stranger_answer : (db : Database) (e : OpenFault) → IsForeignSchema db.schema
     → (e ≡ fault.Version → IsOfOtherVersion db) × (e ≡ fault.Foreign → ¬ IsOfOtherVersion db) → RefusesAs db e
-stranger_answer db fault.Version strange h = h.0 refl
-stranger_answer db fault.Foreign strange h = (never_taken db strange, h.1 refl)
-stranger_answer db fault.Memory strange h = tt
-stranger_answer db fault.Disk strange h = tt
+stranger_answer db e strange h = grind (arith, never_taken)
 
 -- a database with a foreign schema, and without the table of the number, is foreign
 pub foreign_answer : (db : Database) → IsForeignSchema db.schema → is_some (numbered_table db.schema) ≡ false → IsForeign db
-foreign_answer db strange none = (never_taken db strange, numberless db.schema db.trees _ refl none)
+foreign_answer db strange none = (never_taken db strange, numberless db none)
 
 -- ---- a database that is one of a register
 
@@ -164,14 +111,19 @@ module _ (accepted : History) (old : State) (settled : IsTrue old.is_open → ol
   schema_is : IsTables accepted old.committed.trees → old.now.schema ≡ register_schema
   schema_is t = ap (λ (d : Database). d.schema) now_is ∙ (stored t).schema
 
+  -- its history, as it holds it
+  found : ((old.now.schema ≡ no_schema) × (accepted ≡ []))
+      ⊎ (((old.now.schema ≡ register_schema) × IsTables accepted old.committed.trees) ⊎ (HoldsHistoryAs 1 accepted old.now ⊎ HoldsHistoryAs 2 accepted old.now))
+  found = elim (f clean live) [
+    | inl nothing ↦ inl nothing
+    | inr (inl t) ↦ inr (inl (schema_is t, t))
+    | inr (inr (inl one)) ↦ inr (inr (inl (stored_as 1 one)))
+    | inr (inr (inr two)) ↦ inr (inr (inr (stored_as 2 two)))
+  ]
+
   -- a genuine database without a schema has the empty history
   pub nothing_accepted : old.now.schema ≡ no_schema → accepted ≡ []
-  nothing_accepted none = elim (f clean live) [
-    | inl nothing ↦ nothing.1
-    | inr (inl t) ↦ absurd (let e : 0 ≡ 17 = ap count (sym none ∙ schema_is t) in omega (arith, e))
-    | inr (inr (inl one)) ↦ absurd (let e : 0 ≡ 15 = ap count (sym none ∙ (stored_as 1 one).schema) in omega (arith, e))
-    | inr (inr (inr two)) ↦ absurd (let e : 0 ≡ 16 = ap count (sym none ∙ (stored_as 2 two).schema) in omega (arith, e))
-  ]
+  nothing_accepted none = grind (arith, found)
 
   -- an empty database that becomes a new register shows its history
   pub of_empty : (new : State) → old.now.schema ≡ no_schema → IsSynced [] new → IsSynced accepted new
@@ -182,29 +134,29 @@ module _ (accepted : History) (old : State) (settled : IsTrue old.is_open → ol
 
   -- a genuine database with the schema of this version shows its history
   pub of_ours : old.now.schema ≡ schema_prefix 17 → IsSynced accepted old
-  of_ours is = elim (f clean live) [
+  of_ours is = elim found [
     | inl nothing ↦ absurd (let e : 0 ≡ 17 = apart nothing.0 is in omega (arith, e))
-    | inr (inl t) ↦ record { now = now_stores t; committed = stored t }
-    | inr (inr (inl one)) ↦ absurd (let e : 15 ≡ 17 = apart (stored_as 1 one).schema is in omega (arith, e))
-    | inr (inr (inr two)) ↦ absurd (let e : 16 ≡ 17 = apart (stored_as 2 two).schema is in omega (arith, e))
+    | inr (inl t) ↦ record { now = now_stores t.1; committed = stored t.1 }
+    | inr (inr (inl one)) ↦ absurd (let e : 15 ≡ 17 = apart one.schema is in omega (arith, e))
+    | inr (inr (inr two)) ↦ absurd (let e : 16 ≡ 17 = apart two.schema is in omega (arith, e))
   ]
 
   -- a genuine database with the schema of version 1 holds its history as that version does
   pub of_first_version : old.now.schema ≡ schema_prefix 15 → HoldsHistoryAs 1 accepted old.now
-  of_first_version is = elim (f clean live) [
+  of_first_version is = elim found [
     | inl nothing ↦ absurd (let e : 0 ≡ 15 = apart nothing.0 is in omega (arith, e))
-    | inr (inl t) ↦ absurd (let e : 17 ≡ 15 = apart (schema_is t) is in omega (arith, e))
-    | inr (inr (inl one)) ↦ stored_as 1 one
-    | inr (inr (inr two)) ↦ absurd (let e : 16 ≡ 15 = apart (stored_as 2 two).schema is in omega (arith, e))
+    | inr (inl t) ↦ absurd (let e : 17 ≡ 15 = apart t.0 is in omega (arith, e))
+    | inr (inr (inl one)) ↦ one
+    | inr (inr (inr two)) ↦ absurd (let e : 16 ≡ 15 = apart two.schema is in omega (arith, e))
   ]
 
   -- a genuine database with the schema of version 2 holds its history as that version does
   pub of_second_version : old.now.schema ≡ schema_prefix 16 → HoldsHistoryAs 2 accepted old.now
-  of_second_version is = elim (f clean live) [
+  of_second_version is = elim found [
     | inl nothing ↦ absurd (let e : 0 ≡ 16 = apart nothing.0 is in omega (arith, e))
-    | inr (inl t) ↦ absurd (let e : 17 ≡ 16 = apart (schema_is t) is in omega (arith, e))
-    | inr (inr (inl one)) ↦ absurd (let e : 15 ≡ 16 = apart (stored_as 1 one).schema is in omega (arith, e))
-    | inr (inr (inr two)) ↦ stored_as 2 two
+    | inr (inl t) ↦ absurd (let e : 17 ≡ 16 = apart t.0 is in omega (arith, e))
+    | inr (inr (inl one)) ↦ absurd (let e : 15 ≡ 16 = apart one.schema is in omega (arith, e))
+    | inr (inr (inr two)) ↦ two
   ]
 
   stored_version : Stores accepted old.now → IsOfVersion 3 old.now
@@ -218,11 +170,11 @@ module _ (accepted : History) (old : State) (settled : IsTrue old.is_open → ol
 
   -- a genuine database is taken
   pub founded_taken : IsTaken old.now
-  founded_taken = elim (f clean live) [
+  founded_taken = elim found [
     | inl nothing ↦ inl nothing.0
-    | inr (inl t) ↦ inr (inr (inr (stored_version (now_stores t))))
-    | inr (inr (inl one)) ↦ inr (inl (older_stored 1 (inl refl) (stored_as 1 one)))
-    | inr (inr (inr two)) ↦ inr (inr (inl (older_stored 2 (inr (inl refl)) (stored_as 2 two))))
+    | inr (inl t) ↦ inr (inr (inr (stored_version (now_stores t.1))))
+    | inr (inr (inl one)) ↦ inr (inl (older_stored 1 (inl refl) one))
+    | inr (inr (inr two)) ↦ inr (inr (inl (older_stored 2 (inr (inl refl)) two)))
   ]
 
   -- the schema of a genuine database is not foreign
@@ -232,11 +184,7 @@ module _ (accepted : History) (old : State) (settled : IsTrue old.is_open → ol
   -- so it is not refused
   pub is_taken : {A : Type 0} (result : Result A OpenFault) → IsAnswer old.now result
       → IfErr result (λ e. (e ≡ fault.Memory) ⊎ (e ≡ fault.Disk))
-  is_taken (Ok x) h = tt
-  is_taken (Err fault.Memory) h = inl refl
-  is_taken (Err fault.Disk) h = inr refl
-  is_taken (Err fault.Foreign) h = absurd (h.0 founded_taken)
-  is_taken (Err fault.Version) h = absurd (other_taken old.now h founded_taken)
+  is_taken result h = grind (arith, founded_taken, other_taken)
 
 -- ---- the number is read, and nothing else is changed
 
@@ -244,22 +192,9 @@ module _ (accepted : History) (old : State) (settled : IsTrue old.is_open → ol
 pub there : (version : ℕ) → IsKnown version → (s : Schema) → s ≡ schema_prefix (14 + version) → IsTrue (is_some (numbered_table s))
 there version known s is = ap (λ (t : Schema). is_some (numbered_table t)) is ∙ ap is_some (has_versions version known)
 
--- 1 is the number of a version
-pub known_1 : IsKnown 1
-known_1 = inl refl
-
--- 2 is the number of a version
-pub known_2 : IsKnown 2
-known_2 = inr (inl refl)
-
--- 3 is the number of a version
-pub known_3 : IsKnown 3
-known_3 = inr (inr refl)
-
 -- the number of an older version is that of a version
 pub is_known : (from : OldVersion) → IsKnown (number_of from)
-is_known older.V1 = inl refl
-is_known older.V2 = inr (inl refl)
+is_known from = grind arith
 
 -- what the database had it has still
 pub still_has : (P : Database → Type 0) (old mid : State) → IsUnchanged old mid → P old.now → P mid.now
@@ -273,10 +208,7 @@ still_stores A old mid had live same =
 
 -- a connection that shows a history still does if nothing changed
 pub still_shows : (A : History) (old new : State) → IsUnchanged old new → IsSynced A old → IsSynced A new
-still_shows A old new same s = record {
-  now = subst (Stores A) (sym same.0.now_is) s.now;
-  committed = subst (Stores A) (sym same.0.committed_is) s.committed;
-}
+still_shows A old new same s = grind arith
 
 -- ---- a reading that is rolled back
 
@@ -297,41 +229,29 @@ module _ {S : Type 0} (g : Ghosts S) (old begun : Held S) (is : begun ≡ record
 
 -- ---- a register of an older version, migrated to this version
 
-brought_tables : {from : OldVersion} {before : Database} (db : Database)
-    → ((A : History) → HoldsHistoryAs (number_of from) A before → HoldsTables (tables A) db)
-    → ((t : StoredTables) → HoldsRowsAs from t before → Holds db (migrated_tables from t)) → IsMigrated from before db.trees
-brought_tables db holds rows = record {
-  tables = λ A s. record { register = s.tables.register; kept = (holds A s).tables };
-  rows = λ t held. (rows t held).kept;
-}
-
--- and a crash leaves what was there or such tables, whether the commit came or not
+-- a crash leaves what was there or the tables of the same history, whether the commit came or not
 pub renewed_outside : {S : Type 0} (g : Ghosts S) (old begun : Held S) → begun ≡ record old { in_transaction = true } → (mid : State)
-    → Survives (state g begun) mid (λ _. ⊥) → (from : OldVersion)
-    → (HasCleanDisk mid → (A : History) → HoldsHistoryAs (number_of from) A (state g begun).now → HoldsTables (tables A) mid.now)
+    → Survives (state g begun) mid (λ _. ⊥) → (from : OldVersion) → {n : ℕ}
+    → (HasCleanDisk mid → (A : History) → HoldsHistoryAs (number_of from) A (state g begun).now → (n ≡ length A) × HoldsTables (tables A) mid.now)
     → (HasCleanDisk mid → (t : StoredTables) → HoldsRowsAs from t (state g begun).now → Holds mid.now (migrated_tables from t))
     → (end : Held S) → Survives mid (state g end) (λ db. db ≡ mid.now.trees) → end.in_transaction ≡ false
     → StaysOutside g (IsMigrated from (state g old).now) old end
 renewed_outside g old begun is mid within from brought rows end then out =
     made_outside g old begun is mid within end (IsMigrated from (state g old).now) then
-    (λ clean. brought_tables mid.now
-    (λ A stored. brought clean A (begun_has g old begun (HoldsHistoryAs (number_of from) A) is stored))
-    (λ t held. rows clean t (begun_has g old begun (HoldsRowsAs from t) is held))) out
+    (λ clean. record {
+      tables = λ A s. record {
+        register = s.tables.register;
+        kept = (brought clean A (begun_has g old begun (HoldsHistoryAs (number_of from) A) is s)).1.tables;
+      };
+      rows = λ t held. (rows clean t (begun_has g old begun (HoldsRowsAs from t) is held)).kept;
+    }) out
 
 -- ---- the rows of an older version, whoever wrote them
-
--- a database of another schema has none
-none_as : (from : OldVersion) (db : Database) (t : StoredTables) → (db.schema ≡ no_schema) ⊎ (db.schema ≡ schema_prefix 17)
-    → HoldsFirst (14 + number_of from) db t → ⊥
-none_as older.V1 db t (inl none) h = let e : 0 ≡ 15 = apart none h.schema in omega (arith, e)
-none_as older.V1 db t (inr third) h = let e : 17 ≡ 15 = apart third h.schema in omega (arith, e)
-none_as older.V2 db t (inl none) h = let e : 0 ≡ 16 = apart none h.schema in omega (arith, e)
-none_as older.V2 db t (inr third) h = let e : 17 ≡ 16 = apart third h.schema in omega (arith, e)
 
 -- a database that is empty, or of this version, has no rows of an older version
 pub none_older : {X : Type 0} (old new : State) (result : Result X OpenFault) → (old.now.schema ≡ no_schema) ⊎ (old.now.schema ≡ schema_prefix 17)
     → IfOk result (λ _. (from : OldVersion) → MigratesRows from old.now new)
-none_older old new (Ok x) is = λ from t h. absurd (none_as from old.now t is h)
+none_older old new (Ok x) is = λ from t h. absurd (grind (arith, one_version))
 none_older old new (Err e) is = tt
 
 numbered_by : (from : OldVersion) (db : Database) (t : StoredTables) → version_in db ≡ Some (pos (number_of from)) → HoldsFirst (14 + number_of from) db t
@@ -346,8 +266,7 @@ one_older : (from other : OldVersion) (before : Database) (after : State) (t : S
     → (t.versions ≡ numbered (number_of other)) × ShowsRows (migrated_tables other t) after
 one_older older.V1 older.V1 before after t schema number shows h = let is = numbered_by older.V1 before t number h in (is, shows t (h, is))
 one_older older.V2 older.V2 before after t schema number shows h = let is = numbered_by older.V2 before t number h in (is, shows t (h, is))
-one_older older.V1 older.V2 before after t schema number shows h = absurd (let e : 15 ≡ 16 = apart schema h.schema in omega (arith, e))
-one_older older.V2 older.V1 before after t schema number shows h = absurd (let e : 16 ≡ 15 = apart schema h.schema in omega (arith, e))
+one_older _ _ before after t schema number shows h = absurd (grind (arith, h.schema))
 
 -- what is taken by the number of the version has it in its rows
 pub older_kept : {X : Type 0} (from : OldVersion) (old new : State) (result : Result X OpenFault) → old.now.schema ≡ schema_prefix (14 + number_of from)

@@ -1,55 +1,34 @@
 -- What is shown of custodians, of a bag, of a ceremony and of a room, out of the rows of the tables.
-use Rattle.std.proofs.Common.{◌≡◌, ℕ, Bool, true, false, List, [], ◌∷◌, map, filter, Option, Some, None, refl}
-use Rattle.std.proofs.Common.{◌⊎◌, inl, inr, sym, ap, ◌∙◌, subst, arith}
-use Rattle.std.specs.Prelude.{AllPairs, IsSome, IsTrue, MatchResult, Result, Ok, Err, IfOk, IfErr, is_some}
-use Rattle.std.specs.Option.{ok_or}
-use Rattle.std.specs.List.{list_any}
-use Rattle.std.specs.List.Sorted.{IsPermutation}
-use Rattle.std.proofs.lemmas.List.Sorted.{IsPermutation-map, IsPermutation-refl, IsPermutation-reverse, IsPermutation-trans}
-use Rattle.sqlite.specs.Tree.{Trees}
-use Rattle.sqlite_trees.proofs.ListLemmas.{ascending-filter, ascending-map}
-use Rattle.kcr_base.specs.Same.{is_before}
-use Rattle.kcr_base.specs.declared.refusal.Refusal.{Refusal}
-use Rattle.kcr_base.specs.declared.refusal.Refusal.TheVariants.{Unknown}
+use Rattle.kcr_store.proofs.Common.{◌≡◌, ℕ, true, false, List, [], ◌∷◌, map, filter, Some, None, refl, ◌⊎◌, sym, ap, ◌∙◌, subst, arith, AllPairs}
+use Rattle.kcr_store.proofs.Common.{IsSome, MatchResult, IfErr, ok_or, list_any, IsPermutation, IsPermutation-map, IsPermutation-refl}
+use Rattle.kcr_store.proofs.Common.{IsPermutation-reverse, IsPermutation-trans, Trees, ascending-filter, ascending-map, is_before, Refusal, Unknown}
+use Rattle.kcr_store.proofs.Common.{filter-order, same-itself, holder_by, lasts_beyond, spot_by, lies_in, sealed_items, attendance_in_by}
+use Rattle.kcr_store.proofs.Common.{present_in_by, stay_covers, stay_reaches, stays_by, StayWithName, History, is_ceremony, IsRegister}
+use Rattle.kcr_store.proofs.Common.{AreCustodiansShown, AreStepsShown, IsBagShown, IsCustodyShown, IsRoomShown, IsSheetShown, holders_from, with_name}
+use Rattle.kcr_store.proofs.Common.{Tables, SameTables, tables, people, appointments, bags, ceremonies, ceremony_row, is_of_serial, is_of_number}
+use Rattle.kcr_store.proofs.Common.{ceremony_by, Rises, named_stays, TreesHoldTables, IsFault, AreCustodiansShownBy, AreStepsShownBy, HasNoRowBy}
+use Rattle.kcr_store.proofs.Common.{IsBagShownBy, IsCustodyShownBy, IsNotPlannedBy, IsRoomShownBy, IsRowBy, IsSheetShownBy}
+use Rattle.std.specs.Prelude.{IsTrue, Result, IfOk}
 use Rattle.kcr_base.specs.declared.refusal.Thing.TheVariants as Things
-use Rattle.kcr_base.proofs.RowsLemmas.{filter-order}
-use Rattle.kcr_base.proofs.SameLemmas.{same-itself}
-use Rattle.kcr_base.proofs.ListLemmas.{some_if}
 use Rattle.kcr_people.specs.declared.Appointment.{Appointment}
-use Rattle.kcr_people.specs.People.{holder_by, lasts_beyond}
-use Rattle.kcr_custody.specs.Custody.{spot_by, lies_in, sealed_items}
 use Rattle.kcr_room.specs.declared.Stay.{Stay}
 use Rattle.kcr_room.specs.Room.{ascending}
-use Rattle.kcr_room.specs.Stays.{attendance_in_by, present_in_by, stay_covers, stay_reaches, stays_by}
 use Rattle.kcr_room.proofs.Lists.{filter-kept}
 use Rattle.kcr_room.proofs.Orders.{present-order}
 use Rattle.kcr_history.specs.declared.row_types.CeremonyRow.{CeremonyRow}
-use Rattle.kcr_history.specs.declared.report_rows.StayWithName.{StayWithName}
 use Rattle.kcr_history.specs.declared.questions.BagShown.{BagShown}
 use Rattle.kcr_history.specs.declared.questions.CustodiansShown.{CustodiansShown}
 use Rattle.kcr_history.specs.declared.questions.CustodyShown.{CustodyShown}
 use Rattle.kcr_history.specs.declared.questions.RoomShown.{RoomShown}
 use Rattle.kcr_history.specs.declared.questions.StepsShown.{StepsShown}
-use Rattle.kcr_history.specs.History.{History}
-use Rattle.kcr_history.specs.Ceremonies.{is_ceremony}
 use Rattle.kcr_history.specs.Custody.{spot}
-use Rattle.kcr_history.specs.Machine.{IsRegister}
-use Rattle.kcr_history.specs.Questions.{AreCustodiansShown, AreStepsShown, IsBagShown, IsCustodyShown, IsRoomShown, IsSheetShown, holders_from, with_name}
 use Rattle.kcr_history.specs.Room.{sheet}
-use Rattle.kcr_history.specs.Tables.{Tables, SameTables, tables, people, appointments, bags, ceremonies, ceremony_row}
-use Rattle.kcr_history.specs.Views.{is_of_serial, is_of_number}
-use Rattle.kcr_rules.specs.CeremonyStatus.{ceremony_by}
 use Rattle.kcr_machine.proofs.BagsWords.{spot-shown}
 use Rattle.kcr_machine.proofs.InRoom.{present-shown, holder-lasting}
-use Rattle.kcr_machine.proofs.Scenes.{ceremony-shown}
-use Rattle.kcr_tables.proofs.JointLemmas.{Rises}
 use Rattle.kcr_tables.proofs.NamedLemmas.{passing}
-use Rattle.kcr_reading.specs.Remaining.{named_stays}
 use Rattle.kcr_reading.proofs.StayLemmas.{one_attendance}
-use Rattle.kcr_tables.specs.MachineTables.{TreesHoldTables}
-use Rattle.kcr_tables.specs.Refusals.{IsFault}
 use Rattle.kcr_store.specs.Rows.{IsRowOf, HasNoRow}
-use Rattle.kcr_store.specs.ShownBy.{AreCustodiansShownBy, AreStepsShownBy, HasNoRowBy, IsBagShownBy, IsCustodyShownBy, IsNotPlannedBy, IsRoomShownBy, IsRowBy, IsSheetShownBy}
+use Rattle.kcr_store.proofs.PlannedLemmas.{planned_row}
 use Rattle.kcr_store.proofs.StoreLemmas.{all_pairs, by_code}
 
 -- ---- what some rows show
@@ -62,16 +41,14 @@ one_planned ceremony = grind arith
 pub codes_packed : (serial : List ℕ) (codes : List (List ℕ))
     → map (λ item. item.code) (filter (lies_in serial) (sealed_items serial codes)) ≡ codes
 codes_packed serial [] = refl
-codes_packed serial (code ∷ codes) =
-    rw (same-itself serial) (ap (λ l. code ∷ l) (codes_packed serial codes))
+codes_packed serial (code ∷ codes) = grind (arith, same-itself, codes_packed serial codes)
 
 -- ---- lists
 
 -- what is said of a list that is read, and a reading is refused for a fault alone
 pub shown_or_fault : {X : Type 0} (IsRead IsShown : X → Type 0) (IsMissing : Refusal → Type 0) (result : Result X Refusal) → ((x : X) → IsRead x → IsShown x)
     → IfOk result IsRead → IfErr result IsFault → MatchResult result IsShown (λ refusal. IsFault refusal ⊎ IsMissing refusal)
-shown_or_fault IsRead IsShown IsMissing (Ok x) shows read fault = shows x read
-shown_or_fault IsRead IsShown IsMissing (Err e) shows read fault = inl fault
+shown_or_fault IsRead IsShown IsMissing result shows read fault = grind arith
 
 -- the stays of a file give the attendance of the sheet, in whatever order the history has them
 sheet_shown : (A : History) {db : Trees} → TreesHoldTables (tables A) db → (ceremony : ℕ)
@@ -85,12 +62,7 @@ sheet_shown A k ceremony =
 -- the row of the ceremony, or that there is none
 pub row_by : (m : Tables) (ceremony : ℕ)
     → MatchResult (ok_or (ceremony_by m.ceremonies ceremony) (Unknown (Things.Ceremony ceremony))) (IsRowBy m ceremony) (HasNoRowBy m ceremony)
-row_by m ceremony = says (ceremony_by m.ceremonies ceremony) refl
-  where
-    says : (row : Option CeremonyRow) → ceremony_by m.ceremonies ceremony ≡ row
-        → MatchResult (ok_or row (Unknown (Things.Ceremony ceremony))) (IsRowBy m ceremony) (HasNoRowBy m ceremony)
-    says (Some row) is = is
-    says None is = inr (is, refl)
+row_by m ceremony = grind arith
 
 -- a stay by which somebody is in the room at the moment lasts to it
 covers_reaches : (ceremony at : ℕ) (stay : Stay) → stay_covers ceremony at stay ≡ true → stay_reaches ceremony at stay ≡ true
@@ -133,32 +105,17 @@ module _ (m t : Tables) (same : SameTables m t) where
 
 -- the row of the ceremony, and if there is none it was never planned
 module _ (A : History) (ceremony : ℕ) where
-  found : ceremony_by (ceremonies A) ceremony ≡ some_if (is_ceremony A ceremony) (ceremony_row A ceremony)
-  found = ceremony-shown A ceremony (ceremonies A) (IsPermutation-refl (filter (is_of_number ceremony) (ceremonies A)))
-
   -- a ceremony's row by the tables is its row by the history
   pub row_of_history : (row : CeremonyRow) → IsRowBy (tables A) ceremony row → IsRowOf A ceremony row
-  row_of_history row is = says (is_ceremony A ceremony) refl (sym found ∙ is)
-    where
-      says : (b : Bool) → is_ceremony A ceremony ≡ b → some_if (is_ceremony A ceremony) (ceremony_row A ceremony) ≡ Some row → IsRowOf A ceremony row
-      says true e some = record { planned = e; row_is = let p = rw e at some in cc }
-      says false e some = absurd (let p = rw e at some in cc)
+  row_of_history row is = grind (arith, planned_row A ceremony)
 
   -- a ceremony without a row was not planned
   pub none_of_history : ceremony_by (ceremonies A) ceremony ≡ None → is_ceremony A ceremony ≡ false
-  none_of_history is = says (is_ceremony A ceremony) refl (sym found ∙ is)
-    where
-      says : (b : Bool) → is_ceremony A ceremony ≡ b → some_if (is_ceremony A ceremony) (ceremony_row A ceremony) ≡ None → is_ceremony A ceremony ≡ false
-      says true e none = absurd (let p = rw e at none in cc)
-      says false e none = e
+  none_of_history is = grind (arith, planned_row A ceremony)
 
   -- a ceremony with a row was planned
   pub planned_of_history : IsSome (ceremony_by (ceremonies A) ceremony) → IsTrue (is_ceremony A ceremony)
-  planned_of_history some = says (is_ceremony A ceremony) refl (ap is_some (sym found) ∙ some)
-    where
-      says : (b : Bool) → is_ceremony A ceremony ≡ b → IsSome (some_if (is_ceremony A ceremony) (ceremony_row A ceremony)) → IsTrue (is_ceremony A ceremony)
-      says true e there = e
-      says false e there = absurd (let p = rw e at there in cc)
+  planned_of_history some = grind (arith, planned_row A ceremony)
 
   -- a ceremony that is not planned by the tables is not so by the history, and the refusal names it
   pub unplanned_of_history : (refusal : Refusal) → IsNotPlannedBy (tables A) ceremony refusal
@@ -168,9 +125,7 @@ module _ (A : History) (ceremony : ℕ) where
   -- the row, or why there is none
   pub found_of_history : (result : Result CeremonyRow Refusal) → MatchResult result (IsRowBy (tables A) ceremony) (HasNoRowBy (tables A) ceremony)
       → MatchResult result (IsRowOf A ceremony) (HasNoRow A ceremony)
-  found_of_history (Ok row) is = row_of_history row is
-  found_of_history (Err refusal) (inl fault) = inl fault
-  found_of_history (Err refusal) (inr none) = inr (unplanned_of_history refusal none)
+  found_of_history result is = grind (arith, row_of_history, unplanned_of_history)
 
 -- where the bag lies
 pub spot_shown : (A : History) → IsRegister A → (serial : List ℕ) → spot_by (bags A) serial ≡ spot A serial
@@ -188,23 +143,20 @@ module _ (A : History) (register : IsRegister A) where
 
   -- the bag shown by the tables is that of the history
   pub bag_of_history : (serial : List ℕ) (bag : BagShown) → IsBagShownBy (tables A) serial bag → IsBagShown A serial bag
-  bag_of_history serial bag is =
-      record { serial = is.serial; spot = sym (spot_shown A register serial) ∙ is.spot; items = is.items; order = is.order }
+  bag_of_history serial bag is = grind (arith, spot_shown)
 
 module _ (A : History) (ceremony : ℕ) where
   -- the room shown by the tables is that of the history
   pub room_of_history : (at : ℕ) (room : RoomShown) → IsRoomShownBy (tables A) ceremony at room → IsRoomShown A ceremony at room
-  room_of_history at room is = record {
-    planned = planned_of_history A ceremony is.planned;
-    at = is.at;
-    people = is.people ∙ present-shown A ceremony at (tables A).stays (IsPermutation-refl (filter (stay_reaches ceremony at) (tables A).stays));
-  }
+  room_of_history at room is = grind (
+    arith,
+    planned_of_history,
+    present-shown A ceremony at (tables A).stays (IsPermutation-refl (filter (stay_reaches ceremony at) (tables A).stays)),
+  )
 
   -- the steps shown by the tables are those of the history
   pub steps_of_history : (steps : StepsShown) → AreStepsShownBy (tables A) ceremony steps → AreStepsShown A ceremony steps
-  steps_of_history steps are =
-      let row = row_of_history A ceremony steps.ceremony are.row in
-      record { planned = row.planned; row = row.row_is; steps = are.steps; exceptions = are.exceptions }
+  steps_of_history steps are = grind (arith, row_of_history)
 
   -- the rows of a file give the attendance of the sheet
   pub sheet_of_history : {db : Trees} → TreesHoldTables (tables A) db → (stays : List StayWithName) → IsSheetShownBy (tables A) ceremony stays

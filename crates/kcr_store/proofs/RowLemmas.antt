@@ -1,16 +1,9 @@
 -- What one transaction leaves of whatever rows a connection shows.
-use Rattle.std.proofs.Common.{◌≡◌, inl, inr, true, IsTrue, refl, sym, subst, ◌∙◌}
+use Rattle.kcr_store.proofs.Common.{arith, ◌≡◌, true, IsTrue, Error, Database, Held, state, State, HasCleanDisk, KeepsCommit, IsRolledBack}
+use Rattle.kcr_store.proofs.Common.{IsUnchanged, Survives, Ghosts, Tables, was_clean, HasRows}
 use Rattle.sqlite.specs.declared.error.ErrorCode.TheVariants.{OutOfMemory}
-use Rattle.sqlite.specs.declared.error.Error.{Error}
 use Rattle.sqlite.specs.declared.error.Error.TheVariants.{SqliteFailure}
-use Rattle.sqlite.specs.Held.{Held, state}
-use Rattle.sqlite.specs.State.{State, HasCleanDisk, KeepsCommit, IsRolledBack, IsUnchanged, Survives}
 use Rattle.sqlite.specs.Steps.{FailsToCommit}
-use Rattle.sqlite.specs.Store.{Ghosts}
-use Rattle.kcr_history.specs.Tables.{Tables}
-use Rattle.kcr_rows.proofs.InsideLemmas.{was_clean}
-use Rattle.kcr_tables.specs.MachineTables.{HoldsTables}
-use Rattle.kcr_store.specs.Register.{HasRows, ShowsRows}
 
 -- within a transaction that began over these rows
 pub record BeganWith (m : Tables) (s : State) : Type 0 where
@@ -20,32 +13,30 @@ pub record BeganWith (m : Tables) (s : State) : Type 0 where
 -- a transaction begins over the rows that the connection shows
 pub begins_with : {S : Type 0} (g : Ghosts S) (old begun : Held S) → begun ≡ record old { in_transaction = true } → (m : Tables)
     → HasRows m (state g old) → BeganWith m (state g begun)
-begins_with g old begun is m had = rw is (record {
-  inside = refl;
-  has = λ clean live. let s = had clean live in record { now = s.now; committed = s.committed };
-})
+begins_with g old begun is m had = grind arith
 
-module _ (m : Tables) (begun mid : State) (b : BeganWith m begun) (kept : Survives begun mid (λ _. ⊥))
-    (keeps : HasCleanDisk mid → IsTrue begun.in_transaction → KeepsCommit begun mid) where
-  -- a rollback goes back to them
-  rows_back : (end : State) → HasCleanDisk mid → IsRolledBack mid end → IsTrue end.is_open → ShowsRows m end
-  rows_back end clean r live =
-      let k = keeps clean b.inside in
-      let was = subst (HoldsTables m) (sym (k.committed (r.was_open live))) (b.has (was_clean begun mid _ kept clean) (k.was_open (r.was_open live))).committed in
-      let is = r.undone live in
-      record { now = subst (HoldsTables m) (sym is.0) was; committed = subst (HoldsTables m) (sym is.1) was }
+-- on a disk that is clean it is open only if the other was, and shows what that had committed
+pub record Reverts (old new : State) : Type 0 where
+  pub clean : HasCleanDisk old
+  pub was_open : IsTrue new.is_open → IsTrue old.is_open
+  pub undone : IsTrue new.is_open → (new.now ≡ old.committed) × (new.committed ≡ old.committed)
 
-  -- after a rollback the database has the rows over which the transaction began
-  pub rows_undone : (end : State) → Survives mid end (λ _. ⊥) → (HasCleanDisk end → IsRolledBack mid end) → HasRows m end
-  rows_undone end then back clean live = rows_back end (was_clean mid end _ then clean) (back clean) live
+-- so it does after a rollback
+pub reverted : (mid end : State) → Survives mid end (λ _. ⊥) → (HasCleanDisk end → IsRolledBack mid end) → HasCleanDisk end → Reverts mid end
+reverted mid end then back clean = record { clean = was_clean mid end _ then clean; was_open = (back clean).was_open; undone = (back clean).undone }
 
-  -- memory ran out at the commit, and the store that is open still shows them
-  pub rows_stand : (end last : State) → Survives mid end (λ db. db ≡ mid.now.trees) → Survives end last (λ _. ⊥) → (e : Error) → e ≡ SqliteFailure OutOfMemory
-      → (HasCleanDisk end → FailsToCommit mid end e) → (HasCleanDisk last → IsUnchanged end last) → HasRows m last
-  rows_stand end last then probed e is failed same clean live =
-      let mine = was_clean end last _ probed clean in let u = same clean in
-      elim (failed mine) [
-        | inl f ↦ (let s = rows_back end (was_clean mid end _ then mine) f.3 u.0.was_open in
-            record { now = subst (HoldsTables m) (sym u.0.now_is) s.now; committed = subst (HoldsTables m) (sym u.0.committed_is) s.committed })
-        | inr other ↦ absurd (let apart = sym is ∙ other.0 in cc)
-      ]
+-- and if memory ran out at the commit, and the store is still open
+pub stood : (mid end last : State) → Survives mid end (λ db. db ≡ mid.now.trees) → Survives end last (λ _. ⊥) → (e : Error)
+    → e ≡ SqliteFailure OutOfMemory → (HasCleanDisk end → FailsToCommit mid end e) → (HasCleanDisk last → IsUnchanged end last)
+    → HasCleanDisk last → IsTrue last.is_open × Reverts mid last
+stood mid end last then probed e is failed same clean = grind (arith, was_clean)
+
+-- it shows again what was committed when the transaction began
+pub shown_back : (P : Database → Type 0) (begun mid end : State) → (IsTrue begun.is_open → P begun.committed) → KeepsCommit begun mid
+    → Reverts mid end → IsTrue end.is_open → P end.now × P end.committed
+shown_back P begun mid end had k r live = grind arith
+
+-- so it has the rows over which the transaction began
+pub rows_back : (m : Tables) (begun mid end : State) → BeganWith m begun → Survives begun mid (λ _. ⊥)
+    → (HasCleanDisk mid → IsTrue begun.in_transaction → KeepsCommit begun mid) → (HasCleanDisk end → Reverts mid end) → HasRows m end
+rows_back m begun mid end b kept keeps back clean live = grind (arith, was_clean, shown_back)

@@ -1,41 +1,25 @@
 -- What is shown of people: trainings in their order, and the same out of rows in another order.
-use Rattle.std.proofs.Common.{◌≡◌, inl, inr, ℕ, ◌<◌, Bool, true, false, ◌&&◌, cond, List, [], ◌∷◌, ◌++◌, map, filter, length, get_or, Option}
-use Rattle.std.proofs.Common.{option_map, Ordering, Less, refl, sym, ap, ◌∙◌, subst, append_assoc, arith}
-use Rattle.std.specs.Prelude.{All, AllPairs, IsTrue, ◌==◌}
-use Rattle.std.specs.List.{AllByRecursion}
-use Rattle.std.specs.List.Sorted.{IsPermutation, IsSortedBy}
-use Rattle.std.specs.Ordering.{nat_cmp, ordering_then, is_lt, is_eq}
+use Rattle.kcr_store.proofs.Common.{◌≡◌, inl, inr, ℕ, ◌<◌, true, false, ◌&&◌, List, [], ◌∷◌, ◌++◌, map, filter, length, get_or, Option, option_map}
+use Rattle.kcr_store.proofs.Common.{Ordering, Less, sym, ap, ◌∙◌, subst, append_assoc, arith, All, AllPairs, ◌==◌, AllByRecursion, IsPermutation}
+use Rattle.kcr_store.proofs.Common.{IsSortedBy, nat_cmp, ordering_then, is_lt, is_eq, false≢true, cases_order, sorted_far, IsPermutation-map}
+use Rattle.kcr_store.proofs.Common.{IsPermutation-sym, IsPermutation-trans, IsAscending, along_permutation, ascending_from_map, ascending_weaker}
+use Rattle.kcr_store.proofs.Common.{same_text, role_number, filter-order, Person, Training, Withdrawal, is_of, same_training, History, Tables}
+use Rattle.kcr_store.proofs.Common.{SameTables, tables, is_training_of, training_row, withdrawal_row, Rises, key_of_trainings, key_of_withdrawals}
+use Rattle.kcr_store.proofs.Common.{PersonShown, role_shown, is_role_before, IsByInitials, roles_of, person_of, ArePeopleShown, AreRolesOf}
+use Rattle.kcr_store.proofs.Common.{ArePeopleShownBy, IsPersonShownBy}
+use Rattle.std.specs.Prelude.{IsTrue}
 use Rattle.std.specs.Cmp.{IsTotalOrder}
 use Rattle.std.specs.Cmp.Lexicographic.{bytes_decides}
-use Rattle.std.proofs.lemmas.Bool.{false≢true, cases_order}
 use Rattle.std.proofs.lemmas.Bool.Decides.{nat_tests}
 use Rattle.std.proofs.lemmas.Cmp.{nat_cmp_total, on_total, then_total}
 use Rattle.std.proofs.lemmas.List.{map-append, get_or_default}
 use Rattle.std.proofs.lemmas.List.MinMax.{ranks_by}
-use Rattle.std.proofs.lemmas.List.Sorted.{sorted_far, IsPermutation-map, IsPermutation-sym, IsPermutation-trans}
-use Rattle.sqlite.specs.Tree.{IsAscending}
-use Rattle.sqlite_trees.proofs.ListLemmas.{along_permutation, ascending_from_map, ascending_weaker}
 use Rattle.sqlite_keyed.proofs.ListLemmas.{map_same}
-use Rattle.kcr_base.specs.Same.{same_text, role_number}
-use Rattle.kcr_base.proofs.RowsLemmas.{filter-order}
-use Rattle.kcr_people.specs.declared.Person.{Person}
-use Rattle.kcr_people.specs.declared.Training.{Training}
-use Rattle.kcr_people.specs.declared.Withdrawal.{Withdrawal}
-use Rattle.kcr_people.specs.People.{is_of, same_training}
 use Rattle.kcr_people.specs.Laws.{AtMostOne, same_withdrawn}
 use Rattle.kcr_people.proofs.Orders.{find-one}
 use Rattle.kcr_people.proofs.Withdrawn.{is_of-true}
-use Rattle.kcr_history.specs.History.{History}
-use Rattle.kcr_history.specs.Tables.{Tables, SameTables, tables}
-use Rattle.kcr_history.specs.Views.{is_training_of}
-use Rattle.kcr_rows.specs.Rows.{training_row, withdrawal_row}
 use Rattle.kcr_rows.specs.Keyed.{by_key}
-use Rattle.kcr_tables.proofs.JointLemmas.{Rises, key_of_trainings, key_of_withdrawals}
-use Rattle.kcr_history.specs.declared.questions.PersonShown.{PersonShown}
 use Rattle.kcr_history.specs.declared.questions.RoleShown.{RoleShown}
-use Rattle.kcr_history.specs.Questions.{role_shown, is_role_before, IsByInitials, roles_of, person_of, ArePeopleShown}
-use Rattle.kcr_store.specs.Shown.{AreRolesOf}
-use Rattle.kcr_store.specs.ShownBy.{ArePeopleShownBy, IsPersonShownBy}
 use Rattle.kcr_store.proofs.StoreLemmas.{all_pairs, by_initials}
 
 -- ---- people one after the other
@@ -61,9 +45,7 @@ before a b = grind arith
 
 -- of sorted trainings none is before one that is listed ahead of it
 pub in_order : (roles : List RoleShown) → IsSortedBy (λ a b. is_lt (role_cmp a b)) roles → AllPairs (λ a b. is_role_before b a ≡ false) roles
-in_order roles up = λ i j d lt below.
-    sym (before (get_or roles j d) (get_or roles i d))
-    ∙ sorted_far (λ a b. is_lt (role_cmp a b)) (ranks_by role_cmp_total (λ a. a)) roles up i j d (omega arith) below
+in_order roles up = grind (arith, before, sorted_far (λ a b. is_lt (role_cmp a b)) (ranks_by role_cmp_total (λ a. a)) roles up)
 
 -- ---- no two are alike
 
@@ -91,8 +73,7 @@ reordered R turn =
 -- those that are in order and differ each stand before the next
 strictly : (roles : List RoleShown) → IsAscending Differ roles → AllPairs (λ a b. is_role_before b a ≡ false) roles
     → AllPairs (λ a b. IsTrue (is_role_before a b)) roles
-strictly roles differ order =
-    λ i j d lt below. one_before (get_or roles i d) (get_or roles j d) (all_pairs Differ roles differ i j d lt below) (order i j d lt below)
+strictly roles differ order = grind (arith, one_before, all_pairs Differ roles differ)
 
 -- ---- trainings of different keys
 
@@ -109,22 +90,11 @@ module _ (withdrawn : List Withdrawal) (who : List ℕ) where
       → AllByRecursion (λ row. by_key 4 (training_row x) row ≡ Less) (map training_row xs)
       → AllByRecursion (Differ (role_shown withdrawn x)) (roles_of xs withdrawn who)
   first_apart x p [] up = tt
-  first_apart x p (y ∷ xs) up = by_test (is_training_of who y) refl (first_apart x p xs up.1)
-    where
-      by_test : (b : Bool) → is_training_of who y ≡ b → AllByRecursion (Differ (role_shown withdrawn x)) (roles_of xs withdrawn who)
-          → AllByRecursion (Differ (role_shown withdrawn x))
-          (map (role_shown withdrawn) (cond b (y ∷ filter (is_training_of who) xs) (filter (is_training_of who) xs)))
-      by_test true e ih = (apart x y p e up.0, ih)
-      by_test false e ih = ih
+  first_apart x p (y ∷ xs) up = grind (arith, apart x y p, first_apart x p xs up.1)
 
   all_apart : (xs : List Training) → IsAscending (λ a b. by_key 4 a b ≡ Less) (map training_row xs) → IsAscending Differ (roles_of xs withdrawn who)
   all_apart [] up = tt
-  all_apart (x ∷ xs) up = by_test (is_training_of who x) refl (all_apart xs up.1)
-    where
-      by_test : (b : Bool) → is_training_of who x ≡ b → IsAscending Differ (roles_of xs withdrawn who)
-          → IsAscending Differ (map (role_shown withdrawn) (cond b (x ∷ filter (is_training_of who) xs) (filter (is_training_of who) xs)))
-      by_test true e ih = (first_apart x e xs up.0, ih)
-      by_test false e ih = ih
+  all_apart (x ∷ xs) up = grind (arith, first_apart, all_apart xs up.1)
 
 -- ---- the withdrawal of a training
 
@@ -190,8 +160,4 @@ module _ (m t : Tables) (same : SameTables m t) (rises : Rises t) where
 
 -- so does a history, by its tables
 pub people_of_history : (A : History) (rows : List PersonShown) → ArePeopleShownBy (tables A) rows → ArePeopleShown A rows
-people_of_history A rows are = record {
-  people = are.people;
-  order = are.order;
-  each = λ k d below. let e = are.each k d below in record { roles = e.roles; order = e.order };
-}
+people_of_history A rows are = grind arith

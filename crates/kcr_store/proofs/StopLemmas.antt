@@ -1,25 +1,16 @@
 -- What a stop leaves of a register's files.
-use Rattle.std.proofs.Common.{◌⊎◌, IsTrue, inl, inr}
+use Rattle.kcr_store.proofs.Common.{arith, rules, ◌⊎◌, IsTrue, HoldsDatabase, AreDatabases, State, HasCleanDisk, Ghosts, Trees, Image, History}
+use Rattle.kcr_store.proofs.Common.{FilesHoldHistory, LeavesEither, OpensAtEither, tried, AfterCrash, RegisterHistory, RegisterState, StandsAt, whole}
+use Rattle.kcr_store.proofs.Common.{IsTables}
 use Rattle.std.proofs.Math.Logic.{∥∥₁_map}
 use Rattle.sqlite.proofs.Theorems.{opens_again}
-use Rattle.sqlite.specs.Files.{HoldsDatabase}
-use Rattle.sqlite.specs.Held.{AreDatabases}
-use Rattle.sqlite.specs.State.{State, HasCleanDisk}
-use Rattle.sqlite.specs.Store.{Ghosts}
-use Rattle.sqlite.specs.Tree.{Trees}
 use Rattle.sqlite_disk.specs.declared.Disk.{Ghosts as DiskGhosts}
 use Rattle.sqlite_store.specs.FileStore.{view, recovers, state as stored}
 use Rattle.sqlite_store.specs.declared.store.FileStore.{FileStore}
-use Rattle.sqlite_wal.specs.Recovery.{Image}
-use Rattle.kcr_history.specs.History.{History}
-use Rattle.kcr_store.specs.Opening.{FilesHoldHistory, LeavesEither, OpensAtEither, tried}
-use Rattle.kcr_store.specs.Register.{AfterCrash, RegisterHistory, RegisterState, StandsAt, whole}
-use Rattle.kcr_store.specs.Stored.{IsTables}
 
 held : (s : RegisterHistory) (left : Image) (db : Trees) → HoldsDatabase left db → IsTables s.accepted db ⊎ IsTables (tried s) db
     → FilesHoldHistory s.accepted left ⊎ FilesHoldHistory (tried s) left
-held s left db holds (inl tables) = inl (inl (db, holds, inl tables))
-held s left db holds (inr tables) = inr (inl (db, holds, inl tables))
+held s left db holds tables = search rules
 
 -- each image that a crash may leave of the store holds the tables of one of the two histories
 pub left_either : {D : Type 0} {g : DiskGhosts D} (it : FileStore D g) (old : State) → IsTrue (view it).is_numbered → AreDatabases (recovers it)
@@ -32,8 +23,7 @@ left_either it old numbered sound clean outcomes s crash left may =
 opened : {S : Type 0} (g : Ghosts S) (next : RegisterState S) (s : RegisterHistory) (left : Image)
     → ((A : History) → FilesHoldHistory A left → StandsAt g (whole A) next)
     → FilesHoldHistory s.accepted left ⊎ FilesHoldHistory (tried s) left → StandsAt g (whole s.accepted) next ⊎ StandsAt g (whole (tried s)) next
-opened g next s left stands (inl held) = inl (stands s.accepted held)
-opened g next s left stands (inr held) = inr (stands (tried s) held)
+opened g next s left stands either = grind arith
 
 -- what is opened from one stands at one of the two
 pub opens_either : {S : Type 0} (g : Ghosts S) (s : RegisterHistory) (left : Image) → LeavesEither s left → OpensAtEither g s left

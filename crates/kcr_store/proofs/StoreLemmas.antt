@@ -1,44 +1,24 @@
 -- What a decision makes of the tables, and what a reading of them shows.
-use Rattle.std.proofs.Common.{◌≡◌, inl, inr, ℕ, List, [], ◌∷◌, map, Option, Some, None, Ok, Err, Less, IsTrue, refl, sym, ap, subst, ◌∙◌}
-use Rattle.std.specs.Prelude.{MatchOption, AllPairs, IsPermutation, Result, IfErr, length}
-use Rattle.std.specs.Ordering.{is_lt}
+use Rattle.kcr_store.proofs.Common.{arith, ◌≡◌, ℕ, List, [], ◌∷◌, map, Option, Some, None, Ok, Err, Less, IsTrue, refl, sym, ap, subst, ◌∙◌}
+use Rattle.kcr_store.proofs.Common.{MatchOption, AllPairs, IfErr, is_lt, Database, State, HasCleanDisk, IsAscending, Trees, ascending-get_or}
+use Rattle.kcr_store.proofs.Common.{ascending_from_map, ascending_weaker, is_before, Refusal, Person, Command, Verdict, FullView, History, Tables}
+use Rattle.kcr_store.proofs.Common.{SameTables, tables, all_changed, IsRegister, IsAcceptance, IsRepeat, IsDecision, follows, numbers, person_row}
+use Rattle.kcr_store.proofs.Common.{item_row, Holds, HoldsTables, SameRows, same_holds, IsFault, IsByInitials, AppliesCommand, with_reply}
+use Rattle.kcr_store.proofs.Common.{number_after, Stores, AreRows, IsListed, Lists}
+use Rattle.std.specs.Prelude.{IsPermutation, Result, length}
 use Rattle.sqlite.specs.declared.types.Value.TheVariants.{Text}
-use Rattle.sqlite.specs.Effect.{Database}
-use Rattle.sqlite.specs.State.{State, HasCleanDisk}
 use Rattle.sqlite.specs.Order.{Row, value_cmp}
-use Rattle.sqlite.specs.Tree.{IsAscending, Trees}
-use Rattle.sqlite_trees.proofs.ListLemmas.{ascending-get_or, ascending_from_map, ascending_weaker}
 use Rattle.sqlite_value.proofs.OrderLemmas.{value_cmp-Text, then-Equal}
-use Rattle.kcr_base.specs.Same.{is_before}
-use Rattle.kcr_base.specs.declared.refusal.Refusal.{Refusal}
 use Rattle.kcr_custody.specs.declared.Item.{Item}
-use Rattle.kcr_people.specs.declared.Person.{Person}
 use Rattle.kcr_history.specs.declared.commands.ReplyData.{ReplyData}
-use Rattle.kcr_history.specs.declared.commands.Command.{Command}
 use Rattle.kcr_history.specs.declared.commands.Entry.{Entry}
 use Rattle.kcr_history.specs.declared.views.Change.{Change}
 use Rattle.kcr_history.specs.declared.views.Finding.{Finding}
-use Rattle.kcr_history.specs.declared.views.Verdict.{Verdict}
-use Rattle.kcr_history.specs.declared.views.FullView.{FullView}
 use Rattle.kcr_history.specs.Audit.{IsAudit}
-use Rattle.kcr_history.specs.History.{History}
-use Rattle.kcr_history.specs.Tables.{Tables, SameTables, tables}
-use Rattle.kcr_history.specs.Changes.{all_changed}
-use Rattle.kcr_history.specs.Machine.{IsRegister, IsAcceptance, IsRepeat, IsDecision}
-use Rattle.kcr_history.proofs.Steps.{follows, numbers}
 use Rattle.kcr_tables.specs.Keyed.{by_key}
-use Rattle.kcr_rows.specs.Rows.{person_row, item_row}
 use Rattle.kcr_rows.specs.States.{loose_value, within_value}
 use Rattle.kcr_tables.specs.StoredTables as held
-use Rattle.kcr_tables.specs.StoredTables.{Holds}
-use Rattle.kcr_tables.specs.MachineTables.{HoldsTables, SameRows}
 use Rattle.kcr_tables.specs.Table.{TableSpec, machine_rows}
-use Rattle.kcr_tables.proofs.JointLemmas.{same_holds}
-use Rattle.kcr_tables.specs.Refusals.{IsFault}
-use Rattle.kcr_history.specs.Questions.{IsByInitials}
-use Rattle.kcr_store.specs.Commands.{AppliesCommand, with_reply, number_after}
-use Rattle.kcr_store.specs.Stored.{Stores}
-use Rattle.kcr_store.specs.FullView.{AreRows, IsListed, Lists}
 
 -- the tables that the database holds
 pub holds_in : (A : History) (db : Database) (s : Stores A db) → Holds db s.tables.kept.t
@@ -55,8 +35,7 @@ Decides A x v answer = MatchOption answer ((kept : Entry) × IsRepeat A x v kept
 module _ (A : History) (x : Command) (v : Verdict) where
   -- a decision with this reply applies the command
   pub steps : (answer : Option ReplyData) → Decides A x v answer → AppliesCommand A x (Ok v.reply) (with_reply A x answer)
-  steps (Some a) d = (a, d.step, d.reply)
-  steps None d = (d.0.reply, d.1.step, d.1.reply)
+  steps answer d = grind arith
 
   next_register : (answer : Option ReplyData) → Decides A x v answer → IsRegister A → IsRegister (with_reply A x answer)
   next_register (Some a) d r = (follows A x a d.step, r)
@@ -78,8 +57,7 @@ module _ (A : History) (x : Command) (v : Verdict) where
 -- the number of the last command after a decision is that of the history after it
 pub counts_after : (A : History) (x : Command) (answer : Option ReplyData) (count : ℕ) → count ≡ length A → IsRegister (with_reply A x answer)
     → number_after count answer ≡ length (with_reply A x answer)
-counts_after A x None count is h = is
-counts_after A x (Some answer) count is h = numbers A (record { command = x; reply = answer }) h
+counts_after A x answer count is h = grind (arith, numbers)
 
 -- as `OfStored`, of the states before and after a call
 abbrev pub OfStates : State → State → (History → Type 0) → Type 0
@@ -97,8 +75,7 @@ refused old new count x (Err e) d = λ clean A had is. (refl, λ memory disk. d 
 
 -- out of memory and an I/O error leave the history
 pub fault_steps : (A : History) (x : Command) (e : Refusal) → IsFault e → AppliesCommand A x (Err e) A
-fault_steps A x e (inl memory) = (refl, λ no_memory no_disk. absurd (no_memory memory))
-fault_steps A x e (inr disk) = (refl, λ no_memory no_disk. absurd (no_disk disk))
+fault_steps A x e fault = grind arith
 
 -- ---- what a command may get, whatever the tables hold
 
@@ -114,8 +91,7 @@ first_stores db h = record { schema = h.schema; tables = record { register = tt;
 
 -- if nothing is to be found, nothing is found
 pub none_found : (view : FullView) (found : Option Finding) → IsAudit view None → IsAudit view found → found ≡ None
-none_found view None clean found = refl
-none_found view (Some finding) clean found = absurd (clean finding found.0)
+none_found view found none is = grind arith
 
 -- rows of one table as a database has them are the machine's, in the order of their keys
 pub in_table : {X : Type 0} (table : TableSpec X) {m : Tables} {db : Trees} {t : held.StoredTables} {rows : List X} → held.TreesHold db t → rows ≡ table.rows_in t

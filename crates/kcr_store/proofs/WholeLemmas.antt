@@ -1,40 +1,19 @@
 -- What one transaction leaves of a register.
-use Rattle.std.proofs.Common.{◌≡◌, Bool, ℕ, length, inl, inr, Option, Some, None, true, false, Result, Ok, Err, IfErr, IfOk, OnOk, IsTrue, refl, sym, ap, subst, ◌∙◌, arith}
-use Rattle.sqlite.specs.declared.error.ErrorCode.TheVariants.{OutOfMemory}
-use Rattle.sqlite.specs.declared.error.Error.{Error}
-use Rattle.sqlite.specs.declared.error.Error.TheVariants.{SqliteFailure}
-use Rattle.sqlite.specs.Store.{Ghosts}
-use Rattle.sqlite.specs.Tree.{Trees}
-use Rattle.sqlite.specs.State.{State, HasCleanDisk, KeepsCommit, IsRolledBack, IsUnchanged, Survives, Shows}
-use Rattle.sqlite.specs.declared.transaction.Transaction.{Transaction}
+use Rattle.kcr_store.proofs.Common.{rules, ◌≡◌, Bool, ℕ, length, inl, inr, Option, Some, None, true, false, Result, Ok, Err, IfOk, OnOk, IsTrue, refl}
+use Rattle.kcr_store.proofs.Common.{sym, ap, subst, ◌∙◌, arith, Error, Ghosts, Trees, State, HasCleanDisk, KeepsCommit, IsRolledBack, Survives, Shows}
+use Rattle.kcr_store.proofs.Common.{Transaction, Database, Held, state, Command, was_clean, survives_on, state_in, StaysInTransaction, clean_before}
+use Rattle.kcr_store.proofs.Common.{AppliesCommand, IsSameOrNext, TakesStep, with_reply, number_after, EndsCommand, TransactionResult, Accepted}
+use Rattle.kcr_store.proofs.Common.{Refused, InDoubt, Verdict, IsTables, Stores, History, Tables, tables, HasRows, IsConsistent, IsDurableWith}
+use Rattle.kcr_store.proofs.Common.{IsDurable, CrashKeeps, AfterCrash, RegisterState, RegisterHistory, StandsAt, whole, true≢false, ◌↔◌, IsSome}
+use Rattle.kcr_store.proofs.Common.{is_some, unwrap_or, Refusal, Disk, Reply, BreaksIf, BreaksOnFault, CommitsNothing, Leads, ReadsHistory}
+use Rattle.kcr_store.proofs.Common.{after_fault, left_at, OfRowsOver, OfRowsShown, OnlyReads, StaysOutside}
+use Rattle.std.proofs.Common.{IfErr}
+use Rattle.sqlite.proofs.Callers.{survives_begin}
 use Rattle.sqlite.proofs.StateLemmas.{survives_then, survives_weaker}
-use Rattle.sqlite.specs.Effect.{Database}
-use Rattle.sqlite.specs.Steps.{FailsToCommit}
-use Rattle.sqlite.specs.Held.{Held, state}
-use Rattle.kcr_history.specs.declared.commands.Command.{Command}
-use Rattle.kcr_rows.proofs.InsideLemmas.{was_clean, survives_on}
-use Rattle.kcr_rows.specs.Frame.{state_in, StaysInTransaction}
-use Rattle.kcr_rows.proofs.FrameLemmas.{clean_before}
-use Rattle.kcr_store.specs.Commands.{AppliesCommand, IsSameOrNext, TakesStep, with_reply, number_after}
-use Rattle.kcr_store.specs.TransactionResult.{EndsCommand}
-use Rattle.kcr_store.specs.declared.transaction.TransactionResult.TheVariants.{Accepted, Refused, InDoubt}
-use Rattle.kcr_history.specs.declared.views.Verdict.{Verdict}
-use Rattle.kcr_store.proofs.RowLemmas.{begins_with, rows_undone}
+use Rattle.kcr_store.proofs.RowLemmas.{Reverts, begins_with, reverted, rows_back, shown_back}
 use Rattle.kcr_store.proofs.StoreLemmas.{counts_after, held_in}
-use Rattle.kcr_store.specs.Stored.{IsTables, Stores}
-use Rattle.kcr_history.specs.History.{History}
-use Rattle.kcr_history.specs.Tables.{Tables, tables}
-use Rattle.kcr_store.specs.Register.{HasRows, IsConsistent, IsDurableWith, IsDurable, CrashKeeps, AfterCrash, RegisterState, RegisterHistory, StandsAt}
 use Rattle.kcr_store.specs.Register as register
-use Rattle.kcr_store.specs.Register.{whole}
-use Rattle.std.proofs.lemmas.Bool.{true≢false}
 use Rattle.std.proofs.lemmas.Option.{none-some}
-use Rattle.std.specs.Prelude.{◌↔◌, IsSome, is_some, unwrap_or}
-use Rattle.kcr_base.specs.declared.refusal.Refusal.{Refusal}
-use Rattle.kcr_base.specs.declared.refusal.Refusal.TheVariants.{Disk}
-use Rattle.kcr_history.specs.declared.commands.Reply.{Reply}
-use Rattle.kcr_store.specs.Calls.{BreaksIf, BreaksOnFault, CommitsNothing, Leads, ReadsHistory, after_fault, left_at}
-use Rattle.kcr_store.specs.Frame.{OfRowsOver, OfRowsShown, OnlyReads, StaysOutside}
 
 -- within the transaction
 pub record Began (accepted : History) (s : State) : Type 0 where
@@ -45,12 +24,7 @@ pub record Began (accepted : History) (s : State) : Type 0 where
 -- a transaction of a register that is durable begins over its history
 pub begins : {S : Type 0} (g : Ghosts S) (accepted : History) (old begun : Held S) → begun ≡ record old { in_transaction = true }
     → IsDurable accepted (state g old) → Began accepted (state g begun)
-begins g accepted old begun is w =
-    rw is (record {
-      inside = refl;
-      shows = λ clean live. let s = w.shows clean live in record { now = s.now; committed = s.committed };
-      crash = w.crash;
-    })
+begins g accepted old begun is w = grind arith
 
 -- a disk that is clean within the transaction was clean before it
 pub begun_clean : {S : Type 0} (g : Ghosts S) (old begun : Held S) → begun ≡ record old { in_transaction = true } → HasCleanDisk (state g begun)
@@ -67,70 +41,56 @@ leaves accepted old new had s clean db may = elim (s.crash clean db may) [ inl b
 
 -- a rollback goes back to the tables that were shown
 pub undone_shows : (accepted : History) (begun mid end : State) → (IsTrue begun.is_open → register.IsSynced accepted begun) → KeepsCommit begun mid
-    → IsRolledBack mid end → IsTrue end.is_open → register.IsSynced accepted end
+    → Reverts mid end → IsTrue end.is_open → register.IsSynced accepted end
 undone_shows accepted begun mid end shows k r live =
-    let was = subst (Stores accepted) (sym (k.committed (r.was_open live))) (shows (k.was_open (r.was_open live))).committed in
-    let is = r.undone live in
-    record { now = subst (Stores accepted) (sym is.0) was; committed = subst (Stores accepted) (sym is.1) was }
+    let s = shown_back (Stores accepted) begun mid end (λ was. (shows was).committed) k r live in record { now = s.0; committed = s.1 }
 
 module _ (accepted : History) (begun mid : State) (b : Began accepted begun) (kept : Survives begun mid (λ _. ⊥))
     (keeps : HasCleanDisk mid → IsTrue begun.in_transaction → KeepsCommit begun mid) where
-  undone : (end : State) → HasCleanDisk mid → IsRolledBack mid end → IsTrue end.is_open → register.IsSynced accepted end
-  undone end clean r = undone_shows accepted begun mid end (b.shows (was_clean begun mid _ kept clean)) (keeps clean b.inside) r
+  undone : (end : State) → Reverts mid end → IsTrue end.is_open → register.IsSynced accepted end
+  undone end r = undone_shows accepted begun mid end (b.shows (was_clean begun mid _ kept r.clean)) (keeps r.clean b.inside) r
 
   whole_undone : (end : State) → Survives mid end (λ _. ⊥) → (HasCleanDisk end → IsRolledBack mid end) → IsDurable accepted end
-  whole_undone end then back = record {
-    shows = λ clean live. undone end (was_clean mid end _ then clean) (back clean) live;
-    crash = leaves accepted mid end (leaves accepted begun mid b.crash kept) then;
+  whole_undone end then back = search (rules, undone, reverted, leaves)
+
+  -- memory ran out at the commit, and the store that is open still shows what was there
+  pub whole_stands : (last : State) → ((db : Trees) → IsTrue last.is_open → last.may_leave db → db ≡ last.committed.trees)
+      → (HasCleanDisk last → IsTrue last.is_open × Reverts mid last) → IsDurable accepted last
+  whole_stands last settled back = record {
+    shows = λ clean live. undone last (back clean).1 live;
+    crash = λ clean db may.
+        let r = back clean in subst (IsTables accepted) (sym (settled db r.0 may)) (undone last r.1 r.0).committed.tables;
   }
 
-  module _ (after : History) (end : State) (then : Survives mid end (λ db. db ≡ mid.now.trees)) where
+  module _ (after : History) (end : State) (then : Survives mid end (λ db. db ≡ mid.now.trees))
+      (done : HasCleanDisk mid → Stores after mid.now) where
     -- a crash leaves the history before the commit, or the one after it
-    pub either : (HasCleanDisk mid → Stores after mid.now) → AfterCrash accepted after end
-    either done clean db may =
+    pub either : AfterCrash accepted after end
+    either clean db may =
         let before = was_clean mid end _ then clean in
         elim (then.crash clean db may) [
           | inl had ↦ inl (leaves accepted begun mid b.crash kept before db had)
           | inr is ↦ inr (subst (IsTables after) (sym is) (done before).tables)
         ]
 
+    -- so it does after a later look at the store
+    pub either_last : (last : State) → Survives end last (λ _. ⊥) → AfterCrash accepted after last
+    either_last last probed clean db may =
+        elim (probed.crash clean db may) [ inl before ↦ either (was_clean end last _ probed clean) db before | inr none ↦ absurd none ]
+
     -- the store says that it stands
-    pub whole_done : ((db : Trees) → IsTrue end.is_open → end.may_leave db → db ≡ end.committed.trees) → (HasCleanDisk mid → Stores after mid.now)
+    pub whole_done : ((db : Trees) → IsTrue end.is_open → end.may_leave db → db ≡ end.committed.trees)
         → (HasCleanDisk end → Shows mid end mid.now mid.now false) → IsDurable after end
-    whole_done settled done shown = record {
-      shows = λ clean live.
-          let is = done (was_clean mid end _ then clean) in
-          let s = shown clean in
-          record { now = subst (Stores after) (sym s.now_is) is; committed = subst (Stores after) (sym s.committed_is) is };
-      crash = λ clean db may.
-          let is = done (was_clean mid end _ then clean) in
-          let s = shown clean in
-          subst (IsTables after) (sym (settled db s.is_open may)) (subst (Stores after) (sym s.committed_is) is).tables;
-    }
-
-    module _ (last : State) (probed : Survives end last (λ _. ⊥)) where
-      -- a crash after a later look at the store leaves the history before the commit, or the one after it
-      pub either_last : (HasCleanDisk mid → Stores after mid.now) → AfterCrash accepted after last
-      either_last done clean db may =
-          elim (probed.crash clean db may) [ inl before ↦ either done (was_clean end last _ probed clean) db before | inr none ↦ absurd none ]
-
-      -- memory ran out at the commit, and the store that is open still shows what was there
-      pub whole_stands : ((db : Trees) → IsTrue last.is_open → last.may_leave db → db ≡ last.committed.trees) → (e : Error) → e ≡ SqliteFailure OutOfMemory
-          → (HasCleanDisk end → FailsToCommit mid end e) → (HasCleanDisk last → IsUnchanged end last) → IsDurable accepted last
-      whole_stands settled e is failed same =
-          let shown : HasCleanDisk last → IsTrue last.is_open × register.IsSynced accepted last =
-          λ clean. let mine = was_clean end last _ probed clean in let u = same clean in
-          elim (failed mine) [
-            | inl f ↦ (let s = undone end (was_clean mid end _ then mine) f.3 u.0.was_open in (
-              u.0.is_open,
-              record { now = subst (Stores accepted) (sym u.0.now_is) s.now; committed = subst (Stores accepted) (sym u.0.committed_is) s.committed },
-            ))
-            | inr other ↦ absurd (let apart = sym is ∙ other.0 in cc)
-          ] in
-          record {
-            shows = λ clean live. (shown clean).1;
-            crash = λ clean db may. let s = shown clean in subst (IsTables accepted) (sym (settled db s.0 may)) s.1.committed.tables;
-          }
+    whole_done settled shown =
+        let synced : HasCleanDisk end → register.IsSynced after end =
+        λ clean. (
+        let s = shown clean in
+        let is = done (was_clean mid end _ then clean) in
+        record { now = subst (Stores after) (sym s.now_is) is; committed = subst (Stores after) (sym s.committed_is) is }) in
+        record {
+          shows = λ clean live. synced clean;
+          crash = λ clean db may. subst (IsTables after) (sym (settled db (shown clean).is_open may)) (synced clean).committed.tables;
+        }
 
 module _ {S : Type 0} (g : Ghosts S) (old begun : Held S) (is : begun ≡ record old { in_transaction = true }) where
   -- a command that was prepared: the tables are those after it, and the number is its own or, of a repeat, the same
@@ -157,9 +117,7 @@ module _ {S : Type 0} (g : Ghosts S) (old begun : Held S) (is : begun ≡ record
   -- what survives the transaction survives from before it
   module _ (mid : State) (kept : Survives (state g begun) mid (λ _. ⊥)) where
     within : Survives (state g old) mid (λ _. ⊥)
-    within =
-        let s = subst (λ (h : Held S). Survives (state g h) mid (λ _. ⊥)) is kept in
-        record { clean = s.clean; shield = s.shield; counts = s.counts; limit = s.limit; closes = s.closes; crash = s.crash }
+    within = survives_begin g old mid _ (rw is at kept)
 
     -- a transaction that was rolled back ends outside of one, and has committed nothing
     pub undone_outside : (end : Held S) → Survives mid (state g end) (λ _. ⊥) → end.in_transaction ≡ false → StaysOutside g (λ _. ⊥) old end
@@ -168,20 +126,16 @@ module _ {S : Type 0} (g : Ghosts S) (old begun : Held S) (is : begun ≡ record
     -- a transaction that was committed, or may have been
     pub made_outside : (end : Held S) (P : Trees → Type 0) → Survives mid (state g end) (λ db. db ≡ mid.now.trees) → (HasCleanDisk mid → P mid.now.trees)
         → end.in_transaction ≡ false → StaysOutside g P old end
-    made_outside end P then done out = record {
-      autocommit = out;
-      survives = survives_then (state g old) mid (state g end) _ _ P (λ _ db none. absurd none)
-          (λ clean db same. subst P (sym same) (done (was_clean mid (state g end) _ then clean))) within then;
-    }
+    made_outside end P then done out = search (rules, survives_then, within, was_clean)
 
     -- nothing was committed, if the store that met out of memory at the commit is still open
     pub nothing_made : (HasCleanDisk mid → IsTrue (state g begun).in_transaction → KeepsCommit (state g begun) mid)
-        → ((db : Trees) → IsTrue (state g old).is_open → db ≡ (state g old).committed.trees → (state g old).may_leave db)
-        → (end : State) → Survives mid end (λ db. db ≡ mid.now.trees) → (e : Error) → e ≡ SqliteFailure OutOfMemory
-        → (HasCleanDisk end → FailsToCommit mid end e) → (last : Held S) → Survives end (state g last) (λ _. ⊥) → (HasCleanDisk (state g last) → IsUnchanged end (state g last))
-        → ((db : Trees) → IsTrue (state g last).is_open → (state g last).may_leave db → db ≡ (state g last).committed.trees)
+        → ((s : S) → IsTrue (g.view s).is_open → g.recovers s (g.view s).committed)
+        → ((s : S) (db : Trees) → IsTrue (g.view s).is_open → g.recovers s db → db ≡ (g.view s).committed)
+        → (end : State) → Survives mid end (λ db. db ≡ mid.now.trees) → (last : Held S) → Survives end (state g last) (λ _. ⊥)
+        → (HasCleanDisk (state g last) → IsTrue (state g last).is_open × Reverts mid (state g last))
         → Survives (state g old) (state g last) (λ _. ⊥)
-    nothing_made keeps stays end then e memory failed last probed same settled =
+    nothing_made keeps stays settled end then last probed back =
         let made = λ (db : Trees). db ≡ mid.now.trees in
         let committed = survives_then (state g old) mid end (λ _. ⊥) made made (λ _ db none. absurd none) (λ _ db is. is) within then in
         let all = survives_then (state g old) end (state g last) made (λ _. ⊥) made (λ _ db is. is) (λ _ db none. absurd none) committed probed in
@@ -192,18 +146,12 @@ module _ {S : Type 0} (g : Ghosts S) (old begun : Held S) (is : begun ≡ record
           limit = all.limit;
           closes = all.closes;
           crash = λ clean db may.
-              let u = same clean in
-              let mine = was_clean end (state g last) _ probed clean in
-              let inside : IsTrue (state g begun).in_transaction = rw is refl in
-              let kept : KeepsCommit (state g (record old { in_transaction = true })) mid =
-              subst (λ (h : Held S). KeepsCommit (state g h) mid) is (keeps (was_clean mid end _ then mine) inside) in
-              elim (failed mine) [
-                | inl f ↦ inl (
-                    let open_still = f.3.was_open u.0.was_open in
-                    let same_commit : (state g last).committed ≡ (state g old).committed = u.0.committed_is ∙ (f.3.undone u.0.was_open).1 ∙ kept.committed open_still in
-                    stays db (kept.was_open open_still) (settled db u.0.is_open may ∙ ap (λ (d : Database). d.trees) same_commit))
-                | inr other ↦ absurd (let apart = sym memory ∙ other.0 in cc)
-              ];
+              let (live, r) = back clean in
+              let kept : KeepsCommit (state g (record old { in_transaction = true })) mid = rw is at (keeps r.clean (rw is refl)) in
+              let was = r.was_open live in
+              let same_commit : (state g last).committed ≡ (state g old).committed = (r.undone live).1 ∙ kept.committed was in
+              let same = settled last.store db live may ∙ ap (λ (d : Database). d.trees) same_commit in
+              inl (subst (g.recovers old.store) (sym same) (stays old.store (kept.was_open was)));
         }
 
 -- a transaction that is rolled back: the call over the connection only reads
@@ -216,25 +164,20 @@ read_back g old end {begun = begun} {mid = mid} left is then back out = record {
   clean = λ clean. begun_clean g old begun.conn.now is (clean_before left (was_clean (state_in g mid) (state g end) _ then clean));
   whole = λ A was. whole_undone A (state_in g begun) (state_in g mid) (begins g A old begun.conn.now is was) left.survives left.kept (state g end) then back;
   rows = λ m had.
-      rows_undone m (state_in g begun) (state_in g mid) (begins_with g old begun.conn.now is m had) left.survives left.kept (state g end) then back;
+      rows_back m (state_in g begun) (state_in g mid) (state g end) (begins_with g old begun.conn.now is m had) left.survives left.kept
+      (reverted (state_in g mid) (state g end) then back);
   cause = left.cause;
 }
 
 -- a call that leaves what was there follows
 pub outside_then : {S : Type 0} (g : Ghosts S) (P : Trees → Type 0) (old mid end : Held S) → StaysOutside g P old mid → StaysOutside g (λ _. ⊥) mid end
     → StaysOutside g P old end
-outside_then g P old mid end one two = record {
-  autocommit = two.autocommit;
-  survives = survives_then (state g old) (state g mid) (state g end) P (λ _. ⊥) P (λ _ db made. made) (λ _ db none. absurd none) one.survives two.survives;
-}
+outside_then g P old mid end one two = search (rules, survives_then)
 
 -- a call that may leave less
 pub outside_weaker : {S : Type 0} {g : Ghosts S} {P R : Trees → Type 0} {old new : Held S} → ((db : Trees) → P db → R db) → StaysOutside g P old new
     → StaysOutside g R old new
-outside_weaker {g = g} {P} {R} {old} {new} weaker left = record {
-  autocommit = left.autocommit;
-  survives = survives_weaker (state g old) (state g new) P R (λ _. weaker) left.survives;
-}
+outside_weaker weaker left = search (rules, survives_weaker)
 
 -- what is whole, with its number
 pub counted_as : {count : ℕ} {accepted : History} {s : State} → IsDurable accepted s → (HasCleanDisk s → count ≡ length accepted) → IsDurableWith count accepted s
@@ -261,13 +204,7 @@ module _ {count : ℕ} {A : History} {x : Command} {new : State} where
   -- it was accepted
   pub accepted_ends : {v : Verdict} → AppliesCommand A x (Ok v.reply) (with_reply A x v.new_reply)
       → IsDurableWith (number_after count v.new_reply) (with_reply A x v.new_reply) new → EndsCommand count A x (Accepted v) new
-  accepted_ends {v} step stands = record {
-    next = with_reply A x v.new_reply;
-    step = step;
-    candidate = inr (step.0, step.1);
-    shows = λ _. stands;
-    crash = λ clean db may. inr (stands.whole.crash clean db may);
-  }
+  accepted_ends {v} step stands = search rules
 
   -- the commit failed, and may stand
   pub doubtful_ends : {error : Error} (v : Verdict) → AppliesCommand A x (Ok v.reply) (with_reply A x v.new_reply)
@@ -284,9 +221,7 @@ module _ {count : ℕ} {A : History} {x : Command} {new : State} where
 
 -- it has the rows of its history
 pub stands_rows : {S : Type 0} {g : Ghosts S} {A : History} {r : RegisterState S} → StandsAt g (whole A) r → HasRows (tables A) (state g r.conn)
-stands_rows {A = A} at honest live =
-    let s = (at.shows refl).whole.shows honest live in
-    record { now = held_in A _ s.now; committed = held_in A _ s.committed }
+stands_rows at honest live = grind (arith, held_in)
 
 -- what one call says of whatever rows its database held is so of the rows that it showed
 pub rows_shown : {S : Type 0} (g : Ghosts S) (old new : Held S) (Says : Tables → Type 0)
@@ -314,8 +249,7 @@ none_some none some = true≢false (sym some ∙ ap is_some none)
 
 -- of a register that is not broken no history is in doubt
 pub not_in_doubt : (d : Option History) → is_some d ≡ false → d ≡ None
-not_in_doubt None _ = refl
-not_in_doubt (Some B) is = absurd (true≢false is)
+not_in_doubt d is = grind arith
 
 module _ {S : Type 0} {g : Ghosts S} {r : RegisterState S} {s : RegisterHistory} (is : r.is_broken ≡ false) (at : StandsAt g s r) where
   -- no history of a register that is not broken is in doubt
@@ -331,12 +265,7 @@ module _ {S : Type 0} {g : Ghosts S} {r : RegisterState S} {s : RegisterHistory}
 module _ {S : Type 0} (g : Ghosts S) (old new : RegisterState S) (x : Command) (is : old.is_broken ≡ false) where
   takes : (s : RegisterHistory) (after : RegisterHistory) (result : Result Reply Refusal) → s.in_doubt ≡ None → AppliesCommand s.accepted x result after.accepted
       → (IsSome after.in_doubt ↔ (result ≡ Err Disk)) → IsSameOrNext s.accepted x (unwrap_or after.in_doubt after.accepted) → TakesStep s x result after
-  takes s after result none step breaks tried = record {
-    broken = λ some. absurd (none_some none some);
-    step = λ _. step;
-    breaks = λ _. breaks;
-    tried = λ _. tried;
-  }
+  takes s after result none step breaks tried = grind (arith, none_some)
 
   -- a command that gets a reply takes the machine's step, and leaves the register whole
   pub accepted_leads : (v : Verdict) → new.is_broken ≡ false → new.last_number ≡ number_after old.last_number v.new_reply
@@ -350,64 +279,32 @@ module _ {S : Type 0} (g : Ghosts S) (old new : RegisterState S) (x : Command) (
         takes s (whole e.next) (Ok v.reply) (none_in_doubt is at) e.step (λ some. absurd (true≢false (sym some)), λ ok. absurd (let p = ok in cc)) e.candidate,
       )
 
-  -- a command that an I/O error ends breaks the register, and leaves its history
-  pub failed_leads : IsTrue new.is_broken
+  -- a command that an I/O error ends, or whose commit is in doubt, breaks the register, and a crash leaves its history or the next one
+  pub broken_leads : {ended : TransactionResult} → IsTrue new.is_broken
       → (HasCleanDisk (state g new.conn) → (A : History) → IsDurableWith old.last_number A (state g old.conn)
-      → EndsCommand old.last_number A x (Refused Disk) (state g new.conn))
+      → EndsCommand old.last_number A x ended (state g new.conn))
       → Leads g old new (λ s after. TakesStep s x (Err Disk) after)
-  failed_leads broken ends clean s at =
-      let e = ends clean s.accepted (counted_at is at) in (
-        record { accepted = s.accepted; in_doubt = Some s.accepted },
-        stands_broken broken (λ clean db may. inl ((e.shows refl).whole.crash clean db may)),
-        takes s (record { accepted = s.accepted; in_doubt = Some s.accepted }) (Err Disk) (none_in_doubt is at) e.step (λ _. refl, λ _. refl) (inl refl),
-      )
-
-  -- a command whose commit is in doubt breaks the register, and a crash leaves its history or the next one
-  pub doubtful_leads : (error : Error) → IsTrue new.is_broken
-      → (HasCleanDisk (state g new.conn) → (A : History) → IsDurableWith old.last_number A (state g old.conn)
-      → EndsCommand old.last_number A x (InDoubt error) (state g new.conn))
-      → Leads g old new (λ s after. TakesStep s x (Err Disk) after)
-  doubtful_leads error broken ends clean s at =
-      let e = ends clean s.accepted (counted_at is at) in (
-        record { accepted = s.accepted; in_doubt = Some e.next },
+  broken_leads broken ends clean s at =
+      let e = ends clean s.accepted (counted_at is at) in
+      let after : RegisterHistory = record { accepted = s.accepted; in_doubt = Some e.next } in (
+        after,
         stands_broken broken e.crash,
-        takes s (record { accepted = s.accepted; in_doubt = Some e.next }) (Err Disk) (none_in_doubt is at) e.step (λ _. refl, λ _. refl) e.candidate,
+        takes s after (Err Disk) (none_in_doubt is at) (refl, λ memory disk. absurd (disk refl)) (λ _. refl, λ _. refl) e.candidate,
       )
 
 -- ---- a call that only reads
 
 pub survives_still : (s : State) → Survives s s (λ _. ⊥)
-survives_still s = record {
-  clean = omega arith;
-  shield = λ shielded. shielded;
-  counts = omega arith;
-  limit = refl;
-  closes = λ clean live. inl live;
-  crash = λ clean db may. inl may;
-}
+survives_still s = grind arith
 
 module _ {S A E : Type 0} {g : Ghosts S} {M : E → Type 0} {r : Result A E} where
   -- what is not touched is only read
   pub reads_nothing : (a : Held S) → IfErr r M → OnlyReads g M a a r
-  reads_nothing a cause = record {
-    autocommit = λ out. out;
-    survives = survives_still (state g a);
-    clean = λ clean. clean;
-    whole = λ A was. was;
-    rows = λ m had. had;
-    cause = cause;
-  }
+  reads_nothing a cause = grind (arith, survives_still)
 
   -- calls of which each only reads only read one after the other
   pub reads_then : {B F : Type 0} {N : F → Type 0} {q : Result B F} {a b c : Held S} → OnlyReads g M a b r → OnlyReads g N b c q → OnlyReads g N a c q
-  reads_then {a = a} {b} {c} one two = record {
-    autocommit = λ out. two.autocommit (one.autocommit out);
-    survives = survives_on (state g a) (state g b) (state g c) one.survives two.survives;
-    clean = λ clean. one.clean (two.clean clean);
-    whole = λ A was. two.whole A (one.whole A was);
-    rows = λ m had. two.rows m (one.rows m had);
-    cause = two.cause;
-  }
+  reads_then one two = grind (arith, survives_on)
 
   -- it leaves the register where it stood
   still_stands : (old : RegisterState S) {conn : Held S} → old.is_broken ≡ false → OnlyReads g M old.conn conn r
@@ -455,30 +352,18 @@ left_by {g = g} {old = old} {conn = conn} {Came} unbroken kept left settled =
 
 -- whether it came or not, the connection is the same
 pub conn_after : {S : Type 0} {Came : Type 0} {mid new : RegisterState S} → BreaksIf Came mid new → new.conn ≡ mid.conn
-conn_after settled = elim settled [ inl fault ↦ ap (λ s. s.conn) fault.1 | inr other ↦ ap (λ s. s.conn) other.1 ]
+conn_after settled = grind arith
 
 -- a call that an I/O error breaks the register after
 pub looked : {S A : Type 0} {g : Ghosts S} {MayFail : Refusal → Type 0} {r : Result A Refusal} {old new : RegisterState S} {conn : Held S}
     → old.is_broken ≡ false → IsConsistent g old → OnlyReads g MayFail old.conn conn r → BreaksOnFault (record old { conn = conn }) new r
     → ReadsHistory g MayFail old new r
-looked unbroken kept left settled =
-    let now = left_by unbroken kept left settled in
-    record {
-      broken = λ yes. absurd (true≢false (sym yes ∙ unbroken));
-      cause = λ _. left.cause;
-      breaks = λ _. now.breaks;
-      nothing = now.nothing;
-      stands = now.stands;
-      clean = now.clean;
-      kept = now.kept;
-    }
+looked unbroken kept left settled = let now = left_by unbroken kept left settled in grind arith
 
 -- what is said of a value under a premise that the call's success gives
 pub if_ok : {T E : Type 0} (P : Type 0) (Q : T → Type 0) (r : Result T E) → OnOk r P → (P → IfOk r Q) → IfOk r Q
-if_ok P Q (Ok x) p f = f p
-if_ok P Q (Err e) p f = tt
+if_ok P Q r p f = grind arith
 
 -- what is said of a value, and what holds if there is one
 pub both_ok : {T E : Type 0} (Q : T → Type 0) (P : Type 0) (r : Result T E) → IfOk r Q → OnOk r P → IfOk r (λ x. Q x × P)
-both_ok Q P (Ok x) q p = (q, p)
-both_ok Q P (Err e) q p = tt
+both_ok Q P r q p = grind arith

@@ -1,24 +1,13 @@
 -- What is shown of appointments: of a place and of a person the one that began last, or those that last beyond a day.
-use Rattle.std.proofs.Common.{◌≡◌, inl, inr, ◌&&◌, nat_le, Bool, true, ℕ, List, ◌++◌, filter}
-use Rattle.std.specs.List.{list_any}
+use Rattle.kcr_tables.proofs.Common.{◌≡◌, inl, inr, ◌&&◌, nat_le, Bool, true, ℕ, List, ◌++◌, filter, list_any, and_from, le-leb, All-from_recursion}
+use Rattle.kcr_tables.proofs.Common.{All-permutation, IsPermutation-sym, IsPermutation-trans, Has, all_from, has_kept, IsIn, in-any, in-append}
+use Rattle.kcr_tables.proofs.Common.{in-front, in-behind, in-filter, in-order, Appointment, lasts_beyond, Selection, Nothing, Matching, All}
+use Rattle.kcr_tables.proofs.Common.{ShowsLastOf, ShowsAppointmentsOf, IncludesAppointments, is_appointment_to, is_appointment_of, Place, IsGreatest}
 use Rattle.std.specs.List.Sorted.{IsPermutation}
-use Rattle.std.proofs.lemmas.Bool.{and_from, le-leb}
-use Rattle.std.proofs.lemmas.List.Elements.{All-from_recursion}
-use Rattle.std.proofs.lemmas.List.Sorted.{All-permutation, IsPermutation-sym, IsPermutation-trans}
-use Rattle.sqlite_rules.specs.Lists.{Has}
-use Rattle.sqlite_rules.proofs.ListLemmas.{all_from}
 use Rattle.kcr_base.proofs.RowsLemmas.{filter-order}
-use Rattle.kcr_base.proofs.Members.{IsIn, in-any, in-append, in-front, in-behind, in-filter, in-order}
-use Rattle.kcr_people.specs.declared.Appointment.{Appointment}
-use Rattle.kcr_people.specs.People.{lasts_beyond}
 use Rattle.kcr_history.specs.declared.views.AppointmentFilter.{AppointmentFilter}
 use Rattle.kcr_history.specs.declared.views.AppointmentFilter.TheVariants as Wanted
-use Rattle.kcr_history.specs.declared.views.Selection.{Selection}
-use Rattle.kcr_history.specs.declared.views.Selection.TheVariants.{Nothing, Matching, All}
-use Rattle.kcr_history.specs.Views.{ShowsLastOf, ShowsAppointmentsOf, IncludesAppointments, is_appointment_to, is_appointment_of}
-use Rattle.kcr_base.specs.declared.place.Place.{Place}
-use Rattle.kcr_rows.specs.Greatest.{IsGreatest}
-use Rattle.kcr_tables.proofs.HasLemmas.{has_in, in_has, filter_from, filter_to, filter_is}
+use Rattle.kcr_tables.proofs.HasLemmas.{has_in, in_has, filter_from, filter_is}
 use Rattle.kcr_tables.proofs.MostLemmas.{shown_has, shown_over}
 use Rattle.kcr_tables.proofs.NamedLemmas.{passing}
 
@@ -42,7 +31,7 @@ module _ (test : Appointment → Bool) (table shown : List Appointment) (last : 
   pub none_later : (rows : List Appointment) → ((x : Appointment) → IsIn x shown → IsIn x rows) → ShowsLastOf test table rows
   none_later rows among =
       All-from_recursion (Reached test rows) table (all_from (Reached test rows) table (λ x h passes.
-      let over = shown_over (λ (x : Appointment). x.since) (filter test table) shown last x (filter_to test table x h passes) in
+      let over = shown_over (λ (x : Appointment). x.since) (filter test table) shown last x (has_kept test table x h passes) in
       in-any (λ (y : Appointment). test y && nat_le x.since y.since) over.0 rows (among over.0 (has_in over.0 shown over.1))
       (and_from _ _ (filter_is test table over.0 (there over.0 over.1)) (le-leb x.since over.0.since over.2))))
 

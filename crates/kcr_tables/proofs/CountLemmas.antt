@@ -1,40 +1,16 @@
 -- The text that shows how many stays a ceremony has.
-use Rattle.std.proofs.Common.{◌≡◌, ◌<◌, ◌^◌, ℕ, pos, negsuc, min, Bool, false, List, [], ◌∷◌, map, filter, length, codes, Some, None, refl, sym, ap, ◌∙◌, arith}
+use Rattle.kcr_tables.proofs.Common.{◌≡◌, ◌<◌, ◌^◌, ℕ, pos, negsuc, min, Bool, false, List, [], ◌∷◌, map, filter, length, codes, Some, None, refl}
+use Rattle.kcr_tables.proofs.Common.{sym, ap, ◌∙◌, rules, list_all, length-map, length-filter, length_permutation, Null, Int, Row, Term, lit, col}
+use Rattle.kcr_tables.proofs.Common.{holds, inner, counted, end, IsAnswer, Output, output, output_cmp, overlay, Trees, Select, State, Shown}
+use Rattle.kcr_tables.proofs.Common.{understood, IsPlain, filter-map, IsPermutation-filter, stay_count, of_ceremony, Stay, count_row, TreeHolds}
+use Rattle.kcr_tables.proofs.Common.{cells, stay_row, compiled, Means, is_plain, reads_shown, filter_as, value_is, matched, number_ties, has_number}
+use Rattle.kcr_tables.proofs.Common.{stays_place, register_schema, is_given}
 use Rattle.std.specs.Prelude.{slice_get}
-use Rattle.std.specs.List.{list_all}
-use Rattle.std.proofs.lemmas.List.{length-map}
-use Rattle.std.proofs.lemmas.List.Sums.{length-filter}
-use Rattle.std.proofs.lemmas.List.Sorted.{length_permutation}
-use Rattle.sqlite.specs.declared.types.Value.TheVariants.{Null, Int}
-use Rattle.sqlite.specs.Order.{Row}
-use Rattle.sqlite.specs.Term.{Term, lit, col, holds}
-use Rattle.sqlite.specs.Query.{Query, inner, counted, end, IsAnswer, Output, output, output_cmp}
-use Rattle.sqlite.specs.Program.{overlay}
-use Rattle.sqlite.specs.Tree.{Trees}
-use Rattle.sqlite.specs.Command.TheVariants.{Select}
-use Rattle.sqlite.specs.State.{State, Shown}
-use Rattle.sqlite.specs.Listing.{understood}
-use Rattle.sqlite.proofs.Callers.{IsPlain}
+use Rattle.sqlite.specs.Query.{Query}
 use Rattle.sqlite_sql.proofs.QueryLemmas.{output_cmp_total}
-use Rattle.sqlite_trees.proofs.ListLemmas.{filter-map, IsPermutation-filter}
 use Rattle.sqlite_keyed.proofs.SortLemmas.{sorted_unique}
 use Rattle.sqlite_tied.specs.Compute.{everything}
-use Rattle.kcr_room.specs.Requests.{stay_count, of_ceremony}
-use Rattle.kcr_room.specs.declared.Stay.{Stay}
-use Rattle.kcr_rows.specs.CountRow.{count_row}
 use Rattle.kcr_rows.specs.declared.count_row.CountRow.{CountRow}
-use Rattle.kcr_rows.specs.Keyed.{TreeHolds, cells}
-use Rattle.kcr_rows.specs.Rows.{stay_row}
-use Rattle.sqlite_resolve.specs.Compile.{compiled}
-use Rattle.kcr_rows.specs.Texts.{Means}
-use Rattle.kcr_rows.proofs.TextLemmas.{is_plain, reads_shown}
-use Rattle.kcr_rows.proofs.FilterLemmas.{filter_as, value_is}
-use Rattle.kcr_rows.proofs.ReadLemmas.{matched}
-use Rattle.kcr_rows.proofs.SameLemmas.{number_ties}
-use Rattle.kcr_tables.specs.Exact.{has_number}
-use Rattle.kcr_tables.specs.StoredTables.{stays_place}
-use Rattle.kcr_tables.specs.Schema.{register_schema}
-use Rattle.kcr_tables.specs.Statements.{is_given}
 
 -- no greater number is counted
 abbrev pub most : ℕ
@@ -121,7 +97,4 @@ count_shown ceremony old new rows has h stays keeps =
 pub count_told : (counts : List CountRow) (n : ℕ) → map count_row counts ≡ (Int (pos (min most n)) ∷ []) ∷ [] → (count : CountRow)
     → slice_get counts 0 ≡ Some count → count.number < 2 ^ 32 → count.number ≡ n
 count_told [] n h count first low = absurd (cc)
-count_told (x ∷ xs) n h count first low =
-    let is : count ≡ x = cc in
-    let number : x.number ≡ min most n = cc in
-    let same = ap (λ (c : CountRow). c.number) is in grind (arith, same, number, low)
+count_told (x ∷ xs) n h count first low = search rules

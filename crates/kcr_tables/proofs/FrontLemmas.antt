@@ -1,8 +1,6 @@
 -- What is shown of the part of the rows that is read first is the same, said of that part or of all that is asked for.
-use Rattle.sqlite.specs.Tree.{Trees}
+use Rattle.kcr_tables.proofs.Common.{Trees, early_asks, CustodyIsShown, CeremoniesAreShown}
 use Rattle.kcr_history.specs.declared.views.Asks.{Asks}
-use Rattle.kcr_history.specs.Early.{early_asks}
-use Rattle.kcr_tables.specs.Exact.{CustodyIsShown, CeremoniesAreShown}
 use Rattle.kcr_tables.specs.declared.view.CustodyRows.{CustodyRows}
 use Rattle.kcr_tables.specs.declared.view.CeremonyRows.{CeremonyRows}
 

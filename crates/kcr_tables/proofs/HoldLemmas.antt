@@ -1,8 +1,6 @@
 -- What the database holds, by the rows in the order of their keys and by the machine's.
-use Rattle.sqlite.specs.Effect.{Database}
+use Rattle.kcr_tables.proofs.Common.{Database, StoredTables, Holds, SameRows, HoldsTables}
 use Rattle.kcr_history.specs.Tables as machine
-use Rattle.kcr_tables.specs.StoredTables.{StoredTables, Holds}
-use Rattle.kcr_tables.specs.MachineTables.{SameRows, HoldsTables}
 
 -- a database that holds the machine's tables holds their rows in the order of their keys
 pub held_of : (m : machine.Tables) (db : Database) (h : HoldsTables m db) → Holds db h.tables.t

@@ -1,4 +1,5 @@
 pub mod AppointmentLemmas
+mod Common
 pub mod CountLemmas
 pub mod ExactLemmas
 pub mod FirstLemmas

@@ -1,8 +1,5 @@
 -- A row with the greatest number, and the greatest number of a list.
-use Rattle.std.proofs.Common.{◌≡◌, inl, inr, ◌≤◌, max, ℕ, List, [], ◌∷◌, refl, sym, ap, subst, arith}
-use Rattle.sqlite_rules.specs.Lists.{Has}
-use Rattle.sqlite_rules.proofs.ListLemmas.{all_has}
-use Rattle.kcr_rows.specs.Greatest.{IsGreatest}
+use Rattle.kcr_tables.proofs.Common.{◌≡◌, inl, inr, ◌≤◌, max, ℕ, List, [], ◌∷◌, refl, sym, ap, subst, arith, Has, all_has, IsGreatest}
 
 module _ {X : Type 0} (number : X → ℕ) where
   module _ (all shown : List X) (greatest : IsGreatest number all shown) where

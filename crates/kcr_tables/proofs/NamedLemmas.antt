@@ -1,11 +1,9 @@
 -- The rows of a list of keys, of which one may be named twice: each row once.
-use Rattle.std.proofs.Common.{◌≡◌, Bool, true, false, cond, ◌||◌, List, [], ◌∷◌, ◌++◌, filter, refl, sym, ap, subst, ◌∙◌, true≢false, append-nil, IsPermutation}
-use Rattle.std.specs.List.{list_any}
-use Rattle.std.proofs.lemmas.List.Sorted.{IsPermutation-refl, IsPermutation-sym, IsPermutation-trans, IsPermutation-cons, IsPermutation-middle}
-use Rattle.std.proofs.lemmas.List.Sorted.{IsPermutation-append_left}
-use Rattle.sqlite_trees.proofs.ListLemmas.{IsPermutation-filter}
-use Rattle.kcr_rows.proofs.FilterLemmas.{filter_as}
-use Rattle.kcr_tables.specs.Selected.{asked_once, is_under_any}
+use Rattle.kcr_tables.proofs.Common.{arith, ◌≡◌, Bool, true, false, cond, ◌||◌, List, [], ◌∷◌, ◌++◌, filter, refl, sym, ap, subst, ◌∙◌, true≢false}
+use Rattle.kcr_tables.proofs.Common.{append-nil, IsPermutation, list_any, IsPermutation-refl, IsPermutation-sym, IsPermutation-trans}
+use Rattle.kcr_tables.proofs.Common.{IsPermutation-cons, IsPermutation-middle, IsPermutation-append_left, IsPermutation-filter, filter-filter}
+use Rattle.kcr_tables.proofs.Common.{filter_as, asked_once, is_under_any}
+use Rattle.std.proofs.lemmas.List.Folds.{list_any-append}
 
 -- the rows that pass one test or the other, if none passes both
 apart : {X : Type 0} (p q : X → Bool) → ((x : X) → p x ≡ true → q x ≡ true → ⊥) → (xs : List X)
@@ -22,22 +20,11 @@ apart {X = X} p q none (x ∷ xs) = by_tests (p x) (q x) refl refl (apart p q no
         (IsPermutation-sym _ _ (IsPermutation-middle (filter p xs) x (filter q xs)))
     by_tests false false e f ih = ih
 
-any_of : {K : Type 0} (p : K → Bool) (xs : List K) (x : K) → list_any p (xs ++ x ∷ []) ≡ (list_any p xs || p x)
-any_of p [] x = or_last (p x)
-  where
-    or_last : (b : Bool) → (b || false) ≡ b
-    or_last true = refl
-    or_last false = refl
-any_of p (y ∷ ys) x = ap (λ b. p y || b) (any_of p ys x) ∙ groups (p y) _ _
-  where
-    groups : (a b c : Bool) → (a || (b || c)) ≡ ((a || b) || c)
-    groups true b c = refl
-    groups false b c = refl
+or_false : (b : Bool) → (b || false) ≡ b
+or_false b = grind arith
 
 or_in : (a b : Bool) → (b ≡ true → a ≡ true) → (a || b) ≡ a
-or_in true b h = refl
-or_in false true h = sym (h refl)
-or_in false false h = refl
+or_in a b h = grind arith
 
 -- no keys have no rows
 pub none_named : {X K : Type 0} (is_under : K → X → Bool) (xs : List X) → IsPermutation (filter (is_under_any is_under []) xs) []
@@ -46,7 +33,7 @@ none_named is_under (x ∷ xs) = none_named is_under xs
 
 module _ {X K : Type 0} (same : K → K → Bool) (is_under : K → X → Bool) (one_key : (a b : K) (x : X) → is_under a x ≡ true → is_under b x ≡ same a b) where
   more_is : (keys : List K) (key : K) (x : X) → is_under_any is_under (keys ++ key ∷ []) x ≡ (is_under_any is_under keys x || is_under key x)
-  more_is keys key x = any_of (λ k. is_under k x) keys key
+  more_is keys key x = list_any-append (λ k. is_under k x) keys (key ∷ []) ∙ ap (λ b. is_under_any is_under keys x || b) (or_false (is_under key x))
 
   same_key : (keys : List K) (key : K) (x : X) → is_under key x ≡ true → is_under_any is_under keys x ≡ list_any (same key) keys
   same_key [] key x is = refl
@@ -72,13 +59,7 @@ module _ {X K : Type 0} (same : K → K → Bool) (is_under : K → X → Bool) 
 
 -- to filter twice by one test is to filter once
 pub twice : {X : Type 0} (p : X → Bool) (xs : List X) → filter p (filter p xs) ≡ filter p xs
-twice p [] = refl
-twice p (x ∷ xs) = by_test (p x) refl (twice p xs)
-  where
-    by_test : (b : Bool) → p x ≡ b → filter p (filter p xs) ≡ filter p xs
-        → filter p (cond b (x ∷ filter p xs) (filter p xs)) ≡ cond b (x ∷ filter p xs) (filter p xs)
-    by_test true e more = rw e (ap (λ l. x ∷ l) more)
-    by_test false e more = more
+twice p xs = filter-filter p p (λ x h. h) xs
 
 -- rows that all pass
 pub passing : {X : Type 0} (p : X → Bool) (xs rows : List X) → IsPermutation (filter p xs) rows → IsPermutation (filter p xs) (filter p rows)

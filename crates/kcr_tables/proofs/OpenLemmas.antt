@@ -1,26 +1,15 @@
 -- The trees of a file tell its schema.
-use Rattle.std.proofs.Common.{refl, filter, pos, ◌+◌, arith, false, ◌≡◌, ℕ, ◌<◌, true≢false, subst₂, slice_get, inl, inr, List, [], ◌∷◌, Some, Result, Ok}
-use Rattle.std.proofs.Common.{codes, sym, ap, subst, ◌∙◌}
-use Rattle.std.specs.List.{AllZip}
-use Rattle.std.specs.Fmt.{decimal}
+use Rattle.kcr_tables.proofs.Common.{refl, filter, false, ◌≡◌, true≢false, subst₂, inl, inr, List, [], ◌∷◌, sym, ap, subst, ◌∙◌, rules, AllZip}
+use Rattle.kcr_tables.proofs.Common.{append_cancel_left, Row, Trees, IsSound, IsTableRow, IsIndexRow, IsViewRow, is_table_row, is_index_row}
+use Rattle.kcr_tables.proofs.Common.{is_view_row, Has, all_has}
 use Rattle.std.proofs.lemmas.Fmt.{decimal_injective}
-use Rattle.std.proofs.lemmas.List.{append_cancel_left}
-use Rattle.sqlite.specs.declared.types.Value.{Value}
-use Rattle.sqlite.specs.declared.types.Value.TheVariants.{Null, Int, Real, Text, Blob}
-use Rattle.sqlite.specs.Order.{Row, column}
-use Rattle.sqlite.specs.Compile.{table_defined_by}
 use Rattle.sqlite.specs.Schema.{Schema}
 use Rattle.sqlite.specs.Table.{Table}
-use Rattle.sqlite.specs.Tree.{Trees}
-use Rattle.sqlite_resolve.specs.declared.error.CompileError.{CompileError}
 use Rattle.sqlite_trees.specs.Objects.{catalog_tree}
 use Rattle.sqlite_trees.specs.Tree.{IsAscending}
-use Rattle.sqlite_catalog.specs.Listing.{IsSound, IsTableRow, IsIndexRow, IsViewRow, is_table_row, is_index_row, is_view_row, automatic, IsDefined}
 use Rattle.sqlite_catalog.proofs.StepLemmas.{same_itself}
 use Rattle.sqlite_schema.specs.Names.{same_name}
 use Rattle.sqlite_schema.specs.declared.schema.Index.{Index}
-use Rattle.sqlite_rules.specs.Lists.{Has}
-use Rattle.sqlite_rules.proofs.ListLemmas.{all_has}
 
 zip_same : {A B : Type 0} (R : A → B → Type 0) → ((x : A) (a b : B) → R x a → R x b → a ≡ b) → (xs : List A) (ys bs : List B) → AllZip R xs ys → AllZip R xs bs
     → ys ≡ bs
@@ -29,9 +18,7 @@ zip_same R same [] [] (b ∷ bs) p q = absurd q
 zip_same R same [] (a ∷ more) bs p q = absurd p
 zip_same R same (x ∷ xs) [] bs p q = absurd p
 zip_same R same (x ∷ xs) (a ∷ more) [] p q = absurd q
-zip_same R same (x ∷ xs) (a ∷ more) (b ∷ bs) p q =
-    let first : a ≡ b = same x a b p.0 q.0 in
-    let rest : more ≡ bs = zip_same R same xs more bs p.1 q.1 in rw (first, rest) refl
+zip_same R same (x ∷ xs) (a ∷ more) (b ∷ bs) p q = search (rules, zip_same R same xs more bs p.1 q.1)
 
 zip_nil : {A B C : Type 0} (R : A → B → Type 0) (Q : A → C → Type 0) (xs : List A) (cs : List C) → AllZip R xs [] → AllZip Q xs cs → cs ≡ []
 zip_nil R Q [] [] p q = refl
@@ -39,15 +26,7 @@ zip_nil R Q [] (c ∷ cs) p q = absurd q
 zip_nil R Q (x ∷ xs) cs p q = absurd p
 
 table_same : (row : Row) (a b : Table) → IsTableRow row a → IsTableRow row b → a ≡ b
-table_same row a b p q =
-    let ids : Int (pos (a.tree + 1)) ≡ Int (pos (b.tree + 1)) = sym p.described.id ∙ q.described.id in
-    let next : a.tree + 1 ≡ b.tree + 1 = cc in
-    let tree : a.tree ≡ b.tree = omega (arith, next) in
-    let texts : Text p.sql ≡ Text q.sql = sym p.sql_is ∙ q.sql_is in
-    let text : p.sql ≡ q.sql = cc in
-    let defined : ◌≡◌ {A = Result Table CompileError} (Ok p.defined.0) (Ok q.defined.0) = sym p.defined.1 ∙ ap table_defined_by text ∙ q.defined.1 in
-    let made : p.defined.0 ≡ q.defined.0 = cc in
-    p.defined.2 ∙ ap (λ (t : Table). record t { tree = a.tree }) made ∙ ap (λ n. record q.defined.0 { tree = n }) tree ∙ sym q.defined.2
+table_same row a b p q = search rules
 
 -- ---- with the indexes of its tables
 
@@ -64,40 +43,7 @@ one_name (x ∷ xs) a b up (inr p) (inr q) e = one_name xs a b up.1 p q e
 
 index_same : (tables : List Table) → IsAscending (λ s t. same_name s.name t.name ≡ false) tables → (row : Row) (a b : Index) → IsIndexRow tables row a
     → IsIndexRow tables row b → a ≡ b
-index_same tables up row a b p q =
-    let ids : Int (pos (a.tree + 1)) ≡ Int (pos (b.tree + 1)) = sym p.described.id ∙ q.described.id in
-    let next : a.tree + 1 ≡ b.tree + 1 = cc in
-    let tree : a.tree ≡ b.tree = omega (arith, next) in
-    let owners : Text p.table.name ≡ Text q.table.name = sym p.described.owner_is ∙ q.described.owner_is in
-    let owner : p.table.name ≡ q.table.name = cc in
-    let table : p.table ≡ q.table = one_name tables p.table q.table up p.listed q.listed owner in
-    let names : Text a.name ≡ Text b.name = sym p.described.name_is ∙ q.described.name_is in
-    let name : a.name ≡ b.name = cc in
-    by_text (column row 4) p.table a b tree name p.defined (subst (λ t. IsDefined t b (column row 4)) (sym table) q.defined)
-  where
-    numbered : (t : Table) (a b : Index) → a.name ≡ b.name → (m n : ℕ) (j k : List ℕ) → m < 65536 → n < 65536 → slice_get t.uniques m ≡ Some j
-        → slice_get t.uniques n ≡ Some k
-        → a ≡ automatic t m j a.tree → b ≡ automatic t n k b.tree → a.tree ≡ b.tree → a ≡ b
-    numbered t a b name m n j k low high at to is os tree =
-        let texts : (automatic t m j a.tree).name ≡ (automatic t n k b.tree).name =
-        ap (λ (i : Index). i.name) (sym is) ∙ name ∙ ap (λ (i : Index). i.name) os in
-        let ends = append_cancel_left (codes "_") (decimal (m + 1)) (decimal (n + 1))
-        (append_cancel_left t.name _ _ (append_cancel_left (codes "sqlite_autoindex_") _ _ texts)) in
-        let next : m + 1 ≡ n + 1 = decimal_injective (m + 1) (n + 1) (omega (arith, low)) (omega (arith, high)) ends in
-        let one : m ≡ n = omega (arith, next) in
-        let keys : Some j ≡ Some k = sym at ∙ ap (slice_get t.uniques) one ∙ to in
-        let key : j ≡ k = cc in
-        is ∙ (λ i. automatic t (one i) (key i) (tree i)) ∙ sym os
-
-    by_text : (v : Value) (t : Table) (a b : Index) → a.tree ≡ b.tree → a.name ≡ b.name → IsDefined t a v → IsDefined t b v → a ≡ b
-    by_text Null t a b tree name p q = numbered t a b name p.0 q.0 p.1 q.1 p.4 q.4 p.2 q.2 p.3 q.3 tree
-    by_text (Int n) t a b tree name p q = absurd p
-    by_text (Real x) t a b tree name p q = absurd p
-    by_text (Text sql) t a b tree name p q =
-        let both : ◌≡◌ {A = Result Index CompileError} (Ok p.0) (Ok q.0) = sym p.1 ∙ q.1 in
-        let made : p.0 ≡ q.0 = cc in
-        p.2 ∙ (λ i. record (made i) { tree = tree i; table = t.tree }) ∙ sym q.2
-    by_text (Blob x) t a b tree name p q = absurd p
+index_same tables up row a b p q = search (rules, one_name, append_cancel_left, decimal_injective)
 
 -- of a schema with tables, and indexes that its tables or texts define
 pub one_schema : (s t : Schema) (db : Trees) → t.views ≡ [] → IsSound s db → IsSound t db → s ≡ t

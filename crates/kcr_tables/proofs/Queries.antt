@@ -1,39 +1,29 @@
 -- The texts that show a part of one table, beside those of the table's own module.
-use Rattle.std.proofs.Common.{◌≡◌, ℕ, pos, ◌&&◌, ◌||◌, not, ◌==◌, nat_le, nat_lt, Bool, true, false, List, [], ◌∷◌, codes, Option, Some, None}
-use Rattle.std.proofs.Common.{refl, sym, ap, subst, ◌∙◌, arith}
-use Rattle.std.specs.Ordering.{is_ge, is_gt, is_eq}
-use Rattle.std.proofs.lemmas.Bool.Decides.{nat_tests}
-use Rattle.std.proofs.lemmas.Cmp.{tied_itself}
+use Rattle.kcr_tables.proofs.Common.{◌≡◌, ℕ, pos, ◌&&◌, ◌||◌, not, ◌==◌, nat_le, nat_lt, Bool, true, false, List, [], ◌∷◌, codes, Option, Some, None}
+use Rattle.kcr_tables.proofs.Common.{refl, sym, ap, subst, ◌∙◌, arith, rules, is_ge, is_gt, is_eq, nat_tests, tied_itself, Null, Int, Text, Row}
+use Rattle.kcr_tables.proofs.Common.{column, Select, Term, lit, col, op2, compiled, equal, ascending, same_text, Place as Custodian, lasts_beyond}
+use Rattle.kcr_tables.proofs.Common.{ends_after, is_appointment_to, is_appointment_of, is_seating_of, is_step_at, training_reaches, stay_reaches}
+use Rattle.kcr_tables.proofs.Common.{ends_at_or_after, appointment_row, key_row, seating_row, stay_row, step_row, training_row, TableLayout, Means}
+use Rattle.kcr_tables.proofs.Common.{value_is, text_ties, place_ties, number_ties, reading, has_number, has_text, has_from, is_beyond_row}
+use Rattle.kcr_tables.proofs.Common.{is_lasting_row, is_row_of_step, Ordered, Unordered, Last, SelectsLast, Query, register_schema, is_given}
+use Rattle.kcr_tables.proofs.Common.{shown_columns, SelectsRows, appointments_place, keys_place, seatings_place, stays_place, steps_place}
+use Rattle.kcr_tables.proofs.Common.{trainings_place, SelectsUnordered, passing, wanted_passing}
 use Rattle.sqlite.specs.declared.types.Value.{Value}
-use Rattle.sqlite.specs.declared.types.Value.TheVariants.{Null, Int, Real, Text, Blob}
-use Rattle.sqlite.specs.Order.{column, value_cmp}
+use Rattle.sqlite.specs.Order.{value_cmp}
 use Rattle.sqlite.specs.Ops.{is_null, is_true, truth, from_truth, or3, binary}
-use Rattle.sqlite.specs.Term.{lit, col, op2}
 use Rattle.sqlite.specs.Collation.TheVariants.{Binary}
-use Rattle.sqlite_schema.specs.Rules.{equal}
+use Rattle.sqlite_schema.specs.declared.schema.Table.{Table}
 use Rattle.sqlite_sql.specs.declared.ops.BinaryOp.TheVariants.{Compare, Is, Or}
 use Rattle.sqlite_sql.specs.declared.ops.CompareOp.{CompareOp}
 use Rattle.sqlite_sql.specs.declared.ops.CompareOp.TheVariants.{Eq, Ge, Gt}
 use Rattle.sqlite_sql.specs.Ops as compared
-use Rattle.sqlite_value.specs.Keys.{ascending}
+use Rattle.sqlite_value.specs.declared.keys.Key.{Key}
 use Rattle.sqlite_value.proofs.OrderLemmas.{value_cmp-Int, value_cmp_total}
 use Rattle.sqlite_tied.specs.Compute.{everything}
-use Rattle.kcr_base.specs.Same.{same_text}
 use Rattle.kcr_base.specs.Place.{place_text}
-use Rattle.kcr_base.specs.declared.place.Place.{Place as Custodian}
-use Rattle.kcr_people.specs.People.{lasts_beyond, ends_after}
-use Rattle.kcr_history.specs.Views.{is_appointment_to, is_appointment_of, is_seating_of, is_step_at, training_reaches}
-use Rattle.kcr_room.specs.Stays.{stay_reaches, ends_at_or_after}
-use Rattle.kcr_rows.specs.Rows.{appointment_row, key_row, seating_row, stay_row, step_row, training_row}
 use Rattle.kcr_rows.specs.Values.{int_or_null}
-use Rattle.kcr_rows.proofs.FilterLemmas.{value_is}
-use Rattle.kcr_rows.proofs.SameLemmas.{text_ties, place_ties, number_ties}
 use Rattle.kcr_rows.proofs.KeyLemmas.{truth_is}
-use Rattle.kcr_tables.specs.Exact.{has_number, has_text, has_from, is_beyond_row, is_lasting_row, is_row_of_step}
-use Rattle.kcr_tables.specs.Query.{Ordered, Unordered, Last, SelectsLast, Query}
 use Rattle.kcr_tables.specs.Schema as schema
-use Rattle.kcr_tables.specs.Statements.{is_given, shown_columns, SelectsRows}
-use Rattle.kcr_tables.specs.StoredTables.{appointments_place, keys_place, seatings_place, stays_place, steps_place, trainings_place}
 use Rattle.kcr_tables.specs.AppointmentsLaws as appointments
 use Rattle.kcr_tables.specs.KeysLaws as keys
 use Rattle.kcr_tables.specs.SeatingsLaws as seatings
@@ -41,7 +31,6 @@ use Rattle.kcr_tables.specs.StaysLaws as stays
 use Rattle.kcr_tables.specs.StepsLaws as steps
 use Rattle.kcr_tables.specs.TableTexts.{column_names, shows}
 use Rattle.kcr_tables.specs.TrainingsLaws as trainings
-use Rattle.kcr_tables.specs.Unordered.{SelectsUnordered}
 use Rattle.kcr_tables.proofs.QueryLemmas.{query}
 
 -- SQL's `=` of two texts answers as `same_text` does
@@ -131,8 +120,7 @@ last_seating ceremony = query seating_sql (Int (pos ceremony) ∷ []) (Last (λ 
 
 -- a test joined with one that always passes answers as it does alone
 pub with_true : (b : Bool) → (b && true) ≡ b
-with_true true = refl
-with_true false = refl
+with_true b = grind arith
 
 -- NULL is not compared, and whatever else there is stands in the order of values
 pub compared_is : (op : CompareOp) (v : Value) (n : ℕ)
@@ -150,8 +138,7 @@ abbrev either : Bool → Bool → Bool
 either a b = is_true (from_truth (or3 (truth (from_truth (Some a))) (truth (from_truth (Some b)))))
 
 either_is : (b : Bool) → either false b ≡ b
-either_is true = refl
-either_is false = refl
+either_is b = grind arith
 
 nothing_is : (v : Value) → is_eq (value_cmp v Null) ≡ is_null v
 unfolding value_cmp
@@ -162,10 +149,7 @@ nothing_is v = refl
 pub ends_is : (op : CompareOp) (v : Value) (n : ℕ) → ends op v n ≡ (is_null v || (not (is_null v) && compared.test op (value_cmp v (Int (pos n)))))
 unfolding binary
 ends_is op Null n = ap (λ a. is_true (from_truth (or3 (truth (from_truth (Some a))) None))) (nothing_is Null)
-ends_is op (Int m) n = let b = compared.test op (value_cmp (Int m) (Int (pos n))) in ap (λ a. either a b) (nothing_is (Int m)) ∙ either_is b
-ends_is op (Real x) n = let b = compared.test op (value_cmp (Real x) (Int (pos n))) in ap (λ a. either a b) (nothing_is (Real x)) ∙ either_is b
-ends_is op (Text t) n = let b = compared.test op (value_cmp (Text t) (Int (pos n))) in ap (λ a. either a b) (nothing_is (Text t)) ∙ either_is b
-ends_is op (Blob c) n = let b = compared.test op (value_cmp (Blob c) (Int (pos n))) in ap (λ a. either a b) (nothing_is (Blob c)) ∙ either_is b
+ends_is op v n = let b = compared.test op (value_cmp v (Int (pos n))) in ap (λ a. either a b) (nothing_is v) ∙ either_is b
 
 -- a number is at or after another as a value if and only if it is as a number
 pub number_from : (n day : ℕ) → is_ge (value_cmp (Int (pos n)) (Int (pos day))) ≡ nat_le day n
@@ -176,6 +160,14 @@ number_beyond n day = ap is_gt (value_cmp-Int (pos n) (pos day)) ∙ grind (arit
 
 -- ---- rows in whatever order, by their end
 
+-- a text shows the rows of a table that pass, if it is this query
+listed : {sql : List ℕ} {place : TableLayout} {params : Row} {passes : Row → Bool} (table : Table) (test : List Term) (order : List (Term × Key))
+    → Means (Select (record { lets = []; body = reading place.tree test (shown_columns place) order }) (column_names table))
+    (compiled register_schema sql)
+    → passing place params test (reading place.tree test (shown_columns place) order) ≡ wanted_passing place passes
+    → SelectsUnordered sql place params passes
+listed {place = place} table test order means is = search rules
+
 -- the trainings that last to a day
 abbrev lasting_sql : List ℕ
 lasting_sql = codes "SELECT who, role, since, until FROM trainings WHERE until >= ?1 ORDER BY rowid"
@@ -184,14 +176,8 @@ lasting_sql = codes "SELECT who, role, since, until FROM trainings WHERE until >
 pub selects_lasting : (day : ℕ)
     → SelectsUnordered lasting_sql trainings_place (Int (pos day) ∷ []) (λ row. is_true (binary (Compare Ge Binary) (column row 3) (Int (pos day))) && true)
 unfolding everything
-selects_lasting day = record {
-  test = op2 (Compare Ge Binary) (col 1 4) (col 0 0) ∷ [];
-  project = shown_columns trainings_place;
-  order = (col 1 0, ascending Binary) ∷ [];
-  names = column_names schema.trainings;
-  means = (refl, refl, refl);
-  is = refl;
-}
+selects_lasting day =
+    listed schema.trainings (op2 (Compare Ge Binary) (col 1 4) (col 0 0) ∷ []) ((col 1 0, ascending Binary) ∷ []) (refl, refl, refl) refl
 
 -- the query for the trainings that last to a day, in any order
 abbrev pub lasting : ℕ → Query trainings.table training_row
@@ -207,14 +193,9 @@ beyond_sql = codes "SELECT place, since, who, until FROM appointments WHERE unti
 -- the text shows the appointments that have no end, or one after the day
 pub selects_beyond : (day : ℕ) → SelectsUnordered beyond_sql appointments_place (Int (pos day) ∷ []) (λ row. ends Gt (column row 3) day && true)
 unfolding everything
-selects_beyond day = record {
-  test = op2 Or (op2 (Is Binary) (col 1 4) (lit Null)) (op2 (Compare Gt Binary) (col 1 4) (col 0 0)) ∷ [];
-  project = shown_columns appointments_place;
-  order = (col 1 0, ascending Binary) ∷ [];
-  names = column_names schema.appointments;
-  means = (refl, refl, refl);
-  is = refl;
-}
+selects_beyond day = listed schema.appointments
+    (op2 Or (op2 (Is Binary) (col 1 4) (lit Null)) (op2 (Compare Gt Binary) (col 1 4) (col 0 0)) ∷ [])
+    ((col 1 0, ascending Binary) ∷ []) (refl, refl, refl) refl
 
 -- an end passes this test if and only if there is none, or it is after the day
 pub beyond_is : (day : ℕ) (until : Option ℕ)
@@ -237,16 +218,9 @@ room_sql = codes "SELECT who, since, ceremony, until FROM stays WHERE ceremony =
 pub selects_room : (ceremony at : ℕ) → SelectsUnordered room_sql stays_place (Int (pos ceremony) ∷ Int (pos at) ∷ [])
     (λ row. equal Binary (column row 2) (Int (pos ceremony)) && (ends Ge (column row 3) at && true))
 unfolding everything
-selects_room ceremony at = record {
-  test = op2 (Compare Eq Binary) (col 1 3) (col 0 0)
-      ∷ op2 Or (op2 (Is Binary) (col 1 4) (lit Null)) (op2 (Compare Ge Binary) (col 1 4) (col 0 1))
-      ∷ [];
-  project = shown_columns stays_place;
-  order = (col 1 2, ascending Binary) ∷ (col 1 1, ascending Binary) ∷ [];
-  names = column_names schema.stays;
-  means = (refl, refl, refl);
-  is = refl;
-}
+selects_room ceremony at = listed schema.stays
+    (op2 (Compare Eq Binary) (col 1 3) (col 0 0) ∷ op2 Or (op2 (Is Binary) (col 1 4) (lit Null)) (op2 (Compare Ge Binary) (col 1 4) (col 0 1)) ∷ [])
+    ((col 1 2, ascending Binary) ∷ (col 1 1, ascending Binary) ∷ []) (refl, refl, refl) refl
 
 -- an end passes this test if and only if there is none, or it is at the moment or later
 pub room_is : (at : ℕ) (until : Option ℕ)

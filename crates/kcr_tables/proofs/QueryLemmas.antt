@@ -1,30 +1,10 @@
 -- What a text shows of a table, from what is computed of the text.
-use Rattle.std.proofs.Common.{◌≡◌, ℕ, pos, Bool, List, [], map, filter, sym, ap, subst, ◌∙◌, IsPermutation, IfOk, Result}
-use Rattle.std.specs.List.{AllByRecursion}
-use Rattle.std.proofs.lemmas.List.{map-id}
-use Rattle.std.proofs.lemmas.List.Sorted.{IsPermutation-map}
-use Rattle.sqlite.specs.declared.types.Value.TheVariants.{Null}
-use Rattle.sqlite.specs.Order.{Row}
-use Rattle.sqlite.specs.Program.{overlay}
-use Rattle.sqlite.specs.Query.{Output, IsAnswer}
-use Rattle.sqlite.specs.State.{State, Shown}
-use Rattle.sqlite.specs.Listing.{understood}
-use Rattle.sqlite.proofs.Callers.{IsPlain}
-use Rattle.sqlite_trees.proofs.ListLemmas.{map-map}
-use Rattle.kcr_base.specs.declared.refusal.Refusal.{Refusal}
-use Rattle.kcr_history.specs.declared.views.Selection.{Selection}
-use Rattle.kcr_history.specs.declared.views.Selection.TheVariants.{Matching}
-use Rattle.kcr_rows.proofs.FailLemmas.{if_ok}
-use Rattle.kcr_rows.proofs.FilterLemmas.{filter_as}
+use Rattle.kcr_tables.proofs.Common.{◌≡◌, ℕ, pos, Bool, List, [], map, filter, sym, ap, subst, ◌∙◌, IsPermutation, IfOk, Result, rules}
+use Rattle.kcr_tables.proofs.Common.{AllByRecursion, map-id, IsPermutation-map, Null, Row, overlay, Output, IsAnswer, State, Shown, understood}
+use Rattle.kcr_tables.proofs.Common.{IsPlain, map-map, Refusal, Selection, Matching, if_ok, filter_as, kept_cells, is_plain, reads_shown, IsGreatest}
+use Rattle.kcr_tables.proofs.Common.{TableLayout, TreeHolds, register_schema, rows_at, IsOneOf, Which, Ordered, Unordered, Last, Shows, ShowsRows}
+use Rattle.kcr_tables.proofs.Common.{SelectsLast, SelectsWhich, Query, TableSpec}
 use Rattle.kcr_rows.proofs.GreatestLemmas.{greatest, with_number, shown_greatest}
-use Rattle.kcr_rows.proofs.ReadLemmas.{kept_cells}
-use Rattle.kcr_rows.proofs.TextLemmas.{is_plain, reads_shown}
-use Rattle.kcr_rows.specs.Greatest.{IsGreatest}
-use Rattle.kcr_rows.specs.Keyed.{TableLayout, TreeHolds}
-use Rattle.kcr_tables.specs.Schema.{register_schema}
-use Rattle.kcr_tables.specs.Exact.{rows_at, IsOneOf}
-use Rattle.kcr_tables.specs.Query.{Which, Ordered, Unordered, Last, Shows, ShowsRows, SelectsLast, SelectsWhich, Query}
-use Rattle.kcr_tables.specs.Table.{TableSpec}
 use Rattle.kcr_tables.proofs.ExactLemmas.{one_of}
 use Rattle.kcr_tables.proofs.StatementLemmas.{rows_shown, every_row, passing_rows, passing_values}
 
@@ -62,8 +42,7 @@ module _ {X : Type 0} (row_of : X → Row) (sql : List ℕ) (place : TableLayout
       → (test : X → Bool) → ((x : X) → passes (row_of x) ≡ test x) → (which : Which X) → SelectsWhich row_of which sql place params passes
       → (old new : State) (xs ys : List X) → old.now.schema ≡ register_schema → Shown sql params old new (map row_of xs) → AllByRecursion IsRead xs
       → AllByRecursion IsStored ys → TreeHolds place old.now.trees (map row_of ys) → Shows which (filter test ys) xs
-  values_told IsRead IsStored one test same Ordered s old new xs ys has h read stored keeps =
-      rows_shown sql place params passes s row_of IsRead IsStored one test same old new xs has h read ys stored keeps
+  values_told IsRead IsStored one test same Ordered s old new xs ys has h read stored keeps = search (rules, rows_shown)
   values_told IsRead IsStored one test same Unordered s old new xs ys has h read stored keeps =
       subst (λ l. IsPermutation l xs) (filter_as (λ x. passes (row_of x)) test same ys)
       (passing_values s.1 row_of (λ x y _ _. s.0 x y) old new xs ys has h keeps)

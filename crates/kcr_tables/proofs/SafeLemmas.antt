@@ -1,12 +1,10 @@
 -- The four safes of a new register, put one after the other.
-use Rattle.std.proofs.Common.{◌≡◌, [], List, refl, ap}
+use Rattle.kcr_tables.proofs.Common.{◌≡◌, [], List, refl, ap, put_in, safe_row, version_row}
 use Rattle.sqlite.specs.Order.{value_cmp}
 use Rattle.sqlite_tied.specs.Compute.{everything}
 use Rattle.kcr_base.specs.declared.place.Facility.TheVariants.{East, West}
 use Rattle.kcr_custody.specs.declared.SafeNumber.TheVariants.{One, Two}
 use Rattle.kcr_custody.specs.declared.SafeRow.{SafeRow}
-use Rattle.kcr_rows.specs.Keyed.{put_in}
-use Rattle.kcr_rows.specs.Rows.{safe_row, version_row}
 use Rattle.kcr_tables.specs.NewTables.{empty_tables, new_tables, shut}
 
 -- in the order of their keys

@@ -1,16 +1,12 @@
 -- The step that is asked for, and the last step of its ceremony that has a seating.
-use Rattle.std.proofs.Common.{◌≡◌, ◌≤◌, ℕ, List, filter, Option, Some, None, refl, sym, ap, ◌∙◌, arith, IsPermutation}
-use Rattle.std.proofs.lemmas.List.Sorted.{IsPermutation-sym, IsPermutation-trans}
-use Rattle.sqlite_rules.specs.Lists.{Has}
-use Rattle.sqlite_trees.proofs.ListLemmas.{IsPermutation-filter, IsPermutation-same}
+use Rattle.kcr_tables.proofs.Common.{◌≡◌, ◌≤◌, ℕ, List, filter, Option, Some, None, refl, sym, ◌∙◌, arith, IsPermutation, rules, IsPermutation-sym}
+use Rattle.kcr_tables.proofs.Common.{IsPermutation-trans, Has, has_kept, IsPermutation-filter, IsPermutation-same, is_step_at, is_seating_of}
+use Rattle.kcr_tables.proofs.Common.{last_seated, step_asked, ShowsStepOf, IncludesStep, IsGreatest, has_same}
 use Rattle.kcr_history.specs.declared.row_types.SeatingRow.{SeatingRow}
 use Rattle.kcr_history.specs.declared.row_types.StepRow.{StepRow}
 use Rattle.kcr_history.specs.declared.views.StepFilter.{StepFilter}
-use Rattle.kcr_history.specs.Views.{is_step_at, is_seating_of, last_seated, step_asked, ShowsStepOf, IncludesStep}
 use Rattle.kcr_history.proofs.Tops.{top, top-more}
-use Rattle.kcr_rows.specs.Greatest.{IsGreatest}
-use Rattle.kcr_rows.proofs.PutLemmas.{has_same}
-use Rattle.kcr_tables.proofs.HasLemmas.{filter_from, filter_to, filter_is}
+use Rattle.kcr_tables.proofs.HasLemmas.{filter_from, filter_is}
 use Rattle.kcr_tables.proofs.MostLemmas.{shown_has, shown_over, most_same}
 use Rattle.kcr_tables.proofs.NamedLemmas.{twice}
 
@@ -28,19 +24,13 @@ last_told ceremony table shown greatest =
     let there = shown_has (λ (row : SeatingRow). row.step) all shown greatest in
     seated_same (filter mine shown) all (λ x h. (x, there x (filter_from mine shown x h), omega arith)) (λ y h.
     let over = shown_over (λ (row : SeatingRow). row.step) all shown greatest y h in
-    (over.0, filter_to mine shown over.0 over.1 (filter_is mine table over.0 (there over.0 over.1)), over.2))
+    (over.0, has_kept mine shown over.0 over.1 (filter_is mine table over.0 (there over.0 over.1)), over.2))
 
 -- what is read is the step that is asked for
 pub step_told : (asked : StepFilter) (all seatings : List SeatingRow) (table steps : List StepRow) (step : ℕ) → step ≡ step_asked asked seatings
     → IsGreatest (λ x. x.step) (filter (is_seating_of asked.ceremony) all) seatings → steps ≡ filter (is_step_at asked.ceremony step) table
     → ShowsStepOf asked all seatings table steps
-step_told asked all seatings table steps step is greatest are =
-    let mine = is_step_at asked.ceremony (step_asked asked seatings) in
-    let there : steps ≡ filter mine table = are ∙ ap (λ n. filter (is_step_at asked.ceremony n) table) is in
-    record {
-      last = last_told asked.ceremony all seatings greatest;
-      step = IsPermutation-same _ _ (sym (ap (filter mine) there ∙ twice mine table));
-    }
+step_told asked all seatings table steps step is greatest are = search (rules, last_told, IsPermutation-same, twice)
 
 -- ---- the same rows in another order
 

@@ -1,35 +1,14 @@
 -- What the statements of a table do, from what it proves of their texts.
-use Rattle.std.proofs.Common.{◌≡◌, ◌<◌, ℕ, negsuc, not, Bool, List, [], ◌∷◌, map, filter, length, get_or, set, Vec, Global, Result, IfOk, Ok, refl, sym, ap, subst, subst₂, ◌∙◌, IsPermutation}
+use Rattle.kcr_tables.proofs.Common.{◌≡◌, ◌<◌, ℕ, negsuc, not, Bool, List, [], ◌∷◌, map, filter, length, get_or, set, Vec, Global, Result, IfOk, Ok}
+use Rattle.kcr_tables.proofs.Common.{refl, sym, ap, subst, subst₂, ◌∙◌, IsPermutation, rules, AllByRecursion, list_all, swap, length-map, map-set}
+use Rattle.kcr_tables.proofs.Common.{IsPermutation-map, IsPermutation-keeps, IsPermutation-refl, IsPermutation-swap, IsPermutation-trans, Null, Row}
+use Rattle.kcr_tables.proofs.Common.{overlay, Output, IsAnswer, output, State, HasCleanDisk, Shown, Executes, clashes, plain, map-map, filter-map}
+use Rattle.kcr_tables.proofs.Common.{IsPermutation-filter, Refusal, TableLayout, TreeHolds, cells, put_in, Changes, each_is, executes_insert}
+use Rattle.kcr_tables.proofs.Common.{put_in_rows, same_values, shown_checked, shown_exact, Trees, put_in_all, if_ok, filter_as, asking, kept_from}
+use Rattle.kcr_tables.proofs.Common.{reads_shown, Updated, executes_update, register_schema, rows_at, StoredTables, TreesHold, Holds, SelectsRows}
+use Rattle.kcr_tables.proofs.Common.{InsertsRow, UpdatesRow, TableSpec, IsTable, with_put, SelectsUnordered}
 use Rattle.std.specs.Bool.{⊤}
-use Rattle.std.specs.List.{AllByRecursion, list_all}
-use Rattle.std.specs.Prelude.{swap}
 use Rattle.std.proofs.Math.ListN.{get_or-map}
-use Rattle.std.proofs.lemmas.List.{length-map, map-set}
-use Rattle.std.proofs.lemmas.List.Sorted.{IsPermutation-map, IsPermutation-keeps, IsPermutation-refl, IsPermutation-swap, IsPermutation-trans}
-use Rattle.sqlite.specs.declared.types.Value.TheVariants.{Null}
-use Rattle.sqlite.specs.Order.{Row}
-use Rattle.sqlite.specs.Program.{overlay}
-use Rattle.sqlite.specs.Query.{Output, IsAnswer, output}
-use Rattle.sqlite.specs.State.{State, HasCleanDisk, Shown, Executes}
-use Rattle.sqlite_schema.specs.Rules.{clashes}
-use Rattle.sqlite_value.specs.Keys.{plain}
-use Rattle.sqlite_trees.proofs.ListLemmas.{map-map, filter-map, IsPermutation-filter}
-use Rattle.kcr_base.specs.declared.refusal.Refusal.{Refusal}
-use Rattle.kcr_rows.specs.Keyed.{TableLayout, TreeHolds, cells, put_in}
-use Rattle.kcr_rows.proofs.TableLemmas.{Changes, each_is, executes_insert, put_in_rows, same_values, shown_checked, shown_exact}
-use Rattle.sqlite.specs.Tree.{Trees}
-use Rattle.kcr_rows.proofs.OrderLemmas.{put_in_all}
-use Rattle.kcr_rows.proofs.FailLemmas.{if_ok}
-use Rattle.kcr_rows.proofs.FilterLemmas.{filter_as}
-use Rattle.kcr_rows.proofs.ReadLemmas.{asking, kept_from}
-use Rattle.kcr_rows.proofs.TextLemmas.{reads_shown}
-use Rattle.kcr_rows.proofs.UpdateLemmas.{Updated, executes_update}
-use Rattle.kcr_tables.specs.Schema.{register_schema}
-use Rattle.kcr_tables.specs.Exact.{rows_at}
-use Rattle.kcr_tables.specs.StoredTables.{StoredTables, TreesHold, Holds}
-use Rattle.kcr_tables.specs.Statements.{SelectsRows, InsertsRow, UpdatesRow}
-use Rattle.kcr_tables.specs.Table.{TableSpec, IsTable, with_put}
-use Rattle.kcr_tables.specs.Unordered.{SelectsUnordered}
 
 module _ {X : Type 0} (sql : List ℕ) (place : TableLayout) (params : Row) (passes : Row → Bool) (s : SelectsRows sql place params passes) (row_of : X → Row) where
   -- the values that the query shows are the stored ones that pass the test
@@ -139,8 +118,7 @@ module _ {X : Type 0} (sql : List ℕ) (place : TableLayout) (row_of : X → Row
 pub rows_put : {X : Type 0} (place : TableLayout) (row_of : X → Row) (IsStored : X → Type 0) (x : X) → IsStored x → (old new : Trees)
     → Changes place register_schema (row_of x) old new → (xs : List X) → TreeHolds place old (map row_of xs)
     → AllByRecursion IsStored xs → TreeHolds place new (map row_of (put_in place.keys row_of x xs)) × AllByRecursion IsStored (put_in place.keys row_of x xs)
-rows_put place row_of IsStored x fact old new c xs keeps stored =
-    (subst (TreeHolds place new) (sym (put_in_rows place.keys row_of x xs)) (c.rows _ keeps), put_in_all IsStored place.keys row_of x xs fact stored)
+rows_put place row_of IsStored x fact old new c xs keeps stored = search (rules, put_in_rows, put_in_all)
 
 -- the tables that the database holds then
 pub put_holds : {X : Type 0} (table : TableSpec X) (row_of : X → Row) (IsRead : X → Type 0) → IsTable table row_of IsRead → (x : X) → table.is_stored x

@@ -1,20 +1,10 @@
 -- The rows that are read are those that a decision asks for.
-use Rattle.std.proofs.Common.{◌≡◌, inl, inr, Bool, true, false, ℕ, List, filter, slice_get, Option, Some, None, refl, sym, subst}
-use Rattle.std.proofs.Common.{◌∙◌, arith}
-use Rattle.std.proofs.Common.{IsPermutation}
-use Rattle.std.proofs.lemmas.List.Sorted.{IsPermutation-sym, IsPermutation-trans}
-use Rattle.sqlite.specs.Effect.{Database}
-use Rattle.sqlite_rules.specs.Lists.{Has}
-use Rattle.sqlite_trees.proofs.ListLemmas.{IsPermutation-filter}
+use Rattle.kcr_tables.proofs.Common.{◌≡◌, inl, inr, Bool, true, false, ℕ, List, slice_get, Option, Some, None, refl, sym, subst, ◌∙◌, arith}
+use Rattle.kcr_tables.proofs.Common.{IsPermutation, rules, IsPermutation-sym, IsPermutation-trans, Database, Has, IsPermutation-filter, Selection}
+use Rattle.kcr_tables.proofs.Common.{Nothing, Matching, All, Includes, IncludesAll, greatest_number, IsGreatest, has_same, asked_of, asked_all}
+use Rattle.kcr_tables.proofs.Common.{HoldsTables}
 use Rattle.kcr_history.specs.declared.row_types.KeyRow.{KeyRow}
-use Rattle.kcr_history.specs.declared.views.Selection.{Selection}
-use Rattle.kcr_history.specs.declared.views.Selection.TheVariants.{Nothing, Matching, All}
-use Rattle.kcr_history.specs.Views.{Includes, IncludesAll, greatest_number}
-use Rattle.kcr_rows.specs.Greatest.{IsGreatest}
-use Rattle.kcr_rows.proofs.PutLemmas.{has_same}
 use Rattle.kcr_history.specs.Tables as machine
-use Rattle.kcr_tables.specs.Selected.{asked_of, asked_all}
-use Rattle.kcr_tables.specs.MachineTables.{HoldsTables}
 use Rattle.kcr_tables.proofs.MostLemmas.{shown_has, shown_over, most_same}
 use Rattle.kcr_tables.proofs.NamedLemmas.{twice}
 
@@ -30,12 +20,7 @@ shows_on is_under All xs ys rows p h = IsPermutation-trans _ _ _ p h
 -- the rows under a key, or all, of a table in one order are those asked for of it in another
 pub asked_shows : {X K : Type 0} (is_under : K → X → Bool) (asked : Selection K) (xs ys rows : List X) → IsPermutation xs ys
     → rows ≡ asked_of is_under asked ys → Includes is_under asked xs rows
-asked_shows {K = K} is_under asked xs ys rows p is = subst (Includes is_under asked xs) (sym is) (shown asked)
-  where
-    shown : (asked : Selection K) → Includes is_under asked xs (asked_of is_under asked ys)
-    shown Nothing = tt
-    shown (Matching key) = subst (IsPermutation (filter (is_under key) xs)) (sym (twice (is_under key) ys)) (IsPermutation-filter (is_under key) xs ys p)
-    shown All = p
+asked_shows {K = K} is_under asked xs ys rows p is = search (rules, twice, IsPermutation-filter)
 
 -- the whole table in one order, if it is asked for, is the whole of it in another
 pub all_shows : {X : Type 0} (asked : Bool) (xs ys rows : List X) → IsPermutation xs ys → rows ≡ asked_all asked ys → IncludesAll asked xs rows

@@ -1,14 +1,10 @@
 -- A register in memory, whose disk is never in doubt.
-use Rattle.std.proofs.Common.{[], refl}
-use Rattle.sqlite.specs.Held.{Held, state}
-use Rattle.sqlite.specs.State.{HasCleanDisk}
+use Rattle.kcr_tool.proofs.Common.{[], refl, Held, HasCleanDisk, History, RegisterState, IsFresh}
+use Rattle.sqlite.specs.Held.{state}
 use Rattle.sqlite.specs.Steps.{over_memory}
 use Rattle.sqlite_trees.specs.declared.memory.MemStore.{MemStore}
 use Rattle.sqlite_trees.specs.View.{doubt}
-use Rattle.kcr_history.specs.History.{History}
 use Rattle.kcr_store.specs.Calls.{OfHistory}
-use Rattle.kcr_store.specs.Register.{RegisterState}
-use Rattle.kcr_verify.specs.Verification.{IsFresh}
 
 -- the disk of a register in memory is clean
 pub never_in_doubt : (conn : Held MemStore) → HasCleanDisk (state over_memory conn)

@@ -1,4 +1,5 @@
 pub mod Causes
+mod Common
 pub mod Notes
 pub mod Told
 pub mod Audits

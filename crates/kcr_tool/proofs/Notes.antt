@@ -1,12 +1,6 @@
 -- What stands on standard error beside a report.
-use Rattle.std.proofs.Common.{◌≡◌, inl, inr, ℕ, List, Bool, Option, Some, Ok, Err, refl, arith}
-use Rattle.std.specs.Prelude.{IsTrue}
-use Rattle.kcr_desk.specs.Streams.{Writing}
-use Rattle.kcr_fault.specs.Notes.{IsMissing, IsNoted, IsNotedOf, IsTold, MayNote}
-use Rattle.kcr_fault.specs.declared.fault.Missing.{Missing}
-use Rattle.kcr_arguments.specs.declared.words.Report.{Report}
-use Rattle.kcr_arguments.specs.declared.words.Task.{Task}
-use Rattle.kcr_arguments.specs.declared.words.Task.TheVariants.{Write}
+use Rattle.kcr_tool.proofs.Common.{◌≡◌, inl, inr, ℕ, List, Bool, Option, Some, Ok, Err, refl, arith, IsTrue, Writing, IsMissing, IsNoted, IsNotedOf}
+use Rattle.kcr_tool.proofs.Common.{IsTold, MayNote, Missing, Report, Task, Write}
 
 -- what is missing was told
 pub told_of : {W : Type 0} (May : Type 0) (file : Option (List ℕ)) (missing : Missing) (w : Writing W) → May → IsMissing file missing

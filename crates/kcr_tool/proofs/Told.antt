@@ -1,12 +1,7 @@
 -- What the words name, and what is told of it.
-use Rattle.std.proofs.Common.{◌≡◌, ℕ, List, Bool, Option, Some, None, Err, refl}
-use Rattle.std.specs.Prelude.{IsSome, IsTrue, option_map}
+use Rattle.kcr_tool.proofs.Common.{◌≡◌, ℕ, List, Bool, Option, Some, None, Err, refl, IsSome, IsTrue, option_map, Streams, Writing, writing}
+use Rattle.kcr_tool.proofs.Common.{AreLinesOf, HasCause, TellsFault, IsNoted, MayNote, WritesLines, Fault, Task}
 use Rattle.kcr_base.specs.declared.counted.Counted.{Counted}
-use Rattle.kcr_desk.specs.Streams.{Streams, Writing, writing}
-use Rattle.kcr_fault.specs.Faults.{AreLinesOf, HasCause, TellsFault}
-use Rattle.kcr_fault.specs.Notes.{IsNoted, MayNote, WritesLines}
-use Rattle.kcr_fault.specs.declared.fault.Fault.{Fault}
-use Rattle.kcr_arguments.specs.declared.words.Task.{Task}
 use Rattle.kcr_tool.proofs.Notes.{asked_of_fault, task_noted}
 
 -- the lines and the cause of a fault are those of the words that name this task and these files

@@ -1,12 +1,7 @@
 -- What the status of a verification says of its line.
-use Rattle.std.proofs.Common.{◌⊎◌, inl, inr, ℕ, List, Result, Ok, Err, OnErr, refl}
-use Rattle.std.specs.Prelude.{IfOk}
-use Rattle.kcr_desk.specs.Streams.{Writing, WritesNothing, WritesPart}
-use Rattle.kcr_fault.specs.Lines.{difference_line, whole_line}
-use Rattle.kcr_fault.specs.declared.fault.Fault.{Fault}
-use Rattle.kcr_tool.specs.Runs.{Finishes}
+use Rattle.kcr_tool.proofs.Common.{◌⊎◌, inl, inr, ℕ, List, Result, Ok, Err, OnErr, refl, IfOk, Writing, WritesNothing, WritesPart, difference_line}
+use Rattle.kcr_tool.proofs.Common.{whole_line, Fault, Finishes, Verification}
 use Rattle.kcr_tool.specs.Verifications.{EndsVerification, WritesVerification, WritesVerified, WritesVerificationPrefix, TellsWholeFront, verified_line}
-use Rattle.kcr_verify.specs.declared.verification.Verification.{Verification}
 use Rattle.kcr_verify.specs.declared.verification.Verification.TheVariants.{Verified, Differs}
 
 module _ {W : Type 0} (head : List ℕ) (w : Writing W) where

@@ -1,3 +1,4 @@
+mod Common
 pub mod StandLemmas
 pub mod OrderLemmas
 pub mod NumberLemmas

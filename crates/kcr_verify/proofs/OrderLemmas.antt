@@ -1,39 +1,22 @@
 -- Rows in the order of their keys stand in one order alone, and each has a key of its own.
-use Rattle.std.proofs.Common.{◌≡◌, ℕ, false, List, [], ◌∷◌, map, sym, ap, ◌∙◌, inl, inr, IsPermutation, Ordering, Less, is_gt, subst}
-use Rattle.std.specs.Cmp.{IsTotalOrder}
-use Rattle.std.specs.List.{AllByRecursion}
+use Rattle.kcr_verify.proofs.Common.{◌≡◌, ℕ, false, List, [], ◌∷◌, map, sym, ap, ◌∙◌, inl, inr, IsPermutation, Ordering, Less, is_gt, subst}
+use Rattle.kcr_verify.proofs.Common.{IsTotalOrder, AllByRecursion, on_total, IsPermutation-sym, IsPermutation-trans, Row, IsAscending}
+use Rattle.kcr_verify.proofs.Common.{ascending_weaker, sorted_unique, IsIn, Tables, KeyRow, FullView, AreRows, IsListed, TableSpec, IsTable}
+use Rattle.kcr_verify.proofs.Common.{machine_rows, HaveOwnKeys}
 use Rattle.std.specs.Ordering.{ordering_reverse}
-use Rattle.std.proofs.lemmas.List.Sorted.{IsPermutation-sym, IsPermutation-trans}
-use Rattle.sqlite.specs.Order.{Row}
-use Rattle.sqlite.specs.Tree.{IsAscending}
-use Rattle.sqlite_keyed.proofs.ListLemmas.{ascending_weaker}
-use Rattle.sqlite_keyed.proofs.SortLemmas.{sorted_unique}
 use Rattle.sqlite_exec.proofs.PartitionLemmas.{sorted_from_ascending}
-use Rattle.kcr_base.specs.Rows.{IsIn}
-use Rattle.kcr_history.specs.Tables.{Tables}
-use Rattle.kcr_history.specs.declared.row_types.KeyRow.{KeyRow}
-use Rattle.kcr_history.specs.declared.views.FullView.{FullView}
 use Rattle.kcr_rows.specs.Keyed.{by_key}
 use Rattle.kcr_rows.proofs.OrderLemmas.{from_map}
 use Rattle.kcr_rows.proofs.SameLemmas.{key_total}
 use Rattle.kcr_rows.specs.Rows.{key_row}
-use Rattle.kcr_store.specs.FullView.{AreRows, IsListed}
 use Rattle.kcr_tables.specs.KeysLaws as keys
-use Rattle.kcr_tables.specs.Table.{TableSpec, IsTable, machine_rows}
-use Rattle.kcr_verify.specs.Verification.{HaveOwnKeys}
 
 module _ {X : Type 0} (keys : ℕ) (row_of : X → Row) where
   abbrev cmp : X → X → Ordering
   cmp a b = by_key keys (row_of a) (row_of b)
 
   total : IsTotalOrder cmp
-  total =
-      let t = key_total keys in
-      record {
-        antisymm = λ a b. t.antisymm (row_of a) (row_of b);
-        trans = λ a b c. t.trans (row_of a) (row_of b) (row_of c);
-        congr = λ a b c. t.congr (row_of a) (row_of b) (row_of c);
-      }
+  total = on_total row_of (key_total keys)
 
   -- the same values, each list of them by rising keys
   one_order : (m xs ys : List X) → IsAscending (λ a b. by_key keys a b ≡ Less) (map row_of xs) → IsAscending (λ a b. by_key keys a b ≡ Less) (map row_of ys)
@@ -49,9 +32,7 @@ pub one_table : {X : Type 0} (table : TableSpec X) (row_of : X → Row) (is_read
     → (m : Tables) (xs ys : List X) → AreRows table.rows_in m xs → AreRows table.rows_in m ys → ys ≡ xs
 one_table {X} table row_of is_read laws m xs ys a b =
     one_order table.place.keys row_of (machine_rows table m) xs ys
-    (subst (λ (l : List X). IsAscending (λ x y. by_key table.place.keys x y ≡ Less) (map row_of l)) (sym a.lists) (laws.keeps a.db a.t a.kept).rising)
-    (subst (λ (l : List X). IsAscending (λ x y. by_key table.place.keys x y ≡ Less) (map row_of l)) (sym b.lists) (laws.keeps b.db b.t b.kept).rising) a.same
-    b.same
+    (rw a.lists (laws.keeps a.db a.t a.kept).rising) (rw b.lists (laws.keeps b.db b.t b.kept).rising) a.same b.same
 
 -- THE KEYS OF ACCEPTED COMMANDS
 
@@ -61,23 +42,21 @@ below a b = by_key 1 (key_row a) (key_row b)
 -- a row is not below one with its key
 not_below : (a b : KeyRow) → a.key ≡ b.key → below a b ≡ Less → ⊥
 not_below a b same less =
-    let itself : below a a ≡ Less = subst (λ (k : List ℕ). below a (record a { key = k }) ≡ Less) (sym same) less in
+    let itself : below a a ≡ Less = rw (← same) at less in
     let turned : below a a ≡ ordering_reverse (below a a) = (key_total 1).antisymm (key_row a) (key_row a) in
-    let impossible : Less ≡ ordering_reverse Less = sym itself ∙ turned ∙ ap ordering_reverse itself in
+    let impossible : Less ≡ ordering_reverse Less = rw itself at turned in
     cc
 
 behind : (x a : KeyRow) (rows : List KeyRow) → AllByRecursion (λ y. below x y ≡ Less) rows → IsIn a rows → below x a ≡ Less
 behind x a [] all i = absurd i
-behind x a (y ∷ rows) all (inl e) = subst (λ (r : KeyRow). below x r ≡ Less) (sym e) all.0
+behind x a (y ∷ rows) all (inl e) = rw e all.0
 behind x a (y ∷ rows) all (inr i) = behind x a rows all.1 i
 
 own_keys : (rows : List KeyRow) → IsAscending (λ a b. below a b ≡ Less) rows → HaveOwnKeys rows
 own_keys [] up a b i j same = absurd i
 own_keys (x ∷ rows) up a b (inl e) (inl f) same = e ∙ sym f
-own_keys (x ∷ rows) up a b (inl e) (inr j) same =
-    absurd (not_below x b (ap (λ (r : KeyRow). r.key) (sym e) ∙ same) (behind x b rows up.0 j))
-own_keys (x ∷ rows) up a b (inr i) (inl f) same =
-    absurd (not_below x a (ap (λ (r : KeyRow). r.key) (sym f) ∙ sym same) (behind x a rows up.0 i))
+own_keys (x ∷ rows) up a b (inl e) (inr j) same = absurd (not_below x b (rw e at same) (behind x b rows up.0 j))
+own_keys (x ∷ rows) up a b (inr i) (inl f) same = absurd (not_below x a (rw f at (sym same)) (behind x a rows up.0 i))
 own_keys (x ∷ rows) up a b (inr i) (inr j) same = own_keys rows up.1 a b i j same
 
 -- rows that a database lists have keys of their own

@@ -1,72 +1,55 @@
 -- One more byte of a text in quotes, and one more value of a row.
-use Rattle.std.proofs.Common.{◌≡◌, ℕ, zero, suc, ◌+◌, ◌<◌, List, [], ◌∷◌, ◌++◌, map, take, length, get_or, nat_eq, false, refl, sym, ap, ◌∙◌, append_assoc, add-one, arith}
-use Rattle.std.specs.List.{join_with_byte}
-use Rattle.std.proofs.lemmas.List.{take_more}
+use Rattle.kcr_verify.proofs.Common.{◌≡◌, ◌⊎◌, inl, inr, ℕ, suc, ◌+◌, ◌<◌, ◌≤◌, List, [], ◌∷◌, ◌++◌, take, length, get_or, refl, sym, ap, add-one}
+use Rattle.kcr_verify.proofs.Common.{arith, join_with_byte, take_more, Row, Value, Kind, cell_text, cell_texts, date_behind, doubled, row_text}
+use Rattle.kcr_verify.proofs.Common.{value_text}
+use Rattle.std.proofs.Common.{append_assoc}
 use Rattle.std.proofs.lemmas.List.Concat.{flat_map-append}
-use Rattle.sqlite.specs.declared.types.Value.{Value}
-use Rattle.kcr_rows.specs.declared.kinds.Kind.{Kind}
-use Rattle.kcr_verify.specs.Quoted.{cell_text, cell_texts, doubled, row_text}
-
-doubled_end : (text : List ℕ) (byte : ℕ) → doubled (text ++ byte ∷ []) ≡ doubled text ++ doubled (byte ∷ [])
-doubled_end text byte = flat_map-append _ text (byte ∷ [])
 
 -- one more byte of a text adds its own doubled text
 pub doubled_more : (text : List ℕ) (i : ℕ) → i < length text → doubled (take (i + 1) text) ≡ doubled (take i text) ++ doubled (get_or text i 0 ∷ [])
-doubled_more text i h = rw (take_more text i 0 h) (doubled_end (take i text) (get_or text i 0))
+doubled_more text i h = rw (take_more text i 0 h) (flat_map-append _ (take i text) (get_or text i 0 ∷ []))
 
 -- a single quote is doubled
 pub quote_doubled : (byte : ℕ) → byte ≡ 39 → doubled (byte ∷ []) ≡ byte ∷ 39 ∷ []
 quote_doubled byte e = rw e refl
 
-other_than : (byte : ℕ) → ¬ (byte ≡ 39) → nat_eq byte 39 ≡ false
-other_than byte e = grind arith
-
 -- any other byte is kept
 pub other_kept : (byte : ℕ) → ¬ (byte ≡ 39) → doubled (byte ∷ []) ≡ byte ∷ []
-other_kept byte e = rw (other_than byte e) refl
+other_kept byte e = grind arith
 
-joined_end : (xs : List (List ℕ)) (x : List ℕ) → 0 < length xs → join_with_byte 44 (xs ++ x ∷ []) ≡ (join_with_byte 44 xs ++ 44 ∷ []) ++ x
-joined_end [] x h = absurd (omega arith)
-joined_end (y ∷ []) x h = sym (append_assoc y (44 ∷ []) x)
-joined_end (y ∷ z ∷ ys) x h = rw (joined_end (z ∷ ys) x (omega arith)) (simp append_assoc)
+joined_end : (y : List ℕ) (ys : List (List ℕ)) (x : List ℕ) → join_with_byte 44 (y ∷ ys ++ x ∷ []) ≡ (join_with_byte 44 (y ∷ ys) ++ 44 ∷ []) ++ x
+joined_end y [] x = sym (append_assoc y (44 ∷ []) x)
+joined_end y (z ∷ ys) x = rw (joined_end z ys x) (simp append_assoc)
 
--- of values in columns
-module _ {X : Type 0} (value : X → Value) where
-  abbrev texts : List Kind → List X → List (List ℕ)
-  texts ks xs = cell_texts ks (map value xs)
+-- one more value in the columns
+texts_more : (ks : List Kind) (row : Row) (d : Kind) (v : Value) → length row < length ks
+    → cell_texts (take (suc (length row)) ks) (row ++ v ∷ []) ≡ cell_texts (take (length row) ks) row ++ cell_text (get_or ks (length row) d) v ∷ []
+texts_more [] row d v h = absurd (omega arith)
+texts_more (k ∷ ks) [] d v h = refl
+texts_more (k ∷ ks) (w ∷ row) d v h = ap (λ (t : List (List ℕ)). cell_text k w ∷ t) (texts_more ks row d v (omega arith))
 
-  texts_more : (ks : List Kind) (xs : List X) (i : ℕ) (d : Kind) (e : X) → i < length ks → i < length xs
-      → texts (take (suc i) ks) (take (suc i) xs) ≡ texts (take i ks) (take i xs) ++ cell_text (get_or ks i d) (value (get_or xs i e)) ∷ []
-  texts_more [] xs i d e h g = absurd (omega arith)
-  texts_more (k ∷ ks) [] i d e h g = absurd (omega arith)
-  texts_more (k ∷ ks) (x ∷ xs) zero d e h g = refl
-  texts_more (k ∷ ks) (x ∷ xs) (suc i) d e h g =
-      ap (λ (t : List (List ℕ)). cell_text k (value x) ∷ t) (texts_more ks xs i d e (omega arith) (omega arith))
+-- before the value with this index, each later one behind a comma
+abbrev pub IsStarted : ℕ → List ℕ → List ℕ → Type 0
+IsStarted i line started = ((0 < i) × (started ≡ line ++ 44 ∷ [])) ⊎ ((i ≤ 0) × (started ≡ line))
 
-  some_texts : (ks : List Kind) (xs : List X) (i : ℕ) → 0 < i → i < length ks → i < length xs → 0 < length (texts (take i ks) (take i xs))
-  some_texts [] xs i p h g = absurd (omega arith)
-  some_texts (c ∷ ks) [] i p h g = absurd (omega arith)
-  some_texts (c ∷ ks) (x ∷ xs) zero p h g = absurd (omega arith)
-  some_texts (c ∷ ks) (x ∷ xs) (suc i) p h g = omega arith
+row_more : (ks : List Kind) (row : Row) (d : Kind) (v : Value) (started : List ℕ) → length row < length ks
+    → IsStarted (length row) (row_text (take (length row) ks) row) started
+    → row_text (take (suc (length row)) ks) (row ++ v ∷ []) ≡ started ++ cell_text (get_or ks (length row) d) v
+row_more [] row d v started h s = absurd (omega arith)
+row_more (k ∷ ks) [] d v started h (inl s) = absurd (omega (arith, s.0))
+row_more (k ∷ ks) [] d v started h (inr s) = rw s.1 refl
+row_more (k ∷ ks) (w ∷ row) d v started h (inl s) =
+    rw (s.1, texts_more ks row d v (omega arith)) (joined_end (cell_text k w) (cell_texts (take (length row) ks) row) _)
+row_more (k ∷ ks) (w ∷ row) d v started h (inr s) = absurd (omega (arith, s.0))
 
-  -- the first value
-  pub first_value : (ks : List Kind) (xs : List X) (i : ℕ) (d : Kind) (e : X) → i < length ks → i < length xs → i ≡ 0
-      → row_text (take (i + 1) ks) (map value (take (i + 1) xs))
-      ≡ row_text (take i ks) (map value (take i xs)) ++ cell_text (get_or ks i d) (value (get_or xs i e))
-  first_value ks xs i d e h g z =
-      let more = texts_more ks xs i d e h g in
-      rw (add-one, more, z) refl
-
-  -- each later one stands behind a comma
-  pub next_value : (ks : List Kind) (xs : List X) (i : ℕ) (d : Kind) (e : X) → i < length ks → i < length xs → 0 < i
-      → row_text (take (i + 1) ks) (map value (take (i + 1) xs))
-      ≡ (row_text (take i ks) (map value (take i xs)) ++ 44 ∷ []) ++ cell_text (get_or ks i d) (value (get_or xs i e))
-  next_value ks xs i d e h g p =
-      let more = texts_more ks xs i d e h g in
-      rw (add-one, more) (joined_end (texts (take i ks) (take i xs)) (cell_text (get_or ks i d) (value (get_or xs i e))) (some_texts ks xs i p h g))
-
--- a line with two texts behind what it was
-pub behind_both : (line between before said told one two : List ℕ) → between ≡ before ++ one → line ≡ between ++ two → before ≡ said → told ≡ said ++ (one ++ two)
-    → line ≡ told
-behind_both line between before said told one two first then was now =
-    then ∙ ap (λ l. l ++ two) (first ∙ ap (λ l. l ++ one) was) ∙ append_assoc said one two ∙ sym now
+-- a line after one more value, whose text and whose date were added
+pub line_more : (ks : List Kind) (row next : Row) (i : ℕ) (d : Kind) (v told : Value) {line started between now : List ℕ} → i < length ks → i ≡ length row
+    → next ≡ row ++ v ∷ [] → ((k : Kind) → cell_text k told ≡ cell_text k v) → line ≡ row_text (take i ks) row → IsStarted i line started
+    → between ≡ started ++ value_text told → now ≡ between ++ date_behind (get_or ks i d) told → now ≡ row_text (take (i + 1) ks) next
+line_more ks row next i d v told {started = started} low long is same was begun first then =
+    rw (add-one, long, is)
+    (cc (
+      row_more ks row d v started (omega (arith, low, long)) (rw (was, long) at begun),
+      same (get_or ks i d),
+      append_assoc started (value_text told) (date_behind (get_or ks i d) told),
+    ))

@@ -1,83 +1,36 @@
 -- Commands that the machine takes one after the other, as rows tell them.
-use Rattle.std.proofs.Common.{◌≡◌, ◌≢◌, ℕ, ◌+◌, ◌<◌, ◌≤◌, Bool, true, false, List, [], ◌∷◌, ◌++◌, length, drop, get_or, Option, Some, None, inl, inr, refl, sym}
-use Rattle.std.proofs.Common.{ap, ap₂, ◌∙◌, subst, arith, ◌⊎◌, map}
+use Rattle.kcr_verify.proofs.Common.{◌≡◌, ◌≢◌, ℕ, ◌+◌, ◌<◌, ◌≤◌, List, [], ◌∷◌, ◌++◌, length, drop, get_or, Option, Some, None, Ok, inl, inr, refl}
+use Rattle.kcr_verify.proofs.Common.{sym, ap, ◌∙◌, arith, map, false_from_ne_true, append_assoc, append-nil, drop_all, drop_more, length-map}
+use Rattle.kcr_verify.proofs.Common.{length-reverse, nil_from_length, IsPermutation-reverse, IsPermutation-sym, IsIn, Refusal, find-none, in-front}
+use Rattle.kcr_verify.proofs.Common.{in-behind, in-order, map-in, none-passes, same-is, History, entry_of, fault, Accepts, SeatRequest, seat_request}
+use Rattle.kcr_verify.proofs.Common.{reply_to, with_command, IsAcceptedWith, seats, DecidesNew, machine, IsOfMachine, IsRegister, key_row, ReplyData}
+use Rattle.kcr_verify.proofs.Common.{Command, Entry, KeyRow, numbers, of_machine, machine_first, AreValues, Declines, GivesRow, GivesRows}
+use Rattle.kcr_verify.proofs.Common.{HaveOwnKeys, IsNotNext, StopsFor, Takes, rows_by_number, Difference}
 use Rattle.std.specs.Prelude.{MatchOption}
-use Rattle.std.proofs.lemmas.List.{append-nil, drop_all, drop_more, length-map, length-reverse}
-use Rattle.kcr_base.specs.Rows.{IsIn}
-use Rattle.kcr_base.specs.Same.{same_text}
-use Rattle.kcr_base.specs.declared.refusal.Refusal.{Refusal}
-use Rattle.kcr_base.proofs.Members.{in-front, in-behind}
-use Rattle.kcr_base.proofs.SameLemmas.{same-is}
-use Rattle.kcr_history.specs.History.{History, entry_of}
-use Rattle.kcr_history.specs.Conditions.{fault}
-use Rattle.kcr_history.specs.Machine.{Accepts, SeatRequest, seat_request, reply_to, with_command, IsAcceptedWith, seats, DecidesNew, DecidesRepeat, machine, IsOfMachine, IsRegister}
-use Rattle.kcr_history.specs.Tables.{key_row}
-use Rattle.kcr_history.specs.declared.commands.ReplyData.{ReplyData}
-use Rattle.kcr_history.specs.declared.commands.Command.{Command}
-use Rattle.kcr_history.specs.declared.commands.Entry.{Entry}
-use Rattle.kcr_history.specs.declared.row_types.KeyRow.{KeyRow}
-use Rattle.kcr_history.proofs.Steps.{of_machine, same_reply}
-use Rattle.kcr_laws.proofs.Accepted.{other_outcome}
-use Rattle.kcr_verify.specs.Verification.{AreValues, Declines, HaveOwnKeys, IsNotNext, StopsFor, StopsIn, Takes, rows_by_number}
-use Rattle.kcr_verify.specs.declared.verification.Difference.{Difference}
 use Rattle.kcr_verify.specs.declared.verification.Difference.TheVariants as Differences
-use Rattle.kcr_verify.proofs.NumberLemmas.{IsGiven, NumbersCount, append_one, one_more}
+use Rattle.kcr_verify.proofs.NumberLemmas.{IsGiven, next_row, one_more}
 
 -- ONE COMMAND
 
--- a command that is accepted is entered, or its key has an entry and the history stays
-pub entered_or_kept : (A : History) (x : Command) (a : ReplyData) (B : History) → machine A x (Accepts a) B
-    → (B ≡ with_command A x a) ⊎ ((kept : Entry) × (entry_of A x.key ≡ Some kept) × (B ≡ A))
-entered_or_kept A x a B h = by_entry (entry_of A x.key) refl (fault A x.act) h
+-- a command with a new key that is accepted is entered
+entered : (A : History) (x : Command) (a : ReplyData) (B : History) → entry_of A x.key ≡ None → machine A x (Accepts a) B → B ≡ with_command A x a
+entered A x a B new h = by (fault A x.act) (rw new at h)
   where
-    with_reply : (b : ReplyData) → Accepts a ≡ Accepts b → B ≡ with_command A x b → B ≡ with_command A x a
-    with_reply b e is = is ∙ ap (λ (c : ReplyData). with_command A x c) (sym (same_reply a b e))
-
     seated : (s : Option SeatRequest) → MatchOption s (IsAcceptedWith A x (reply_to A x.act None) (Accepts a) B) (λ q. seats A x q (Accepts a) B)
         → B ≡ with_command A x a
-    seated None g = with_reply _ g.0 g.1
-    seated (Some s) (inl w) = with_reply _ w.2.0 w.2.1
-    seated (Some s) (inr w) = absurd (other_outcome a _ w.2.0)
+    seated None g = cc
+    seated (Some s) (inl w) = cc (w.2.0, w.2.1)
+    seated (Some s) (inr w) = cc (w.2.0)
 
-    by_entry : (k : Option Entry) → entry_of A x.key ≡ k → (f : Option Refusal)
-        → MatchOption k (DecidesNew A x f (Accepts a) B) (λ old. DecidesRepeat A x old (Accepts a) B)
-        → (B ≡ with_command A x a) ⊎ ((kept : Entry) × (entry_of A x.key ≡ Some kept) × (B ≡ A))
-    by_entry (Some old) e f g = inr (old, e, g.1)
-    by_entry None e (Some refusal) g = absurd (other_outcome a refusal g.0)
-    by_entry None e None g = inl (seated (seat_request A x.act) g)
+    by : (f : Option Refusal) → DecidesNew A x f (Accepts a) B → B ≡ with_command A x a
+    by (Some refusal) g = cc
+    by None g = seated (seat_request A x.act) g
 
--- A KEY THAT HAS AN ENTRY
-
--- its row is one of the history's, and has a number that was given
-pub record IsKeptRow (A : History) (key : List ℕ) (kept : Entry) : Type 0 where
-  pub key_is : kept.command.key ≡ key
-  pub among : IsIn (key_row kept) (rows_by_number A)
-  pub low : kept.reply.accepted ≤ length A
-
--- a key with an entry has a row among the history's, with a number that was given
-pub kept_row : NumbersCount → (A : History) (key : List ℕ) (kept : Entry) → IsOfMachine A → entry_of A key ≡ Some kept → IsKeptRow A key kept
-kept_row count [] key kept made e = cc
-kept_row count (entry ∷ A) key kept made e = by (same_text entry.command.key key) refl (kept_row count A key kept made.1)
-  where
-    by : (b : Bool) → same_text entry.command.key key ≡ b → (entry_of A key ≡ Some kept → IsKeptRow A key kept) → IsKeptRow (entry ∷ A) key kept
-    by true t later =
-        let first : Some entry ≡ Some kept = rw t at e in
-        let same : entry ≡ kept = cc in
-        let numbered : entry.reply.accepted ≡ length (entry ∷ A) = count A entry (of_machine (entry ∷ A) made) in
-        let number : kept.reply.accepted ≡ entry.reply.accepted = ap (λ (x : Entry). x.reply.accepted) (sym same) in
-        record {
-          key_is = ap (λ (x : Entry). x.command.key) (sym same) ∙ same-is entry.command.key key t;
-          among = subst (λ (x : Entry). IsIn (key_row x) (rows_by_number (entry ∷ A))) same
-              (rw (one_more entry A) (in-behind (key_row entry) (rows_by_number A) (key_row entry ∷ []) (inl refl)));
-          low = omega (arith, numbered, number);
-        }
-    by false t later =
-        let r = later (rw t at e) in
-        record {
-          key_is = r.key_is;
-          among = rw (one_more entry A) (in-front (key_row kept) (rows_by_number A) (key_row entry ∷ []) r.among);
-          low = omega (arith, r.low);
-        }
+-- no entry has a number above how many there are
+none_above : (A : History) → IsRegister A → (entry : Entry) → IsIn entry A → entry.reply.accepted ≤ length A
+none_above [] h entry i = absurd i
+none_above (first ∷ A) h entry (inl e) = omega (arith, numbers A first h, ap (λ (x : Entry). x.reply.accepted) e)
+none_above (first ∷ A) h entry (inr i) = omega (arith, none_above A h.1 entry i)
 
 -- ONE ROW
 
@@ -86,128 +39,129 @@ pub record HasTaken (rows : List KeyRow) (index : ℕ) (A : History) : Type 0 wh
   pub rows_are : rows ≡ rows_by_number A ++ drop index rows
   pub count : length A ≡ index
 
-row_by_parts : (row : KeyRow) (key : List ℕ) (number : ℕ) (command reply : List ℕ) → key ≡ row.key → number ≡ row.accepted → command ≡ row.command
-    → reply ≡ row.reply → record { key = key; accepted = number; command = command; reply = reply } ≡ row
-row_by_parts row key number command reply k n c r =
-    ap₂ (λ (k : List ℕ) (n : ℕ). let x : KeyRow = record { key = k; accepted = n; command = command; reply = reply } in x) k n
-    ∙ ap₂ (λ (c r : List ℕ). let x : KeyRow = record { key = row.key; accepted = row.accepted; command = c; reply = r } in x) c r
-
--- the row at the index stands behind those of the commands that were taken
-pub row_behind : (rows : List KeyRow) (index : ℕ) (A : History) (row : KeyRow) → HasTaken rows index A → index < length rows → get_or rows index row ≡ row
-    → rows ≡ rows_by_number A ++ row ∷ drop (index + 1) rows
-row_behind rows index A row had low at =
-    had.rows_are ∙ ap (λ (l : List KeyRow). rows_by_number A ++ l)
-    (drop_more rows index row low ∙ ap (λ (r : KeyRow). r ∷ drop (index + 1) rows) at)
-
-module _ (count : NumbersCount) (rows : List KeyRow) (index : ℕ) (A : History) (row : KeyRow) (made : IsOfMachine A) (own : HaveOwnKeys rows)
-    (had : HasTaken rows index A) (low : index < length rows) (at : get_or rows index row ≡ row) (number : row.accepted ≡ index + 1) where
-  -- its key is new
-  new_key : (kept : Entry) → entry_of A row.key ≡ Some kept → ⊥
-  new_key kept e =
-      let k = kept_row count A row.key kept made e in
-      let whole = row_behind rows index A row had low at in
-      let among : IsIn (key_row kept) rows = rw whole (in-front (key_row kept) (rows_by_number A) (row ∷ drop (index + 1) rows) k.among) in
-      let here : IsIn row rows = rw whole (in-behind row (rows_by_number A) (row ∷ drop (index + 1) rows) (inl refl)) in
-      let same : kept.reply.accepted ≡ row.accepted = ap (λ (r : KeyRow). r.accepted) (own (key_row kept) row among here k.key_is) in
-      omega (arith, same, number, k.low, had.count)
-
-  -- and after its command one more row is taken
-  pub taken_on : (B : History) → Takes row A B → HasTaken rows (index + 1) B
-  taken_on B takes = by (entered_or_kept A takes.command takes.reply B takes.step)
-    where
-      by : (B ≡ with_command A takes.command takes.reply) ⊎ ((kept : Entry) × (entry_of A takes.command.key ≡ Some kept) × (B ≡ A))
-          → HasTaken rows (index + 1) B
-      by (inl new) =
-          let step : machine A takes.command (Accepts takes.reply) (with_command A takes.command takes.reply) =
-          subst (machine A takes.command (Accepts takes.reply)) new takes.step in
-          let numbered : takes.reply.accepted ≡ length (with_command A takes.command takes.reply) =
-          count A (record { command = takes.command; reply = takes.reply })
-          (of_machine (with_command A takes.command takes.reply) (step, made)) in
-          let same : key_row (record { command = takes.command; reply = takes.reply }) ≡ row =
-          row_by_parts row _ _ _ _ takes.told.key (omega (arith, numbered, number, had.count)) takes.told.text takes.text in
-          let longer : rows_by_number (with_command A takes.command takes.reply) ≡ rows_by_number A ++ row ∷ [] =
-          one_more (record { command = takes.command; reply = takes.reply }) A ∙ ap (λ (r : KeyRow). rows_by_number A ++ r ∷ []) same in
-          let long : length B ≡ length (with_command A takes.command takes.reply) = ap length new in
-          record {
-            rows_are = row_behind rows index A row had low at ∙ sym (append_one (rows_by_number A) (drop (index + 1) rows) row)
-                ∙ ap (λ (l : List KeyRow). l ++ drop (index + 1) rows) (sym longer ∙ ap rows_by_number (sym new));
-            count = omega (arith, long, had.count);
-          }
-      by (inr kept) = absurd (new_key kept.0 (ap (entry_of A) (sym takes.told.key) ∙ kept.1))
-
--- WHERE IT STOPS
-
-not_next : (difference : Difference) (row : KeyRow) (A B : History) → row.accepted ≡ length A + 1 → Declines difference row A B
-    → IsNotNext difference row A B
-not_next (Differences.Number place found) row A B n h = absurd h
-not_next (Differences.Command number found) row A B n h = (n, h)
-not_next (Differences.Refused number refusal found) row A B n h = (n, h)
-not_next (Differences.Reply number expected found is_seating) row A B n h = (n, h)
-not_next (Differences.Rows table other) row A B n h = absurd h
-
--- at a row whose command is not taken
-pub stops_for : (difference : Difference) (rows : List KeyRow) (index : ℕ) (A : History) (row : KeyRow) (B : History) → (HaveOwnKeys rows → HasTaken rows index A)
-    → index < length rows → get_or rows index row ≡ row → row.accepted ≡ index + 1 → Declines difference row A B → StopsFor difference rows B
-stops_for difference rows index A row B had low at number h = by difference h
-  where
-    stops : (d : Difference) → Declines d row A B → HaveOwnKeys rows → StopsIn d rows B
-    stops d h own =
-        let taken = had own in
-        record {
-          taken = A;
-          row = row;
-          later = drop (index + 1) rows;
-          rows = row_behind rows index A row taken low at;
-          why = not_next d row A B (omega (arith, number, taken.count)) h;
-        }
-
-    by : (d : Difference) → Declines d row A B → StopsFor d rows B
-    by (Differences.Number place found) h = stops (Differences.Number place found) h
-    by (Differences.Command number found) h = stops (Differences.Command number found) h
-    by (Differences.Refused number refusal found) h = stops (Differences.Refused number refusal found) h
-    by (Differences.Reply number expected found is_seating) h = stops (Differences.Reply number expected found is_seating) h
-    by (Differences.Rows table row) h = absurd h
-
--- at a row whose number is not the next
-pub stops_number : (rows : List KeyRow) (index : ℕ) (A : History) (row : KeyRow) → (HaveOwnKeys rows → HasTaken rows index A) → index < length rows
-    → get_or rows index row ≡ row → row.accepted ≢ index + 1 → StopsFor (Differences.Number (index + 1) row.accepted) rows A
-stops_number rows index A row had low at number own =
-    let taken = had own in
-    record {
-      taken = A;
-      row = row;
-      later = drop (index + 1) rows;
-      rows = row_behind rows index A row taken low at;
-      why = (ap (λ n. n + 1) (sym taken.count), refl, number, refl);
-    }
-
--- at the end
-pub all_taken : (rows : List KeyRow) (index : ℕ) (A : History) → length rows ≤ index → HasTaken rows index A → rows ≡ rows_by_number A
-all_taken rows index A end had =
-    had.rows_are ∙ ap (λ (l : List KeyRow). rows_by_number A ++ l) (drop_all index rows end) ∙ append-nil (rows_by_number A)
-
--- at the beginning
-pub none_taken : (rows : List KeyRow) (A : History) → A ≡ [] → HasTaken rows 0 A
-none_taken rows A new = record {
-  rows_are = ap (λ (B : History). rows_by_number B ++ rows) (sym new);
-  count = ap length new;
-}
-
--- THE WAY OVER THE ROWS
-
 -- the commands of the rows up to this index led there
 pub record GoesOn (rows : List KeyRow) (index : ℕ) (B : History) : Type 0 where
   pub taken : HaveOwnKeys rows → HasTaken rows index B
   pub own : (A : History) → IsRegister A → AreValues A → rows ≡ rows_by_number A → IsGiven A rows index B
   pub of_machine : IsOfMachine B
 
-nothing_left : (later B : History) → length later ≡ 0 → B ≡ later ++ B
-nothing_left [] B none = refl
-nothing_left (entry ∷ later) B none = absurd (omega (arith, none))
+row_by_parts : (row : KeyRow) (key : List ℕ) (number : ℕ) (command reply : List ℕ) → key ≡ row.key → number ≡ row.accepted → command ≡ row.command
+    → reply ≡ row.reply → record { key = key; accepted = number; command = command; reply = reply } ≡ row
+row_by_parts row key number command reply k n c r = rw (k, n, c, r) refl
 
--- at the end, where the rows are those of a history
-pub all_given : (A : History) (rows : List KeyRow) (index : ℕ) (B : History) → length rows ≤ index → IsGiven A rows index B → B ≡ A
-all_given A rows index B end given =
-    let left : length given.0 ≡ 0 = sym (length-map given.0 key_row) ∙ sym (length-reverse (map key_row given.0))
-    ∙ ap length (sym given.2 ∙ drop_all index rows end) in
-    nothing_left given.0 B left ∙ sym given.1
+module _ (rows : List KeyRow) (index : ℕ) (A : History) (row : KeyRow) (on : GoesOn rows index A) (low : index < length rows)
+    (at : get_or rows index row ≡ row) where
+  -- the row at the index stands behind those of the commands that were taken
+  row_behind : HasTaken rows index A → rows ≡ rows_by_number A ++ row ∷ drop (index + 1) rows
+  row_behind had = cc (had.rows_are, drop_more rows index row low)
+
+  -- if its number is the next, its key is new
+  new_key : HaveOwnKeys rows → row.accepted ≡ index + 1 → entry_of A row.key ≡ None
+  new_key own number =
+      let had = on.taken own in
+      let whole = row_behind had in
+      find-none _ A (none-passes _ A (λ entry i. false_from_ne_true _ (λ same.
+      let kept = in-order (key_row entry) _ _ (IsPermutation-sym _ _ (IsPermutation-reverse (map key_row A))) (map-in key_row entry A i) in
+      let among : IsIn (key_row entry) rows = rw whole (in-front (key_row entry) (rows_by_number A) _ kept) in
+      let here : IsIn row rows = rw whole (in-behind row (rows_by_number A) _ (inl refl)) in
+      let one : entry.reply.accepted ≡ row.accepted = ap (λ (r : KeyRow). r.accepted) (own (key_row entry) row among here (same-is _ _ same)) in
+      omega (arith, one, number, none_above A (of_machine A on.of_machine) entry i, had.count))))
+
+  -- and after its command one more row is taken
+  taken_on : HaveOwnKeys rows → row.accepted ≡ index + 1 → (B : History) → Takes row A B → HasTaken rows (index + 1) B
+  taken_on own number B takes =
+      let had = on.taken own in
+      let entry : Entry = record { command = takes.command; reply = takes.reply } in
+      let is : B ≡ entry ∷ A = entered A takes.command takes.reply B (rw takes.told.key (new_key own number)) takes.step in
+      let numbered : takes.reply.accepted ≡ length (entry ∷ A) = numbers A entry (of_machine (entry ∷ A) (rw is at takes.step, on.of_machine)) in
+      let next : takes.reply.accepted ≡ row.accepted = omega (arith, numbered, number, had.count) in
+      let same : key_row entry ≡ row = row_by_parts row _ _ _ _ takes.told.key next takes.told.text takes.text in
+      record {
+        rows_are = rw is (cc (row_behind had, append_assoc (rows_by_number A) (row ∷ []) (drop (index + 1) rows), one_more entry A, same));
+        count = omega (arith, ap length is, had.count);
+      }
+
+  pub goes_on : row.accepted ≡ index + 1 → (B : History) → GivesRow row A B (Ok None) → GoesOn rows (index + 1) B
+  goes_on number B gives = record {
+    taken = λ own. taken_on own number B gives.told;
+    own = λ H h values is.
+        let next = next_row H h values rows index A row (on.own H h values is) low at in
+        rw (gives.own next.entry next.grown next.values next.row_is) next.then;
+    of_machine = gives.of_machine on.of_machine;
+  }
+
+  not_next : (difference : Difference) (B : History) → row.accepted ≡ length A + 1 → Declines difference row A B → IsNotNext difference row A B
+  not_next (Differences.Number place found) B n h = absurd h
+  not_next (Differences.Rows table other) B n h = absurd h
+  not_next other B n h = (n, h)
+
+  stops_for : (difference : Difference) (B : History) → row.accepted ≡ index + 1 → Declines difference row A B → StopsFor difference rows B
+  stops_for (Differences.Rows table other) B number h = absurd h
+  stops_for other B number h = λ own.
+      let had = on.taken own in
+      record {
+        taken = A;
+        row = row;
+        later = drop (index + 1) rows;
+        rows = row_behind had;
+        why = not_next other B (omega (arith, number, had.count)) h;
+      }
+
+  -- it stops at a row whose command is not taken
+  pub stops : row.accepted ≡ index + 1 → (difference : Difference) (B : History) → GivesRow row A B (Ok (Some difference))
+      → GivesRows rows B (Ok (Some difference))
+  stops number difference B gives = record {
+    of_machine = gives.of_machine on.of_machine;
+    told = stops_for difference B number gives.told;
+    own = λ H h values is.
+        let next = next_row H h values rows index A row (on.own H h values is) low at in
+        let differs = gives.own next.entry next.grown next.values next.row_is in (
+          next.entry.reply.accepted,
+          differs.0,
+          record {
+            later = next.then.0;
+            entry = next.entry;
+            before = A;
+            whole = next.then.1;
+            counted = numbers A next.entry next.grown;
+            first = machine_first A on.of_machine;
+            other = differs.1;
+          },
+        );
+  }
+
+  -- and at a row whose number is not the next
+  pub stops_number : row.accepted ≢ index + 1 → GivesRows rows A (Ok (Some (Differences.Number (index + 1) row.accepted)))
+  stops_number number = record {
+    of_machine = on.of_machine;
+    told = λ own.
+        let had = on.taken own in
+        record {
+          taken = A;
+          row = row;
+          later = drop (index + 1) rows;
+          rows = row_behind had;
+          why = (ap (λ n. n + 1) (sym had.count), refl, number, refl);
+        };
+    own = λ H h values is. absurd (number (next_row H h values rows index A row (on.own H h values is) low at).number);
+  }
+
+-- at the beginning
+pub begins : (rows : List KeyRow) → GoesOn rows 0 []
+begins rows = record {
+  taken = λ own. record { rows_are = refl; count = refl };
+  own = λ A h values is. (A, sym (append-nil A), is, refl);
+  of_machine = tt;
+}
+
+-- at the end
+pub ends : (rows : List KeyRow) (index : ℕ) (B : History) → length rows ≤ index → GoesOn rows index B → GivesRows rows B (Ok None)
+ends rows index B end on = record {
+  of_machine = on.of_machine;
+  told = λ own. cc ((on.taken own).rows_are, drop_all index rows end, append-nil (rows_by_number B));
+  own = λ A h values is.
+      let given = on.own A h values is in
+      let none : given.0 ≡ [] =
+      nil_from_length _ (sym (length-map given.0 key_row) ∙ sym (length-reverse _) ∙ ap length (sym given.2 ∙ drop_all index rows end)) in
+      cc (given.1, none);
+}

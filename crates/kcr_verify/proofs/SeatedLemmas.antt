@@ -1,28 +1,18 @@
 -- Whether people fill the seats of a command by the rows of a register is whether they do by its history.
-use Rattle.std.proofs.Common.{◌≡◌, ℕ, true, false, ◌==◌, List, [], Option, Some, None, is_some, option_map, unwrap_or, refl, sym, ap, ◌∙◌, inl, inr}
-use Rattle.std.proofs.lemmas.Bool.{cases_Bool}
-use Rattle.std.proofs.lemmas.List.Sorted.{list_any-IsPermutation}
-use Rattle.kcr_base.proofs.ListLemmas.{any-map, find-none, some_if}
+use Rattle.kcr_verify.proofs.Common.{◌≡◌, ℕ, true, false, ◌==◌, List, Option, Some, None, is_some, refl, sym, ap, ◌∙◌, inl, inr, cases_Bool}
+use Rattle.kcr_verify.proofs.Common.{list_any-IsPermutation, any-map, find-none, some_if, History, values_of_acts, IsRegister, SeatRequest}
+use Rattle.kcr_verify.proofs.Common.{seat_request, SameTables, ceremonies, ceremony_row, planned_number, seats_at, step_row, steps, tables, Act}
+use Rattle.kcr_verify.proofs.Common.{Ceremony, Sign, RecordException, FullView, seat_request_by, fill, fill_by}
 use Rattle.kcr_base.proofs.RowsLemmas.{filter-order}
 use Rattle.kcr_script.specs.declared.script.Step.{Step}
-use Rattle.kcr_script.specs.declared.seat.Seat.{Seat}
 use Rattle.kcr_history.specs.Audit.{ceremony_in}
 use Rattle.kcr_history.specs.Ceremonies.{is_ceremony, step_at, steps_of}
-use Rattle.kcr_history.specs.History.{History, values_of_acts}
-use Rattle.kcr_history.specs.Machine.{IsRegister, SeatRequest, seat_request}
-use Rattle.kcr_history.specs.Tables.{SameTables, ceremonies, ceremony_row, planned_number, seats_at, step_row, steps, tables}
 use Rattle.kcr_history.specs.Views.{is_step_at}
-use Rattle.kcr_history.specs.declared.commands.Act.{Act}
-use Rattle.kcr_history.specs.declared.commands.Act.TheVariants.{Ceremony}
-use Rattle.kcr_history.specs.declared.commands.Deed.TheVariants.{Sign, RecordException}
-use Rattle.kcr_history.specs.declared.views.FullView.{FullView}
 use Rattle.kcr_history.proofs.Words.{planned-number}
-use Rattle.kcr_rules.specs.ByRows.{seat_request_by}
 use Rattle.kcr_rules.specs.Signing.{seats_by, step_by}
 use Rattle.kcr_machine.proofs.StepRows.{step-shown}
 use Rattle.kcr_audit.specs.Views.{tables_of}
 use Rattle.kcr_audit.proofs.Fitting.{ceremony-found, seating-same}
-use Rattle.kcr_verify.specs.Seated.{fill, fill_by}
 
 -- a ceremony that is not planned has no row
 no_ceremony : (A : History) (view : FullView) → SameTables (tables A) (tables_of view) → (c : ℕ) → is_ceremony A c ≡ false → ceremony_in view c ≡ None
@@ -34,7 +24,7 @@ no_ceremony A view same c e =
 -- the seats of a step's row are those of the script, none if it has no such step
 row_seats : (A : History) (c k : ℕ) (o : Option Step) → step_at (steps_of A c) k ≡ o
     → seats_by (some_if (is_some o) (step_row A (c, k))) ≡ seats_at (steps_of A c) k
-row_seats A c k None e = sym (ap (λ (o : Option Step). unwrap_or (option_map (λ step. step.seats) o) []) e)
+row_seats A c k None e = rw e refl
 row_seats A c k (Some step) e = refl
 
 module _ (A : History) (h : IsRegister A) (view : FullView) (same : SameTables (tables A) (tables_of view)) where
@@ -44,9 +34,8 @@ module _ (A : History) (h : IsRegister A) (view : FullView) (same : SameTables (
       ap seats_by (step-shown A h c k view.view.steps.items shown) ∙ row_seats A c k (step_at (steps_of A c) k) refl
 
   request_same : (act : Act) → seat_request_by view.view act ≡ seat_request A act
-  request_same (Ceremony c at (Sign k)) = ap (λ (seats : List Seat). let s : SeatRequest = record { ceremony = c; at = at; seats = seats } in Some s) (seats_same c k)
+  request_same (Ceremony c at (Sign k)) = rw (seats_same c k) refl
   request_same (Ceremony c at (RecordException text true)) = refl
-  request_same (Ceremony c at (RecordException text false)) = refl
   request_same act = refl
 
   fill_same : (s : Option SeatRequest) (people : List (List ℕ)) → fill_by view s people ≡ fill A s people

@@ -1,48 +1,27 @@
 -- What a register that has a history answers to the command that came next: the same reply, or another seating in it.
-use Rattle.std.proofs.Common.{◌≡◌, ◌≢◌, ◌⊎◌, inl, inr, ℕ, suc, ◌+◌, ◌≤◌, true, List, [], ◌∷◌, ◌++◌, map, filter, length, Option, Some, None, All}
-use Rattle.std.proofs.Common.{MatchOption, option_map, refl, sym, ap, ◌∙◌, subst, arith}
-use Rattle.std.specs.Prelude.{codes}
+use Rattle.kcr_verify.proofs.Common.{◌≡◌, ◌≢◌, ◌⊎◌, inl, inr, ℕ, suc, ◌+◌, ◌≤◌, true, List, [], ◌∷◌, ◌++◌, map, filter, length, Option, Some, None}
+use Rattle.kcr_verify.proofs.Common.{All, MatchOption, option_map, refl, sym, ap, ◌∙◌, subst, arith, codes, join_with_byte, false≢true, cases_Bool}
+use Rattle.kcr_verify.proofs.Common.{lists_equiv, nat_list_eq_equiv, append_assoc, append_cancel_left, append_cancel_right, Refusal, same-is, Act}
+use Rattle.kcr_verify.proofs.Common.{Ceremony, RecordSheet, Sign, RecordException, ReplyData, Command, fault, History, entry_of, IsSeatedFirst}
+use Rattle.kcr_verify.proofs.Common.{Accepts, Refuses, SeatRequest, seat_request, reply_to, with_command, IsAcceptedWith, seats, machine, IsReplyTo}
+use Rattle.kcr_verify.proofs.Common.{reply_text, member_if, people_array, IsAct, other_outcome, same_reply, AreValues}
 use Rattle.std.specs.Fmt.{decimal}
-use Rattle.std.specs.List.{join_with_byte}
-use Rattle.std.proofs.lemmas.Bool.{false≢true, cases_Bool}
-use Rattle.std.proofs.lemmas.Cmp.{lists_equiv, nat_list_eq_equiv}
-use Rattle.std.proofs.lemmas.List.{append_assoc, append_cancel_left, append_cancel_right}
 use Rattle.std.proofs.lemmas.List.Elements.{All-nil, All-cons, All-head, All-tail, All-append, All-map, All-weaker}
 use Rattle.kcr_base.specs.Initials.{IsCapital, IsInitials}
 use Rattle.kcr_base.specs.Same.{same_text}
-use Rattle.kcr_base.specs.declared.refusal.Refusal.{Refusal}
-use Rattle.kcr_base.proofs.SameLemmas.{same-is}
 use Rattle.kcr_room.specs.declared.SheetRow.{SheetRow}
-use Rattle.kcr_room.specs.Room.{is_of, last_enters, last_row}
+use Rattle.kcr_room.specs.Room.{is_of}
 use Rattle.kcr_room.specs.Requests.{new_row}
-use Rattle.kcr_base.specs.declared.place.Role.TheVariants.{Ca, Iw}
 use Rattle.kcr_script.specs.declared.seat.Seat.{Seat}
-use Rattle.kcr_script.specs.declared.seat.Seat.TheVariants.{Staff}
-use Rattle.kcr_history.specs.declared.commands.Act.{Act}
-use Rattle.kcr_history.specs.declared.commands.Act.TheVariants.{Ceremony}
-use Rattle.kcr_history.specs.declared.commands.Deed.TheVariants.{RecordSheet, Sign, RecordException}
-use Rattle.kcr_history.specs.declared.commands.ReplyData.{ReplyData}
-use Rattle.kcr_history.specs.declared.commands.Command.{Command}
-use Rattle.kcr_history.specs.Ceremonies.{steps_of, next_step, exceptions_of}
-use Rattle.kcr_history.specs.Conditions.{fault}
-use Rattle.kcr_history.specs.History.{History, entry_of}
 use Rattle.kcr_history.specs.Json.{quoted, member}
-use Rattle.kcr_history.specs.Laws.{IsSeatedFirst}
-use Rattle.kcr_history.specs.Machine.{Accepts, Refuses, SeatRequest, seat_request, reply_to, with_command, IsAcceptedWith, seats, machine, IsReplyTo}
 use Rattle.kcr_history.specs.Room.{sheet, sheet_after, is_in}
 use Rattle.kcr_history.specs.Seating.{is_seating, IsFirst}
-use Rattle.kcr_history.specs.Tables.{seats_at}
-use Rattle.kcr_history.specs.Texts.{reply_text, member_if, people_array}
-use Rattle.kcr_forms.specs.Acts.{IsAct}
 use Rattle.kcr_forms.specs.Split.{split_at_byte}
 use Rattle.kcr_forms.proofs.Cutting.{Lacks, cut-again}
 use Rattle.kcr_forms.proofs.Readers.{lacks-below}
-use Rattle.kcr_laws.proofs.Accepted.{other_outcome}
-use Rattle.kcr_history.proofs.Steps.{same_reply}
 use Rattle.kcr_laws.proofs.Fixed.{accepted_fixed}
 use Rattle.kcr_laws.proofs.Halves.{one_half}
 use Rattle.kcr_laws.proofs.Trials.{same_people, people-are, rest_seated}
-use Rattle.kcr_verify.specs.Verification.{AreValues}
 
 -- NO QUOTE IS IN INITIALS
 
@@ -70,15 +49,12 @@ none_or_no_quote : (rows : List SheetRow) (who : List ℕ) (t : ℕ) → All Row
 none_or_no_quote [] who t h = inl refl
 none_or_no_quote (row ∷ rows) who t h = elim (cases_Bool (same_text row.who who)) [
   | inl e ↦ inr (subst HasNoQuote (same-is row.who who e) (All-head RowHasNoQuote row rows h))
-  | inr e ↦ elim (none_or_no_quote rows who t (All-tail RowHasNoQuote row rows h)) [
-    | inl n ↦ inl (grind (arith, e, n))
-    | inr b ↦ inr b
-  ]
+  | inr e ↦ elim (none_or_no_quote rows who t (All-tail RowHasNoQuote row rows h)) [ inl n ↦ inl (grind (arith, e, n)) | inr b ↦ inr b ]
 ]
 
 in_no_quote : (A : History) → AreValues A → (who : List ℕ) (c t : ℕ) → is_in A who c t ≡ true → HasNoQuote who
 in_no_quote A v who c t h = elim (none_or_no_quote (sheet A) who t (sheet_no_quote A v)) [
-  | inl n ↦ absurd (let z : last_enters c (last_row []) ≡ true = rw n at h in false≢true z)
+  | inl n ↦ absurd (false≢true (rw n at h))
   | inr b ↦ b
 ]
 
@@ -156,25 +132,36 @@ IsThisOrOther A x this answer A' =
     ((answer ≡ this) × (A' ≡ with_command A x this))
     ⊎ ((reply_text answer ≢ reply_text this) × (IsSeatedFirst A (seat_request A x.act) this.seating → ⊥))
 
--- of one of two lists of people who fill the same seats
-module _ (A : History) (v : AreValues A) (s : SeatRequest) (n : ℕ) (exception step : Option ℕ) (x : Command) (p q : List (List ℕ))
-    (p_fill : is_seating A s.ceremony s.at s.seats p ≡ true) (q_fill : is_seating A s.ceremony s.at s.seats q ≡ true) where
+-- of an act that asks for seats and that nothing refuses: its replies differ in the seating alone
+module _ (A : History) (v : AreValues A) (x : Command) (s : SeatRequest) (exception step : Option ℕ) (asks : seat_request A x.act ≡ Some s)
+    (replies : (people : List (List ℕ)) → reply_to A x.act (Some people) ≡ seated (length A + 1) exception step people)
+    (free : (entry_of A x.key ≡ None) × (fault A x.act ≡ None)) where
   abbrev with : List (List ℕ) → ReplyData
-  with people = seated n exception step people
+  with people = seated (length A + 1) exception step people
 
-  these_or_others : (a : ReplyData) (A' : History) → a ≡ with p → A' ≡ with_command A x (with p)
-      → (IsFirst A s.ceremony s.at s.seats q → a ≡ with q)
-      → ((a ≡ with q) × (A' ≡ with_command A x (with q))) ⊎ ((reply_text a ≢ reply_text (with q)) × (IsFirst A s.ceremony s.at s.seats q → ⊥))
-  these_or_others a A' is to fixed = elim (cases_Bool (same_people p q)) [
-    | inl e ↦ let same : with p ≡ with q = ap with (people-are p q e) in inl (is ∙ same, to ∙ ap (with_command A x) same)
-    | inr e ↦
-        let apart : p ≢ q = λ k. false≢true (sym e ∙ ap (same_people p) (sym k) ∙ (lists_equiv nat_list_eq_equiv).refl p) in
-        let ps = seated_no_quote A v s.ceremony s.at s.seats p p_fill in
-        let qs = seated_no_quote A v s.ceremony s.at s.seats q q_fill in
-        inr (
-          λ t. apart (seating_told n exception step p q (ps.1 ∙ sym qs.1) ps.0 qs.0 (ap reply_text (sym is) ∙ t)),
-          λ first. apart (let both : with p ≡ with q = sym is ∙ fixed first in let some : Some p ≡ Some q = ap (λ (a : ReplyData). a.seating) both in cc),
-        )
+  -- the first seating is recorded
+  recorded : (q : List (List ℕ)) → IsFirst A s.ceremony s.at s.seats q → machine A x (Accepts (with q)) (with_command A x (with q))
+  recorded q first = rw (free.0, free.1, asks) (inl (q, first, rw (replies q) (refl, refl)))
+
+  -- if these people fill the seats, they are that seating, or the text of the answer is another
+  one_seated : (q : List (List ℕ)) (answer : ReplyData) (A' : History) → is_seating A s.ceremony s.at s.seats q ≡ true → machine A x (Accepts answer) A'
+      → IsThisOrOther A x (with q) answer A'
+  one_seated q answer A' fill m = elim (let h : seats A x s (Accepts answer) A' = rw (free.0, free.1, asks) at m in h) [
+    | inr w ↦ absurd (other_outcome _ _ w.2.0)
+    | inl w ↦
+        let is : answer ≡ with w.0 = same_reply _ _ w.2.0 ∙ replies w.0 in
+        elim (cases_Bool (same_people w.0 q)) [
+          | inl e ↦ let same : w.0 ≡ q = people-are w.0 q e in inl (rw same at is, rw (← replies q, ← same) w.2.1)
+          | inr e ↦
+              let apart : w.0 ≢ q = λ k. false≢true (sym e ∙ ap (same_people w.0) (sym k) ∙ (lists_equiv nat_list_eq_equiv).refl w.0) in
+              let ps = seated_no_quote A v s.ceremony s.at s.seats w.0 w.1.seating in
+              let qs = seated_no_quote A v s.ceremony s.at s.seats q fill in
+              let fixed = λ (first : IsFirst A s.ceremony s.at s.seats q). (accepted_fixed A x answer (with q) A' _ m (recorded q first)).0 in
+              inr (
+                λ t. apart (seating_told (length A + 1) exception step w.0 q (ps.1 ∙ sym qs.1) ps.0 qs.0 (rw is at t)),
+                λ first. apart (let both : Some w.0 ≡ Some q = ap (λ (a : ReplyData). a.seating) (sym is ∙ fixed (rw asks at first)) in cc),
+              )
+        ]
   ]
 
 module _ (A : History) (key : List ℕ) where
@@ -188,44 +175,10 @@ module _ (A : History) (key : List ℕ) where
   -- an act that nothing refuses gets this reply, or, if its seating is not the first one, a reply with another text
   pub accepted_step : AreValues A → (act : Act) (this answer : ReplyData) (A' : History) → IsFree act → IsReplyTo A act this (seat_request A act)
       → machine A (of act) (Accepts answer) A' → IsThisOrOther A (of act) this answer A'
-  accepted_step v (Ceremony c at (Sign k)) this answer A' free (q, fill, is) m = by_seats (rw (free.0, free.1) at m)
-    where
-      s : SeatRequest
-      s = record { ceremony = c; at = at; seats = seats_at (steps_of A c) k }
-
-      x : Command
-      x = of (Ceremony c at (Sign k))
-
-      with : ReplyData
-      with = seated (length A + 1) None (Some k) q
-
-      again : IsFirst A c at s.seats q → machine A x (Accepts with) (with_command A x with)
-      again first = rw (free.0, free.1) (inl (q, first, (refl, refl)))
-
-      by_seats : seats A x s (Accepts answer) A' → IsThisOrOther A x this answer A'
-      by_seats (inl w) = subst (λ (z : ReplyData). IsThisOrOther A x z answer A') (sym is)
-          (these_or_others A v s (length A + 1) None (Some k) x w.0 q w.1.seating fill answer A' (same_reply _ _ w.2.0) w.2.1
-          (λ first. (accepted_fixed A x answer with A' (with_command A x with) m (again first)).0))
-      by_seats (inr w) = absurd (other_outcome _ _ w.2.0)
-  accepted_step v (Ceremony c at (RecordException text true)) this answer A' free (q, fill, is) m = by_seats (rw (free.0, free.1) at m)
-    where
-      s : SeatRequest
-      s = record { ceremony = c; at = at; seats = Staff Ca ∷ Staff Iw ∷ [] }
-
-      x : Command
-      x = of (Ceremony c at (RecordException text true))
-
-      with : ReplyData
-      with = seated (length A + 1) (Some (suc (exceptions_of A c))) (Some (next_step A c)) q
-
-      again : IsFirst A c at s.seats q → machine A x (Accepts with) (with_command A x with)
-      again first = rw (free.0, free.1) (inl (q, first, (refl, refl)))
-
-      by_seats : seats A x s (Accepts answer) A' → IsThisOrOther A x this answer A'
-      by_seats (inl w) = subst (λ (z : ReplyData). IsThisOrOther A x z answer A') (sym is)
-          (these_or_others A v s (length A + 1) (Some (suc (exceptions_of A c))) (Some (next_step A c)) x w.0 q w.1.seating fill answer A'
-          (same_reply _ _ w.2.0) w.2.1 (λ first. (accepted_fixed A x answer with A' (with_command A x with) m (again first)).0))
-      by_seats (inr w) = absurd (other_outcome _ _ w.2.0)
+  accepted_step v (Ceremony c at (Sign k)) this answer A' free (q, fill, is) m =
+      rw is (one_seated A v (of (Ceremony c at (Sign k))) _ None (Some k) refl (λ _. refl) free q answer A' fill m)
+  accepted_step v (Ceremony c at (RecordException text true)) this answer A' free (q, fill, is) m =
+      rw is (one_seated A v (of (Ceremony c at (RecordException text true))) _ _ _ refl (λ _. refl) free q answer A' fill m)
   accepted_step v act this answer A' free is m =
       let step : IsAcceptedWith A (of act) (reply_to A act None) (Accepts answer) A' = rw (free.0, free.1) at m in
       inl (same_reply _ _ step.0 ∙ sym is, step.1 ∙ ap (with_command A (of act)) (sym is))

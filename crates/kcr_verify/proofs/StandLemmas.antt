@@ -1,8 +1,5 @@
 -- Where a register stands after a call that did not break it.
-use Rattle.std.proofs.Common.{◌≡◌, Bool, true, false, refl, subst}
-use Rattle.sqlite.specs.Store.{Ghosts}
-use Rattle.kcr_store.specs.Calls.{left_at}
-use Rattle.kcr_store.specs.Register.{RegisterHistory, RegisterState, StandsAt}
+use Rattle.kcr_verify.proofs.Common.{◌≡◌, Bool, true, false, refl, subst, Ghosts, left_at, RegisterHistory, RegisterState, StandsAt}
 
 -- where it stood
 pub still_stands : {S : Type 0} {g : Ghosts S} {r : RegisterState S} {s : RegisterHistory} → r.is_broken ≡ false

@@ -1,28 +1,11 @@
 -- The bytes of paths and of the texts in bodies.
-use Rattle.std.proofs.Common.{◌≡◌, ℕ, ◌<◌, ◌≤◌, ◌⊎◌, ◌&&◌, nat_le, Bool, true, List, [], ◌∷◌, length, inl, inr, refl, arith, All}
-use Rattle.std.specs.Fmt.{decimal}
-use Rattle.std.specs.List.{list_all}
-use Rattle.std.specs.Str.{IsUtf8}
+use Rattle.kcr_wire.proofs.Common.{◌≡◌, ℕ, ◌<◌, ◌≤◌, ◌⊎◌, ◌&&◌, nat_le, Bool, true, List, [], ◌∷◌, length, inl, inr, refl, arith, All, decimal}
+use Rattle.kcr_wire.proofs.Common.{list_all, IsUtf8, leb-true, and_parts, nat_tests, decimal_is_IsNumeral, length-decimal-le, All-nil, All-cons}
+use Rattle.kcr_wire.proofs.Common.{All-weaker, AllPass-from_list_all, IsCapital, IsInitials, IsKeyByte, IsNumber, IsPlace, place_text, member_text}
+use Rattle.kcr_wire.proofs.Common.{Member, IsDigit, IsSerial, Place, is_key_byte, Lacks, lacks-by, place-passes, ascii-utf8}
 use Rattle.std.specs.Str.Parse.{AllDigits}
-use Rattle.std.proofs.lemmas.Bool.{leb-true, and_parts}
-use Rattle.std.proofs.lemmas.Bool.Decides.{nat_tests}
-use Rattle.std.proofs.lemmas.Fmt.{decimal_is_IsNumeral, length-decimal-le}
-use Rattle.std.proofs.lemmas.List.Elements.{All-nil, All-cons, All-weaker}
-use Rattle.std.proofs.lemmas.List.Sums.{AllPass-from_list_all}
 use Rattle.std.proofs.lemmas.Str.Parse.{digit_at}
-use Rattle.kcr_base.specs.Initials.{IsCapital, IsInitials}
-use Rattle.kcr_base.specs.Key.{IsKeyByte}
-use Rattle.kcr_base.specs.Number.{IsNumber}
-use Rattle.kcr_base.specs.Place.{IsPlace, place_text}
-use Rattle.kcr_base.specs.Refusal.{member_text}
-use Rattle.kcr_base.specs.declared.refusal.Member.{Member}
 use Rattle.kcr_base.specs.declared.refusal.Member.TheVariants as name
-use Rattle.kcr_base.specs.Serial.{IsDigit, IsSerial}
-use Rattle.kcr_base.specs.declared.place.Place.{Place}
-use Rattle.kcr_forms.specs.Forms.{is_key_byte}
-use Rattle.kcr_forms.proofs.Cutting.{Lacks, lacks-by}
-use Rattle.kcr_forms.proofs.Formed.{place-passes}
-use Rattle.kcr_forms.proofs.Readers.{ascii-utf8}
 
 -- ---- letters, digits and `-`
 
@@ -55,16 +38,12 @@ initials-word text is = record {
   bytes = All-weaker IsCapital IsKeyByte (λ b h. inl h) text is.capitals;
 }
 
-serial_byte : (b : ℕ) → IsCapital b ⊎ IsDigit b → IsKeyByte b
-serial_byte b (inl h) = inl h
-serial_byte b (inr h) = inr (inr (inl h))
-
 -- a serial is a word
 pub serial-word : (text : List ℕ) → IsSerial text → IsWord text
 serial-word text is = record {
   some = omega (arith, is.at_least_four);
   short = omega (arith, is.at_most_sixteen);
-  bytes = All-weaker (λ b. IsCapital b ⊎ IsDigit b) IsKeyByte serial_byte text is.each;
+  bytes = All-weaker (λ b. IsCapital b ⊎ IsDigit b) IsKeyByte (λ b h. grind arith) text is.each;
 }
 
 digits-bytes : (text : List ℕ) → AllDigits 10 text → All IsKeyByte text

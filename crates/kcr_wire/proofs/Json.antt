@@ -1,9 +1,6 @@
 -- Bytes that are text, and a body as JSON.
-use Rattle.std.proofs.Common.{◌≡◌, ℕ, List, Bool, true, false, Some, None, option_and_then, refl, ap, ◌∙◌, arith}
-use Rattle.std.specs.Str.{IsUtf8, is_utf8}
-use Rattle.std.proofs.lemmas.Str.{is_utf8-from_IsUtf8, IsUtf8-from_is_utf8}
-use Rattle.serde_json.specs.Data.{Data}
-use Rattle.serde_json.specs.Read.{read}
+use Rattle.kcr_wire.proofs.Common.{◌≡◌, ℕ, List, Some, None, option_and_then, refl, ap, ◌∙◌, arith, IsUtf8, is_utf8, is_utf8-from_IsUtf8}
+use Rattle.kcr_wire.proofs.Common.{IsUtf8-from_is_utf8, cond_both, Data, read}
 use Rattle.kcr_wire.specs.Members.{json_of, text_in}
 
 -- bytes that are UTF-8 are a text
@@ -21,11 +18,8 @@ pub json-some : (body : List ℕ) (d : Data) → IsUtf8 body × (read body ≡ S
 unfolding json_of
 json-some body d h = ap (option_and_then read) (text_in-some body h.0) ∙ h.1
 
-none_at : (body : List ℕ) (v : Bool) → is_utf8 body ≡ v → (IsUtf8 body → read body ≡ None) → option_and_then read (text_in body) ≡ None
-none_at body true e h = let text = IsUtf8-from_is_utf8 body e in ap (option_and_then read) (text_in-some body text) ∙ h text
-none_at body false e h = ap (option_and_then read) (text_in-none body (λ text. let bad = is_utf8-from_IsUtf8 body text in cc))
-
 -- a body that is not UTF-8, or is not read, is no value
 pub json-none : (body : List ℕ) → (IsUtf8 body → read body ≡ None) → json_of body ≡ None
-unfolding json_of
-json-none body h = none_at body (is_utf8 body) refl h
+unfolding json_of text_in
+json-none body h =
+    cond_both (is_utf8 body) (Some body) None (λ o. option_and_then read o ≡ None) (λ e. h (IsUtf8-from_is_utf8 body e)) (λ _. refl)

@@ -1,3 +1,4 @@
+mod Common
 pub mod Tables
 pub mod Json
 pub mod Lists

@@ -1,44 +1,26 @@
 -- A command that is read has values of their types as its parts.
-use Rattle.std.proofs.Common.{◌≡◌, ℕ, ◌&&◌, List, ◌∷◌, length, Option, Some, None, Result, Ok, Err, option_map, option_and_then, IfSome, IfOk, All, refl}
-use Rattle.std.specs.Bool.{⊤}
-use Rattle.std.specs.Option.{ok_or}
-use Rattle.std.proofs.lemmas.Bool.{and_parts}
-use Rattle.std.proofs.lemmas.List.Elements.{All-nil, All-cons}
-use Rattle.serde_json.specs.Data.{Data, Items, no_items, item}
-use Rattle.serde_json.specs.Find.{get, as_str, as_array}
-use Rattle.kcr_base.specs.Lists.{IsListed, are_apart}
-use Rattle.kcr_base.specs.Number.{IsNumber}
-use Rattle.kcr_base.specs.Refusal.{member_text}
-use Rattle.kcr_base.specs.declared.limits.TheConstants.{MAX_CEREMONY}
-use Rattle.kcr_base.specs.declared.refusal.Member.{Member}
-use Rattle.kcr_base.specs.declared.refusal.Refusal.{Refusal}
+use Rattle.kcr_wire.proofs.Common.{◌≡◌, ℕ, ◌&&◌, List, ◌∷◌, length, Option, Some, None, Result, Ok, Err, option_and_then, IfSome, IfOk, All, refl, ⊤}
+use Rattle.kcr_wire.proofs.Common.{ok_or, and_parts, option_and_then_some, IfOk-at_ok, All-nil, All-cons, Data, Items, no_items, item, get, as_str}
+use Rattle.kcr_wire.proofs.Common.{as_array, IsListed, are_apart, IsNumber, member_text, MAX_CEREMONY, Member, Refusal, within-from, Command, IsAct}
+use Rattle.kcr_wire.proofs.Common.{is_between, next, last, posted_act, Form, Text, Number, Truth, Codes, Post, IsPost, IsRead, IsReadBy}
+use Rattle.kcr_wire.proofs.Common.{posted-values, any, tested, mapped, chained, key_at, posted_command, posted, text_at, whole_at, truth_at}
+use Rattle.kcr_wire.proofs.Common.{values_at, body, Endpoint}
+use Rattle.std.proofs.Common.{option_map}
 use Rattle.kcr_base.specs.declared.refusal.Refusal.TheVariants as refusal
-use Rattle.kcr_base.proofs.FormLemmas.{within-from}
-use Rattle.kcr_history.specs.declared.commands.Command.{Command}
-use Rattle.kcr_forms.specs.Acts.{IsAct}
-use Rattle.kcr_forms.specs.Forms.{is_between, number_to, listed_of}
+use Rattle.kcr_forms.specs.Forms.{number_to, listed_of}
 use Rattle.kcr_forms.specs.OrMemory.{and_then}
-use Rattle.kcr_forms.specs.Posts.{next, last, posted_act}
-use Rattle.kcr_forms.specs.Shapes.{Form, Text, Number, Truth, Codes}
-use Rattle.kcr_forms.specs.declared.post.Post.{Post}
-use Rattle.kcr_forms.proofs.Posts.{IsPost, IsRead, IsReadBy}
-use Rattle.kcr_forms.proofs.Gives.{posted-values}
-use Rattle.kcr_forms.proofs.Readers.{any, tested, mapped, chained}
-use Rattle.kcr_wire.specs.Commands.{key_at, posted_command, posted}
-use Rattle.kcr_wire.specs.Members.{json_of, text_at, whole_at, truth_at, each_in, values_at, body}
-use Rattle.kcr_wire.specs.declared.endpoint.Endpoint.{Endpoint}
+use Rattle.kcr_wire.specs.Members.{json_of, each_in}
 use Rattle.kcr_wire.specs.declared.endpoint.Endpoint.TheVariants as target
 use Rattle.kcr_wire.proofs.Targets.{IsEndpoint}
 
 -- ---- the members of a body
 
+if_some : {V : Type 0} (P : V → Type 0) (o : Option V) → ((v : V) → o ≡ Some v → P v) → IfSome o P
+if_some P None is = tt
+if_some P (Some v) is = is v refl
+
 read-by : {V : Type 0} (read : List ℕ → Option V) (o : Option (List ℕ)) → IfSome (option_and_then read o) (IsReadBy read)
-read-by {V} read None = tt
-read-by {V} read (Some text) = by (read text) refl
-  where
-    by : (o : Option V) → read text ≡ o → IfSome o (IsReadBy read)
-    by None e = tt
-    by (Some v) e = (text, e)
+read-by read o = if_some (IsReadBy read) (option_and_then read o) (λ v e. option_and_then_some read o v e (λ text _ h. (text, h)))
 
 each-in : {V : Type 0} (read : List ℕ → Option V) (items : Items) → IfSome (each_in read items) (All (IsReadBy read))
 unfolding each_in
@@ -77,25 +59,21 @@ body-last m form d = body-next m form d
 
 -- ---- a command
 
-ok-then : {A B : Type 0} (P : A → Type 0) (Q : B → Type 0) (go : A → Result B Refusal) → ((a : A) → P a → IfOk (go a) Q)
-    → (r : Result A Refusal) → IfOk r P → IfOk (and_then r go) Q
-ok-then P Q go is (Ok a) h = is a h
-ok-then P Q go is (Err e) h = tt
-
-any-ok : {A : Type 0} (r : Result A Refusal) → IfOk r (λ _. ⊤)
-any-ok (Ok a) = tt
-any-ok (Err e) = tt
+ok-then : {A B : Type 0} (Q : B → Type 0) (go : A → Result B Refusal) (r : Result A Refusal) → ((a : A) → r ≡ Ok a → IfOk (go a) Q)
+    → IfOk (and_then r go) Q
+ok-then Q go (Ok a) is = is a refl
+ok-then Q go (Err e) is = tt
 
 abbrev pub OfValues : Command → Type 0
 OfValues command = IsAct command.act
 
 command-is : (p : Post) → IsPost p → (d : Data) → IfOk (posted_command p d) OfValues
 command-is p is d =
-    ok-then (λ _. ⊤) OfValues (λ key. and_then (posted_act body p d) (λ does. Ok (record { key = key; act = does }))) (λ key _. ok-then IsAct OfValues (λ does. Ok (record { key = key; act = does })) (λ does is_act. is_act) (posted_act body p d) (posted-values body body-next body-last p is d))
-    (key_at d) (any-ok (key_at d))
+    ok-then OfValues _ (key_at d) (λ key _. ok-then OfValues (λ does. Ok (record { key = key; act = does })) (posted_act body p d)
+    (λ does e. IfOk-at_ok IsAct e (posted-values body body-next body-last p is d)))
 
 -- a command that is posted to a path of values is of values
 pub posted-is : (t : Endpoint) → IsEndpoint t → (bytes : List ℕ) → IfOk (posted t bytes) OfValues
 posted-is (target.Post p) is bytes =
-    ok-then (λ _. ⊤) OfValues (posted_command p) (λ d _. command-is p is d) (ok_or (json_of bytes) refusal.Json) (any-ok (ok_or (json_of bytes) refusal.Json))
+    ok-then OfValues (posted_command p) (ok_or (json_of bytes) refusal.Json) (λ d _. command-is p is d)
 posted-is (target.Ask inquiry) is bytes = tt

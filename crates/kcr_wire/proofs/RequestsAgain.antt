@@ -1,11 +1,7 @@
 -- A command's path and body are read as the command.
-use Rattle.std.proofs.Common.{◌≡◌, Ok}
-use Rattle.kcr_base.specs.Key.{IsKey}
-use Rattle.kcr_history.specs.declared.commands.Command.{Command}
-use Rattle.kcr_forms.specs.Acts.{IsAct}
+use Rattle.kcr_wire.proofs.Common.{◌≡◌, Ok, IsKey, Command, IsAct, path_text}
 use Rattle.kcr_wire.specs.Commands.{command_of}
 use Rattle.kcr_wire.specs.Bodies.{body_text}
-use Rattle.kcr_history.specs.Texts.{path_text}
 use Rattle.kcr_wire.proofs.BodiesRead.{body-read, command-again}
 use Rattle.kcr_wire.proofs.Targets.{act-target}
 

@@ -1,33 +1,31 @@
 -- The walk of a router along a path, piece by piece.
-use Rattle.std.proofs.Common.{◌≡◌, ℕ, zero, suc, ◌-◌, ◌<◌, Bool, true, false, cond, ◌&&◌, ◌||◌, ltb, eqb, List, [], ◌∷◌, ◌++◌, length, Option, Some, None, refl, sym, ap, ◌∙◌, arith, length-append, drop, append-nil, All}
-use Rattle.std.proofs.lemmas.Option.{cond_some}
-use Rattle.std.specs.Option.{option_map, option_and_then}
-use Rattle.std.proofs.lemmas.List.Elements.{All-head, All-tail}
-use Rattle.std.proofs.Math.Seq.{drop-append_seam}
-use Rattle.std.proofs.lemmas.Bool.{and_parts, eqb-true, ne_eqb, lt-ltb}
-use Rattle.std.proofs.lemmas.Bool.Decides.{nat_tests}
-use Rattle.matchit.specs.Rows.{RowsOf, param_token, catch_all_token}
-use Rattle.matchit.specs.Seek.{segment, has_slash, better, cuts, own, step, or_else, longest_from, longest_suffix, with_suffix, param_step, seek}
+use Rattle.kcr_wire.proofs.Common.{◌||◌, if◌then◌else◌, nat_eq, ◌≡◌, ℕ, zero, suc, ◌-◌, ◌<◌, Bool, true, false, cond, ◌&&◌, ltb, eqb, List, [], ◌∷◌}
+use Rattle.kcr_wire.proofs.Common.{◌++◌, length, Option, Some, None, refl, ap, ◌∙◌, arith, length-append, drop, All, cond_some, option_map, All-head}
+use Rattle.kcr_wire.proofs.Common.{All-tail, drop-append_seam, and_parts, eqb-true, ne_eqb, lt-ltb, nat_tests, list_all, list_any, nil_from_length}
+use Rattle.kcr_wire.proofs.Common.{RowsOf, param_token, catch_all_token, segment, better, cuts, step, or_else, longest_from, longest_suffix}
+use Rattle.kcr_wire.proofs.Common.{with_suffix, IsKeyByte}
+use Rattle.std.specs.Option.{option_and_then}
+use Rattle.matchit.specs.Seek.{param_step, seek}
+use Rattle.kcr_wire.proofs.Paths.{Leg, path_on, AreLegs}
+use Rattle.kcr_wire.proofs.Bytes.{IsWord, word-below, word-slash}
 
--- what a parameter takes: bytes without a slash
-pub record IsPiece (piece : List ℕ) : Type 0 where
-  pub some : 0 < length piece
-  pub bytes : All (λ b. b < 256) piece
-  pub no_slash : All (λ b. eqb b 47 ≡ false) piece
-
-abbrev slash_or_end : List ℕ → Bool
+abbrev pub slash_or_end : List ℕ → Bool
 slash_or_end [] = true
 slash_or_end (x ∷ t) = eqb x 47
 
-abbrev has_first_slash : List ℕ → Bool
-has_first_slash [] = false
-has_first_slash (x ∷ t) = eqb x 47
+abbrev pub first_is : ℕ → List ℕ → Bool
+first_is b [] = false
+first_is b (x ∷ t) = eqb x b
 
 segment-slash : (x : ℕ) (t : List ℕ) → eqb x 47 ≡ true → segment (x ∷ t) ≡ 47 ∷ []
 segment-slash x t h = rw h (ap (λ y. y ∷ []) (eqb-true x 47 h))
 
 better-none : (seg best : List ℕ) → better seg best [] ≡ best
 better-none seg best = grind (arith, nat_tests)
+
+better-slash : (found : Bool) (seg : List ℕ) → cuts seg (47 ∷ []) ≡ true → better seg (if found then 47 ∷ [] else []) (47 ∷ []) ≡ 47 ∷ []
+better-slash true seg cut = refl
+better-slash false seg cut = rw cut refl
 
 -- the segment of a path that begins with a piece
 pub segment-piece : (w rest : List ℕ) → All (λ b. eqb b 47 ≡ false) w → segment (w ++ 47 ∷ rest) ≡ w ++ 47 ∷ []
@@ -44,18 +42,19 @@ cuts-slash b w =
     let long : ltb 1 (length seg) ≡ true = lt-ltb 1 (length seg) (omega (arith, length-append w (47 ∷ []))) in
     rw (long, last) refl
 
+-- the rest of a path behind a piece begins with a slash
+begins : (legs : List Leg) (end : List ℕ) → first_is 47 end ≡ true → (rest : List ℕ) × (path_on legs end ≡ 47 ∷ rest)
+begins [] [] slash = cc
+begins [] (x ∷ end) slash = (end, ap (λ x. x ∷ end) (eqb-true x 47 slash))
+begins (l ∷ legs) end slash = (l.front ++ (l.piece ++ path_on legs end), refl)
+
 module _ {K : Type 0} where
   or_else-none : (a : Option K) → or_else a None ≡ a
-  or_else-none None = refl
-  or_else-none (Some k) = refl
+  or_else-none a = grind arith
 
   param_step-empty : (p : List ℕ) → (param_step {K = K} [] p).1 ≡ []
   unfolding param_step
-  param_step-empty p =
-      elim (has_slash p) as (λ v. (cond {A = ℕ × RowsOf K} v (0, []) (length p, [])).1 ≡ []) [
-        | true ↦ refl
-        | false ↦ refl
-      ]
+  param_step-empty p = grind arith
 
   seek-empty : (k : ℕ) (p : List ℕ) → seek {K = K} k [] p ≡ None
   unfolding seek
@@ -70,14 +69,6 @@ module _ {K : Type 0} where
 
   -- ---- a literal
 
-  abbrev no_rows : RowsOf K → Bool
-  no_rows [] = true
-  no_rows (r ∷ rs) = false
-
-  no_rows-nil : (rs : RowsOf K) → no_rows rs ≡ true → rs ≡ []
-  no_rows-nil [] h = refl
-  no_rows-nil (r ∷ rs) h = cc
-
   -- the rows that go on after these bytes
   abbrev pub walked : List ℕ → RowsOf K → RowsOf K
   walked [] rs = rs
@@ -86,7 +77,7 @@ module _ {K : Type 0} where
   -- no row has a parameter on the way
   abbrev pub is_literal : List ℕ → RowsOf K → Bool
   is_literal [] rs = true
-  is_literal (b ∷ w) rs = (no_rows (step param_token rs) && no_rows (step catch_all_token rs)) && is_literal w (step b rs)
+  is_literal (b ∷ w) rs = (nat_eq (length (step param_token rs)) 0 && nat_eq (length (step catch_all_token rs)) 0) && is_literal w (step b rs)
 
   -- a search passes bytes that no parameter could take
   pub seek-literal : (w rest : List ℕ) (rs : RowsOf K) → is_literal w rs ≡ true → seek 0 rs (w ++ rest) ≡ seek 0 (walked w rs) rest
@@ -95,8 +86,8 @@ module _ {K : Type 0} where
   seek-literal (b ∷ w) rest rs h =
       let both = and_parts _ _ h in
       let none = and_parts _ _ both.0 in
-      let params = no_rows-nil (step param_token rs) none.0 in
-      let catches = no_rows-nil (step catch_all_token rs) none.1 in
+      let params = nil_from_length (step param_token rs) (eqb-true _ 0 none.0) in
+      let catches = nil_from_length (step catch_all_token rs) (eqb-true _ 0 none.1) in
       simp (params, catches, param_step-empty (b ∷ (w ++ rest)), seek-empty ((param_step {K = K} [] (b ∷ (w ++ rest))).0 - 1) (w ++ rest), or_else-none)
       (seek-literal w rest (step b rs) both.1)
 
@@ -104,51 +95,33 @@ module _ {K : Type 0} where
 
   -- each row goes on with a parameter
   abbrev all_params : RowsOf K → Bool
-  all_params [] = true
-  all_params (([], key) ∷ rest) = false
-  all_params ((x ∷ t, key) ∷ rest) = eqb x param_token && all_params rest
+  all_params rs = list_all (λ (r : List ℕ × K). first_is param_token r.0) rs
 
-  step-params : (b : ℕ) (rs : RowsOf K) → b < 256 → all_params rs ≡ true → step b rs ≡ []
-  step-params b [] small h = refl
-  step-params b (([], key) ∷ rest) small h = cc
-  step-params b ((x ∷ t, key) ∷ rest) small h =
+  -- so none goes on with another token
+  step-other : (b : ℕ) (rs : RowsOf K) → eqb param_token b ≡ false → all_params rs ≡ true → step b rs ≡ []
+  step-other b [] other h = refl
+  step-other b (([], key) ∷ rest) other h = cc
+  step-other b ((x ∷ t, key) ∷ rest) other h =
       let both = and_parts _ _ h in
-      let is : x ≡ param_token = eqb-true x param_token both.0 in
-      let apart : eqb x b ≡ false = ne_eqb x b (λ e. omega (arith, is, small, e)) in
-      rw apart (step-params b rest small both.1)
-
-  step-catches : (rs : RowsOf K) → all_params rs ≡ true → step catch_all_token rs ≡ []
-  step-catches [] h = refl
-  step-catches (([], key) ∷ rest) h = cc
-  step-catches ((x ∷ t, key) ∷ rest) h =
-      let both = and_parts _ _ h in
-      let is : x ≡ param_token = eqb-true x param_token both.0 in
-      rw is (step-catches rest both.1)
+      rw (eqb-true x param_token both.0, other) (step-other b rest other both.1)
 
   -- each row ends here or goes on with a slash, and some row does that
   abbrev slashes : RowsOf K → Bool
-  slashes [] = true
-  slashes ((t, key) ∷ rest) = slash_or_end t && slashes rest
+  slashes rs = list_all (λ (r : List ℕ × K). slash_or_end r.0) rs
 
   abbrev some_slash : RowsOf K → Bool
-  some_slash [] = false
-  some_slash ((t, key) ∷ rest) = has_first_slash t || some_slash rest
+  some_slash rs = list_any (λ (r : List ℕ × K). first_is 47 r.0) rs
 
-  longest-kept : (seg : List ℕ) (rs : RowsOf K) → slashes rs ≡ true → longest_from seg (47 ∷ []) rs ≡ 47 ∷ []
-  longest-kept seg [] h = refl
-  longest-kept seg (([], key) ∷ rest) h = rw (better-none seg (47 ∷ [])) (longest-kept seg rest h)
-  longest-kept seg ((x ∷ t, key) ∷ rest) h =
+  -- the longest suffix is a slash, if it was found before or some row has it
+  longest-found : (found : Bool) (seg : List ℕ) (rs : RowsOf K) → cuts seg (47 ∷ []) ≡ true → slashes rs ≡ true → (found || some_slash rs) ≡ true
+      → longest_from seg (if found then 47 ∷ [] else []) rs ≡ 47 ∷ []
+  longest-found true seg [] cut h some = refl
+  longest-found false seg [] cut h some = cc
+  longest-found found seg (([], key) ∷ rest) cut h some =
+      rw (better-none seg (if found then 47 ∷ [] else [])) (longest-found found seg rest cut h some)
+  longest-found found seg ((x ∷ t, key) ∷ rest) cut h some =
       let both = and_parts _ _ h in
-      rw (segment-slash x t both.0) (longest-kept seg rest both.1)
-
-  longest-found : (seg : List ℕ) (rs : RowsOf K) → cuts seg (47 ∷ []) ≡ true → slashes rs ≡ true → some_slash rs ≡ true
-      → longest_from seg [] rs ≡ 47 ∷ []
-  longest-found seg [] cut h some = cc
-  longest-found seg (([], key) ∷ rest) cut h some = rw (better-none seg []) (longest-found seg rest cut h some)
-  longest-found seg ((x ∷ t, key) ∷ rest) cut h some =
-      let both = and_parts _ _ h in
-      let first : better seg [] (47 ∷ []) ≡ 47 ∷ [] = rw cut refl in
-      rw (segment-slash x t both.0, first) (longest-kept seg rest both.1)
+      rw (segment-slash x t both.0, better-slash found seg cut) (longest-found true seg rest cut both.1 refl)
 
   -- a parameter takes a piece, where each row goes on with one
   pub seek-piece : (b : ℕ) (w rest : List ℕ) (rs : RowsOf K) → b < 256 → All (λ x. eqb x 47 ≡ false) (b ∷ w) → all_params rs ≡ true
@@ -159,10 +132,10 @@ module _ {K : Type 0} where
       let path = (b ∷ w) ++ 47 ∷ rest in
       let seg : segment path ≡ b ∷ (w ++ 47 ∷ []) = segment-piece (b ∷ w) rest lacks in
       let longest : longest_suffix (b ∷ (w ++ 47 ∷ [])) (step param_token rs) ≡ 47 ∷ [] =
-      longest-found (b ∷ (w ++ 47 ∷ [])) (step param_token rs) (cuts-slash b w) all some in
+      longest-found false (b ∷ (w ++ 47 ∷ [])) (step param_token rs) (cuts-slash b w) all some in
       let size : (length (b ∷ (w ++ 47 ∷ [])) - 1) - 1 ≡ length w = omega (arith, length-append w (47 ∷ [])) in
-      let catches = step-catches rs params in
-      let bytes = step-params b rs small params in
+      let catches = step-other catch_all_token rs refl params in
+      let bytes = step-other b rs (ne_eqb 256 b (λ e. omega (arith, small, e))) params in
       let taken : param_step (step param_token rs) path ≡ (length (b ∷ (w ++ 47 ∷ [])) - 1, with_suffix (47 ∷ []) (step param_token rs)) = rw (seg, longest) refl in
       rw (bytes, catches, taken, size, seek-empty 0 (w ++ 47 ∷ rest)) (or_else-none _ ∙ seek-skip w (47 ∷ rest) (with_suffix (47 ∷ []) (step param_token rs)))
 
@@ -174,72 +147,35 @@ module _ {K : Type 0} where
       let taken = step param_token (walked front rs) in
       cond ((is_literal front rs && all_params (walked front rs)) && (slashes taken && some_slash taken)) (Some (with_suffix (47 ∷ []) taken)) None
 
-  -- the route of these bytes
-  abbrev pub ends_with_bytes : List ℕ → RowsOf K → Option K
-  ends_with_bytes back rs = cond (is_literal back rs) (own (walked back rs)) None
-
-  bytes-found : {V : Type 0} (f : K → V) (back : List ℕ) (rs : RowsOf K) (v : V) → option_map f (ends_with_bytes back rs) ≡ Some v
-      → option_map f (seek 0 rs back) ≡ Some v
-  unfolding seek
-  bytes-found {V} f back rs v h = by (is_literal back rs) refl h
-    where
-      by : (b : Bool) → is_literal back rs ≡ b → option_map f (cond b (own (walked back rs)) None) ≡ Some v → option_map f (seek 0 rs back) ≡ Some v
-      by true e h = ap (λ path. option_map f (seek 0 rs path)) (sym (append-nil back)) ∙ ap (option_map f) (seek-literal back [] rs e) ∙ h
-      by false e h = cc
-
-  piece-found : (front : List ℕ) (rs next : RowsOf K) → after_piece front rs ≡ Some next → (piece rest : List ℕ) → IsPiece piece
+  piece-found : (front : List ℕ) (rs next : RowsOf K) → after_piece front rs ≡ Some next → (piece rest : List ℕ) → IsWord piece
       → seek 0 rs (front ++ (piece ++ 47 ∷ rest)) ≡ seek 0 next (47 ∷ rest)
   piece-found front rs next h [] rest is = absurd (omega (arith, is.some))
   piece-found front rs next h (b ∷ w) rest is =
+      let byte = word-below b (All-head IsKeyByte b w is.bytes) in
+      let small : b < 256 = omega (arith, byte) in
       let taken = step param_token (walked front rs) in
       let all = cond_some ((is_literal front rs && all_params (walked front rs)) && (slashes taken && some_slash taken)) (with_suffix (47 ∷ []) taken) next h in
       let both = and_parts _ _ all.0 in
       let on = and_parts _ _ both.0 in
       let after = and_parts _ _ both.1 in
-      let small : b < 256 = All-head (λ x. x < 256) b w is.bytes in
       seek-literal front ((b ∷ w) ++ 47 ∷ rest) rs on.0
-      ∙ seek-piece b w rest (walked front rs) small is.no_slash on.1 after.0 after.1
+      ∙ seek-piece b w rest (walked front rs) small (word-slash (b ∷ w) is.bytes) on.1 after.0 after.1
       ∙ ap (λ (r : RowsOf K). seek 0 r (47 ∷ rest)) all.1
 
-  module _ {V : Type 0} (f : K → V) where
-    -- the route of these bytes alone
-    pub literal-route : (path : List ℕ) (rs : RowsOf K) (v : V) → option_map f (ends_with_bytes path rs) ≡ Some v
-        → option_map f (seek 0 rs path) ≡ Some v
-    literal-route path rs v h = bytes-found f path rs v h
+  -- the route of these legs and this end
+  abbrev pub found_on : List Leg → List ℕ → RowsOf K → Option K
+  found_on [] end rs = seek 0 rs end
+  found_on (l ∷ legs) end rs = option_and_then (found_on legs end) (after_piece (47 ∷ l.front) rs)
 
-    -- the route with one parameter, between these bytes
-    pub piece-route : (front back : List ℕ) (rs : RowsOf K) (v : V)
-        → option_map f (option_and_then (ends_with_bytes (47 ∷ back)) (after_piece front rs)) ≡ Some v
-        → (piece : List ℕ) → IsPiece piece → option_map f (seek 0 rs (front ++ (piece ++ 47 ∷ back))) ≡ Some v
-    piece-route front back rs v h piece is = by (after_piece front rs) refl h
-      where
-        by : (o : Option (RowsOf K)) → after_piece front rs ≡ o → option_map f (option_and_then (ends_with_bytes (47 ∷ back)) o) ≡ Some v
-            → option_map f (seek 0 rs (front ++ (piece ++ 47 ∷ back))) ≡ Some v
-        by None e h = cc
-        by (Some next) e h = ap (option_map f) (piece-found front rs next e piece back is) ∙ bytes-found f (47 ∷ back) next v h
-
-    -- the route with one parameter, and with another one behind these bytes
-    pub pieces-route : (front middle back : List ℕ) (rs : RowsOf K) (v : V)
-        → option_map f (option_and_then (λ next. option_and_then (ends_with_bytes (47 ∷ back)) (after_piece (47 ∷ middle) next)) (after_piece front rs)) ≡ Some v
-        → (piece other : List ℕ) → IsPiece piece → IsPiece other
-        → option_map f (seek 0 rs (front ++ (piece ++ 47 ∷ (middle ++ (other ++ 47 ∷ back))))) ≡ Some v
-    pieces-route front middle back rs v h piece other is is_other = by (after_piece front rs) refl h
-      where
-        by : (o : Option (RowsOf K)) → after_piece front rs ≡ o
-            → option_map f (option_and_then (λ next. option_and_then (ends_with_bytes (47 ∷ back)) (after_piece (47 ∷ middle) next)) o) ≡ Some v
-            → option_map f (seek 0 rs (front ++ (piece ++ 47 ∷ (middle ++ (other ++ 47 ∷ back))))) ≡ Some v
-        by None e h = cc
-        by (Some next) e h =
-            ap (option_map f) (piece-found front rs next e piece (middle ++ (other ++ 47 ∷ back)) is)
-            ∙ piece-route (47 ∷ middle) back next v h other is_other
-
-    -- the route with one parameter, and then these bytes, which the router reads
-    pub tail-route : (front tail : List ℕ) (rs : RowsOf K) (v : V)
-        → option_map f (option_and_then (λ next. seek 0 next (47 ∷ tail)) (after_piece front rs)) ≡ Some v
-        → (piece : List ℕ) → IsPiece piece → option_map f (seek 0 rs (front ++ (piece ++ 47 ∷ tail))) ≡ Some v
-    tail-route front tail rs v h piece is = by (after_piece front rs) refl h
-      where
-        by : (o : Option (RowsOf K)) → after_piece front rs ≡ o → option_map f (option_and_then (λ next. seek 0 next (47 ∷ tail)) o) ≡ Some v
-            → option_map f (seek 0 rs (front ++ (piece ++ 47 ∷ tail))) ≡ Some v
-        by None e h = cc
-        by (Some next) e h = ap (option_map f) (piece-found front rs next e piece tail is) ∙ h
+  pub route-on : {V : Type 0} (f : K → V) (legs : List Leg) (end : List ℕ) (rs : RowsOf K) (v : V) → AreLegs legs → first_is 47 end ≡ true
+      → option_map f (found_on legs end rs) ≡ Some v → option_map f (seek 0 rs (path_on legs end)) ≡ Some v
+  route-on f [] end rs v are slash h = h
+  route-on {V} f (l ∷ legs) end rs v are slash h = by (after_piece (47 ∷ l.front) rs) refl h (λ next. route-on f legs end next v are.2 slash)
+    where
+      by : (o : Option (RowsOf K)) → after_piece (47 ∷ l.front) rs ≡ o → option_map f (option_and_then (found_on legs end) o) ≡ Some v
+          → ((next : RowsOf K) → option_map f (found_on legs end next) ≡ Some v → option_map f (seek 0 next (path_on legs end)) ≡ Some v)
+          → option_map f (seek 0 rs (path_on (l ∷ legs) end)) ≡ Some v
+      by None e h more = cc
+      by (Some next) e h more =
+          let rest = begins legs end slash in
+          ap (option_map f) (rw (← rest.1) at (piece-found (47 ∷ l.front) rs next e l.piece rest.0 are.1)) ∙ more next h

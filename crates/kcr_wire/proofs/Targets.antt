@@ -1,34 +1,19 @@
 -- The path of an act is a path of the register, and asks for what the act needs. What any path asks for has values as its
 -- parts.
-use Rattle.std.proofs.Common.{◌≡◌, ℕ, ◌<◌, List, [], ◌∷◌, ◌++◌, codes, Option, Some, None, Ok, IfSome, IfOk, refl, sym, ap, ◌∙◌, subst, arith, All, append_assoc}
-use Rattle.std.specs.Bool.{⊤}
-use Rattle.std.specs.Fmt.{decimal}
-use Rattle.std.specs.Option.{option_map, option_and_then, ok_or}
-use Rattle.std.proofs.lemmas.List.Elements.{All-cons, All-weaker}
-use Rattle.matchit.specs.Router.{RouteOf}
-use Rattle.matchit.specs.Params.{named, walk}
-use Rattle.matchit.specs.Seek.{first, seek}
+use Rattle.kcr_wire.proofs.Common.{◌≡◌, ℕ, ◌++◌, Bool, true, ◌&&◌, nat_le, length, append-nil, List, [], ◌∷◌, codes, Option, Some, None, Ok, IfSome}
+use Rattle.kcr_wire.proofs.Common.{IfOk, refl, ap, ◌∙◌, arith, append_assoc, ⊤, decimal, option_map, ok_or, and_parts, leb-true, RouteOf, named, walk}
+use Rattle.kcr_wire.proofs.Common.{first, IsInitials, IsNumber, IsPlace, place_text, IsSerial, MAX_CEREMONY, MAX_STEPS, Place, Refusal, at_person}
+use Rattle.kcr_wire.proofs.Common.{at_place, at_ceremony, at_bag, at_step, at_safe, safe_text, path_text, Act, IsAct, initials_of, place_of}
+use Rattle.kcr_wire.proofs.Common.{ceremony_of, step_of, serial_of, safe_of, post_of, IsPost, any, mapped, chained, Post, initials, places-read}
+use Rattle.kcr_wire.proofs.Common.{ceremonies, steps, serials, safes, Parts, path_of, parts_in, part_as, ceremony_in, serial_in, post_at, inquiry_at}
+use Rattle.kcr_wire.proofs.Common.{endpoint_of, target_at, with_parts, Route, Endpoint}
+use Rattle.std.specs.Option.{option_and_then}
 use Rattle.matchit.proofs.OnLiterals.{matchit_on_literals}
-use Rattle.kcr_base.specs.Initials.{IsInitials}
-use Rattle.kcr_base.specs.Key.{IsKeyByte}
-use Rattle.kcr_base.specs.Number.{IsNumber}
-use Rattle.kcr_base.specs.Place.{IsPlace, place_text}
-use Rattle.kcr_base.specs.Serial.{IsSerial}
-use Rattle.kcr_base.specs.declared.limits.TheConstants.{MAX_CEREMONY, MAX_STEPS}
-use Rattle.kcr_base.specs.declared.place.Place.{Place}
-use Rattle.kcr_base.specs.declared.refusal.Refusal.{Refusal}
 use Rattle.kcr_base.specs.declared.refusal.Refusal.TheVariants as refusal
 use Rattle.kcr_custody.specs.declared.SafeNumber.{SafeNumber}
 use Rattle.kcr_custody.specs.declared.SafeNumber.TheVariants.{One, Two}
-use Rattle.kcr_history.specs.Texts.{at_person, at_place, at_ceremony, at_bag, at_step, at_safe, safe_text, path_text}
-use Rattle.kcr_history.specs.declared.commands.Act.{Act}
 use Rattle.kcr_history.specs.declared.commands.Act.TheVariants as act
 use Rattle.kcr_history.specs.declared.commands.Deed.TheVariants as deed
-use Rattle.kcr_forms.specs.Acts.{IsAct}
-use Rattle.kcr_forms.specs.Forms.{initials_of, place_of, ceremony_of, step_of, serial_of, safe_of}
-use Rattle.kcr_forms.proofs.Posts.{post_of, IsPost}
-use Rattle.kcr_forms.proofs.Readers.{any, mapped, chained}
-use Rattle.kcr_forms.specs.declared.post.Post.{Post}
 use Rattle.kcr_forms.specs.declared.post.Post.TheVariants as post
 use Rattle.kcr_forms.specs.declared.post.CollectionPath.{CollectionPath}
 use Rattle.kcr_forms.specs.declared.post.CollectionPath.TheVariants.{People, Custodians, Boxes, Items, Ceremonies}
@@ -40,19 +25,16 @@ use Rattle.kcr_forms.specs.declared.post.CeremonyPath.{CeremonyPath}
 use Rattle.kcr_forms.specs.declared.post.CeremonyPath.TheVariants.{Opening, Closing, Sheet, Exceptions}
 use Rattle.kcr_forms.specs.declared.post.BagPath.{BagPath}
 use Rattle.kcr_forms.specs.declared.post.BagPath.TheVariants.{Seal, Take, Put, Cut}
-use Rattle.kcr_forms.proofs.Formed.{initials, places-read, ceremonies, steps, serials, safes}
 use Rattle.kcr_wire.specs.Routes.{table, add_all, add}
-use Rattle.kcr_wire.specs.Endpoints.{Parts, path_of, ascii_in, parts_in, part_as, ceremony_in, serial_in, post_at, inquiry_at, endpoint_of, target_at, target_of, with_parts}
+use Rattle.kcr_wire.specs.Endpoints.{ascii_in, target_of}
 use Rattle.kcr_wire.specs.declared.route.PostRoute.{PostRoute}
 use Rattle.kcr_wire.specs.declared.route.PostRoute.TheVariants as posted
-use Rattle.kcr_wire.specs.declared.route.Route.{Route}
 use Rattle.kcr_wire.specs.declared.route.Route.TheVariants as route
-use Rattle.kcr_wire.specs.declared.endpoint.Endpoint.{Endpoint}
 use Rattle.kcr_wire.specs.declared.endpoint.Endpoint.TheVariants as target
-use Rattle.kcr_wire.proofs.Bytes.{IsWord, literal, initials-word, serial-word, number-word, place-word, word-slash, word-below}
-use Rattle.kcr_wire.proofs.Paths.{piece, IsPathByte, IsPath, words, with-word, wider, path-below, whole-path}
-use Rattle.kcr_wire.proofs.Seeking.{IsPiece, after_piece, ends_with_bytes, literal-route, piece-route, pieces-route, tail-route}
-use Rattle.kcr_wire.proofs.Walking.{names_in, one-taken, two-taken, last-taken}
+use Rattle.kcr_wire.proofs.Bytes.{IsWord, literal, initials-word, serial-word, number-word, place-word}
+use Rattle.kcr_wire.proofs.Paths.{Leg, path_on, tokens_on, names_on, parts_on, short_literal, AreLegs, whole-on, IsPath, whole-path}
+use Rattle.kcr_wire.proofs.Seeking.{slash_or_end, found_on, route-on}
+use Rattle.kcr_wire.proofs.Walking.{names_in, walk-on}
 
 -- what a walk along a path needs of its route: its tokens and the names of its parts
 abbrev Sight : Type 0
@@ -61,89 +43,11 @@ Sight = Route × (List ℕ × List (List ℕ))
 abbrev sight : RouteOf Route → Sight
 sight r = (r.value, (r.pattern, names_in r.text r.names))
 
-word-piece : (w : List ℕ) → IsWord w → IsPiece w
-word-piece w is = record {
-  some = is.some;
-  bytes = All-weaker IsKeyByte (λ b. b < 256) (λ b h. omega (arith, word-below b h)) w is.bytes;
-  no_slash = word-slash w is.bytes;
-}
-
--- ---- the routes of the table
-
-abbrev NoneIn : List ℕ → Route → Type 0
-NoneIn path r = option_map sight (ends_with_bytes path table) ≡ Some (r, (path, []))
-
-abbrev OneIn : List ℕ → List ℕ → List ℕ → Route → Type 0
-OneIn front name back r =
-    option_map sight (option_and_then (ends_with_bytes (47 ∷ back)) (after_piece front table)) ≡ Some (r, (front ++ 256 ∷ 47 ∷ back, name ∷ []))
-
--- the route with a ceremony, and with another part behind these bytes
-abbrev TwoIn : List ℕ → List ℕ → List ℕ → Route → Type 0
-TwoIn middle name back r =
-    option_map sight (option_and_then (λ next. option_and_then (ends_with_bytes (47 ∷ back)) (after_piece (47 ∷ middle) next)) (after_piece (codes "/ceremonies/") table))
-    ≡ Some (r, (codes "/ceremonies/" ++ 256 ∷ 47 ∷ (middle ++ 256 ∷ 47 ∷ back), codes "ceremony" ∷ name ∷ []))
-
-abbrev LastIn : List ℕ → List ℕ → List ℕ → Route → Type 0
-LastIn middle w name r =
-    option_map sight (option_and_then (λ next. seek 0 next (47 ∷ (middle ++ w))) (after_piece (codes "/ceremonies/") table))
-    ≡ Some (r, (codes "/ceremonies/" ++ 256 ∷ 47 ∷ (middle ++ 256 ∷ []), codes "ceremony" ∷ name ∷ []))
-
 unfoldable in_table : Unit {0}
 unfolding matchit_on_literals table add_all add
 in_table = tt
 
--- the route to a collection
-abbrev CollectionIn : List ℕ → CollectionPath → Type 0
-CollectionIn path kind = NoneIn path (route.Post (posted.Collection kind))
-
-collections-in : CollectionIn (codes "/people") People × CollectionIn (codes "/custodians") Custodians × CollectionIn (codes "/boxes") Boxes
-    × CollectionIn (codes "/items") Items × CollectionIn (codes "/ceremonies") Ceremonies
-unfolding in_table
-collections-in = (refl, refl, refl, refl, refl)
-
--- the route on a person
-abbrev PersonIn : List ℕ → PersonPath → Type 0
-PersonIn back kind = OneIn (codes "/people/") (codes "who") back (route.Post (posted.Person kind))
-
-people-in : PersonIn (codes "roles") Roles × PersonIn (codes "withdrawals") Withdrawals
-unfolding in_table
-people-in = (refl, refl)
-
--- the route on a place
-abbrev PlaceIn : List ℕ → PlacePath → Type 0
-PlaceIn back kind = OneIn (codes "/custodians/") (codes "place") back (route.Post (posted.Place kind))
-
-places-in : PlaceIn (codes "replacement") Replacement × PlaceIn (codes "release") Release
-unfolding in_table
-places-in = (refl, refl)
-
--- the route on a ceremony
-abbrev CeremonyIn : List ℕ → CeremonyPath → Type 0
-CeremonyIn back kind = OneIn (codes "/ceremonies/") (codes "ceremony") back (route.Post (posted.Ceremony kind))
-
-ceremonies-in : CeremonyIn (codes "opening") Opening × CeremonyIn (codes "closing") Closing × CeremonyIn (codes "sheet") Sheet
-    × CeremonyIn (codes "exceptions") Exceptions
-unfolding in_table
-ceremonies-in = (refl, refl, refl, refl)
-
--- the route on a bag
-abbrev BagIn : List ℕ → BagPath → Type 0
-BagIn back kind = TwoIn (codes "bags/") (codes "serial") back (route.Post (posted.Bag kind))
-
-bags-in : BagIn (codes "seal") Seal × BagIn (codes "take") Take × BagIn (codes "put") Put × BagIn (codes "cut") Cut
-unfolding in_table
-bags-in = (refl, refl, refl, refl)
-
-step-in : TwoIn (codes "steps/") (codes "step") (codes "signature") (route.Post posted.Signature)
-unfolding in_table
-step-in = refl
-
-safes-in : (safe : SafeNumber) → LastIn (codes "safes/") (safe_text safe) (codes "safe") (route.Post posted.Safe)
-unfolding in_table
-safes-in One = refl
-safes-in Two = refl
-
--- ---- what a path of a route asks for
+-- ---- what a path asks for
 
 by-route : (path : List ℕ) (r : Route) (pattern : List ℕ) (names : List (List ℕ)) (t : Endpoint) (found : Option (RouteOf Route))
     → option_map sight found ≡ Some (r, (pattern, names))
@@ -159,143 +63,133 @@ record IsPathTo (path : List ℕ) (p : Post) : Type 0 where
   pub is : IsPath 200 path
   pub asks : target_at path ≡ Some (target.Post p)
 
-path-small : {most : ℕ} (path : List ℕ) → IsPath most path → All (λ b. b < 256) path
-path-small path is = All-weaker IsPathByte (λ b. b < 256) (λ b h. omega (arith, path-below b h)) path is.bytes
+-- the route of these legs and this end, whatever its parameters take
+abbrev IsIn : List Leg → List ℕ → Option (RouteOf Route) → PostRoute → Type 0
+IsIn legs end found r = option_map sight found ≡ Some (route.Post r, (tokens_on legs end, names_on legs))
 
-ceremony-word : (n : ℕ) → IsNumber MAX_CEREMONY n → IsWord (decimal n)
-ceremony-word n is = number-word MAX_CEREMONY n (omega arith) is
+-- the route is short, and has an end
+abbrev fits : List Leg → List ℕ → Bool
+fits legs end =
+    (short_literal end && slash_or_end end) && (nat_le (length legs) 2
+    && (nat_le 1 (length (tokens_on legs end)) && nat_le (length (tokens_on legs end)) 200))
+
+posts : (legs : List Leg) (end : List ℕ) (r : PostRoute) (p : Post) → AreLegs legs → fits legs end ≡ true
+    → IsIn legs end (first table (path_on legs end)) r → post_at r (parts_on legs) ≡ Some p → IsPathTo (path_on legs end) p
+posts legs end r p are test is_in asks =
+    let parts = and_parts (short_literal end && slash_or_end end) _ test in
+    let ends = and_parts (short_literal end) (slash_or_end end) parts.0 in
+    let few = and_parts (nat_le (length legs) 2) _ parts.1 in
+    let sizes = and_parts (nat_le 1 (length (tokens_on legs end))) _ few.1 in
+    record {
+      is = whole-on legs end are ends.0 (leb-true (length legs) 2 few.0) (leb-true 1 (length (tokens_on legs end)) sizes.0);
+      asks = by-route (path_on legs end) (route.Post r) (tokens_on legs end) (names_on legs) (target.Post p) (first table (path_on legs end)) is_in
+          (λ text places named. ap (endpoint_of (route.Post r)) (walk-on (tokens_on legs end) text (path_on legs end)
+          (leb-true (length (tokens_on legs end)) 200 sizes.1) legs end places 0 0 ends.1 are refl refl named) ∙ ap (option_map target.Post) asks);
+    }
 
 -- no part in braces
-collection : (path : List ℕ) → IsPath 20 path → (kind : CollectionPath) → CollectionIn path kind → IsPathTo path (post.Collection kind)
-collection path is kind is_in = record {
-  is = wider (omega arith) is;
-  asks = by-route path (route.Post (posted.Collection kind)) path [] (target.Post (post.Collection kind)) (first table path)
-      (literal-route sight path table (route.Post (posted.Collection kind), (path, [])) is_in) (λ text places named. refl);
-}
+collection : (path : List ℕ) (kind : CollectionPath) → fits [] path ≡ true → IsIn [] path (first table path) (posted.Collection kind)
+    → IsPathTo path (post.Collection kind)
+collection path kind test is_in = posts [] path (posted.Collection kind) (post.Collection kind) tt test is_in refl
 
--- one part in braces
-module _ {V : Type 0} (front name : List ℕ) (front_is : IsPath 20 front) (read : List ℕ → Option V) (w : List ℕ) (v : V) (word : IsWord w) (same : read w ≡ Some v) where
-  one-path : (make : V → Post) (r : PostRoute) → ((w : List ℕ) → post_at r ((name, w) ∷ []) ≡ option_map make (read w))
-      → (back : List ℕ) → IsPath 20 back → OneIn front name back (route.Post r) → IsPathTo (front ++ w ++ codes "/" ++ back) (make v)
-  one-path make r asks back back_is is_in =
-      let path = front ++ (w ++ 47 ∷ back) in
-      let pattern = front ++ 256 ∷ 47 ∷ back in
-      record {
-        is = wider (omega arith) (with-word front w back front_is word back_is);
-        asks = subst (λ path. target_at path ≡ Some (target.Post (make v))) (sym (piece front w back))
-            (by-route path (route.Post r) pattern (name ∷ []) (target.Post (make v)) (first table path)
-            (piece-route sight front back table (route.Post r, (pattern, name ∷ [])) is_in w (word-piece w word))
-            (λ text places named.
-            ap (endpoint_of (route.Post r)) (one-taken front w (path-small front front_is) (word-slash w word.bytes) back text back name places named)
-            ∙ ap (option_map target.Post) (asks w ∙ ap (option_map make) same)));
-      }
+-- parts in braces, and more behind them: the table has the route
+abbrev InTable : List Leg → List ℕ → PostRoute → Type 0
+InTable legs back r = (fits legs (47 ∷ back) ≡ true) × IsIn legs (47 ∷ back) (found_on legs (47 ∷ back) table) r
 
-person : (who : List ℕ) → IsInitials who → (kind : PersonPath) (back : List ℕ) → IsPath 20 back → PersonIn back kind → IsPathTo (at_person who back) (post.Person who kind)
-person who is kind =
-    one-path (codes "/people/") (codes "who") (words (codes "/people/") refl) initials_of who who (initials-word who is) (initials.again who is)
-    (λ who. post.Person who kind) (posted.Person kind) (λ w. refl)
+behind : (legs : List Leg) (back : List ℕ) (r : PostRoute) (p : Post) → AreLegs legs → InTable legs back r → post_at r (parts_on legs) ≡ Some p
+    → IsPathTo (path_on legs (47 ∷ back)) p
+behind legs back r p are is_in asks = posts legs (47 ∷ back) r p are is_in.0 (route-on sight legs (47 ∷ back) table _ are refl is_in.1) asks
 
-place-path : (place : Place) → IsPlace place → (kind : PlacePath) (back : List ℕ) → IsPath 20 back → PlaceIn back kind
+abbrev on_person : List ℕ → List Leg
+on_person who = record { front = codes "people/"; name = codes "who"; piece = who } ∷ []
+
+person : (who : List ℕ) → IsInitials who → (kind : PersonPath) (back : List ℕ) → InTable (on_person who) back (posted.Person kind)
+    → IsPathTo (at_person who back) (post.Person who kind)
+person who is kind back is_in =
+    simp append_assoc (behind (on_person who) back (posted.Person kind) (post.Person who kind)
+    (refl, initials-word who is, tt) is_in (rw (initials.again who is)))
+
+abbrev on_place : Place → List Leg
+on_place place = record { front = codes "custodians/"; name = codes "place"; piece = place_text place } ∷ []
+
+place-path : (place : Place) → IsPlace place → (kind : PlacePath) (back : List ℕ) → InTable (on_place place) back (posted.Place kind)
     → IsPathTo (at_place (place_text place) back) (post.Place place kind)
-place-path place is kind =
-    one-path (codes "/custodians/") (codes "place") (words (codes "/custodians/") refl) place_of (place_text place) place (place-word place is) (places-read.again place is)
-    (λ place. post.Place place kind) (posted.Place kind) (λ w. refl)
-
--- the paths of ceremonies begin so
-in_ceremonies : IsPath 20 (codes "/ceremonies/")
-in_ceremonies = words (codes "/ceremonies/") refl
+place-path place is kind back is_in =
+    simp append_assoc (behind (on_place place) back (posted.Place kind) (post.Place place kind)
+    (refl, place-word place is, tt) is_in (rw (places-read.again place is)))
 
 module _ (n : ℕ) (is : IsNumber MAX_CEREMONY n) where
-  ceremony : (kind : CeremonyPath) (back : List ℕ) → IsPath 20 back → CeremonyIn back kind → IsPathTo (at_ceremony n back) (post.Ceremony n kind)
-  ceremony kind =
-      one-path (codes "/ceremonies/") (codes "ceremony") in_ceremonies ceremony_of (decimal n) n (ceremony-word n is) (ceremonies.again n is)
-      (λ n. post.Ceremony n kind) (posted.Ceremony kind) (λ w. refl)
+  word : IsWord (decimal n)
+  word = number-word MAX_CEREMONY n (omega arith) is
 
-  -- two parts in braces, the first of them a ceremony
-  module _ {V : Type 0} (middle name : List ℕ) (middle_is : IsPath 20 middle) (read : List ℕ → Option V) (w : List ℕ) (v : V) (word : IsWord w) (same : read w ≡ Some v)
-      (make : ℕ → V → Post) (r : PostRoute)
-      (asks : (n w : List ℕ) → post_at r ((codes "ceremony", n) ∷ (name, w) ∷ []) ≡ with_parts make (ceremony_of n) (read w)) where
-    both : endpoint_of (route.Post r) ((codes "ceremony", decimal n) ∷ (name, w) ∷ []) ≡ Some (target.Post (make n v))
-    both = ap (option_map target.Post) (asks (decimal n) w ∙ (λ i. with_parts make (ceremonies.again n is i) (same i)))
+  abbrev on : List Leg → List Leg
+  on legs = record { front = codes "ceremonies/"; name = codes "ceremony"; piece = decimal n } ∷ legs
 
-    small : All (λ b. b < 256) (47 ∷ middle)
-    small = All-cons (λ b. b < 256) 47 middle (omega arith) (path-small middle middle_is)
+  at : (rest : List ℕ) (p : Post) → IsPathTo (path_on (on []) (47 ∷ rest)) p → IsPathTo (at_ceremony n rest) p
+  at rest p to = simp append_assoc to
 
-    two-path : (back : List ℕ) → IsPath 20 back → TwoIn middle name back (route.Post r) → IsPathTo (at_ceremony n (middle ++ w ++ codes "/" ++ back)) (make n v)
-    two-path back back_is is_in =
-        let path = codes "/ceremonies/" ++ (decimal n ++ 47 ∷ (middle ++ (w ++ 47 ∷ back))) in
-        let pattern = codes "/ceremonies/" ++ 256 ∷ 47 ∷ (middle ++ 256 ∷ 47 ∷ back) in
-        let names = codes "ceremony" ∷ name ∷ [] in
-        let form : at_ceremony n (middle ++ w ++ codes "/" ++ back) ≡ path =
-        ap (at_ceremony n) (piece middle w back) ∙ piece (codes "/ceremonies/") (decimal n) (middle ++ (w ++ 47 ∷ back)) in
-        record {
-          is = wider (omega arith) (with-word (codes "/ceremonies/") (decimal n) (middle ++ w ++ codes "/" ++ back) in_ceremonies (ceremony-word n is)
-              (with-word middle w back middle_is word back_is));
-          asks = subst (λ path. target_at path ≡ Some (target.Post (make n v))) (sym form)
-              (by-route path (route.Post r) pattern names (target.Post (make n v)) (first table path)
-              (pieces-route sight (codes "/ceremonies/") middle back table (route.Post r, (pattern, names)) is_in (decimal n) w (word-piece (decimal n) (ceremony-word n is)) (word-piece w word))
-              (λ text places named.
-              ap (endpoint_of (route.Post r)) (two-taken (codes "/ceremonies/") (decimal n) (path-small (codes "/ceremonies/") in_ceremonies)
-              (word-slash (decimal n) (ceremony-word n is).bytes) (omega arith) middle small text (codes "ceremony") name back w back (word-slash w word.bytes) places named) ∙ both));
-        }
+  ceremony : (kind : CeremonyPath) (back : List ℕ) → InTable (on []) back (posted.Ceremony kind)
+      → IsPathTo (at_ceremony n back) (post.Ceremony n kind)
+  ceremony kind back is_in =
+      at back _ (behind (on []) back (posted.Ceremony kind) (post.Ceremony n kind) (refl, word, tt) is_in (rw (ceremonies.again n is)))
 
-    last-path : IsPath 100 (middle ++ w) → LastIn middle w name (route.Post r) → IsPathTo (at_ceremony n (middle ++ w)) (make n v)
-    last-path last_is is_in =
-        let path = codes "/ceremonies/" ++ (decimal n ++ 47 ∷ (middle ++ w)) in
-        let pattern = codes "/ceremonies/" ++ 256 ∷ 47 ∷ (middle ++ 256 ∷ []) in
-        let names = codes "ceremony" ∷ name ∷ [] in
-        record {
-          is = wider (omega arith) (with-word (codes "/ceremonies/") (decimal n) (middle ++ w) in_ceremonies (ceremony-word n is) last_is);
-          asks = subst (λ path. target_at path ≡ Some (target.Post (make n v))) (sym (piece (codes "/ceremonies/") (decimal n) (middle ++ w)))
-              (by-route path (route.Post r) pattern names (target.Post (make n v)) (first table path)
-              (tail-route sight (codes "/ceremonies/") (middle ++ w) table (route.Post r, (pattern, names)) is_in (decimal n) (word-piece (decimal n) (ceremony-word n is)))
-              (λ text places named.
-              ap (endpoint_of (route.Post r)) (last-taken (codes "/ceremonies/") (decimal n) (path-small (codes "/ceremonies/") in_ceremonies)
-              (word-slash (decimal n) (ceremony-word n is).bytes) (omega arith) middle small text (codes "ceremony") name w places named) ∙ both));
-        }
+  abbrev on_bag : List ℕ → List Leg
+  on_bag serial = on (record { front = codes "bags/"; name = codes "serial"; piece = serial } ∷ [])
 
-  bag : (serial : List ℕ) → IsSerial serial → (kind : BagPath) (back : List ℕ) → IsPath 20 back → BagIn back kind → IsPathTo (at_bag n serial back) (post.Bag n serial kind)
-  bag serial is_serial kind =
-      two-path (codes "bags/") (codes "serial") (words (codes "bags/") refl) serial_of serial serial (serial-word serial is_serial) (serials.again serial is_serial)
-      (λ n serial. post.Bag n serial kind) (posted.Bag kind) (λ n w. refl)
+  bag : (serial : List ℕ) → IsSerial serial → (kind : BagPath) (back : List ℕ) → InTable (on_bag serial) back (posted.Bag kind)
+      → IsPathTo (at_bag n serial back) (post.Bag n serial kind)
+  bag serial is_serial kind back is_in =
+      at (codes "bags/" ++ serial ++ codes "/" ++ back) _ (simp append_assoc (behind (on_bag serial) back (posted.Bag kind) (post.Bag n serial kind)
+      (refl, word, (refl, serial-word serial is_serial, tt)) is_in (rw (ceremonies.again n is, serials.again serial is_serial))))
 
   step : (k : ℕ) → IsNumber MAX_STEPS k → IsPathTo (at_step n k) (post.Signature n k)
+  unfolding in_table
   step k is_step =
-      subst (λ rest. IsPathTo (at_ceremony n rest) (post.Signature n k)) (append_assoc (codes "steps/" ++ decimal k) (codes "/") (codes "signature"))
-      (two-path (codes "steps/") (codes "step") (words (codes "steps/") refl) step_of (decimal k) k (number-word MAX_STEPS k (omega arith) is_step) (steps.again k is_step)
-      post.Signature posted.Signature (λ n w. refl) (codes "signature") (words (codes "signature") refl) step-in)
+      let legs = on (record { front = codes "steps/"; name = codes "step"; piece = decimal k } ∷ []) in
+      at (codes "steps/" ++ decimal k ++ codes "/signature") _ (simp append_assoc (behind legs (codes "signature")
+      posted.Signature (post.Signature n k)
+      (refl, word, (refl, number-word MAX_STEPS k (omega arith) is_step, tt)) (refl, refl) (rw (ceremonies.again n is, steps.again k is_step))))
 
-  safe-path : (safe : SafeNumber) → IsWord (safe_text safe) → IsPath 20 (codes "safes/" ++ safe_text safe) → IsPathTo (at_safe n safe) (post.Safe n safe)
-  safe-path safe word last_is =
-      last-path (codes "safes/") (codes "safe") (words (codes "safes/") refl) safe_of (safe_text safe) safe word (safes.again safe tt)
-      post.Safe posted.Safe (λ n w. refl) (wider (omega arith) last_is) (safes-in safe)
+  -- the path of a safe ends with its number
+  abbrev on_safe : SafeNumber → List Leg
+  on_safe safe = on (record { front = codes "safes/"; name = codes "safe"; piece = safe_text safe } ∷ [])
+
+  safe-path : (safe : SafeNumber) → IsWord (safe_text safe) → IsIn (on_safe safe) [] (first table (path_on (on_safe safe) [])) posted.Safe
+      → IsPathTo (at_safe n safe) (post.Safe n safe)
+  safe-path safe is_word is_in =
+      at (codes "safes/" ++ safe_text safe) _ (simp append-nil at (posts (on_safe safe) [] posted.Safe (post.Safe n safe)
+      (refl, word, (refl, is_word, tt)) refl is_in (rw (ceremonies.again n is, safes.again safe tt))))
 
   safe : (safe : SafeNumber) → IsPathTo (at_safe n safe) (post.Safe n safe)
-  safe One = safe-path One (record { some = omega arith; short = omega arith; bytes = literal (codes "1") refl }) (words (codes "safes/1") refl)
-  safe Two = safe-path Two (record { some = omega arith; short = omega arith; bytes = literal (codes "2") refl }) (words (codes "safes/2") refl)
+  unfolding in_table
+  safe One = safe-path One (record { some = omega arith; short = omega arith; bytes = literal (codes "1") refl })
+      (route-on sight (on []) (codes "/safes/1") table _ (refl, word, tt) refl refl)
+  safe Two = safe-path Two (record { some = omega arith; short = omega arith; bytes = literal (codes "2") refl })
+      (route-on sight (on []) (codes "/safes/2") table _ (refl, word, tt) refl refl)
 
 -- ---- each act
 
 act-read : (act : Act) → IsAct act → IsPathTo (path_text act) (post_of act)
-act-read (act.Enter who name) is = collection (codes "/people") (words (codes "/people") refl) People collections-in.0
-act-read (act.Train who role since until) is = person who is.0 Roles (codes "roles") (words (codes "roles") refl) people-in.0
-act-read (act.Withdraw who role day) is = person who is.0 Withdrawals (codes "withdrawals") (words (codes "withdrawals") refl) people-in.1
-act-read (act.Appoint place who day) is = collection (codes "/custodians") (words (codes "/custodians") refl) Custodians collections-in.1
-act-read (act.Replace place who day) is = place-path place is.0 Replacement (codes "replacement") (words (codes "replacement") refl) places-in.0
-act-read (act.Release place day) is = place-path place is.0 Release (codes "release") (words (codes "release") refl) places-in.1
-act-read (act.AddBox facility box place) is = collection (codes "/boxes") (words (codes "/boxes") refl) Boxes collections-in.2
-act-read (act.Ceremony n at (deed.AddItem item)) is = collection (codes "/items") (words (codes "/items") refl) Items collections-in.3
-act-read (act.Plan n facility day script) is = collection (codes "/ceremonies") (words (codes "/ceremonies") refl) Ceremonies collections-in.4
-act-read (act.Ceremony n at deed.Open) is = ceremony n is.0 Opening (codes "opening") (words (codes "opening") refl) ceremonies-in.0
-act-read (act.Ceremony n at deed.Close) is = ceremony n is.0 Closing (codes "closing") (words (codes "closing") refl) ceremonies-in.1
-act-read (act.Ceremony n at (deed.RecordSheet way who)) is = ceremony n is.0 Sheet (codes "sheet") (words (codes "sheet") refl) ceremonies-in.2
+unfolding in_table
+act-read (act.Enter who name) is = collection (codes "/people") People refl refl
+act-read (act.Train who role since until) is = person who is.0 Roles (codes "roles") (refl, refl)
+act-read (act.Withdraw who role day) is = person who is.0 Withdrawals (codes "withdrawals") (refl, refl)
+act-read (act.Appoint place who day) is = collection (codes "/custodians") Custodians refl refl
+act-read (act.Replace place who day) is = place-path place is.0 Replacement (codes "replacement") (refl, refl)
+act-read (act.Release place day) is = place-path place is.0 Release (codes "release") (refl, refl)
+act-read (act.AddBox facility box place) is = collection (codes "/boxes") Boxes refl refl
+act-read (act.Ceremony n at (deed.AddItem item)) is = collection (codes "/items") Items refl refl
+act-read (act.Plan n facility day script) is = collection (codes "/ceremonies") Ceremonies refl refl
+act-read (act.Ceremony n at deed.Open) is = ceremony n is.0 Opening (codes "opening") (refl, refl)
+act-read (act.Ceremony n at deed.Close) is = ceremony n is.0 Closing (codes "closing") (refl, refl)
+act-read (act.Ceremony n at (deed.RecordSheet way who)) is = ceremony n is.0 Sheet (codes "sheet") (refl, refl)
 act-read (act.Ceremony n at (deed.Sign k)) is = step n is.0 k is.1
-act-read (act.Ceremony n at (deed.RecordException text pass)) is = ceremony n is.0 Exceptions (codes "exceptions") (words (codes "exceptions") refl) ceremonies-in.3
+act-read (act.Ceremony n at (deed.RecordException text pass)) is = ceremony n is.0 Exceptions (codes "exceptions") (refl, refl)
 act-read (act.Ceremony n at (deed.SetSafe which state by)) is = safe n is.0 which
-act-read (act.Ceremony n at (deed.Seal serial items)) is = bag n is.0 serial is.1.0 Seal (codes "seal") (words (codes "seal") refl) bags-in.0
-act-read (act.Ceremony n at (deed.Take serial)) is = bag n is.0 serial is.1 Take (codes "take") (words (codes "take") refl) bags-in.1
-act-read (act.Ceremony n at (deed.Put serial to)) is = bag n is.0 serial is.1.0 Put (codes "put") (words (codes "put") refl) bags-in.2
-act-read (act.Ceremony n at (deed.Cut serial)) is = bag n is.0 serial is.1 Cut (codes "cut") (words (codes "cut") refl) bags-in.3
+act-read (act.Ceremony n at (deed.Seal serial items)) is = bag n is.0 serial is.1.0 Seal (codes "seal") (refl, refl)
+act-read (act.Ceremony n at (deed.Take serial)) is = bag n is.0 serial is.1 Take (codes "take") (refl, refl)
+act-read (act.Ceremony n at (deed.Put serial to)) is = bag n is.0 serial is.1.0 Put (codes "put") (refl, refl)
+act-read (act.Ceremony n at (deed.Cut serial)) is = bag n is.0 serial is.1 Cut (codes "cut") (refl, refl)
 
 -- the path of an act is short, and has the bytes of a path
 pub act-path : (act : Act) → IsAct act → IsPath 200 (path_text act)
@@ -306,8 +200,7 @@ pub act-target : (act : Act) → IsAct act → target_of (path_text act) ≡ Ok 
 unfolding target_of
 act-target act is =
     let read = act-read act is in
-    ap (λ (o : Option (List ℕ)). ok_or (option_and_then target_at o) refusal.Path) (whole-path (path_text act) read.is.bytes)
-    ∙ ap (λ (o : Option Endpoint). ok_or o refusal.Path) read.asks
+    rw (whole-path (path_text act) read.is.bytes, read.asks) refl
 
 -- ---- the parts of what a path asks for
 
@@ -322,15 +215,11 @@ part-is IsValue read found name parts = chained (λ _. ⊤) IsValue read (λ tex
 
 both-are : {A B : Type 0} (P : A → Type 0) (Q : B → Type 0) (make : A → B → Post) → ((a : A) (b : B) → P a → Q b → IsPost (make a b))
     → (part : Option A) (other : Option B) → IfSome part P → IfSome other Q → IfSome (with_parts make part other) IsPost
-both-are P Q make is None other p q = tt
-both-are P Q make is (Some a) None p q = tt
-both-are P Q make is (Some a) (Some b) p q = is a b p q
+both-are P Q make is part other p q =
+    chained P IsPost (λ a. option_map (make a) other) (λ a p. mapped Q IsPost (make a) (λ b q. is a b p q) other q) part p
 
 ceremony-is : (parts : Parts) → IfSome (ceremony_in parts) (IsNumber MAX_CEREMONY)
 ceremony-is = part-is (IsNumber MAX_CEREMONY) ceremony_of ceremonies.found (codes "ceremony")
-
-serial-is : (parts : Parts) → IfSome (serial_in parts) IsSerial
-serial-is = part-is IsSerial serial_of serials.found (codes "serial")
 
 post-is : (r : PostRoute) (parts : Parts) → IfSome (post_at r parts) IsPost
 post-is (posted.Collection path) parts = tt
@@ -350,7 +239,7 @@ post-is posted.Safe parts =
     both-are (IsNumber MAX_CEREMONY) (λ _. ⊤) post.Safe (λ n safe is _. is) (ceremony_in parts) safe (ceremony-is parts) (any safe)
 post-is (posted.Bag path) parts =
     both-are (IsNumber MAX_CEREMONY) IsSerial (λ n serial. post.Bag n serial path) (λ n serial is is_serial. (is, is_serial))
-    (ceremony_in parts) (serial_in parts) (ceremony-is parts) (serial-is parts)
+    (ceremony_in parts) (serial_in parts) (ceremony-is parts) (part-is IsSerial serial_of serials.found (codes "serial") parts)
 
 endpoint-is : (r : Route) (parts : Parts) → IfSome (endpoint_of r parts) IsEndpoint
 endpoint-is (route.Post r) parts = mapped IsPost IsEndpoint target.Post (λ p is. is) (post_at r parts) (post-is r parts)

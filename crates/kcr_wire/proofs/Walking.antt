@@ -1,161 +1,99 @@
 -- What the parameters of a route take from a path.
-use Rattle.std.proofs.Common.{◌≡◌, ℕ, ◌+◌, ◌-◌, ◌<◌, ◌≤◌, true, false, eqb, ltb, leb, List, [], ◌∷◌, ◌++◌, length, drop, refl, sym, ap, ◌∙◌, arith, map, length-append, append-nil, append_assoc, All}
-use Rattle.std.proofs.Math.Seq.{drop-append_seam, drop-append-add, get_or-append_seam, take-append_seam}
-use Rattle.std.proofs.lemmas.Bool.{lt-ltb, le-ltb}
-use Rattle.std.proofs.lemmas.Bool.Decides.{nat_tests}
-use Rattle.std.proofs.lemmas.List.Elements.{All-head, All-tail}
-use Rattle.matchit.specs.Params.{after_token, part_of, walk, wild_from, wild_stop}
-use Rattle.kcr_wire.proofs.Seeking.{segment-piece}
+use Rattle.kcr_wire.proofs.Common.{◌≡◌, ℕ, get_or, cond, length-drop, ◌+◌, ◌-◌, ◌<◌, ◌≤◌, true, false, eqb, ltb, leb, List, [], ◌∷◌, ◌++◌, length}
+use Rattle.kcr_wire.proofs.Common.{drop, refl, sym, ap, ◌∙◌, arith, map, length-append, All, drop-append_seam, take-append_seam, lt-ltb, le-ltb}
+use Rattle.kcr_wire.proofs.Common.{eqb-true, drop-drop, get_or-drop, nat_tests, All-head, All-tail, after_token, part_of, walk, wild_from, wild_stop}
+use Rattle.kcr_wire.proofs.Common.{segment}
+use Rattle.kcr_wire.proofs.Paths.{Leg, path_on, tokens_on, names_on, parts_on, AreLegs, front-below}
+use Rattle.kcr_wire.proofs.Seeking.{segment-piece, slash_or_end}
+use Rattle.kcr_wire.proofs.Bytes.{word-slash}
 
 -- bytes of a route before its next parameter
 wild-after : (bytes rest : List ℕ) (len token at : ℕ) → All (λ b. b < 256) bytes → at + length bytes ≤ len
     → wild_from (bytes ++ 256 ∷ rest) len token at ≡ (token + length bytes, at + length bytes)
-wild-after [] rest len token at small room =
-    let one : token ≡ token + length {A = ℕ} [] = omega arith in
-    let two : at ≡ at + length {A = ℕ} [] = omega arith in (λ i. (one i, two i))
+wild-after [] rest len token at small room = grind arith
 wild-after (b ∷ bytes) rest len token at small room =
-    let byte : ltb b 256 ≡ true = lt-ltb b 256 (All-head (λ b. b < 256) b bytes small) in
-    let on : ltb at len ≡ true = lt-ltb at len (omega (arith, room)) in
+    let byte = All-head (λ b. b < 256) b bytes small in
     let more = wild-after bytes rest len (token + 1) (at + 1) (All-tail (λ b. b < 256) b bytes small) (omega (arith, room)) in
-    let one : token + 1 + length bytes ≡ token + length (b ∷ bytes) = omega arith in
-    let two : at + 1 + length bytes ≡ at + length (b ∷ bytes) = omega arith in
-    rw (byte, on) (more ∙ (λ i. (one i, two i)))
+    grind (arith, nat_tests, byte, more)
 
-part-between : (front w rest : List ℕ) → part_of (front ++ (w ++ rest)) (length front) (length front + length w) ≡ w
-part-between front w rest =
-    let low : leb (length front) (length front + length w) ≡ true = grind (arith, nat_tests) in
-    let size = length-append front (w ++ rest) in
-    let more = length-append w rest in
-    let high : leb (length front + length w) (length (front ++ (w ++ rest))) ≡ true = grind (arith, nat_tests, size, more) in
-    let few : length front + length w - length front ≡ length w = omega arith in
-    rw (low, high, few, drop-append_seam front (w ++ rest)) (take-append_seam w rest)
+-- behind what stands at a place of a list stands the rest
+past : (n : ℕ) (xs front rest : List ℕ) → drop n xs ≡ front ++ rest → drop (n + length front) xs ≡ rest
+past n xs front rest e = sym (drop-drop (length front) n xs) ∙ ap (drop (length front)) e ∙ drop-append_seam front rest
 
--- a parameter takes a piece between slashes
-stop-before : (done back front w rest : List ℕ) → All (λ b. eqb b 47 ≡ false) w
-    → wild_stop (done ++ 256 ∷ 47 ∷ back) (length done) (front ++ (w ++ 47 ∷ rest)) (length front) ≡ length front + length w
-stop-before done back front w rest lacks =
-    let size = length-append done (256 ∷ 47 ∷ back) in
-    let inside : ltb (length done) (length (done ++ 256 ∷ 47 ∷ back)) ≡ true = lt-ltb _ _ (omega (arith, size)) in
-    let goes_on : ltb (length done + 1) (length (done ++ 256 ∷ 47 ∷ back)) ≡ true = lt-ltb _ _ (omega (arith, size)) in
-    let behind = drop-append-add done (256 ∷ 47 ∷ back) 1 in
-    let end : length front + length (w ++ 47 ∷ []) - 1 ≡ length front + length w = omega (arith, length-append w (47 ∷ [])) in
-    rw (inside, goes_on, get_or-append_seam done 256 (47 ∷ back) 0, drop-append_seam front (w ++ 47 ∷ rest), segment-piece w rest lacks, behind) end
+-- and the list is as long as that
+within : (n : ℕ) (xs front rest : List ℕ) → drop n xs ≡ front ++ rest → 0 < length front → n + length front + length rest ≡ length xs
+within n xs front rest e some = omega (arith, length-drop n xs, ap length e, length-append front rest)
 
--- a parameter at the end takes the rest
-stop-last : (done front w : List ℕ) → wild_stop (done ++ 256 ∷ []) (length done) (front ++ w) (length front) ≡ length front + length w
-stop-last done front w =
-    let size = length-append done (256 ∷ []) in
-    let inside : ltb (length done) (length (done ++ 256 ∷ [])) ≡ true = lt-ltb _ _ (omega (arith, size)) in
-    let ends : ltb (length done + 1) (length (done ++ 256 ∷ [])) ≡ false = le-ltb _ _ (omega (arith, size)) in
-    rw (inside, ends, get_or-append_seam done 256 [] 0) (length-append front w)
+-- the part of a path between the two ends of a piece
+part-at : (path : List ℕ) (at : ℕ) (piece rest : List ℕ) → drop at path ≡ piece ++ rest → 0 < length piece
+    → part_of path at (at + length piece) ≡ piece
+part-at path at piece rest there some =
+    let room = within at path piece rest there some in
+    let low : leb at (at + length piece) ≡ true = grind (arith, nat_tests) in
+    let high : leb (at + length piece) (length path) ≡ true = grind (arith, nat_tests, room) in
+    let few : at + length piece - at ≡ length piece = omega arith in
+    rw (low, high, few, there) (take-append_seam piece rest)
 
-walk-next : (pattern text path : List ℕ) (name : ℕ × ℕ) (names : List (ℕ × ℕ)) (token at token2 at2 stop : ℕ)
-    → wild_from (drop token pattern) (length path) token at ≡ (token2, at2) → wild_stop pattern token2 path at2 ≡ stop
-    → walk pattern text path (name ∷ names) token at
-    ≡ (part_of text name.0 name.1, part_of path at2 stop) ∷ walk pattern text path names (after_token token2) stop
-walk-next pattern text path name names token at token2 at2 stop found ends = rw (found, ends) refl
+-- where a parameter's piece ends, with these tokens behind the parameter and these bytes behind the piece
+abbrev Ends : List ℕ → List ℕ → List ℕ → Type 0
+Ends [] piece rest = rest ≡ []
+Ends (x ∷ back) piece rest = length (segment (piece ++ rest)) ≡ length piece + length (segment (x ∷ back))
 
--- the first parameter, between slashes
-walk-first : (front back text w rest : List ℕ) (name : ℕ × ℕ) (names : List (ℕ × ℕ)) → All (λ b. b < 256) front → All (λ b. eqb b 47 ≡ false) w
-    → walk (front ++ 256 ∷ 47 ∷ back) text (front ++ (w ++ 47 ∷ rest)) (name ∷ names) 0 0
-    ≡ (part_of text name.0 name.1, w)
-    ∷ walk (front ++ 256 ∷ 47 ∷ back) text (front ++ (w ++ 47 ∷ rest)) names (after_token (length front)) (length front + length w)
-walk-first front back text w rest name names small lacks =
-    let pattern = front ++ 256 ∷ 47 ∷ back in
-    let path = front ++ (w ++ 47 ∷ rest) in
-    let none : 0 + length front ≡ length front = omega arith in
-    let found : wild_from pattern (length path) 0 0 ≡ (length front, length front) =
-    wild-after front (47 ∷ back) (length path) 0 0 small (omega (arith, length-append front (w ++ 47 ∷ rest))) ∙ (λ i. (none i, none i)) in
-    walk-next pattern text path name names 0 0 (length front) (length front) (length front + length w) found (stop-before front back front w rest lacks)
-    ∙ ap (λ part. (part_of text name.0 name.1, part) ∷ walk pattern text path names (after_token (length front)) (length front + length w))
-    (part-between front w (47 ∷ rest))
+-- a piece ends where the walk stops
+stop-at : (pattern path : List ℕ) (token at : ℕ) (back piece rest : List ℕ) → drop token pattern ≡ 256 ∷ back → drop at path ≡ piece ++ rest
+    → 0 < length piece → Ends back piece rest → wild_stop pattern token path at ≡ at + length piece
+stop-at pattern path token at back piece rest here there some ends =
+    let room = within at path piece rest there some in
+    let size = within token pattern (256 ∷ []) back here (omega arith) in
+    let inside : ltb token (length pattern) ≡ true = lt-ltb _ _ (omega (arith, size)) in
+    let zero : token + 0 ≡ token = omega arith in
+    let read = get_or-drop token pattern 0 0 in
+    let is : get_or pattern token 0 ≡ 256 = cc in
+    rw (inside, is, there, past token pattern (256 ∷ []) back here) (by back ends size)
+  where
+    by : (back : List ℕ) → Ends back piece rest → token + 1 + length back ≡ length pattern
+        → cond (ltb (token + 1) (length pattern)) (at + length (segment (piece ++ rest)) - length (segment back)) (length path) ≡ at + length piece
+    by [] e size = rw (le-ltb (token + 1) (length pattern) (omega (arith, size))) (omega (arith, within at path piece rest there some, ap length e))
+    by (x ∷ back) e size = rw (lt-ltb (token + 1) (length pattern) (omega (arith, size))) (omega (arith, e))
 
-walk-one : (front back text w rest : List ℕ) (name : ℕ × ℕ) → All (λ b. b < 256) front → All (λ b. eqb b 47 ≡ false) w
-    → walk (front ++ 256 ∷ 47 ∷ back) text (front ++ (w ++ 47 ∷ rest)) (name ∷ []) 0 0 ≡ (part_of text name.0 name.1, w) ∷ []
-walk-one front back text w rest name small lacks = walk-first front back text w rest name [] small lacks
+-- a slash behind the piece ends it, and so does the end of both
+slash-ends : (piece rest : List ℕ) → All (λ b. eqb b 47 ≡ false) piece → length (segment (piece ++ 47 ∷ rest)) ≡ length piece + 1
+slash-ends piece rest lacks = rw (segment-piece piece rest lacks) (length-append piece (47 ∷ []))
 
--- ---- a second parameter
-
--- what comes before it, in the route and in the path
-abbrev tokens_before : List ℕ → List ℕ → List ℕ
-tokens_before front middle = front ++ 256 ∷ 47 ∷ middle
-
-abbrev bytes_before : List ℕ → List ℕ → List ℕ → List ℕ
-bytes_before front middle w = front ++ (w ++ 47 ∷ middle)
-
--- the second parameter takes this piece
-abbrev EndsAt : List ℕ → List ℕ → List ℕ → List ℕ → List ℕ → List ℕ → Type 0
-EndsAt front middle w back v rest =
-    wild_stop (tokens_before front middle ++ 256 ∷ back) (length (tokens_before front middle)) (bytes_before front middle w ++ (v ++ rest)) (length (bytes_before front middle w))
-    ≡ length (bytes_before front middle w) + length v
-
-walk-two : (front middle back text w v rest : List ℕ) (first second : ℕ × ℕ) → All (λ b. b < 256) front → length front ≤ 20
-    → All (λ b. b < 256) (47 ∷ middle) → All (λ b. eqb b 47 ≡ false) w → EndsAt front middle w back v rest
-    → walk (front ++ 256 ∷ 47 ∷ (middle ++ 256 ∷ back)) text (front ++ (w ++ 47 ∷ (middle ++ (v ++ rest)))) (first ∷ second ∷ []) 0 0
-    ≡ (part_of text first.0 first.1, w) ∷ (part_of text second.0 second.1, v) ∷ []
-walk-two front middle back text w v rest first second small short small_middle lacks ends =
-    let done = tokens_before front middle in
-    let passed = bytes_before front middle w in
-    let pattern = front ++ 256 ∷ 47 ∷ (middle ++ 256 ∷ back) in
-    let path = front ++ (w ++ 47 ∷ (middle ++ (v ++ rest))) in
-    let token : after_token (length front) ≡ length front + 1 = omega (arith, short) in
-    let pattern_is : pattern ≡ done ++ 256 ∷ back = sym (append_assoc front (256 ∷ 47 ∷ middle) (256 ∷ back)) in
-    let path_is : path ≡ passed ++ (v ++ rest) =
-    ap (λ t. front ++ t) (sym (append_assoc w (47 ∷ middle) (v ++ rest))) ∙ sym (append_assoc front (w ++ 47 ∷ middle) (v ++ rest)) in
-    let of_done = length-append front (256 ∷ 47 ∷ middle) in
-    let of_passed = length-append front (w ++ 47 ∷ middle) in
-    let of_piece = length-append w (47 ∷ middle) in
-    let at_token : length front + 1 + length (47 ∷ middle) ≡ length done = omega (arith, of_done) in
-    let at_path : length front + length w + length (47 ∷ middle) ≡ length passed = omega (arith, of_passed, of_piece) in
-    let found : wild_from (drop (length front + 1) pattern) (length path) (length front + 1) (length front + length w) ≡ (length done, length passed) =
-    ap (λ rows. wild_from rows (length path) (length front + 1) (length front + length w)) (drop-append-add front (256 ∷ 47 ∷ (middle ++ 256 ∷ back)) 1)
-    ∙ wild-after (47 ∷ middle) back (length path) (length front + 1) (length front + length w) small_middle (omega (arith, of_passed, of_piece, length-append passed (v ++ rest), ap length path_is))
-    ∙ (λ i. (at_token i, at_path i)) in
-    let parts : walk pattern text path (second ∷ []) (after_token (length front)) (length front + length w) ≡ (part_of text second.0 second.1, v) ∷ [] =
-    ap (λ n. walk pattern text path (second ∷ []) n (length front + length w)) token
-    ∙ walk-next pattern text path second [] (length front + 1) (length front + length w) (length done) (length passed) (length passed + length v) found
-    ((λ i. wild_stop (pattern_is i) (length done) (path_is i) (length passed)) ∙ ends)
-    ∙ ap (λ part. (part_of text second.0 second.1, part) ∷ [])
-    (ap (λ t. part_of t (length passed) (length passed + length v)) path_is ∙ part-between passed v rest) in
-    walk-first front (middle ++ 256 ∷ back) text w (middle ++ (v ++ rest)) first (second ∷ []) small lacks
-    ∙ ap (λ t. (part_of text first.0 first.1, w) ∷ t) parts
-
--- ---- by the names
+ends-on : (legs : List Leg) (end piece : List ℕ) → slash_or_end end ≡ true → All (λ b. eqb b 47 ≡ false) piece
+    → Ends (tokens_on legs end) piece (path_on legs end)
+ends-on [] [] piece slash lacks = refl
+ends-on [] (x ∷ end) piece slash lacks = rw (eqb-true x 47 slash) (slash-ends piece end lacks)
+ends-on (l ∷ legs) end piece slash lacks = slash-ends piece (l.front ++ (l.piece ++ path_on legs end)) lacks
 
 -- the names of a route's parameters
 abbrev pub names_in : List ℕ → List (ℕ × ℕ) → List (List ℕ)
 names_in text places = map (λ (place : ℕ × ℕ). part_of text place.0 place.1) places
 
-module _ (front w : List ℕ) (small : All (λ b. b < 256) front) (lacks : All (λ b. eqb b 47 ≡ false) w) where
-  -- one parameter takes the bytes between its slashes
-  pub one-taken : (back text rest name : List ℕ) (places : List (ℕ × ℕ)) → names_in text places ≡ name ∷ []
-      → walk (front ++ 256 ∷ 47 ∷ back) text (front ++ (w ++ 47 ∷ rest)) places 0 0 ≡ (name, w) ∷ []
-  one-taken back text rest name [] e = cc
-  one-taken back text rest name (place ∷ []) e =
-      let same : part_of text place.0 place.1 ≡ name = cc in
-      walk-one front back text w rest place small lacks ∙ ap (λ t. (t, w) ∷ []) same
-  one-taken back text rest name (place ∷ other ∷ places) e = cc
-
-  module _ (short : length front ≤ 20) (middle : List ℕ) (small_middle : All (λ b. b < 256) (47 ∷ middle)) (text name other : List ℕ) where
-    two-named : (back v rest : List ℕ) → EndsAt front middle w back v rest → (places : List (ℕ × ℕ)) → names_in text places ≡ name ∷ other ∷ []
-        → walk (front ++ 256 ∷ 47 ∷ (middle ++ 256 ∷ back)) text (front ++ (w ++ 47 ∷ (middle ++ (v ++ rest)))) places 0 0 ≡ (name, w) ∷ (other, v) ∷ []
-    two-named back v rest ends [] e = cc
-    two-named back v rest ends (first ∷ []) e = cc
-    two-named back v rest ends (first ∷ second ∷ []) e =
-        let one : part_of text first.0 first.1 ≡ name = cc in
-        let two : part_of text second.0 second.1 ≡ other = cc in
-        walk-two front middle back text w v rest first second small short small_middle lacks ends ∙ (λ i. (one i, w) ∷ (two i, v) ∷ [])
-    two-named back v rest ends (first ∷ second ∷ third ∷ places) e = cc
-
-    -- two parameters take theirs
-    pub two-taken : (back v rest : List ℕ) → All (λ b. eqb b 47 ≡ false) v → (places : List (ℕ × ℕ)) → names_in text places ≡ name ∷ other ∷ []
-        → walk (front ++ 256 ∷ 47 ∷ (middle ++ 256 ∷ 47 ∷ back)) text (front ++ (w ++ 47 ∷ (middle ++ (v ++ 47 ∷ rest)))) places 0 0
-        ≡ (name, w) ∷ (other, v) ∷ []
-    two-taken back v rest v_lacks = two-named (47 ∷ back) v (47 ∷ rest) (stop-before (tokens_before front middle) back (bytes_before front middle w) v rest v_lacks)
-
-    -- the last parameter takes the rest of the path
-    pub last-taken : (v : List ℕ) (places : List (ℕ × ℕ)) → names_in text places ≡ name ∷ other ∷ []
-        → walk (front ++ 256 ∷ 47 ∷ (middle ++ 256 ∷ [])) text (front ++ (w ++ 47 ∷ (middle ++ v))) places 0 0 ≡ (name, w) ∷ (other, v) ∷ []
-    last-taken v places e =
-        ap (λ t. walk (front ++ 256 ∷ 47 ∷ (middle ++ 256 ∷ [])) text (front ++ (w ++ 47 ∷ (middle ++ t))) places 0 0) (sym (append-nil v))
-        ∙ two-named [] v [] (stop-last (tokens_before front middle) (bytes_before front middle w) (v ++ []) ∙ ap (λ t. length (bytes_before front middle w) + length t) (append-nil v)) places e
+-- each parameter takes its piece
+module _ (pattern text path : List ℕ) (short : length pattern ≤ 200) where
+  pub walk-on : (legs : List Leg) (end : List ℕ) (places : List (ℕ × ℕ)) (token at : ℕ) → slash_or_end end ≡ true → AreLegs legs
+      → drop token pattern ≡ tokens_on legs end → drop at path ≡ path_on legs end → names_in text places ≡ names_on legs
+      → walk pattern text path places token at ≡ parts_on legs
+  walk-on [] end [] token at slash are tokens bytes named = refl
+  walk-on [] end (place ∷ places) token at slash are tokens bytes named = cc
+  walk-on (l ∷ legs) end [] token at slash are tokens bytes named = cc
+  walk-on (l ∷ legs) end (place ∷ places) token at slash are tokens bytes named =
+      let front = 47 ∷ l.front in
+      let back = tokens_on legs end in
+      let rest = path_on legs end in
+      let here : drop (token + length front) pattern ≡ 256 ∷ back = past token pattern front (256 ∷ back) tokens in
+      let there : drop (at + length front) path ≡ l.piece ++ rest = past at path front (l.piece ++ rest) bytes in
+      let size = within (token + length front) pattern (256 ∷ []) back here (omega arith) in
+      let room = within (at + length front) path l.piece rest there are.1.some in
+      let found : wild_from (drop token pattern) (length path) token at ≡ (token + length front, at + length front) =
+      rw tokens (wild-after front back (length path) token at (front-below l.front are.0) (omega (arith, room))) in
+      let stop = stop-at pattern path (token + length front) (at + length front) back l.piece rest here there are.1.some
+      (ends-on legs end l.piece slash (word-slash l.piece are.1.bytes)) in
+      let part = part-at path (at + length front) l.piece rest there are.1.some in
+      let next : after_token (token + length front) ≡ token + length front + 1 = omega (arith, size, short) in
+      let name : part_of text place.0 place.1 ≡ l.name = cc in
+      let names : names_in text places ≡ names_on legs = cc in
+      let more = walk-on legs end places (token + length front + 1) (at + length front + length l.piece) slash are.2
+      (past (token + length front) pattern (256 ∷ []) back here) (past (at + length front) path l.piece rest there) names in
+      rw (found, stop, part, next, name, more) refl

@@ -5,35 +5,17 @@ use Rattle.kcr_history.specs.declared.commands.Act.TheVariants.{Ceremony}
 use Rattle.kcr_history.specs.declared.commands.Deed.TheVariants.{AddItem, Cut, Seal, Sign}
 use Rattle.kcr_history.specs.Machine.{IsRegister}
 use Rattle.kcr_laws.proofs.Accepted.{answers_keep}
-use Rattle.kcr_worked.specs.Examples.{AA, BB, HSM4, bag_7, bag_8, clock, come, leave, accepted_from, script_of_one}
-use Rattle.kcr_worked.specs.Examples.{opening_acts, opened_with, signed_by_two, bag_on_table}
+use Rattle.kcr_worked.specs.Examples.{AA, BB, HSM4, bag_7, bag_8, clock, come, leave, script_of_one}
+use Rattle.kcr_worked.specs.Examples.{opened_with, signed_by_two, bag_on_table}
+use Rattle.kcr_worked.proofs.Commands.{opening-one_seat, opening-two_seats, signature_of_a_step}
 use Rattle.kcr_worked.proofs.OnLiterals.{rows_on_literals}
 use Rattle.kcr_worked.proofs.Played.{Seated, answered}
 
-two_seats_opened : IsRegister (opened_with (script_of_one (codes "CA;IW")))
-unfolding rows_on_literals
-two_seats_opened =
-    let said = accepted_from 1 (opening_acts (script_of_one (codes "CA;IW"))) in
-    answers_keep [] (opened_with (script_of_one (codes "CA;IW"))) said tt (answered [] said [] _ refl)
-
-signing : List (Act × List ℕ)
-signing =
-    (come (AA ∷ BB ∷ []) (clock 20 5 0), codes "{\"accepted\":17}")
-    ∷ (Ceremony 61 (clock 20 10 0) (Sign 1), codes "{\"accepted\":18,\"seating\":[\"BB\",\"AA\"],\"step\":1}")
-    ∷ []
-
 -- the history after two people signed a step is that of a register
 pub two_signed : IsRegister signed_by_two
-unfolding rows_on_literals signing
 two_signed =
-    answers_keep (opened_with (script_of_one (codes "CA;IW"))) signed_by_two signing two_seats_opened
-    (answered _ signing (Seated (BB ∷ AA ∷ []) ∷ []) _ refl)
-
-one_seat_opened : IsRegister (opened_with (script_of_one (codes "IW")))
-unfolding rows_on_literals
-one_seat_opened =
-    let said = accepted_from 1 (opening_acts (script_of_one (codes "IW"))) in
-    answers_keep [] (opened_with (script_of_one (codes "IW"))) said tt (answered [] said [] _ refl)
+    let opened = opened_with (script_of_one (codes "CA;IW")) in
+    answers_keep opened signed_by_two _ (answers_keep [] opened _ tt opening-two_seats) signature_of_a_step
 
 sealing : List (Act × List ℕ)
 sealing =
@@ -50,5 +32,6 @@ sealing =
 pub bag_lies : IsRegister bag_on_table
 unfolding rows_on_literals sealing
 bag_lies =
-    answers_keep (opened_with (script_of_one (codes "IW"))) bag_on_table sealing one_seat_opened
+    let opened = opened_with (script_of_one (codes "IW")) in
+    answers_keep opened bag_on_table sealing (answers_keep [] opened _ tt opening-one_seat)
     (answered _ sealing (Seated (AA ∷ []) ∷ []) _ refl)

@@ -47,7 +47,6 @@ unfolding rows_on_literals
 balanced_custody-answered = answered _ _ (Seated (AA ∷ []) ∷ []) _ refl
 
 pub balanced_custody-balanced : IsBalanced bag_on_table
-unfolding rows_on_literals
 balanced_custody-balanced = balanced bag_on_table bag_lies
 
 pub balanced_custody-in_two_bags : IsBalanced (with_acts (opened_with_people (script_of_one (codes "IW")) (AA ∷ BB ∷ []))

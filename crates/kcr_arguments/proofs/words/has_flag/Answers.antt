@@ -1,16 +1,10 @@
-use Rattle.std.proofs.Common.{codes, false, Option, ap, ◌∙◌}
-use Rattle.std.specs.Option.{option_map_or}
-use Rattle.std.specs.Str.{bytes_eq}
-use Rattle.clap.specs.Words.{Text, found_of}
+use Rattle.std.proofs.Common.{arith}
+use Rattle.clap.specs.Words.{found_of}
 use Rattle.clap.proofs.WalkLemmas.{first_value-rows}
 use Rattle.kcr_arguments.proofs.words.has_flag.Goals as goal
 
 pub returns-in-Some : goal.returns-in-Some
-returns-in-Some c =
-    c.eq.ensures ∙ ap (λ (o : Option Text). option_map_or (λ text. bytes_eq text (codes "true")) o false)
-    (c.in-Some.ensures ∙ first_value-rows (found_of c.args.matches.now) c.args.name.now)
+returns-in-Some c = let rows = first_value-rows (found_of c.args.matches.now) c.args.name.now in grind (arith, rows)
 
 pub returns-in-None : goal.returns-in-None
-returns-in-None c =
-    ap (λ (o : Option Text). option_map_or (λ text. bytes_eq text (codes "true")) o false)
-    (c.in-None.ensures ∙ first_value-rows (found_of c.args.matches.now) c.args.name.now)
+returns-in-None c = let rows = first_value-rows (found_of c.args.matches.now) c.args.name.now in grind (arith, rows)

@@ -1,4 +1,4 @@
-use Rattle.std.proofs.Common.{rules, ◌∙◌, ◌≤◌, arith, inl, inr}
+use Rattle.std.proofs.Common.{rules, ◌∙◌, arith}
 use Rattle.clap.specs.Words.{found_of}
 use Rattle.std.specs.Str.Parse.{ParsesUnsigned, ExplainsUnsignedError, HasUnsignedDigitsIfOk}
 use Rattle.kcr_arguments.proofs.Numbers.{number_read, number_outside, number_none}
@@ -13,13 +13,10 @@ pub returns-then-number-least-clause-number : goal.returns-then-number-least-cla
 returns-then-number-least-clause-number c =
     number_outside _ (λ bs r. ParsesUnsigned 32 10 bs r × ExplainsUnsignedError 10 bs r × HasUnsignedDigitsIfOk bs r) (λ u x g. g.0)
     c.args.least c.args.most c.args.name.now (found_of c.args.matches.now) (omega (arith, c.ranges.most.fits))
-    c.in_ok-number.number c.in_ok-number.ensures.none c.in_ok-number.ensures.value
-    (λ low high. elim c.then-number-least.either [ inl less ↦ omega (arith, less, low) | inr more ↦ omega (arith, more.1, high) ])
+    c.in_ok-number.number c.in_ok-number.ensures.value (λ low high. grind arith)
 
 pub returns-clause-number : goal.returns-clause-number
 returns-clause-number c =
-    let low : c.args.least ≤ c.in_ok-number.number = search rules in
-    let high : c.in_ok-number.number ≤ c.args.most = search rules in
     number_read _ (λ bs r. ParsesUnsigned 32 10 bs r × ExplainsUnsignedError 10 bs r × HasUnsignedDigitsIfOk bs r) (λ u x g. g.0)
     c.args.least c.args.most c.args.name.now (found_of c.args.matches.now) (omega (arith, c.ranges.most.fits))
-    c.in_ok-number.number c.in_ok-number.ensures.none c.in_ok-number.ensures.value low high
+    c.in_ok-number.number c.in_ok-number.ensures.none c.in_ok-number.ensures.value (search rules) (search rules)

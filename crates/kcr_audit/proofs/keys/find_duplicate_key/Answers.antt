@@ -1,6 +1,4 @@
-use Rattle.std.proofs.Common.{List, subst}
-use Rattle.kcr_history.specs.declared.row_types.KeyRow.{KeyRow}
-use Rattle.kcr_audit.specs.Defects.{IsRepeated}
+use Rattle.kcr_audit.proofs.Common.{List, subst, KeyRow, IsRepeated}
 use Rattle.kcr_audit.proofs.Seen.{none-doubled}
 use Rattle.kcr_audit.proofs.keys.find_duplicate_key.Goals as goal
 

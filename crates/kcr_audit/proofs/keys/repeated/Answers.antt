@@ -1,24 +1,13 @@
-use Rattle.std.proofs.Common.{sym, subst, ◌∙◌}
-use Rattle.std.specs.HashSet.{contains}
-use Rattle.std.proofs.lemmas.Bool.{not-true, not-false}
+use Rattle.kcr_audit.proofs.Common.{subst, arith, contains, not-true, not-false, same_text}
 use Rattle.std.proofs.lemmas.List.{take_all}
-use Rattle.kcr_base.specs.Same.{same_text}
 use Rattle.kcr_audit.proofs.Seen.{Seen, seen-more, seen-again, seen-all}
 use Rattle.kcr_audit.proofs.keys.repeated.Goals as goal
 
 pub returns-then-not-branch : goal.returns-then-not-branch
-returns-then-not-branch c =
-    seen-again c.args.rows.now c.loop-row.row-index c.row-item.result
-    (contains same_text c.loop-row.seen) c.loop-row-test.true c.row-item.is c.loop-row.invariant
-    (not-false (contains same_text c.loop-row.seen c.row-item.result.key) (sym c.in_ok-insert.ensures.added ∙ c.if-not-branch.true))
+returns-then-not-branch c = grind (arith, seen-again, not-false)
 
 pub loop-row-preserved : goal.loop-row-preserved
-loop-row-preserved c =
-    seen-more c.args.rows.now c.loop-row.row-index c.row-item.result
-    (contains same_text c.loop-row.seen) c.loop-row-test.true c.row-item.is c.loop-row.invariant
-    (contains same_text c.insert.new.self)
-    (not-true (contains same_text c.loop-row.seen c.row-item.result.key) (sym c.in_ok-insert.ensures.added ∙ c.if-not-branch.false))
-    c.in_ok-insert.ensures.updates.0
+loop-row-preserved c = grind (arith, seen-more, not-true)
 
 pub returns : goal.returns
 returns c =

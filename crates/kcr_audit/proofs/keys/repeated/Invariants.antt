@@ -1,6 +1,4 @@
-use Rattle.std.proofs.Common.{take}
-use Rattle.std.specs.HashSet.{contains}
-use Rattle.kcr_base.specs.Same.{same_text}
+use Rattle.kcr_audit.proofs.Common.{take, contains, same_text}
 use Rattle.kcr_audit.proofs.Seen.{Seen}
 use Rattle.kcr_audit.proofs.keys.repeated.Given as goal
 

@@ -1,6 +1,4 @@
-use Rattle.std.proofs.Common.{◌≡◌, ℕ, false, take}
-use Rattle.std.specs.List.{All}
-use Rattle.kcr_audit.specs.Rooms.{is_crowd}
+use Rattle.kcr_audit.proofs.Common.{◌≡◌, ℕ, false, take, All, is_crowd}
 use Rattle.kcr_audit.proofs.rooms.crowd_among.Given as goal
 
 -- no moment of the ceremonies so far passes

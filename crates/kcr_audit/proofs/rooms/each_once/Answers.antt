@@ -1,8 +1,6 @@
-use Rattle.std.proofs.Common.{eqb, sym, subst}
-use Rattle.std.specs.List.{Contains}
+use Rattle.kcr_audit.proofs.Common.{eqb, sym, subst, Contains, Contains-permutation}
 use Rattle.std.proofs.lemmas.List.Filters.{dedup_is}
 use Rattle.std.proofs.lemmas.List.Kept.{Contains-dedup_nat}
-use Rattle.std.proofs.lemmas.List.Sorted.{Contains-permutation}
 use Rattle.kcr_audit.proofs.rooms.each_once.Goals as goal
 
 pub returns : goal.returns

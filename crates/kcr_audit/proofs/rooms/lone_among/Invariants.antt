@@ -1,6 +1,4 @@
-use Rattle.std.proofs.Common.{◌≡◌, ℕ, false, take}
-use Rattle.std.specs.List.{All}
-use Rattle.kcr_audit.specs.Rooms.{is_lone}
+use Rattle.kcr_audit.proofs.Common.{◌≡◌, ℕ, false, take, All, is_lone}
 use Rattle.kcr_audit.proofs.rooms.lone_among.Given as goal
 
 -- no moment of the ceremonies so far passes

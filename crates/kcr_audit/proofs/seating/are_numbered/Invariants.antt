@@ -1,5 +1,4 @@
-use Rattle.std.proofs.Common.{◌≡◌, suc, drop}
-use Rattle.kcr_history.specs.Audit.{are_numbered}
+use Rattle.kcr_audit.proofs.Common.{◌≡◌, suc, drop, are_numbered}
 use Rattle.kcr_audit.proofs.seating.are_numbered.Given as goal
 
 -- what is left is numbered on if all is numbered from 1

@@ -1,5 +1,5 @@
-use Rattle.std.proofs.Common.{◌≡◌, drop, find}
-use Rattle.kcr_audit.specs.Defects.{is_step_wrong}
+use Rattle.kcr_audit.proofs.Common.{◌≡◌, drop, is_step_wrong}
+use Rattle.std.proofs.Common.{find}
 use Rattle.kcr_audit.proofs.seating.first_ill_seated.Given as goal
 
 -- none of the steps so far is wrong

@@ -1,5 +1,4 @@
-use Rattle.std.proofs.Common.{◌≡◌, ◌≤◌, length, drop}
-use Rattle.kcr_audit.specs.Defects.{rows_in_order}
+use Rattle.kcr_audit.proofs.Common.{◌≡◌, ◌≤◌, length, drop, rows_in_order}
 use Rattle.kcr_audit.proofs.seating.in_order.Given as goal
 
 -- the rows from the index on are in order

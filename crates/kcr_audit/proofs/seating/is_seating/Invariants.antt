@@ -1,5 +1,4 @@
-use Rattle.std.proofs.Common.{◌≡◌, length, drop}
-use Rattle.kcr_history.specs.Audit.{is_seating_by}
+use Rattle.kcr_audit.proofs.Common.{◌≡◌, length, drop, is_seating_by}
 use Rattle.kcr_audit.proofs.seating.is_seating.Given as goal
 
 -- the people so far are eligible and stand once

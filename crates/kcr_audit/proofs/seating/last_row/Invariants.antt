@@ -1,6 +1,4 @@
-use Rattle.std.proofs.Common.{◌≡◌, drop}
-use Rattle.std.specs.List.{filter}
-use Rattle.kcr_room.specs.Room.{last_onto, last_row, is_of}
+use Rattle.kcr_audit.proofs.Common.{◌≡◌, drop, filter, last_onto, last_row, is_of}
 use Rattle.kcr_audit.proofs.seating.last_row.Given as goal
 
 -- the last so far and of what is left is the last

@@ -1,5 +1,4 @@
-use Rattle.std.proofs.Common.{◌≡◌, ◌++◌, take, drop}
-use Rattle.kcr_audit.specs.Defects.{put_row}
+use Rattle.kcr_audit.proofs.Common.{◌≡◌, ◌++◌, take, drop, put_row}
 use Rattle.kcr_audit.proofs.seating.place_of.Given as goal
 
 -- put in among what is left, behind what was passed over, it is put in among all

@@ -1,15 +1,9 @@
-use Rattle.std.proofs.Common.{◌≡◌, ◌∙◌, [], ap}
-use Rattle.kcr_base.specs.Counted.{inner_of}
-use Rattle.kcr_history.specs.Prints.{attendance}
-use Rattle.kcr_print.specs.ByRows.{attendance_by}
-use Rattle.kcr_desk.specs.declared.response.MediaType.TheVariants.{Csv}
+use Rattle.kcr_desk.proofs.Common.{◌∙◌, Some, ap, sym, attendance, attendance_by, Csv}
 use Rattle.kcr_desk.proofs.ReportLemmas.{report_answered}
 use Rattle.kcr_desk.proofs.answer.answer_attendance.Goals as goal
 
 pub returns : goal.returns
 returns g c =
-    let e = c.attendance_csv-outcome.ensures in
-    let blank : (inner_of c.new-page.result).items ≡ [] = ap (λ v. v.items) c.new-page.ensures.inner ∙ c.new.ensures.items in
-    report_answered g.S.Store _ Csv c.into_inner-text.result.items attendance attendance_by c.args.ceremony
-    e.prints (λ clean A at. let printed = e.prints.printed clean A at in rw c.into_inner-text.ensures (rw blank at printed)) e.planned
-    (λ clean whole m had. let printed = e.by_rows clean whole m had in rw c.into_inner-text.ensures (rw blank at printed)) e.row c.report_response.ensures
+    report_answered g.S.Store _ Csv c.into_inner-text.result.items attendance attendance_by c.args.ceremony c.attendance_csv-outcome.ensures
+    (ap (λ v. Some v.items) c.new-page.ensures.inner ∙ ap Some c.new.ensures.items) (ap (λ v. Some v.items) (sym c.into_inner-text.ensures))
+    c.report_response.ensures

@@ -1,9 +1,6 @@
-use Rattle.std.proofs.Common.{◌≡◌, ◌∙◌, [], ap, arith}
+use Rattle.kcr_desk.proofs.Common.{◌∙◌, Some, ap, sym, arith, IsFeed, IsFeedByRows, MayBeFed, report_response, Text}
 use Rattle.std.specs.Prelude.{◌<◌, ◌≤◌}
-use Rattle.kcr_base.specs.Counted.{inner_of}
-use Rattle.kcr_desk.specs.Answers.{IsFeed, IsFeedByRows, MayBeFed, report_response}
 use Rattle.kcr_desk.specs.Pages.{text_of}
-use Rattle.kcr_desk.specs.declared.response.MediaType.TheVariants.{Text}
 use Rattle.kcr_desk.proofs.ReportLemmas.{answered_again, feed_answered}
 use Rattle.kcr_desk.proofs.answer.answer_feed.Goals as goal
 
@@ -21,7 +18,6 @@ returns-in-Some g c =
 pub returns-in-None : goal.returns-in-None
 returns-in-None g c =
     let e = rw c.get-first.ensures.value at c.export-outcome.ensures in
-    let blank : text_of (inner_of c.new-page.result) ≡ [] = ap text_of c.new-page.ensures.inner ∙ c.new.ensures in
-    feed_answered g.S.Store _ Text c.into_text-text.result.items c.args.after 1000 some_commands most_commands
-    e (λ clean A at values. let printed = e.requests clean A at values in rw (c.into_text-text.ensures, c.into_inner-page.ensures) (rw blank at printed))
-    (λ clean whole m had. let printed = e.by_rows clean whole m had in rw (c.into_text-text.ensures, c.into_inner-page.ensures) (rw blank at printed)) c.requires.enough c.report_response.ensures
+    feed_answered g.S.Store _ Text c.into_text-text.result.items c.args.after 1000 some_commands most_commands e c.requires.enough
+    (ap (λ p. Some (text_of p)) c.new-page.ensures.inner ∙ ap Some c.new.ensures)
+    (ap (λ p. Some (text_of p)) (sym c.into_inner-page.ensures) ∙ ap Some (sym c.into_text-text.ensures)) c.report_response.ensures

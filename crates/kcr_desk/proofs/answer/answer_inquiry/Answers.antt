@@ -1,4 +1,4 @@
-use Rattle.std.proofs.Common.{sym}
+use Rattle.kcr_desk.proofs.Common.{sym}
 use Rattle.kcr_desk.proofs.AnswerLemmas.{refused_answered}
 use Rattle.kcr_desk.proofs.answer.answer_inquiry.Goals as goal
 

@@ -1,14 +1,9 @@
-use Rattle.std.proofs.Common.{◌≡◌, ◌∙◌, ap, false, inl, inr, refl, sym}
-use Rattle.std.specs.Prelude.{Result, Ok, Err}
-use Rattle.sqlite.specs.Store.{Ghosts}
-use Rattle.kcr_base.specs.declared.refusal.Refusal.{Refusal}
+use Rattle.kcr_desk.proofs.Common.{◌≡◌, ◌∙◌, ap, false, inl, inr, refl, sym, Result, Ok, Err, Ghosts, Refusal, ReadsHistory, RegisterState}
+use Rattle.kcr_desk.proofs.Common.{MayBeShown, json_response, shown_response}
 use Rattle.kcr_history.specs.declared.questions.Question.{Question}
 use Rattle.kcr_history.specs.declared.questions.Shown.{Shown}
-use Rattle.kcr_store.specs.Calls.{ReadsHistory}
 use Rattle.kcr_store.specs.Frame.{OfRowsOver}
-use Rattle.kcr_store.specs.Register.{RegisterState}
 use Rattle.kcr_store.specs.ShownBy.{IsQuestionResultBy}
-use Rattle.kcr_desk.specs.Answers.{MayBeShown, json_response, shown_response}
 use Rattle.kcr_desk.proofs.AnswerLemmas.{OfShown, refused_or_memory, reading_answered}
 use Rattle.kcr_desk.proofs.answer.answer_question.Goals as goal
 
@@ -23,17 +18,17 @@ shown_rows g question looks says whole clean t at =
 pub returns-in-Ok-write_shown : goal.returns-in-Ok-write_shown
 returns-in-Ok-write_shown g c =
     let e = c.in-Ok.ensures in
-    reading_answered g.S.Store _ _ _ _ (λ r. refl) (Ok c.in-Ok.shown) _ _ (MayBeShown c.args.question.now) (inl (inl refl)) (λ _. e.by_rows) e.looks e.shown (shown_rows g.S.Store c.args.question.now e.looks e.rows)
-    (inl (c.json_response.ensures ∙ ap json_response c.in-Ok-write_shown.ensures))
+    reading_answered g.S.Store _ _ _ _ (λ r. refl) (Ok c.in-Ok.shown) _ _ (MayBeShown c.args.question.now) (λ _. e.by_rows) e.looks e.shown
+    (shown_rows g.S.Store c.args.question.now e.looks e.rows) (inl (c.json_response.ensures ∙ ap json_response c.in-Ok-write_shown.ensures))
 
 pub returns-in-Ok : goal.returns-in-Ok
 returns-in-Ok g c =
     let e = c.in-Ok.ensures in
-    reading_answered g.S.Store _ _ _ _ (λ r. refl) (Ok c.in-Ok.shown) _ _ (MayBeShown c.args.question.now) (inl (inl refl)) (λ _. e.by_rows) e.looks e.shown (shown_rows g.S.Store c.args.question.now e.looks e.rows)
-    (inr (c.memory_response.ensures, (λ is. cc), (λ is. cc)))
+    reading_answered g.S.Store _ _ _ _ (λ r. refl) (Ok c.in-Ok.shown) _ _ (MayBeShown c.args.question.now) (λ _. e.by_rows) e.looks e.shown
+    (shown_rows g.S.Store c.args.question.now e.looks e.rows) (inr (c.memory_response.ensures, (λ is. cc), (λ is. cc)))
 
 pub returns : goal.returns
 returns g c =
     let e = c.in-Err.ensures in
-    reading_answered g.S.Store _ _ _ _ (λ r. refl) (Err c.in-Err.refusal) _ _ (MayBeShown c.args.question.now) (inl (inl refl)) e.looks.cause e.looks e.shown (shown_rows g.S.Store c.args.question.now e.looks e.rows)
-    (refused_or_memory shown_response _ c.in-Err.refusal refl c.refusal_response.ensures)
+    reading_answered g.S.Store _ _ _ _ (λ r. refl) (Err c.in-Err.refusal) _ _ (MayBeShown c.args.question.now) e.looks.cause e.looks e.shown
+    (shown_rows g.S.Store c.args.question.now e.looks e.rows) (refused_or_memory shown_response _ c.in-Err.refusal refl c.refusal_response.ensures)

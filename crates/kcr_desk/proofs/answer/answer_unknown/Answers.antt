@@ -1,6 +1,4 @@
-use Rattle.std.proofs.Common.{refl}
-use Rattle.kcr_desk.specs.Answers.{no_command, report_response}
-use Rattle.kcr_desk.specs.declared.response.MediaType.TheVariants.{Text}
+use Rattle.kcr_desk.proofs.Common.{refl, no_command, report_response, Text}
 use Rattle.kcr_desk.proofs.AnswerLemmas.{refused_or_memory}
 use Rattle.kcr_desk.proofs.ReportLemmas.{unknown_answered}
 use Rattle.kcr_desk.proofs.answer.answer_unknown.Goals as goal

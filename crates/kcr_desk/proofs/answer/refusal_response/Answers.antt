@@ -1,4 +1,4 @@
-use Rattle.std.proofs.Common.{inl, inr}
+use Rattle.kcr_desk.proofs.Common.{inl, inr}
 use Rattle.kcr_desk.proofs.answer.refusal_response.Goals as goal
 
 pub returns-in-Some : goal.returns-in-Some

@@ -1,5 +1,4 @@
-use Rattle.kcr_desk.specs.Answers.{IsAnswer, IsReply}
-use Rattle.kcr_desk.specs.Streams.{streams}
+use Rattle.kcr_desk.proofs.Common.{IsAnswer, IsReply, streams}
 use Rattle.kcr_desk.proofs.ConnectionLemmas.{leads_one}
 use Rattle.kcr_desk.proofs.connection.one.Goals as goal
 

@@ -1,7 +1,4 @@
-use Rattle.std.proofs.Common.{◌≡◌, ◌++◌, ℕ, List, [], ◌∷◌, length, map, drop}
-use Rattle.std.specs.Prelude.{⊤}
-use Rattle.httparse.specs.Spans.{header_bytes, span_bytes, IsWithin}
-use Rattle.kcr_desk.specs.Framing.{values_of}
+use Rattle.kcr_desk.proofs.Common.{◌≡◌, ◌++◌, ℕ, List, [], ◌∷◌, length, map, drop, ⊤, header_bytes, span_bytes, IsWithin, values_of}
 use Rattle.kcr_desk.specs.declared.head.FieldValues.{FieldValues}
 use Rattle.kcr_desk.specs.declared.head.FieldValues.TheVariants.{Absent, One, Many}
 use Rattle.kcr_desk.proofs.head.field_values.Given as goal

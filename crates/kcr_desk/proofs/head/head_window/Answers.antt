@@ -1,5 +1,4 @@
-use Rattle.std.proofs.Common.{sym, arith}
-use Rattle.std.proofs.lemmas.List.{take_all}
+use Rattle.kcr_desk.proofs.Common.{sym, arith, take_all}
 use Rattle.kcr_desk.proofs.head.head_window.Goals as goal
 
 pub returns-then-buf-lt-MAX_HEAD : goal.returns-then-buf-lt-MAX_HEAD

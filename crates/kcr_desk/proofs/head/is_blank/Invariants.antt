@@ -1,5 +1,4 @@
-use Rattle.std.proofs.Common.{◌≡◌, drop}
-use Rattle.kcr_desk.specs.BlankRest.{blank_from}
+use Rattle.kcr_desk.proofs.Common.{◌≡◌, drop, blank_from}
 use Rattle.std.specs.Prelude.{false}
 use Rattle.kcr_desk.proofs.head.is_blank.Given as goal
 

@@ -1,10 +1,7 @@
-use Rattle.std.proofs.Common.{◌≡◌, ◌+◌, ◌*◌, ◌++◌, [], ◌∷◌, take, get_or, ap, ◌∙◌, arith, refl}
-use Rattle.std.specs.Char.{digit_value}
-use Rattle.std.specs.Str.Parse.{digits_value}
-use Rattle.std.proofs.lemmas.List.{take_more}
+use Rattle.kcr_desk.proofs.Common.{◌≡◌, ◌+◌, ◌*◌, ◌++◌, [], ◌∷◌, take, get_or, ap, ◌∙◌, arith, refl, digit_value, digits_value, take_more}
+use Rattle.kcr_desk.proofs.Common.{list_all-append}
 use Rattle.std.proofs.lemmas.Str.{digit_value_digit}
 use Rattle.httparse.proofs.ChunkLemmas.{digits_value_after_push}
-use Rattle.std.proofs.lemmas.List.Folds.{list_all-append}
 use Rattle.kcr_desk.proofs.head.number.Goals as goal
 
 pub loop-digit-preserved : goal.loop-digit-preserved

@@ -1,8 +1,4 @@
-use Rattle.std.proofs.Common.{◌≡◌, take, min}
-use Rattle.std.specs.Prelude.{true}
-use Rattle.std.specs.List.{list_all}
-use Rattle.std.specs.Char.{is_ascii_digit}
-use Rattle.std.specs.Str.Parse.{digits_value}
+use Rattle.kcr_desk.proofs.Common.{◌≡◌, take, min, true, list_all, is_ascii_digit, digits_value}
 use Rattle.kcr_desk.proofs.head.number.Given as goal
 
 abbrev pub invariant-loop-digit : goal.invariant-loop-digit

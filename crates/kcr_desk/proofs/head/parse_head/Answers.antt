@@ -1,8 +1,6 @@
-use Rattle.std.proofs.Common.{◌≡◌, ◌≤◌, ℕ, List, sym, ap, ◌∙◌, subst, length, take, drop, map, arith}
+use Rattle.kcr_desk.proofs.Common.{◌≡◌, ◌≤◌, ℕ, List, sym, ap, ◌∙◌, subst, length, take, drop, map, arith, take-append-drop, length-take}
+use Rattle.kcr_desk.proofs.Common.{HasNoRequest, IsRequestWithin, IsRequestOf, name_and_value}
 use Rattle.std.specs.Prelude.{◌++◌}
-use Rattle.std.proofs.lemmas.List.{take-append-drop, length-take}
-use Rattle.httparse.specs.Grammar.{HasNoRequest}
-use Rattle.httparse.specs.Spans.{IsRequestWithin, IsRequestOf, name_and_value}
 use Rattle.kcr_desk.specs.Framing.{planned}
 use Rattle.kcr_desk.proofs.HeadLemmas.{whole_head, overflow_hopeless, full_hopeless, none_is_no_head}
 use Rattle.kcr_desk.proofs.head.parse_head.Goals as goal

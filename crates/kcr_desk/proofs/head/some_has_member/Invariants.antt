@@ -1,7 +1,4 @@
-use Rattle.std.proofs.Common.{◌≡◌, map, drop}
-use Rattle.httparse.specs.Spans.{header_bytes}
-use Rattle.kcr_desk.specs.Members.{some_has_member}
-use Rattle.kcr_desk.specs.Framing.{values_of}
+use Rattle.kcr_desk.proofs.Common.{◌≡◌, map, drop, header_bytes, some_has_member, values_of}
 use Rattle.kcr_desk.proofs.head.some_has_member.Given as goal
 
 abbrev pub invariant-loop-header : goal.invariant-loop-header

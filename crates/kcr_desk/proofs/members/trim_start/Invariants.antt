@@ -1,5 +1,4 @@
-use Rattle.std.proofs.Common.{◌≡◌, length}
-use Rattle.httparse.specs.Grammar.{skip_ows}
+use Rattle.kcr_desk.proofs.Common.{◌≡◌, length, skip_ows}
 use Rattle.kcr_desk.proofs.members.trim_start.Given as goal
 
 abbrev pub invariant-loop-bytes : goal.invariant-loop-bytes

@@ -1,6 +1,5 @@
-use Rattle.std.proofs.Common.{rules}
+use Rattle.kcr_desk.proofs.Common.{rules, writes_then}
 use Rattle.kcr_desk.proofs.WaitingLemmas.{gathers_written}
-use Rattle.kcr_print.proofs.WrittenLemmas.{writes_then}
 use Rattle.kcr_desk.proofs.output.enqueue.Goals as goal
 
 pub returns-then-piece-gt-OUTPUT_BUFFER_SIZE : goal.returns-then-piece-gt-OUTPUT_BUFFER_SIZE

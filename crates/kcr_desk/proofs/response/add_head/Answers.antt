@@ -1,4 +1,4 @@
-use Rattle.std.proofs.Common.{◌≡◌, ℕ, List, ◌++◌, append_assoc}
+use Rattle.kcr_desk.proofs.Common.{◌≡◌, ℕ, List, ◌++◌, append_assoc}
 use Rattle.kcr_desk.specs.Texts.{head_text}
 use Rattle.kcr_desk.proofs.response.add_head.Goals as goal
 

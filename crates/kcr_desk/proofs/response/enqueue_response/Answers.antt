@@ -1,5 +1,4 @@
-use Rattle.std.proofs.Common.{rules, ◌≡◌, ◌++◌, append_assoc}
-use Rattle.kcr_desk.specs.Responses.{response_value}
+use Rattle.kcr_desk.proofs.Common.{rules, ◌≡◌, ◌++◌, append_assoc, response_value}
 use Rattle.kcr_desk.specs.Texts.{answer}
 use Rattle.kcr_desk.proofs.WaitingLemmas.{with_more, gathers_on}
 use Rattle.kcr_desk.proofs.response.enqueue_response.Goals as goal

@@ -1,15 +1,10 @@
-use Rattle.std.proofs.lemmas.List.{append-nil}
-use Rattle.std.proofs.lemmas.Result.{err_from_is_err_and, MatchResult-weaker}
-use Rattle.kcr_desk.specs.Input.{unread}
-use Rattle.kcr_desk.specs.Stream.{clean_end, refused}
-use Rattle.kcr_desk.specs.declared.stream.NextItem.TheVariants.{Ended}
+use Rattle.kcr_desk.proofs.Common.{append-nil, MatchResult-from_err, MatchResult-weaker, unread, clean_end, refused, Ended}
 use Rattle.kcr_desk.proofs.TurnLemmas.{breaks_at_once, ends_before, breaks_ending, turn_later, breaks_later}
 use Rattle.kcr_desk.proofs.stream.next_item.Goals as goal
 
 pub returns-in_err-read_head-clause-turn : goal.returns-in_err-read_head-clause-turn
 returns-in_err-read_head-clause-turn g c =
-    let p = err_from_is_err_and c.from_residual.result c.from_residual.ensures.1 in
-    rw p.1 (breaks_at_once _ _ _ c.in_err-read_head.ensures.gathered)
+    MatchResult-from_err _ _ _ c.from_residual.ensures.0 (λ _. breaks_at_once _ _ _ c.in_err-read_head.ensures.gathered)
 
 pub returns-in-Quiet-clause-turn : goal.returns-in-Quiet-clause-turn
 returns-in-Quiet-clause-turn g c =
@@ -18,9 +13,9 @@ returns-in-Quiet-clause-turn g c =
 
 pub returns-in_err-enqueue_refusal-in-Refused-clause-turn : goal.returns-in_err-enqueue_refusal-in-Refused-clause-turn
 returns-in_err-enqueue_refusal-in-Refused-clause-turn g c =
-    let p = err_from_is_err_and c.from_residual-in_err-enqueue_refusal-in-Refused.result c.from_residual-in_err-enqueue_refusal-in-Refused.ensures.1 in
     let found = rw c.in-Refused.is at c.in_ok-read_head.ensures.found in
-    rw p.1 (breaks_later _ c.in_ok-read_head.ensures.takes.kept c.in_ok-read_head.ensures.gathered
+    MatchResult-from_err _ _ _ c.from_residual-in_err-enqueue_refusal-in-Refused.ensures.0
+    (λ _. breaks_later _ c.in_ok-read_head.ensures.takes.kept c.in_ok-read_head.ensures.gathered
     (breaks_ending (refused c.in-Refused.refusal c.in-Refused.head_only) found.0 c.in_err-enqueue_refusal-in-Refused.ensures.gathered))
 
 pub returns-in_ok-enqueue_refusal-in-Refused-clause-turn : goal.returns-in_ok-enqueue_refusal-in-Refused-clause-turn

@@ -1,21 +1,17 @@
-use Rattle.std.proofs.Common.{◌<◌, ◌∙◌, length, refl, ap, arith}
-use Rattle.std.proofs.lemmas.Result.{err_from_is_err_and, MatchResult-weaker}
-use Rattle.kcr_desk.specs.Input.{unread}
+use Rattle.kcr_desk.proofs.Common.{◌<◌, ◌∙◌, length, refl, ap, arith, MatchResult-from_err, MatchResult-weaker, unread}
 use Rattle.kcr_desk.proofs.ServeLemmas.{serving_first, ended_served, ended_broken, turn_broken, serving_then, closed_served, closed_broken, answer_broken}
 use Rattle.kcr_desk.proofs.stream.serve_stream.Goals as goal
 
 pub returns-in_err-next_item-clause-served : goal.returns-in_err-next_item-clause-served
 returns-in_err-next_item-clause-served g c =
-    let p = err_from_is_err_and c.from_residual.result c.from_residual.ensures.1 in
-    rw p.1 (turn_broken c.messages.invariant.serving c.in_err-next_item.ensures.turn)
+    MatchResult-from_err _ _ _ c.from_residual.ensures.0 (λ _. turn_broken c.messages.invariant.serving c.in_err-next_item.ensures.turn)
 
 pub messages-preserved : goal.messages-preserved
 messages-preserved g c =
     let turn = rw c.in-Message.is at c.in_ok-next_item.ensures.turn in
     let told = c.in_ok-answer_front-in-Message.ensures.answered in
-    let there = serving_then c.messages.invariant.serving turn.0 (g.R.Read.remaining c.next_item.new.reader.inner)
-    c.in_ok-next_item.ensures.takes.kept told.0 c.answer_front.new.responder told.1
-    (g.W.Write.contents c.next_item.new.writer.inner) (g.W.Write.contents c.answer_front.new.writer.inner) turn.1 c.if-plan.false told.2.gathered in
+    let there = serving_then c.messages.invariant.serving turn.0 _ c.in_ok-next_item.ensures.takes.kept told.0 _ told.1 _ _ turn.1 c.if-plan.false
+    told.2.gathered in
     let some : 0 < c.in-Message.spans.len = turn.0.front.whole.some in
     record {
       serving = rw c.consume.ensures.held there;
@@ -29,31 +25,24 @@ pub returns-in-Ended-clause-served : goal.returns-in-Ended-clause-served
 returns-in-Ended-clause-served g c =
     let turn = rw c.in-Ended.is at c.in_ok-next_item.ensures.turn in
     MatchResult-weaker c.finish.result c.finish.ensures.ended
-    (λ served is. rw is.0 (ended_served c.messages.invariant.serving turn.0 _ (g.W.Write.contents c.finish.new.writer.inner) turn.1 turn.2 is.1))
-    (λ _. ended_broken c.messages.invariant.serving turn.0 _ (g.W.Write.contents c.finish.new.writer.inner) turn.1 turn.2)
+    (λ served is. rw is.0 (ended_served c.messages.invariant.serving turn.0 _ _ turn.1 turn.2 is.1))
+    (λ _. ended_broken c.messages.invariant.serving turn.0 _ _ turn.1 turn.2)
 
 pub returns-in_err-answer_front-in-Message-clause-served : goal.returns-in_err-answer_front-in-Message-clause-served
 returns-in_err-answer_front-in-Message-clause-served g c =
-    let p = err_from_is_err_and c.from_residual-in_err-answer_front-in-Message.result c.from_residual-in_err-answer_front-in-Message.ensures.1 in
     let turn = rw c.in-Message.is at c.in_ok-next_item.ensures.turn in
     let told = c.in_err-answer_front-in-Message.ensures.answered in
-    rw p.1 (answer_broken c.messages.invariant.serving turn.0 (g.R.Read.remaining c.next_item.new.reader.inner)
-    c.in_ok-next_item.ensures.takes.kept told.0 c.answer_front.new.responder told.1
-    (g.W.Write.contents c.next_item.new.writer.inner) (g.W.Write.contents c.answer_front.new.writer.inner) turn.1 told.2.gathered)
+    MatchResult-from_err _ _ _ c.from_residual-in_err-answer_front-in-Message.ensures.0
+    (λ _. answer_broken c.messages.invariant.serving turn.0 _ c.in_ok-next_item.ensures.takes.kept told.0 _ told.1 _ _ turn.1 told.2.gathered)
 
 pub returns-then-plan-clause-served : goal.returns-then-plan-clause-served
 returns-then-plan-clause-served g c =
     let turn = rw c.in-Message.is at c.in_ok-next_item.ensures.turn in
     let told = c.in_ok-answer_front-in-Message.ensures.answered in
     MatchResult-weaker c.finish-then-plan.result c.finish-then-plan.ensures.ended
-    (λ served is. rw is.0 (closed_served c.messages.invariant.serving turn.0 (g.R.Read.remaining c.next_item.new.reader.inner)
-    c.in_ok-next_item.ensures.takes.kept told.0 c.answer_front.new.responder told.1
-    (g.W.Write.contents c.next_item.new.writer.inner) (g.W.Write.contents c.answer_front.new.writer.inner) turn.1
-    (g.W.Write.contents c.finish-then-plan.new.writer.inner) c.if-plan.true told.2.gathered is.1))
-    (λ _. closed_broken c.messages.invariant.serving turn.0 (g.R.Read.remaining c.next_item.new.reader.inner)
-    c.in_ok-next_item.ensures.takes.kept told.0 c.answer_front.new.responder told.1
-    (g.W.Write.contents c.next_item.new.writer.inner) (g.W.Write.contents c.answer_front.new.writer.inner) turn.1
-    (g.W.Write.contents c.finish-then-plan.new.writer.inner) told.2.gathered)
+    (λ served is. rw is.0 (closed_served c.messages.invariant.serving turn.0 _ c.in_ok-next_item.ensures.takes.kept told.0 _ told.1 _ _ turn.1 _
+    c.if-plan.true told.2.gathered is.1))
+    (λ _. closed_broken c.messages.invariant.serving turn.0 _ c.in_ok-next_item.ensures.takes.kept told.0 _ told.1 _ _ turn.1 _ told.2.gathered)
 
 pub messages-init : goal.messages-init
 messages-init g c = record {

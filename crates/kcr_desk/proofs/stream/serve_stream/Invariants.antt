@@ -1,6 +1,4 @@
-use Rattle.std.proofs.Common.{◌≡◌, ◌≤◌, ◌-◌, ◌+◌, ◌*◌, length}
-use Rattle.std.specs.Io.KnownBytes.{prepend_known}
-use Rattle.kcr_desk.specs.Input.{unread}
+use Rattle.kcr_desk.proofs.Common.{◌≡◌, ◌≤◌, ◌-◌, ◌+◌, ◌*◌, length, prepend_known, unread}
 use Rattle.kcr_desk.proofs.ServeLemmas.{Serving}
 use Rattle.kcr_desk.proofs.stream.serve_stream.Given as goal
 

@@ -1,4 +1,4 @@
-use Rattle.std.proofs.Common.{sym, rules, append_assoc}
+use Rattle.kcr_history.proofs.Common.{sym, rules, append_assoc}
 use Rattle.kcr_history.proofs.Listed.{listed_more, separator_more}
 use Rattle.kcr_history.proofs.comma_lists.push_codes.Goals as goal
 

@@ -1,4 +1,4 @@
-use Rattle.std.proofs.Common.{◌++◌, take, string_bytes}
+use Rattle.kcr_history.proofs.Common.{◌++◌, take, string_bytes}
 use Rattle.kcr_history.specs.Texts.{listed}
 use Rattle.kcr_history.proofs.Listed.{IsJoined}
 use Rattle.kcr_history.proofs.comma_lists.push_codes.Given as goal

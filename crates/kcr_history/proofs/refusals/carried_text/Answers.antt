@@ -1,4 +1,4 @@
-use Rattle.std.proofs.Common.{refl}
+use Rattle.kcr_history.proofs.Common.{refl}
 use Rattle.kcr_history.proofs.Listed.{carried}
 use Rattle.kcr_history.proofs.refusals.carried_text.Goals as goal
 

@@ -1,4 +1,4 @@
-use Rattle.std.proofs.Common.{◌≡◌, ◌<◌, length, ap, arith}
+use Rattle.kcr_history.proofs.Common.{◌≡◌, ◌<◌, length, ap, arith}
 use Rattle.kcr_history.proofs.Listed.{first_position, next_position}
 use Rattle.kcr_history.proofs.refusals.listed.Goals as goal
 use Rattle.kcr_history.proofs.refusals.listed.Goals.{then-i-gt0+in_ok-push_str, else-i-gt0}

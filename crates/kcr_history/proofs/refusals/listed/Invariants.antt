@@ -1,6 +1,4 @@
-use Rattle.std.proofs.Common.{◌≡◌, map, take, string_bytes}
-use Rattle.std.specs.Fmt.{decimal}
-use Rattle.std.specs.List.{join_with_byte}
+use Rattle.kcr_history.proofs.Common.{◌≡◌, map, take, string_bytes, decimal, join_with_byte}
 use Rattle.kcr_history.proofs.refusals.listed.Given as goal
 
 -- the text so far is that of the positions so far

@@ -1,7 +1,4 @@
-use Rattle.std.proofs.Common.{◌≡◌, ℕ, List, [], ◌∷◌, ◌++◌, codes, refl, append_assoc}
-use Rattle.std.specs.Fmt.{decimal}
-use Rattle.kcr_base.specs.Refusal.{number_of, word_of}
-use Rattle.kcr_history.specs.Json.{member, quoted, object}
+use Rattle.kcr_history.proofs.Common.{◌≡◌, ℕ, List, [], ◌∷◌, ◌++◌, codes, refl, append_assoc, decimal, number_of, word_of, member, quoted, object}
 use Rattle.kcr_history.proofs.refusals.parted_by.Goals as goal
 
 pieces : (number carried word : List ℕ)

@@ -1,4 +1,4 @@
-use Rattle.std.proofs.Common.{sym, rules}
+use Rattle.kcr_history.proofs.Common.{sym, rules}
 use Rattle.kcr_history.proofs.Listed.{separator_more}
 use Rattle.kcr_history.proofs.Listed.{quoted_more}
 use Rattle.kcr_history.proofs.replies.people_array.Goals as goal

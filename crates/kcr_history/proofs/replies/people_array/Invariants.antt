@@ -1,6 +1,4 @@
-use Rattle.std.proofs.Common.{◌++◌, map, take, codes, string_bytes}
-use Rattle.std.specs.List.{join_with_byte}
-use Rattle.kcr_history.specs.Json.{quoted}
+use Rattle.kcr_history.proofs.Common.{◌++◌, map, take, codes, string_bytes, join_with_byte, quoted}
 use Rattle.kcr_history.proofs.Listed.{IsJoined}
 use Rattle.kcr_history.proofs.replies.people_array.Given as goal
 

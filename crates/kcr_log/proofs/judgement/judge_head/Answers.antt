@@ -1,4 +1,4 @@
-use Rattle.std.proofs.Common.{rules, sym, ◌∙◌, arith}
+use Rattle.std.proofs.Common.{sym, ◌∙◌, arith}
 use Rattle.std.proofs.lemmas.Bool.{false≢true}
 use Rattle.kcr_log.proofs.Refuting.{sound-head}
 use Rattle.kcr_log.proofs.judgement.judge_head.Goals.{else-number_at-ge16777216-via-then-number_at-ge16777216+then-agree+else-ended-gt0, else-number_at-ge16777216-via-then-number_at-ge16777216+else-agree, else-number_at-ge16777216-via-else-number_at-ge16777216}
@@ -18,6 +18,3 @@ returns-in-None-clause-judged c =
           omega (arith, c.number_at.ensures, w.if-number_at-ge16777216.false, head.not_begun)
     ])
     (rw (c.told_header-told.ensures, c.page_size-size.ensures) at c.in-None.ensures)
-
-pub returns-in-Some-clause-judged : goal.returns-in-Some-clause-judged
-returns-in-Some-clause-judged c = search rules

@@ -1,7 +1,4 @@
-use Rattle.std.proofs.Common.{rules, ◌+◌, Some, Ok}
-use Rattle.kcr_history.specs.declared.commands.ReplyData.{ReplyData}
-use Rattle.kcr_history.specs.declared.views.Verdict.{Verdict}
-use Rattle.kcr_machine.specs.NewDecision.{IsRowDecision}
+use Rattle.kcr_machine.proofs.Common.{rules, ◌+◌, Some, Ok, ReplyData, Verdict, IsRowDecision}
 use Rattle.kcr_machine.proofs.Decided.{decision, decision-kind}
 use Rattle.kcr_machine.proofs.decision.decide_new.Goals as goal
 

@@ -1,7 +1,4 @@
-use Rattle.std.proofs.Common.{rules, None, Ok, Err}
-use Rattle.kcr_base.specs.declared.refusal.Refusal.TheVariants.{Key}
-use Rattle.kcr_history.specs.declared.views.Verdict.{Verdict}
-use Rattle.kcr_machine.specs.RowDecision.{IsRowRepeat}
+use Rattle.kcr_machine.proofs.Common.{rules, None, Ok, Err, Key, Verdict, IsRowRepeat}
 use Rattle.kcr_machine.proofs.Decided.{repetition}
 use Rattle.kcr_machine.proofs.decision.decide_repeat.Goals as goal
 

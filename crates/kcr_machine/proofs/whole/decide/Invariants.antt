@@ -1,5 +1,4 @@
-use Rattle.std.proofs.Common.{◌≡◌, drop}
-use Rattle.kcr_history.specs.Views.{row_of_key}
+use Rattle.kcr_machine.proofs.Common.{◌≡◌, drop, row_of_key}
 use Rattle.kcr_machine.proofs.whole.decide.Given as goal
 
 -- the row of the key is among those that are left

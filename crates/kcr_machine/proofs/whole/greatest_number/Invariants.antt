@@ -1,5 +1,4 @@
-use Rattle.std.proofs.Common.{◌≡◌, max, drop}
-use Rattle.kcr_history.specs.Views.{greatest_number}
+use Rattle.kcr_machine.proofs.Common.{◌≡◌, max, drop, greatest_number}
 use Rattle.kcr_machine.proofs.whole.greatest_number.Given as goal
 
 -- the greatest so far and of what is left is the greatest

@@ -1,5 +1,4 @@
-use Rattle.std.proofs.Common.{◌≡◌, ◌++◌, map, drop}
-use Rattle.kcr_history.specs.declared.views.Change.TheVariants.{PutStay}
+use Rattle.kcr_older.proofs.Common.{◌≡◌, ◌++◌, map, drop, PutStay}
 use Rattle.kcr_older.proofs.backfill.changes_of.Given as goal
 
 -- what is there and the stays left are all

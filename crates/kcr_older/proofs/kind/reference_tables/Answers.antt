@@ -1,4 +1,4 @@
-use Rattle.std.proofs.Common.{refl}
+use Rattle.kcr_older.proofs.Common.{refl}
 use Rattle.sqlite_trees.specs.View.{doubt}
 use Rattle.kcr_older.proofs.kind.reference_tables.Goals as goal
 

@@ -1,9 +1,6 @@
-use Rattle.kcr_older.specs.Migrated.{with_bare_tables, with_own_stays}
-use Rattle.kcr_older.specs.Versions.{number_of}
-use Rattle.std.proofs.Common.{refl, ◌∙◌}
+use Rattle.kcr_older.proofs.Common.{with_bare_tables, with_own_stays, number_of, refl, ◌∙◌, clean_before}
 use Rattle.std.proofs.lemmas.Result.{on_ok_weaker}
-use Rattle.kcr_rows.proofs.FrameLemmas.{clean_before}
-use Rattle.kcr_older.proofs.Bringing.{old_holds, same_number, brought_from}
+use Rattle.kcr_older.proofs.Bringing.{same_number, brought_from}
 use Rattle.kcr_older.proofs.migration.migrate.Goals as goal
 
 pub returns-clause-rows : goal.returns-clause-rows
@@ -19,4 +16,4 @@ pub returns-clause-brought : goal.returns-clause-brought
 returns-clause-brought g c clean A s =
     let from = c.args.from in
     on_ok_weaker c.set_version.result (λ after. brought_from from A _ _ s after)
-    (returns-clause-rows g c clean _ (old_holds (number_of from) A _ s) refl)
+    (returns-clause-rows g c clean _ (record { schema = s.schema; kept = s.tables.kept }) refl)

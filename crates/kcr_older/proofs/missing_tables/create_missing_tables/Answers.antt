@@ -1,6 +1,4 @@
-use Rattle.sqlite.specs.Held.{state}
-use Rattle.kcr_rows.proofs.FailLemmas.{on_ok_then}
-use Rattle.kcr_rows.proofs.FrameLemmas.{clean_before}
+use Rattle.kcr_older.proofs.Common.{state, on_ok_then, clean_before}
 use Rattle.kcr_older.proofs.Grown.{grown_from_1, grown_from_2}
 use Rattle.kcr_older.proofs.missing_tables.create_missing_tables.Goals as goal
 

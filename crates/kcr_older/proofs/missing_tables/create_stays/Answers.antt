@@ -1,10 +1,9 @@
-use Rattle.sqlite.specs.Held.{state}
-use Rattle.kcr_rows.proofs.FailLemmas.{on_ok_then}
-use Rattle.kcr_older.proofs.Grown.{creates_stays}
+use Rattle.kcr_older.proofs.Common.{state, on_ok_then, stays, makes_stays}
+use Rattle.kcr_older.proofs.Grown.{creates_over}
 use Rattle.kcr_older.proofs.missing_tables.create_stays.Goals as goal
 
 pub returns-clause-gains : goal.returns-clause-gains
 returns-clause-gains g c clean has =
     let old = state g.S.Store c.args.tx.now.conn.now in
     let new = state g.S.Store c.run_statement.new.tx.conn.now in
-    on_ok_then _ _ (λ h. creates_stays old new h.0 has h.1) c.run_statement.result (rw c.create_table_sql-text.ensures at (c.run_statement.ensures.runs clean))
+    on_ok_then _ _ (λ h. creates_over 15 stays makes_stays old new h.0 has h.1) c.run_statement.result (rw c.create_table_sql-text.ensures at (c.run_statement.ensures.runs clean))

@@ -1,5 +1,4 @@
-use Rattle.sqlite.specs.Held.{state}
-use Rattle.kcr_rows.proofs.FailLemmas.{on_ok_then}
+use Rattle.kcr_older.proofs.Common.{state, on_ok_then}
 use Rattle.kcr_older.proofs.Update.{sets}
 use Rattle.kcr_older.proofs.missing_tables.set_version.Goals as goal
 

@@ -1,9 +1,4 @@
-use Rattle.std.proofs.Common.{◌∙◌, ap, map, sym, ◌∷◌, [], subst}
-use Rattle.sqlite.specs.Held.{state}
-use Rattle.sqlite.specs.State.{Shown}
-use Rattle.sqlite.specs.declared.types.Value.{Value}
-use Rattle.sqlite_trees.proofs.ListLemmas.{map-map}
-use Rattle.kcr_older.specs.Kind.{only_number}
+use Rattle.kcr_older.proofs.Common.{◌∙◌, ap, map, sym, ◌∷◌, [], subst, state, Shown, Value, map-map, only_number}
 use Rattle.kcr_older.specs.declared.number.Cell.{Cell}
 use Rattle.kcr_older.proofs.NumberText.{text}
 use Rattle.kcr_older.proofs.NumberLemmas.{is_there, number_read, number_same}
@@ -25,4 +20,4 @@ returns-clause-number g c clean live has =
 pub returns-clause-same : goal.returns-clause-same
 returns-clause-same g c clean has =
     let table = is_there _ has in
-    number_same (state g.S.Store c.args.tx.now.conn.now) (state g.S.Store c.query_rows.new.tx.conn.now) table.0 _ table.1 (c.in_ok-cells.ensures.shown clean)
+    number_same (state g.S.Store c.args.tx.now.conn.now) (state g.S.Store c.query_rows.new.tx.conn.now) table.0 table.1 _ (c.in_ok-cells.ensures.shown clean)

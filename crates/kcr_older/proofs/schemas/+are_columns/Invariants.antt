@@ -1,4 +1,4 @@
-use Rattle.std.proofs.Common.{length}
+use Rattle.kcr_older.proofs.Common.{length}
 use Rattle.kcr_older.proofs.schemas.+are_columns.Given as goal
 
 abbrev pub decreases-are_columns : goal.decreases-are_columns

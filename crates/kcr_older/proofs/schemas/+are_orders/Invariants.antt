@@ -1,4 +1,4 @@
-use Rattle.std.proofs.Common.{length}
+use Rattle.kcr_older.proofs.Common.{length}
 use Rattle.kcr_older.proofs.schemas.+are_orders.Given as goal
 
 abbrev pub decreases-are_orders : goal.decreases-are_orders

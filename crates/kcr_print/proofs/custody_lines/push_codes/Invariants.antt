@@ -1,6 +1,4 @@
-use Rattle.std.proofs.Common.{◌≡◌, ◌++◌, take}
-use Rattle.std.specs.List.{flat_map}
-use Rattle.kcr_print.specs.Lines.{code_line}
+use Rattle.kcr_print.proofs.Common.{◌≡◌, ◌++◌, take, flat_map, code_line}
 use Rattle.kcr_print.proofs.custody_lines.push_codes.Given as goal
 
 -- behind what was there stand the codes so far

@@ -1,5 +1,4 @@
-use Rattle.std.proofs.Common.{◌++◌, List, ℕ, ap, ◌∙◌}
-use denote.Ref.{Bor}
+use Rattle.kcr_print.proofs.Common.{◌++◌, List, ℕ, ap, ◌∙◌, Bor}
 use Rattle.kcr_print.proofs.CsvLemmas.{row_is}
 use Rattle.kcr_print.proofs.line.push_row.Goals as goal
 

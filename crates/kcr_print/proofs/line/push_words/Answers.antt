@@ -1,6 +1,4 @@
-use Rattle.std.proofs.Common.{◌++◌, List, ℕ, [], map, take, get_or, sym, ap, ◌∙◌, append_assoc, rules}
-use denote.Ref.{Bor}
-use Rattle.kcr_history.specs.Prints.{words}
+use Rattle.kcr_print.proofs.Common.{◌++◌, List, ℕ, [], map, take, get_or, sym, ap, ◌∙◌, append_assoc, rules, Bor, words}
 use Rattle.kcr_print.proofs.LineLemmas.{separator, words_more, separator_more}
 use Rattle.kcr_print.proofs.line.push_words.Goals as goal
 

@@ -1,8 +1,6 @@
-use Rattle.std.proofs.Common.{◌≡◌, ◌++◌, List, ℕ, map, take}
-use denote.Ref.{Bor}
+use Rattle.kcr_print.proofs.Common.{◌≡◌, ◌++◌, List, ℕ, map, take, Bor, words}
 use denote.Shadow.{shadow}
 use denote.Text.{Utf8}
-use Rattle.kcr_history.specs.Prints.{words}
 use Rattle.kcr_print.proofs.LineLemmas.{separator}
 use Rattle.kcr_print.proofs.line.push_words.Given as goal
 

@@ -1,6 +1,4 @@
-use Rattle.std.proofs.Common.{List, ℕ, ap}
-use Rattle.std.specs.List.{flat_map}
-use Rattle.kcr_print.specs.Journal.{row_journal}
+use Rattle.kcr_print.proofs.Common.{List, ℕ, ap, flat_map, row_journal}
 use Rattle.kcr_print.proofs.PartLemmas.{puts_text}
 use Rattle.kcr_print.proofs.parts.print_journal.Goals as goal
 

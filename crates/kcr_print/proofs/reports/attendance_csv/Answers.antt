@@ -1,5 +1,4 @@
-use Rattle.std.proofs.Common.{inr}
-use Rattle.kcr_history.specs.Prints.{attendance}
+use Rattle.kcr_print.proofs.Common.{inr, attendance}
 use Rattle.kcr_print.proofs.PartLemmas.{planned_told}
 use Rattle.kcr_print.proofs.ReportLemmas.{register_attendance}
 use Rattle.kcr_print.proofs.reports.attendance_csv.Goals as goal

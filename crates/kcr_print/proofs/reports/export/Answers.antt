@@ -1,6 +1,4 @@
-use Rattle.std.proofs.Common.{refl, rules}
-use Rattle.kcr_history.specs.Tables.{tables}
-use Rattle.kcr_print.specs.Requests.{row_requests}
+use Rattle.kcr_print.proofs.Common.{refl, rules, tables, row_requests}
 use Rattle.kcr_print.proofs.PartLemmas.{rows_told, text_told}
 use Rattle.kcr_print.proofs.RequestLemmas.{export_requests}
 use Rattle.kcr_print.proofs.reports.export.Goals as goal

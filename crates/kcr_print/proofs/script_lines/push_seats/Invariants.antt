@@ -1,5 +1,4 @@
-use Rattle.std.proofs.Common.{◌≡◌, ◌++◌, take, length}
-use Rattle.kcr_history.specs.Prints.{seat_lines}
+use Rattle.kcr_print.proofs.Common.{◌≡◌, ◌++◌, take, length, seat_lines}
 use Rattle.kcr_print.proofs.script_lines.push_seats.Given as goal
 
 -- behind what was there stand the seats so far

@@ -1,8 +1,6 @@
-use Rattle.std.proofs.Common.{Err, inr, refl, rules, ◌∙◌}
-use Rattle.std.specs.Prelude.{⊤}
+use Rattle.kcr_print.proofs.Common.{inr, refl, rules, ◌∙◌, ⊤, IsFault, reads_nothing}
+use Rattle.std.proofs.Common.{Err}
 use Rattle.kcr_base.specs.declared.refusal.Refusal.TheVariants.{Disk}
-use Rattle.kcr_tables.specs.Refusals.{IsFault}
-use Rattle.kcr_store.proofs.WholeLemmas.{reads_nothing}
 use Rattle.kcr_print.proofs.PartLemmas.{puts_at, puts_err}
 use Rattle.kcr_print.proofs.RowLemmas.{goes_end, goes_front, goes_more, goes_refused, goes_start, whole_before, whole_rows}
 use Rattle.kcr_print.proofs.write_rows.write_rows.Goals as goal

@@ -1,4 +1,4 @@
-use Rattle.std.proofs.Common.{◌≡◌}
+use Rattle.kcr_print.proofs.Common.{◌≡◌}
 use Rattle.kcr_print.proofs.RowLemmas.{Goes}
 use Rattle.kcr_print.proofs.write_rows.write_rows.Given as goal
 

@@ -1,14 +1,7 @@
-use Rattle.std.proofs.Common.{◌≡◌, ◌-◌, ◌≤◌, ℕ, length, take, drop, subst, sym, arith, ◌∙◌, length-drop, eqb, inl, inr, add-zero}
-use Rattle.std.specs.Prelude.{false}
-use Rattle.std.proofs.lemmas.List.{take_all}
-use Rattle.std.proofs.lemmas.Bool.Decides.{eqb_tells}
-use Rattle.std.specs.Io.KnownBytes.{Appends}
-use Rattle.std.proofs.Math.Seq.{take-add}
+use Rattle.kcr_print.proofs.Common.{◌≡◌, ◌-◌, ◌≤◌, length, take, drop, subst, sym, arith, ◌∙◌, length-drop, add-zero, take_all, ne_eqb, Appends}
+use Rattle.kcr_print.proofs.Common.{take-add}
 use Rattle.kcr_print.proofs.WrittenLemmas.{appends_both}
 use Rattle.kcr_print.proofs.writing.write_whole.Goals as goal
-
-ne_zero : (n : ℕ) → (n ≡ 0 → ⊥) → eqb n 0 ≡ false
-ne_zero n ne = elim (eqb_tells n 0) [ inl x ↦ absurd (ne x.1) | inr x ↦ x.0 ]
 
 pub loop-at-preserved : goal.loop-at-preserved
 loop-at-preserved g c =
@@ -22,6 +15,6 @@ loop-at-preserved g c =
     let bound : n ≤ length (drop at piece) = rw rest at c.in-Ok.ensures.bound in
     record {
       within = let b : n ≤ length piece - at = simp length-drop at bound in omega arith;
-      calm = let f = c.in-Ok.ensures.failed in let ne = c.in-Ok.count-test.1 in rw (ne_zero n ne) at f ∙ add-zero _ ∙ c.loop-at.invariant.calm;
+      calm = let f = c.in-Ok.ensures.failed in let ne = c.in-Ok.count-test.1 in rw (ne_eqb n 0 ne) at f ∙ add-zero _ ∙ c.loop-at.invariant.calm;
       written = subst P (sym (take-add at n piece)) (appends_both _ _ _ (take at piece) (take n (drop at piece)) c.loop-at.invariant.written bytes);
     }

@@ -1,7 +1,6 @@
-use Rattle.std.proofs.Common.{◌∷◌, [], Some, None, ◌∙◌, ap}
+use Rattle.kcr_reading.proofs.Common.{◌∷◌, [], Some, None, ◌∙◌, ap, Text}
 use Rattle.kcr_reading.proofs.ChoiceLemmas.{shown_by, by_tables}
 use Rattle.kcr_reading.proofs.CustodyLemmas.{bags_shown, first_bag}
-use Rattle.sqlite.specs.declared.types.Value.TheVariants.{Text}
 use Rattle.kcr_reading.proofs.bags.first_bag_after.Goals as goal
 
 pub returns-in-Some-clause-first : goal.returns-in-Some-clause-first

@@ -1,4 +1,4 @@
-use Rattle.std.proofs.Common.{◌∙◌}
+use Rattle.kcr_reading.proofs.Common.{◌∙◌}
 use Rattle.kcr_reading.proofs.ChoiceLemmas.{by_tables}
 use Rattle.kcr_reading.proofs.CustodyLemmas.{within}
 use Rattle.kcr_reading.proofs.bags.items_within.Goals as goal

@@ -1,4 +1,4 @@
-use Rattle.std.proofs.Common.{rules}
+use Rattle.kcr_reading.proofs.Common.{rules}
 use Rattle.kcr_reading.proofs.CustodyLemmas.{next_bag}
 use Rattle.kcr_reading.proofs.bags.next_bag.Goals as goal
 use Rattle.kcr_reading.proofs.bags.next_bag.Goals.{in-Some, in_default}

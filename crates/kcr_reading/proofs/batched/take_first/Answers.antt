@@ -1,6 +1,4 @@
-use Rattle.std.proofs.Common.{IsSome, true≢false, sym, subst}
-use Rattle.std.specs.Vec.Iter.{into_iter_items}
-use Rattle.kcr_reading.specs.Remaining.{IsNextOf, read_ahead}
+use Rattle.kcr_reading.proofs.Common.{IsSome, true≢false, sym, subst, into_iter_items, IsNextOf, read_ahead}
 use Rattle.kcr_reading.proofs.AheadLemmas.{gives_taken}
 use Rattle.kcr_reading.proofs.FirstLemmas.{no_rows}
 use Rattle.kcr_reading.proofs.batched.take_first.Goals as goal

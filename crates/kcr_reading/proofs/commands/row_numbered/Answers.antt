@@ -1,4 +1,4 @@
-use Rattle.std.proofs.Common.{◌≡◌, ◌∙◌, length, sym, rules}
+use Rattle.kcr_reading.proofs.Common.{◌≡◌, ◌∙◌, length, sym, rules}
 use Rattle.kcr_reading.proofs.CommandLemmas.{only_same, only_popped, only_other}
 use Rattle.kcr_reading.proofs.commands.row_numbered.Goals as goal
 

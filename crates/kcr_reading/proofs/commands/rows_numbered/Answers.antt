@@ -1,18 +1,6 @@
-use Rattle.std.proofs.Common.{rules, ◌==◌, [], ◌∷◌, map, IfOk, subst}
-use Rattle.std.proofs.lemmas.List.Sorted.{IsPermutation-trans}
-use Rattle.sqlite.specs.Order.{Row}
-use Rattle.sqlite.specs.Held.{state}
-use Rattle.sqlite.specs.State.{HasCleanDisk, Shown}
-use Rattle.sqlite_trees.proofs.ListLemmas.{IsPermutation-filter}
-use Rattle.kcr_rows.specs.Rows.{key_row}
-use Rattle.kcr_rows.proofs.FailLemmas.{if_ok}
-use Rattle.kcr_history.specs.declared.row_types.KeyRow.{KeyRow}
+use Rattle.kcr_reading.proofs.Common.{rules, ◌==◌, [], ◌∷◌, map, IfOk, subst, IsPermutation-trans, Row, state, HasCleanDisk, Shown}
+use Rattle.kcr_reading.proofs.Common.{IsPermutation-filter, key_row, if_ok, KeyRow, is_plain, register_schema, reads_by, held_of, passing_told}
 use Rattle.kcr_tables.specs.KeysLaws as laws
-use Rattle.kcr_rows.proofs.TextLemmas.{is_plain}
-use Rattle.kcr_tables.specs.Schema.{register_schema}
-use Rattle.kcr_tables.proofs.FrameLemmas.{reads_by}
-use Rattle.kcr_tables.proofs.HoldLemmas.{held_of}
-use Rattle.kcr_tables.proofs.StatementLemmas.{passing_told}
 use Rattle.kcr_reading.proofs.CommandLemmas.{number_text, number_shown, is_numbered}
 use Rattle.kcr_reading.proofs.commands.rows_numbered.Goals as goal
 

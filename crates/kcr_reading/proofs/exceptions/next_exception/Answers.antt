@@ -1,6 +1,4 @@
-use Rattle.std.proofs.Common.{◌∷◌, [], rules}
-use Rattle.kcr_tables.proofs.FrameLemmas.{fails_as, reads_to}
-use Rattle.kcr_tables.proofs.HoldLemmas.{held_of}
+use Rattle.kcr_reading.proofs.Common.{◌∷◌, [], rules, fails_as, reads_to, held_of}
 use Rattle.kcr_reading.proofs.ChoiceLemmas.{shown_by}
 use Rattle.kcr_reading.proofs.CeremonyLemmas.{exceptions_shown, next_exception}
 use Rattle.kcr_reading.proofs.exceptions.next_exception.Goals as goal

@@ -1,4 +1,4 @@
-use Rattle.std.proofs.Common.{rules}
+use Rattle.kcr_reading.proofs.Common.{rules}
 use Rattle.kcr_reading.proofs.CustodyLemmas.{next_loose}
 use Rattle.kcr_reading.proofs.loose_items.next_loose.Goals as goal
 use Rattle.kcr_reading.proofs.loose_items.next_loose.Goals.{in-Some, in_default}

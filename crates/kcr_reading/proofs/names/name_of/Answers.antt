@@ -1,4 +1,4 @@
-use Rattle.std.proofs.Common.{◌∙◌, [], Option, option_map, sym, unwrap_or, ap}
+use Rattle.kcr_reading.proofs.Common.{◌∙◌, [], Option, option_map, sym, unwrap_or, ap}
 use Rattle.kcr_people.specs.declared.Person.{Person}
 use Rattle.kcr_reading.proofs.names.name_of.Goals as goal
 

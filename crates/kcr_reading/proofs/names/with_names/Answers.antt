@@ -1,7 +1,4 @@
-use Rattle.std.proofs.Common.{rules}
-use Rattle.std.proofs.lemmas.List.{take_all, map_more}
-use Rattle.kcr_tables.proofs.FrameLemmas.{reads_to, reads_on}
-use Rattle.kcr_rows.proofs.FrameLemmas.{clean_before}
+use Rattle.kcr_reading.proofs.Common.{rules, take_all, map_more, reads_to, reads_on, clean_before}
 use Rattle.kcr_reading.proofs.names.with_names.Goals as goal
 
 pub loop-row-preserved : goal.loop-row-preserved

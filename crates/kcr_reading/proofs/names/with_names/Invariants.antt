@@ -1,9 +1,5 @@
-use Rattle.std.proofs.Common.{◌≡◌, Ok, map, take}
-use Rattle.sqlite.specs.Held.{state}
-use Rattle.sqlite.specs.State.{HasCleanDisk}
+use Rattle.kcr_reading.proofs.Common.{◌≡◌, Ok, map, take, state, HasCleanDisk, Reads, HoldsTables}
 use Rattle.kcr_history.specs.Tables as machine
-use Rattle.kcr_tables.specs.Frame.{Reads}
-use Rattle.kcr_tables.specs.MachineTables.{HoldsTables}
 use Rattle.kcr_reading.proofs.names.with_names.Given as goal
 
 -- the rows so far have their names

@@ -1,9 +1,5 @@
-use Rattle.std.proofs.Common.{◌≡◌, ◌++◌, Ok}
-use Rattle.sqlite.specs.Held.{state}
-use Rattle.sqlite.specs.State.{HasCleanDisk}
+use Rattle.kcr_reading.proofs.Common.{◌≡◌, ◌++◌, Ok, state, HasCleanDisk, Reads, HoldsTables}
 use Rattle.kcr_history.specs.Tables as machine
-use Rattle.kcr_tables.specs.Frame.{Reads}
-use Rattle.kcr_tables.specs.MachineTables.{HoldsTables}
 use Rattle.kcr_reading.proofs.remaining.remaining_rows.Given as goal
 
 -- the rows so far, and those that are left, are all

@@ -1,8 +1,4 @@
-use Rattle.std.proofs.Common.{◌∙◌, ap, sym, rules, find}
-use Rattle.sqlite_keyed.proofs.ListLemmas.{slice_get-filter}
-use Rattle.kcr_tables.proofs.HoldLemmas.{held_of}
-use Rattle.kcr_reading.specs.Remaining.{is_past, safe_place}
-use Rattle.kcr_custody.specs.declared.SafeRow.{SafeRow}
+use Rattle.kcr_reading.proofs.Common.{◌∙◌, ap, sym, rules, find, slice_get-filter, held_of, is_past, safe_place, SafeRow}
 use Rattle.kcr_reading.proofs.CustodyLemmas.{next_safe}
 use Rattle.kcr_reading.proofs.safes.next_safe.Goals as goal
 use Rattle.kcr_reading.proofs.safes.next_safe.Goals.{in-Some, in_default}

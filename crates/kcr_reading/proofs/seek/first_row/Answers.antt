@@ -1,5 +1,4 @@
-use Rattle.std.proofs.Common.{sym, subst, rules, IsSome, true≢false}
-use Rattle.kcr_tables.proofs.FrameLemmas.{fails_as, reads_to}
+use Rattle.kcr_reading.proofs.Common.{sym, subst, rules, IsSome, true≢false, fails_as, reads_to}
 use Rattle.kcr_reading.proofs.FirstLemmas.{popped, no_rows}
 use Rattle.kcr_reading.proofs.seek.first_row.Goals as goal
 

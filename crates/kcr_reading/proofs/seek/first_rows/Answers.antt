@@ -1,9 +1,5 @@
-use Rattle.sqlite.specs.Held.{state}
+use Rattle.kcr_reading.proofs.Common.{state, if_both, is_plain, register_schema, reads_by}
 use Rattle.sqlite.specs.Values.{bound}
-use Rattle.kcr_rows.proofs.FailLemmas.{if_both}
-use Rattle.kcr_rows.proofs.TextLemmas.{is_plain}
-use Rattle.kcr_tables.specs.Schema.{register_schema}
-use Rattle.kcr_tables.proofs.FrameLemmas.{reads_by}
 use Rattle.kcr_reading.proofs.FirstLemmas.{shown_first}
 use Rattle.kcr_reading.proofs.seek.first_rows.Goals as goal
 

@@ -1,7 +1,6 @@
-use Rattle.std.proofs.Common.{◌∷◌, [], arith, ◌∙◌, ap}
+use Rattle.kcr_reading.proofs.Common.{◌∷◌, [], arith, ◌∙◌, ap, Text}
 use Rattle.kcr_reading.proofs.ChoiceLemmas.{shown_by, by_tables}
 use Rattle.kcr_reading.proofs.StayLemmas.{shows_together, shows_later, first_together, first_later}
-use Rattle.sqlite.specs.declared.types.Value.TheVariants.{Text}
 use Rattle.kcr_reading.proofs.stays.first_in_range.Goals as goal
 
 pub returns-in-SameStart-clause-first : goal.returns-in-SameStart-clause-first

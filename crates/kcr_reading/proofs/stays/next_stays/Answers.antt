@@ -1,6 +1,4 @@
-use Rattle.std.proofs.Common.{◌∙◌, ◌-◌, List, length, slice_get, ap, rules}
-use Rattle.std.specs.Option.{option_copied}
-use Rattle.kcr_room.specs.declared.Stay.{Stay}
+use Rattle.kcr_reading.proofs.Common.{◌∙◌, ◌-◌, List, length, slice_get, ap, rules, option_copied, Stay}
 use Rattle.kcr_reading.proofs.StayLemmas.{next_listed}
 use Rattle.kcr_reading.proofs.stays.next_stays.Goals as goal
 use Rattle.kcr_reading.proofs.stays.next_stays.Goals.{in-Some, in_default}

@@ -1,8 +1,4 @@
-use Rattle.std.proofs.Common.{◌≡◌, ◌==◌, ◌∙◌, [], length, true≢false, sym, ap}
-use Rattle.std.proofs.lemmas.Bool.{eqb-true}
-use Rattle.std.proofs.lemmas.List.{nil_from_length}
-use Rattle.kcr_rows.proofs.FailLemmas.{if_ok}
-use Rattle.kcr_rows.proofs.FrameLemmas.{clean_before}
+use Rattle.kcr_reading.proofs.Common.{◌≡◌, ◌==◌, ◌∙◌, [], length, true≢false, sym, ap, eqb-true, nil_from_length, if_ok, clean_before}
 use Rattle.kcr_reading.proofs.StayLemmas.{first_with, first_after}
 use Rattle.kcr_reading.proofs.stays.stays_after.Goals as goal
 

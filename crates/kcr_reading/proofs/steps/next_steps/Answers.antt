@@ -1,8 +1,5 @@
-use Rattle.std.proofs.Common.{◌∷◌, [], ◌∙◌, ◌-◌, List, length, slice_get, ap, rules, arith}
-use Rattle.std.specs.Option.{option_copied}
-use Rattle.kcr_history.specs.declared.row_types.StepRow.{StepRow}
-use Rattle.kcr_tables.proofs.FrameLemmas.{fails_as, reads_to}
-use Rattle.kcr_tables.proofs.HoldLemmas.{held_of}
+use Rattle.kcr_reading.proofs.Common.{◌∷◌, [], ◌∙◌, ◌-◌, List, length, slice_get, ap, rules, arith, option_copied, StepRow, fails_as, reads_to}
+use Rattle.kcr_reading.proofs.Common.{held_of}
 use Rattle.kcr_reading.proofs.ChoiceLemmas.{shown_by}
 use Rattle.kcr_reading.proofs.CeremonyLemmas.{steps_shown, next_steps, steps_within}
 use Rattle.kcr_reading.proofs.steps.next_steps.Goals as goal

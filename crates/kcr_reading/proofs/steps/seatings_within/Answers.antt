@@ -1,13 +1,4 @@
-use Rattle.std.proofs.Common.{◌∷◌, [], map, subst, IfOk}
-use Rattle.sqlite.specs.Order.{Row}
-use Rattle.sqlite.specs.Held.{state}
-use Rattle.sqlite.specs.State.{Shown}
-use Rattle.kcr_rows.proofs.FailLemmas.{if_ok}
-use Rattle.kcr_rows.specs.Rows.{seating_row}
-use Rattle.kcr_tables.proofs.HoldLemmas.{held_of}
-use Rattle.kcr_rows.proofs.TextLemmas.{is_plain}
-use Rattle.kcr_tables.specs.Schema.{register_schema}
-use Rattle.kcr_tables.proofs.FrameLemmas.{reads_by}
+use Rattle.kcr_reading.proofs.Common.{◌∷◌, [], map, subst, IfOk, Row, state, Shown, if_ok, seating_row, held_of, is_plain, register_schema, reads_by}
 use Rattle.kcr_reading.proofs.CeremonyLemmas.{seatings_text, seatings_shown, seated}
 use Rattle.kcr_reading.proofs.steps.seatings_within.Goals as goal
 

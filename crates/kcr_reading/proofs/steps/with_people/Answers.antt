@@ -1,7 +1,6 @@
-use Rattle.std.proofs.Common.{◌≡◌, ℕ, List, ◌++◌, ◌∷◌, [], ◌∙◌, length, map, sym, ap, arith, append_assoc}
-use Rattle.std.proofs.lemmas.List.{map-append, append-nil, nil_from_length}
-use Rattle.std.specs.Vec.Iter.{into_iter_items}
-use Rattle.kcr_reading.specs.Remaining.{with_people}
+use Rattle.kcr_reading.proofs.Common.{◌≡◌, ℕ, List, ◌++◌, ◌∷◌, [], ◌∙◌, length, map, sym, ap, arith, append_assoc, map-append, nil_from_length}
+use Rattle.kcr_reading.proofs.Common.{into_iter_items, with_people}
+use Rattle.std.proofs.lemmas.List.{append-nil}
 use Rattle.kcr_history.specs.declared.report_rows.SeatedStep.{SeatedStep}
 use Rattle.kcr_reading.proofs.steps.with_people.Goals as goal
 
@@ -14,11 +13,7 @@ loop-step-preserved c =
       made = c.in_ok-push.ensures.items ∙ (λ i. at.invariant.made i ++ (seated ((c.new-seated.ensures ∙ c.in_ok-people.ensures) i) ∷ []))
           ∙ sym (map-append (with_people c.args.rows.now) at.yielded (x ∷ []));
       left = append_assoc at.yielded (x ∷ []) _ ∙ rw (← steps) at.invariant.left;
-      len =
-          let was = at.invariant.len in
-          let gone = c.in-Some.ensures.steps.1 in
-          let short = ap length steps in
-          omega arith;
+      len = omega (arith, at.invariant.len, c.in-Some.ensures.steps.1, ap length steps);
     }
 
 pub returns : goal.returns

@@ -1,6 +1,4 @@
-use Rattle.std.proofs.Common.{◌≡◌, ◌++◌, length, map}
-use Rattle.std.specs.Vec.Iter.{into_iter_items, into_iter_len}
-use Rattle.kcr_reading.specs.Remaining.{with_people}
+use Rattle.kcr_reading.proofs.Common.{◌≡◌, ◌++◌, length, map, into_iter_items, into_iter_len, with_people}
 use Rattle.kcr_reading.proofs.steps.with_people.Given as goal
 
 -- the steps so far have their people, and the others are left

@@ -1,5 +1,4 @@
-use Rattle.std.proofs.Common.{leb, rules}
-use Rattle.std.proofs.lemmas.List.Sorted.{IsPartitionPoint-from_clause, IsPartitionedBy-leb}
+use Rattle.kcr_room.proofs.Common.{leb, rules, IsPartitionPoint-from_clause, IsPartitionedBy-leb}
 use Rattle.kcr_room.proofs.Counting.{parted-count}
 use Rattle.kcr_room.proofs.occupancy.count_until.Goals as goal
 

@@ -1,4 +1,4 @@
-use Rattle.std.proofs.lemmas.List.Sorted.{IsNonDecreasingBy-from_sort}
+use Rattle.kcr_room.proofs.Common.{IsNonDecreasingBy-from_sort}
 use Rattle.kcr_room.proofs.occupancy.sorted.Goals as goal
 
 pub returns-clause-rising : goal.returns-clause-rising

@@ -1,5 +1,4 @@
-use Rattle.std.proofs.Common.{ap, ◌∙◌}
-use Rattle.kcr_room.specs.Stays.{first_lone_in_by, stays_by}
+use Rattle.kcr_room.proofs.Common.{ap, ◌∙◌, first_lone_in_by, stays_by}
 use Rattle.kcr_room.proofs.Moments.{first_lone-is_first, first_lone-by_rows}
 use Rattle.kcr_room.proofs.presence.first_lone.Goals as goal
 

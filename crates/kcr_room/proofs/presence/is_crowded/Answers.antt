@@ -1,5 +1,4 @@
-use Rattle.std.proofs.Common.{ap, ◌∙◌}
-use Rattle.kcr_room.specs.Stays.{is_crowded_in_by, stays_by}
+use Rattle.kcr_room.proofs.Common.{ap, ◌∙◌, is_crowded_in_by, stays_by}
 use Rattle.kcr_room.proofs.Moments.{crowded-is_ever, crowded-by_rows}
 use Rattle.kcr_room.proofs.presence.is_crowded.Goals as goal
 

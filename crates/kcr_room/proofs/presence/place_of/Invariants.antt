@@ -1,5 +1,4 @@
-use Rattle.std.proofs.Common.{◌≡◌, ◌++◌, take, drop}
-use Rattle.kcr_room.specs.Room.{put_person}
+use Rattle.kcr_room.proofs.Common.{◌≡◌, ◌++◌, take, drop, put_person}
 use Rattle.kcr_room.proofs.presence.place_of.Given as goal
 
 abbrev pub invariant-loop-index : goal.invariant-loop-index

@@ -1,5 +1,4 @@
-use Rattle.std.proofs.Common.{arith}
-use Rattle.std.proofs.lemmas.Grind.{common_steps}
+use Rattle.kcr_room.proofs.Common.{arith, common_steps}
 use Rattle.kcr_room.proofs.Orders.{present-more}
 use Rattle.kcr_room.proofs.presence.present_in.Goals as goal
 

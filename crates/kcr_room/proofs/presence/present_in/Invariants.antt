@@ -1,5 +1,4 @@
-use Rattle.std.proofs.Common.{◌≡◌, take}
-use Rattle.kcr_room.specs.Stays.{present_in_by}
+use Rattle.kcr_room.proofs.Common.{◌≡◌, take, present_in_by}
 use Rattle.kcr_room.proofs.presence.present_in.Given as goal
 
 -- those of the stays so far

@@ -1,5 +1,4 @@
-use Rattle.std.proofs.Common.{◌≡◌, ◌++◌, drop, map}
-use Rattle.kcr_room.specs.Requests.{new_stay}
+use Rattle.kcr_room.proofs.Common.{◌≡◌, ◌++◌, drop, map, new_stay}
 use Rattle.kcr_room.proofs.requests.add_new_stays.Given as goal
 
 abbrev pub invariant-loop-who : goal.invariant-loop-who

@@ -1,6 +1,4 @@
-use Rattle.std.proofs.Common.{◌≡◌, ◌++◌, drop, map}
-use Rattle.std.specs.List.{filter}
-use Rattle.kcr_room.specs.Requests.{is_open_stay_of, with_end}
+use Rattle.kcr_room.proofs.Common.{◌≡◌, ◌++◌, drop, map, filter, is_open_stay_of, with_end}
 use Rattle.kcr_room.proofs.requests.ended_stays.Given as goal
 
 abbrev pub invariant-loop-stay : goal.invariant-loop-stay

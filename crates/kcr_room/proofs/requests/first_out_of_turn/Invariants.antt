@@ -1,6 +1,4 @@
-use Rattle.std.proofs.Common.{◌≡◌, drop}
-use Rattle.std.specs.List.{find}
-use Rattle.kcr_room.specs.Requests.{is_out_of_turn_in}
+use Rattle.kcr_room.proofs.Common.{◌≡◌, drop, find, is_out_of_turn_in}
 use Rattle.kcr_room.proofs.requests.first_out_of_turn.Given as goal
 
 abbrev pub invariant-loop-who : goal.invariant-loop-who

@@ -1,6 +1,4 @@
-use Rattle.std.proofs.Common.{◌≡◌, ◌++◌, drop, map}
-use Rattle.std.specs.List.{filter}
-use Rattle.kcr_room.specs.Requests.{later_stay, of_ceremony}
+use Rattle.kcr_room.proofs.Common.{◌≡◌, ◌++◌, drop, map, filter, later_stay, of_ceremony}
 use Rattle.kcr_room.proofs.requests.later_stays.Given as goal
 
 abbrev pub invariant-loop-stay : goal.invariant-loop-stay

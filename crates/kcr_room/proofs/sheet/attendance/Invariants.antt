@@ -1,6 +1,5 @@
-use Rattle.std.proofs.Common.{◌≡◌, length}
+use Rattle.kcr_room.proofs.Common.{◌≡◌, length, attendance_in_by}
 use Rattle.kcr_room.proofs.Listed.{in_order_onto}
-use Rattle.kcr_room.specs.Stays.{attendance_in_by}
 use Rattle.kcr_room.proofs.sheet.attendance.Given as goal
 
 -- those that are left, put one after the other among those that are listed, are the attendance

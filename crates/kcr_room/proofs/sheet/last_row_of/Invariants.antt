@@ -1,7 +1,4 @@
-use Rattle.std.proofs.Common.{◌≡◌, drop}
-use Rattle.std.specs.List.{filter}
-use Rattle.kcr_base.specs.Same.{same_text}
-use Rattle.kcr_room.specs.Room.{last_onto, last_row}
+use Rattle.kcr_room.proofs.Common.{◌≡◌, drop, filter, same_text, last_onto, last_row}
 use Rattle.kcr_room.proofs.sheet.last_row_of.Given as goal
 
 -- the last so far and of what is left is the last

@@ -1,5 +1,4 @@
-use Rattle.std.proofs.Common.{◌≡◌, ◌++◌, take, drop}
-use Rattle.kcr_room.specs.Stays.{put_stay}
+use Rattle.kcr_room.proofs.Common.{◌≡◌, ◌++◌, take, drop, put_stay}
 use Rattle.kcr_room.proofs.sheet.place_of.Given as goal
 
 abbrev pub invariant-loop-index : goal.invariant-loop-index

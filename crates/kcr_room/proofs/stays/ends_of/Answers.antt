@@ -1,8 +1,5 @@
-use Rattle.std.proofs.Common.{◌≡◌, length, ap, rules}
-use Rattle.std.proofs.lemmas.List.{nil_from_length}
+use Rattle.kcr_room.proofs.Common.{◌≡◌, length, ap, rules, nil_from_length, get, same_text}
 use Rattle.std.specs.Map.{lookup}
-use Rattle.std.specs.HashMap.{get}
-use Rattle.kcr_base.specs.Same.{same_text}
 use Rattle.kcr_room.proofs.Steps.{told-init, told-next, told-all, place-within}
 use Rattle.kcr_room.proofs.stays.ends_of.Goals as goal
 

@@ -1,6 +1,4 @@
-use Rattle.std.proofs.Common.{length}
-use Rattle.std.specs.HashMap.{get}
-use Rattle.kcr_base.specs.Same.{same_text}
+use Rattle.kcr_room.proofs.Common.{length, get, same_text}
 use Rattle.kcr_room.proofs.Steps.{Told}
 use Rattle.kcr_room.proofs.stays.ends_of.Given as goal
 

@@ -1,5 +1,4 @@
-use Rattle.std.proofs.Common.{◌≡◌, ◌++◌, drop}
-use Rattle.kcr_room.specs.Events.{sheet_events_from}
+use Rattle.kcr_room.proofs.Common.{◌≡◌, ◌++◌, drop, sheet_events_from}
 use Rattle.kcr_room.proofs.stays.sheet_events.Given as goal
 
 abbrev pub invariant-loop-place : goal.invariant-loop-place

@@ -1,5 +1,4 @@
-use Rattle.std.proofs.Common.{◌≡◌, ◌++◌, drop}
-use Rattle.kcr_room.specs.Events.{stays_with}
+use Rattle.kcr_room.proofs.Common.{◌≡◌, ◌++◌, drop, stays_with}
 use Rattle.kcr_room.proofs.stays.stays_with.Given as goal
 
 abbrev pub invariant-loop-index : goal.invariant-loop-index

@@ -1,5 +1,4 @@
-use Rattle.std.proofs.Common.{◌≡◌, map, take}
-use Rattle.std.specs.List.{AllByRecursion}
+use Rattle.kcr_rows.proofs.Common.{◌≡◌, map, take, AllByRecursion}
 use Rattle.kcr_rows.proofs.statements.decode_all.Given as goal
 
 abbrev pub invariant-loop-row : goal.invariant-loop-row

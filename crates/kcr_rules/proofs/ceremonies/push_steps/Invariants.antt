@@ -1,5 +1,4 @@
-use Rattle.std.proofs.Common.{◌≡◌, ◌+◌, ◌++◌, map, drop}
-use Rattle.kcr_history.specs.declared.views.Change.TheVariants.{PutStep}
+use Rattle.kcr_rules.proofs.Common.{◌≡◌, ◌+◌, ◌++◌, map, drop, PutStep}
 use Rattle.kcr_rules.specs.CeremonyRows.{planned_step_rows}
 use Rattle.kcr_rules.proofs.ceremonies.push_steps.Given as goal
 

@@ -1,4 +1,4 @@
-use Rattle.std.proofs.Common.{◌≡◌, map, drop}
+use Rattle.kcr_rules.proofs.Common.{◌≡◌, map, drop}
 use Rattle.kcr_history.specs.History.{greatest}
 use Rattle.kcr_history.proofs.Marks.{greater}
 use Rattle.kcr_rules.proofs.people.greatest_mark.Given as goal

@@ -1,4 +1,4 @@
-use Rattle.std.proofs.Common.{◌≡◌, [], get_or, map, take}
+use Rattle.kcr_rules.proofs.Common.{◌≡◌, [], get_or, map, take}
 use Rattle.kcr_rules.proofs.seating.named.Given as goal
 
 -- what is there is the people with the numbers so far

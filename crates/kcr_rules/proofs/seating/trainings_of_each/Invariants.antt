@@ -1,5 +1,4 @@
-use Rattle.std.proofs.Common.{◌≡◌, map, take}
-use Rattle.kcr_rules.specs.TrainingsByPerson.{trainings_by_person}
+use Rattle.kcr_rules.proofs.Common.{◌≡◌, map, take, trainings_by_person}
 use Rattle.kcr_rules.proofs.seating.trainings_of_each.Given as goal
 
 -- what is there is the trainings of the people so far

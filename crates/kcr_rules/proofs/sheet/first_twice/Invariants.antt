@@ -1,5 +1,4 @@
-use Rattle.std.proofs.Common.{◌≡◌, drop}
-use Rattle.kcr_rules.specs.SheetRows.{first_twice}
+use Rattle.kcr_rules.proofs.Common.{◌≡◌, drop, first_twice}
 use Rattle.kcr_rules.proofs.sheet.first_twice.Given as goal
 
 -- the first of those left is the first of all

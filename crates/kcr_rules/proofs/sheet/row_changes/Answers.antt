@@ -1,8 +1,7 @@
-use Rattle.std.proofs.Common.{rules, tests}
+use Rattle.kcr_rules.proofs.Common.{rules, tests, PutSheet}
 use Rattle.std.proofs.lemmas.Iterator.{YieldsList-from_map, YieldsList-from_slice, items_from_collect}
 use Rattle.kcr_room.specs.Requests.{new_row}
 use Rattle.kcr_room.proofs.Lists.{map-map}
-use Rattle.kcr_history.specs.declared.views.Change.TheVariants.{PutSheet}
 use Rattle.kcr_rules.proofs.sheet.row_changes.Goals as goal
 
 pub returns : goal.returns

@@ -1,6 +1,5 @@
-use Rattle.std.proofs.Common.{◌≡◌, ◌++◌, drop, map}
+use Rattle.kcr_rules.proofs.Common.{◌≡◌, ◌++◌, drop, map, PutSeating}
 use Rattle.kcr_history.specs.Tables.{seat_rows}
-use Rattle.kcr_history.specs.declared.views.Change.TheVariants.{PutSeating}
 use Rattle.kcr_rules.proofs.steps.add_seats.Given as goal
 
 -- the rows so far and those of who is left are the rows of all

@@ -1,6 +1,5 @@
-use Rattle.std.proofs.Common.{◌≡◌, ◌<◌, ℕ, List, Some, map, true}
-use Rattle.csv.specs.Reading.{Reached, Ready, is_flexible, default_config, source_of, strip_bom}
-use Rattle.csv.specs.Records.{fields_of}
+use Rattle.kcr_script.proofs.Common.{◌≡◌, ◌<◌, ℕ, List, Some, map, true, Ready, is_flexible, default_config, source_of, fields_of}
+use Rattle.csv.specs.Reading.{Reached, strip_bom}
 use Rattle.csv.specs.declared.parser.State.TheVariants as st
 use Rattle.csv.specs.declared.reader.Trim.TheVariants as trim
 use Rattle.kcr_script.proofs.csv_rows.read_csv_rows.Given as goal

@@ -1,7 +1,5 @@
-use Rattle.std.proofs.Common.{◌≤◌, length, map, arith}
-use Rattle.std.proofs.lemmas.List.{length-map}
+use Rattle.kcr_script.proofs.Common.{◌≤◌, length, map, arith, length-map, fields_of}
 use Rattle.std.proofs.lemmas.Grind.{common_steps}
-use Rattle.csv.specs.Records.{fields_of}
 use Rattle.kcr_script.proofs.StepLemmas.{has_steps}
 use Rattle.kcr_script.proofs.reader.read_rows.Goals as goal
 

@@ -1,7 +1,4 @@
-use Rattle.std.proofs.Common.{◌≡◌, Some, ◌+◌, ◌≤◌, List, [], ◌∷◌, ◌++◌, map, sym, ap, ◌∙◌, arith, append-nil}
-use Rattle.std.proofs.lemmas.List.{nil_from_length}
-use Rattle.csv.specs.Records.{fields_of}
-use Rattle.kcr_script.specs.declared.script.Step.{Step}
+use Rattle.kcr_script.proofs.Common.{Some, ◌+◌, ◌≤◌, [], ◌∷◌, map, ap, arith, append-nil, nil_from_length, fields_of}
 use Rattle.kcr_script.proofs.StepLemmas.{faulty_row, first_step, on_row, breaks_row, push_before, none_left}
 use Rattle.kcr_script.proofs.reader.read_steps.Goals as goal
 
@@ -27,13 +24,10 @@ loop-row-preserved c =
     let low : c.loop-row.number ≤ 400 = omega arith in
     record {
       on = λ tail h. rw (push_before _ _ tail _ pushed) (inv.on (c.in-Some-2.step ∷ tail) (on_row _ _ _ _ first c.in-Some-2.step low is tail h));
-      back = λ all h. let b = inv.back all h in let r = first_step _ _ _ _ first (Some c.in-Some-2.step) only b.0 b.1 in
-          let same : r.0 ≡ c.in-Some-2.step = (let some = r.1 in cc) in (
-            r.2.0,
-            r.2.1,
-            b.2 ∙ ap (λ (xs : List Step). c.loop-row.steps.items ++ xs) (r.2.2 ∙ ap (λ (x : Step). x ∷ r.2.0) same)
-                ∙ sym (push_before _ _ r.2.0 _ pushed),
-          );
+      back = λ all h.
+          let b = inv.back all h in
+          let r = first_step _ _ _ _ first (Some c.in-Some-2.step) only b.0 b.1 in
+          (r.2.0, r.2.1, cc (b.2, r.1, r.2.2, push_before _ _ r.2.0 _ pushed));
       breaks = λ r h. inv.breaks r (breaks_row _ _ _ _ first c.in-Some-2.step low is r h);
       low = omega arith;
       high = omega arith;

@@ -1,7 +1,4 @@
-use Rattle.std.proofs.Common.{◌≡◌, ℕ, ◌≤◌, List, ◌++◌, length, map}
-use Rattle.csv.specs.Records.{fields_of}
-use Rattle.kcr_script.specs.Script.{AreSteps, BreaksFrom}
-use Rattle.kcr_script.specs.declared.script.Step.{Step}
+use Rattle.kcr_script.proofs.Common.{◌≡◌, ℕ, ◌≤◌, List, ◌++◌, length, map, fields_of, AreSteps, BreaksFrom, Step}
 use Rattle.kcr_script.proofs.reader.read_steps.Given as goal
 
 -- the steps so far, followed by those of the rest, are those of the rows; and the rest breaks if the rows do

@@ -1,5 +1,5 @@
-use Rattle.std.proofs.Common.{◌≡◌, ◌≢◌, ℕ, List, [], ◌∷◌, length, Some, None, sym, ◌∙◌, arith}
-use Rattle.csv.specs.Records.{fields_of, field_at}
+use Rattle.kcr_script.proofs.Common.{◌≡◌, ◌≢◌, ℕ, List, [], ◌∷◌, length, Some, None, sym, ◌∙◌, arith, fields_of}
+use Rattle.csv.specs.Records.{field_at}
 use Rattle.kcr_script.proofs.script.three_fields.Goals as goal
 
 three_are : (f : List (List ℕ)) (a b c : List ℕ) → length f ≡ 3 → Some a ≡ field_at f 0 → Some b ≡ field_at f 1 → Some c ≡ field_at f 2

@@ -1,5 +1,4 @@
-use Rattle.std.proofs.Common.{◌≡◌, ℕ, List, sym, ap, ◌∙◌, arith, string_bytes, ◌+◌, ◌-◌}
-use Rattle.kcr_script.specs.Seats.{Item, all_appended, groups, pair_item}
+use Rattle.kcr_script.proofs.Common.{◌≡◌, ℕ, List, sym, ap, ◌∙◌, arith, string_bytes, ◌+◌, ◌-◌, Item, all_appended, groups, pair_item}
 use Rattle.kcr_script.proofs.WrittenLemmas.{groups_more}
 use Rattle.kcr_script.proofs.seats.push_run.Goals as goal
 
@@ -7,7 +6,6 @@ pub loop-left-preserved : goal.loop-left-preserved
 loop-left-preserved c =
     let back : c.loop-left.left - 7 + 7 ≡ c.loop-left.left = omega arith in
     let more = rw back at (groups_more c.args.seat (c.loop-left.left - 7)) in
-    let old = string_bytes c.loop-left.text in
     record {
       some = omega arith;
       same = ap (λ (t : List ℕ). all_appended t (groups (pair_item (c.args.seat, c.loop-left.left - 7)))) c.in_ok-push_item.ensures

@@ -1,5 +1,4 @@
-use Rattle.std.proofs.Common.{◌≡◌, ◌<◌, string_bytes}
-use Rattle.kcr_script.specs.Seats.{all_appended, groups, pair_item}
+use Rattle.kcr_script.proofs.Common.{◌≡◌, ◌<◌, string_bytes, all_appended, groups, pair_item}
 use Rattle.kcr_script.proofs.seats.push_run.Given as goal
 
 abbrev pub invariant-loop-left : goal.invariant-loop-left

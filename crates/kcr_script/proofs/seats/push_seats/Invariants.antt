@@ -1,4 +1,4 @@
-use Rattle.std.proofs.Common.{◌≡◌, ◌++◌, replicate}
+use Rattle.kcr_script.proofs.Common.{◌≡◌, ◌++◌, replicate}
 use Rattle.kcr_script.proofs.seats.push_seats.Given as goal
 
 abbrev pub invariant-loop : goal.invariant-loop

@@ -1,7 +1,4 @@
-use Rattle.std.proofs.Common.{List, ◌++◌, length, replicate, Some, None, ap, arith, length-append}
-use Rattle.std.proofs.lemmas.List.{length-replicate}
-use Rattle.kcr_script.specs.declared.seat.Seat.{Seat}
-use Rattle.kcr_script.specs.Seats.{Spells, StandsFor}
+use Rattle.kcr_script.proofs.Common.{List, ◌++◌, length, replicate, Some, None, ap, arith, length-append, length-replicate, Seat, Spells, StandsFor}
 use Rattle.kcr_script.proofs.SeatLemmas.{step_front, more_than, on_step, back_step, last_step, stands_are_seats}
 use Rattle.kcr_script.proofs.SeatReading.{seats_are}
 use Rattle.kcr_script.proofs.seats.read_seats.Goals as goal
@@ -24,12 +21,7 @@ loop-seat-preserved c =
     record {
       on = on_step _ _ _ _ _ _ e _ c.loop-seat.invariant.on leads;
       back = back_step _ _ _ _ _ _ e _ c.loop-seat.invariant.back leads;
-      sixteen = omega (
-        arith,
-        ap length e,
-        length-append c.loop-seat.seats.items (replicate c.in-Some.count c.in-Some.seat),
-        length-replicate c.in-Some.count c.in-Some.seat,
-      );
+      sixteen = omega (arith, ap length e, length-append {A = Seat}, length-replicate {A = Seat});
     }
 
 pub returns-in-None-clause-only : goal.returns-in-None-clause-only
@@ -45,12 +37,7 @@ stands c =
     c.loop-seat.invariant.on (replicate c.in-Some.count c.in-Some.seat) last.spells in
     record {
       spells = rw e whole;
-      sixteen = omega (
-        arith,
-        ap length e,
-        length-append c.loop-seat.seats.items (replicate c.in-Some.count c.in-Some.seat),
-        length-replicate c.in-Some.count c.in-Some.seat,
-      );
+      sixteen = omega (arith, ap length e, length-append {A = Seat}, length-replicate {A = Seat});
     }
 
 pub invariant_of-result : goal.invariant_of-result

@@ -1,6 +1,4 @@
-use Rattle.std.proofs.Common.{◌≡◌, ◌≤◌, List, ◌++◌, length}
-use Rattle.kcr_script.specs.Seats.{Spells}
-use Rattle.kcr_script.specs.declared.seat.Seat.{Seat}
+use Rattle.kcr_script.proofs.Common.{◌≡◌, ◌≤◌, List, ◌++◌, length, Spells, Seat}
 use Rattle.kcr_script.proofs.seats.read_seats.Given as goal
 
 -- the seats so far, followed by those of the rest, are those of the text

@@ -1,7 +1,4 @@
-use Rattle.std.proofs.Common.{◌≡◌, ℕ, length, get_or, below_more, refl, true≢false, sym, ◌∙◌, arith}
-use Rattle.std.proofs.lemmas.Bool.{ltb-true}
-use Rattle.std.proofs.lemmas.List.{get_or_default}
-use Rattle.kcr_script.specs.Seat.{kind}
+use Rattle.kcr_script.proofs.Common.{◌≡◌, ℕ, length, get_or, below_more, refl, true≢false, sym, ◌∙◌, arith, ltb-true, get_or_default, kind}
 use Rattle.kcr_script.proofs.WrittenLemmas.{run_of}
 use Rattle.kcr_script.proofs.seats.run_len.Goals as goal
 

@@ -1,5 +1,4 @@
-use Rattle.std.proofs.Common.{◌≡◌, ℕ, ◌<◌, get_or}
-use Rattle.kcr_script.specs.declared.seat.Seat.{Seat}
+use Rattle.kcr_script.proofs.Common.{◌≡◌, ℕ, ◌<◌, get_or, Seat}
 use Rattle.kcr_script.proofs.seats.run_len.Given as goal
 
 abbrev pub invariant-loop-i : goal.invariant-loop-i

@@ -1,4 +1,4 @@
-use Rattle.std.proofs.Common.{◌≢◌, ℕ, ◌<◌, get_or}
+use Rattle.kcr_script.proofs.Common.{◌≢◌, ℕ, ◌<◌, get_or}
 use Rattle.kcr_script.proofs.seats.split_item.Given as goal
 
 abbrev pub invariant-loop-i : goal.invariant-loop-i

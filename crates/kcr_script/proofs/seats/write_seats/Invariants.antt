@@ -1,7 +1,4 @@
-use Rattle.std.proofs.Common.{◌≡◌, length, [], All, string_bytes}
-use Rattle.std.specs.List.{flat_map}
-use Rattle.kcr_script.specs.Seat.{IsSeat}
-use Rattle.kcr_script.specs.Seats.{all_appended, groups, runs}
+use Rattle.kcr_script.proofs.Common.{◌≡◌, length, [], All, string_bytes, flat_map, IsSeat, all_appended, groups, runs}
 use Rattle.kcr_script.proofs.seats.write_seats.Given as goal
 
 abbrev pub invariant-loop-seat : goal.invariant-loop-seat

@@ -1,8 +1,7 @@
-use Rattle.std.proofs.Common.{◌≡◌, ◌≢◌, ◌+◌, ◌≤◌, ◌∙◌, ap, sym, arith, get_or, true, false}
+use Rattle.std.proofs.Common.{◌≢◌, ◌+◌, ◌≤◌, ◌∙◌, ap, sym, arith, get_or, true, false}
 use Rattle.std.proofs.lemmas.Grind.{get_or_default_zero}
 use Rattle.kcr_seats.proofs.Turns.{in_lower}
 use Rattle.kcr_seats.proofs.search.assign_lowest.Goals as goal
-use Rattle.kcr_seats.specs.Matrix.{fits_of}
 use Rattle.kcr_seats.proofs.search.assign_lowest.Goals.{else-contains-via-then-contains+in_ok-try_person+else-branch, else-contains-via-else-contains}
 
 pub loop-person-preserved : goal.loop-person-preserved
@@ -12,11 +11,11 @@ loop-person-preserved g c = elim c.else-contains.branch [
       record {
         cost = omega arith;
         same = ap (λ x. x.items) w.seating-is ∙ z.same ∙ c.loop-person.invariant.same;
-        reached = λ v s same. (
-            let low : c.loop-person.person ≤ get_or v c.args.seat 0 = c.loop-person.invariant.reached v s same in
-            let other : get_or v c.args.seat 0 ≢ c.loop-person.person =
-            z.none v s (λ k h. same k h ∙ sym (ap (λ x. get_or x k 0) c.loop-person.invariant.same)) in
-            omega arith);
+        reached = λ v s same. omega (
+          arith,
+          c.loop-person.invariant.reached v s same,
+          z.none v s (λ k h. same k h ∙ sym (ap (λ x. get_or x k 0) c.loop-person.invariant.same)),
+        );
       }
   | else-contains-via-else-contains w ↦ record {
     cost = omega arith;
@@ -24,10 +23,7 @@ loop-person-preserved g c = elim c.else-contains.branch [
     reached = λ v s same. (
         let low : c.loop-person.person ≤ get_or v c.args.seat 0 = c.loop-person.invariant.reached v s same in
         let other : get_or v c.args.seat 0 ≢ c.loop-person.person = λ e.
-        let yes : fits_of c.args.table.now c.args.seat c.loop-person.person ≡ true = rw e at (s.fitting c.args.seat c.requires.seat) in
-        let not_so : false ≡ fits_of c.args.table.now c.args.seat c.loop-person.person =
-        w.if-contains.ensures ∙ c.row-fitting.ensures.each c.loop-person.person in
-        absurd (cc) in
+        absurd (cc (rw e at (s.fitting c.args.seat c.requires.seat), w.if-contains.ensures, c.row-fitting.ensures.each c.loop-person.person)) in
         omega arith);
   }
 ]

@@ -59,6 +59,4 @@ index_mut-requires g c =
     omega (arith, read_inside c.shift.invariant.way c.in_ok-reached.ensures.reached long c.index-seat.ensures)
 
 pub shift-smaller : goal.shift-smaller
-shift-smaller g c =
-    let way = c.shift.invariant.way in
-    read_before way c.in_ok-reached.ensures.reached (omega arith) c.index-index.ensures
+shift-smaller g c = read_before c.shift.invariant.way c.in_ok-reached.ensures.reached (omega arith) c.index-index.ensures

@@ -20,16 +20,26 @@ returns-in_err-marked-clause-cost g c = omega (arith, in_turn (seats_of c.args.t
 pub returns-in_err-marked_seats-clause-cost : goal.returns-in_err-marked_seats-clause-cost
 returns-in_err-marked_seats-clause-cost g c =
     let told = rw c.in-Stuck.is at c.in_ok-marked.ensures.tried in
-    let long = simp length-append at (ap length c.in_ok-push.ensures.items) in
-    let turn = in_turn (seats_of c.args.table.now) (people_of c.args.table.now) c.loop-root.root (omega arith) in
-    omega (arith, turn, told.1.marks.table, long, c.loop-root.invariant.seating.each_seat, ap length c.deref.ensures.value)
+    omega (
+      arith,
+      in_turn (seats_of c.args.table.now) (people_of c.args.table.now) c.loop-root.root (omega arith),
+      told.1.marks.table,
+      simp length-append at (ap length c.in_ok-push.ensures.items),
+      c.loop-root.invariant.seating.each_seat,
+      ap length c.deref.ensures.value,
+    )
 
 pub returns-in-Stuck-clause-cost : goal.returns-in-Stuck-clause-cost
 returns-in-Stuck-clause-cost g c =
     let told = rw c.in-Stuck.is at c.in_ok-marked.ensures.tried in
-    let long = simp length-append at (ap length c.in_ok-push.ensures.items) in
-    let turn = in_turn (seats_of c.args.table.now) (people_of c.args.table.now) c.loop-root.root (omega arith) in
-    omega (arith, turn, told.1.marks.table, long, c.loop-root.invariant.seating.each_seat, ap length c.deref.ensures.value)
+    omega (
+      arith,
+      in_turn (seats_of c.args.table.now) (people_of c.args.table.now) c.loop-root.root (omega arith),
+      told.1.marks.table,
+      simp length-append at (ap length c.in_ok-push.ensures.items),
+      c.loop-root.invariant.seating.each_seat,
+      ap length c.deref.ensures.value,
+    )
 
 pub returns-in_err-make_first-clause-cost : goal.returns-in_err-make_first-clause-cost
 returns-in_err-make_first-clause-cost g c = omega (arith, in_improve (seats_of c.args.table.now) (people_of c.args.table.now) c.loop-root.root (omega arith))

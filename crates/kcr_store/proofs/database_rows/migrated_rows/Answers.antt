@@ -1,8 +1,5 @@
-use Rattle.std.proofs.lemmas.Result.{IfOk-weaker}
-use Rattle.kcr_history.specs.Tables.{tables}
-use Rattle.kcr_rows.proofs.FrameLemmas.{clean_before}
+use Rattle.kcr_store.proofs.Common.{IfOk-weaker, tables, clean_before, held_of}
 use Rattle.kcr_store.proofs.StoreLemmas.{listed}
-use Rattle.kcr_tables.proofs.HoldLemmas.{held_of}
 use Rattle.kcr_store.proofs.database_rows.migrated_rows.Goals as goal
 
 pub returns-clause-rows : goal.returns-clause-rows

@@ -1,14 +1,5 @@
-use Rattle.std.proofs.Common.{◌≡◌, ◌+◌, Some, pos, subst}
-use Rattle.sqlite.specs.Held.{state}
-use Rattle.kcr_older.specs.Migrated.{migrated_tables}
-use Rattle.kcr_older.specs.OldFiles.{HoldsFirst, HoldsHistoryAs}
-use Rattle.kcr_older.specs.Kind.{version_in}
-use Rattle.kcr_older.specs.Versions.{number_of}
-use Rattle.kcr_history.specs.Tables.{tables}
-use Rattle.kcr_rows.proofs.FrameLemmas.{clean_before}
-use Rattle.kcr_store.specs.DatabaseRows.{IsKeptView}
-use Rattle.kcr_store.specs.Opening.{RefusesBy}
-use Rattle.kcr_store.specs.FullView.{IsListed}
+use Rattle.kcr_store.proofs.Common.{◌≡◌, ◌+◌, Some, pos, subst, state, migrated_tables, HoldsFirst, HoldsHistoryAs, version_in, number_of, tables}
+use Rattle.kcr_store.proofs.Common.{clean_before, IsKeptView, RefusesBy, IsListed}
 use Rattle.kcr_store.proofs.ListingLemmas.{given_answer, given_rows}
 use Rattle.kcr_store.proofs.OpenLemmas.{is_known, still_has, there}
 use Rattle.kcr_store.proofs.database_rows.older_rows.Goals as goal

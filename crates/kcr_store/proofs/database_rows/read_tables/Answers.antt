@@ -1,12 +1,6 @@
-use Rattle.std.proofs.Common.{◌≢◌, rules, IsTrue}
-use Rattle.std.proofs.lemmas.Result.{IfOk-weaker}
-use Rattle.sqlite.specs.Held.{state}
-use Rattle.sqlite.specs.State.{HasCleanDisk}
-use Rattle.kcr_older.specs.Kind.{IsOfKind}
-use Rattle.kcr_older.specs.declared.kind.DatabaseKind.TheVariants.{Versioned}
+use Rattle.kcr_store.proofs.Common.{refl, inr, ◌≢◌, rules, IsTrue, IfOk-weaker, state, HasCleanDisk, IsOfKind, Versioned, was_clean}
 use Rattle.kcr_store.proofs.ListingLemmas.{answer_by, own_by, rows_by, older_by, version_by, known_by, not_strange}
-use Rattle.kcr_store.proofs.OpenLemmas.{is_taken, known_3, none_strange, of_strange, stranger_answer}
-use Rattle.kcr_rows.proofs.InsideLemmas.{was_clean}
+use Rattle.kcr_store.proofs.OpenLemmas.{is_taken, none_strange, of_strange, stranger_answer}
 use Rattle.kcr_store.proofs.WholeLemmas.{if_ok}
 use Rattle.kcr_store.proofs.database_rows.read_tables.Goals as goal
 
@@ -16,15 +10,13 @@ returns-in-Versioned-clause-taken g c clean live A founded =
     absurd (of_strange A (state g.S.Store c.args.conn.now) (search rules) c.inspect.ensures.live before live founded (search rules))
 
 pub returns-in-Versioned-clause-version : goal.returns-in-Versioned-clause-version
-returns-in-Versioned-clause-version g c clean t held = absurd (none_strange 3 _ (search rules) held.schema known_3)
+returns-in-Versioned-clause-version g c clean t held = absurd (none_strange 3 _ (search rules) held.schema (inr (inr refl)))
 
 pub returns-in-Versioned-clause-older : goal.returns-in-Versioned-clause-older
 returns-in-Versioned-clause-older g c clean from t held = absurd (not_strange from t (state g.S.Store c.args.conn.now).now (search rules) held)
 
 pub returns-in-Versioned-clause-answer : goal.returns-in-Versioned-clause-answer
-returns-in-Versioned-clause-answer g c clean =
-    stranger_answer (state g.S.Store c.args.conn.now).now c.unknown_database_fault.result (search rules)
-    (c.unknown_database_fault.ensures.answer clean c.inspect.ensures.live (search rules))
+returns-in-Versioned-clause-answer g c clean = search (rules, stranger_answer)
 
 pub returns-in_default : goal.returns-in_default
 returns-in_default g c =

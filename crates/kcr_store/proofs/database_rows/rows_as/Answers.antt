@@ -1,8 +1,5 @@
-use Rattle.std.proofs.Common.{[], IsTrue}
-use Rattle.sqlite.specs.Held.{state}
-use Rattle.kcr_history.specs.Tables.{tables}
-use Rattle.kcr_store.specs.FullView.{IsListed}
-use Rattle.kcr_store.proofs.ListingLemmas.{given_rows, given_open}
+use Rattle.kcr_store.proofs.Common.{[], IsTrue, state, tables, IsListed}
+use Rattle.kcr_store.proofs.ListingLemmas.{given_rows}
 use Rattle.kcr_store.proofs.database_rows.rows_as.Goals as goal
 
 pub returns-in-Empty-clause-gives : goal.returns-in-Empty-clause-gives
@@ -12,7 +9,7 @@ returns-in-Empty-clause-gives g c clean live =
 
 pub returns-in-Empty-clause-opened : goal.returns-in-Empty-clause-opened
 returns-in-Empty-clause-opened g c clean inside =
-    given_open (IsTrue (state g.S.Store c.args.tx.now.conn.now).is_open) c.empty_register_rows.result _ c.given.ensures.rows (c.empty_register_rows.ensures.opened clean inside)
+    given_rows (λ _. IsTrue (state g.S.Store c.args.tx.now.conn.now).is_open) c.empty_register_rows.result _ c.given.ensures.rows (c.empty_register_rows.ensures.opened clean inside)
 
 pub returns-in-Current-clause-gives : goal.returns-in-Current-clause-gives
 returns-in-Current-clause-gives g c clean live = rw c.in-Current.is (c.current_rows.ensures.gives clean live)

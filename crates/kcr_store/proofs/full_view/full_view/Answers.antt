@@ -1,10 +1,5 @@
-use Rattle.std.proofs.Common.{rules}
-use Rattle.std.proofs.lemmas.Result.{IfOk-weaker}
-use Rattle.kcr_history.specs.Tables.{tables}
-use Rattle.kcr_tables.proofs.HoldLemmas.{held_of}
-use Rattle.kcr_tables.specs.MachineTables.{HoldsTables}
+use Rattle.kcr_store.proofs.Common.{rules, IfOk-weaker, tables, held_of, HoldsTables, was_clean}
 use Rattle.kcr_store.proofs.StoreLemmas.{held_in, listed}
-use Rattle.kcr_rows.proofs.InsideLemmas.{was_clean}
 use Rattle.kcr_store.proofs.WholeLemmas.{begun_has, if_ok, read_back, read_stores}
 use Rattle.kcr_store.proofs.full_view.full_view.Goals as goal
 
@@ -28,8 +23,6 @@ returns-clause-register g c accepted was clean =
 
 pub returns-clause-frame : goal.returns-clause-frame
 returns-clause-frame g c =
-    let back = c.rollback.ensures in
-    let left =
-    read_back g.S.Store c.args.conn.now c.rollback.new.self.0 c.read_full_view-view.ensures.frame.within c.transaction-tx.ensures.begun
-    back.survives back.undone back.ended in
+    let left = read_back g.S.Store c.args.conn.now c.rollback.new.self.0 c.read_full_view-view.ensures.frame.within c.transaction-tx.ensures.begun
+    c.rollback.ensures.survives c.rollback.ensures.undone c.rollback.ensures.ended in
     search rules

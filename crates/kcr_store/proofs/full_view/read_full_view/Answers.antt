@@ -1,4 +1,4 @@
-use Rattle.kcr_tables.proofs.FrameLemmas.{fails_as, reads_to}
+use Rattle.kcr_store.proofs.Common.{fails_as, reads_to}
 use Rattle.kcr_store.proofs.full_view.read_full_view.Goals as goal
 
 pub returns-clause-rows : goal.returns-clause-rows

@@ -1,10 +1,5 @@
-use Rattle.std.proofs.Common.{sym, ap, ◌∙◌, subst}
-use Rattle.std.specs.Prelude.{MatchResult}
-use Rattle.std.specs.Option.{ok_or}
-use Rattle.kcr_base.specs.declared.refusal.Refusal.TheVariants.{Unknown}
+use Rattle.kcr_store.proofs.Common.{sym, ap, ◌∙◌, subst, MatchResult, ok_or, Unknown, tables, IsRowBy, HasNoRowBy}
 use Rattle.kcr_base.specs.declared.refusal.Thing.TheVariants as Things
-use Rattle.kcr_history.specs.Tables.{tables}
-use Rattle.kcr_store.specs.ShownBy.{IsRowBy, HasNoRowBy}
 use Rattle.kcr_store.proofs.QuestionLemmas.{found_of_history, row_by}
 use Rattle.kcr_store.proofs.StoreLemmas.{held_in}
 use Rattle.kcr_store.proofs.lists.find_ceremony.Goals as goal

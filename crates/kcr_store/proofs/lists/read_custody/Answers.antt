@@ -1,8 +1,5 @@
-use Rattle.std.proofs.Common.{◌∙◌, sym}
+use Rattle.kcr_store.proofs.Common.{◌∙◌, sym, tables, clean_before, held_of}
 use Rattle.kcr_reading.proofs.CustodyLemmas.{safes_stand}
-use Rattle.kcr_history.specs.Tables.{tables}
-use Rattle.kcr_rows.proofs.FrameLemmas.{clean_before}
-use Rattle.kcr_tables.proofs.HoldLemmas.{held_of}
 use Rattle.kcr_store.proofs.QuestionLemmas.{custody_of_history}
 use Rattle.kcr_store.proofs.StoreLemmas.{held_in}
 use Rattle.kcr_store.proofs.lists.read_custody.Goals as goal

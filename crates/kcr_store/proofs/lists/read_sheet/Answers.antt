@@ -1,19 +1,9 @@
-use Rattle.std.proofs.Common.{◌∙◌, ℕ, ap, inl, inr}
+use Rattle.kcr_store.proofs.Common.{◌∙◌, ℕ, ap, inl, inr, MatchResult, is_some, Trees, Refusal, named_stays, History, IsSheetShown, tables}
+use Rattle.kcr_store.proofs.Common.{StayWithName, clean_before, TreesHoldTables, IsQuestionRefusal, IsSheetShownBy, IsMissingBy, IsQuestionRefusalBy}
 use Rattle.std.specs.Global.{Global}
-use Rattle.std.specs.Prelude.{Result, Ok, Err, MatchResult, is_some}
+use Rattle.std.specs.Prelude.{Result, Ok, Err}
 use Rattle.std.specs.declared.vec.Vec.{Vec}
-use Rattle.sqlite.specs.Tree.{Trees}
-use Rattle.kcr_base.specs.declared.refusal.Refusal.{Refusal}
-use Rattle.kcr_reading.specs.Remaining.{named_stays}
-use Rattle.kcr_history.specs.History.{History}
-use Rattle.kcr_history.specs.Questions.{IsSheetShown}
-use Rattle.kcr_history.specs.Tables.{tables}
 use Rattle.kcr_history.specs.declared.questions.Question.TheVariants.{Sheet}
-use Rattle.kcr_history.specs.declared.report_rows.StayWithName.{StayWithName}
-use Rattle.kcr_rows.proofs.FrameLemmas.{clean_before}
-use Rattle.kcr_tables.specs.MachineTables.{TreesHoldTables}
-use Rattle.kcr_store.specs.Commands.{IsQuestionRefusal}
-use Rattle.kcr_store.specs.ShownBy.{IsSheetShownBy, IsMissingBy, IsQuestionRefusalBy}
 use Rattle.kcr_store.proofs.QuestionLemmas.{sheet_of_history, shown_or_fault, unplanned_of_history}
 use Rattle.kcr_store.proofs.StoreLemmas.{held_in}
 use Rattle.kcr_store.proofs.lists.read_sheet.Goals as goal

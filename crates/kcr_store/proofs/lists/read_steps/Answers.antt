@@ -1,7 +1,4 @@
-use Rattle.std.proofs.Common.{◌∙◌, ap, inl}
-use Rattle.kcr_reading.specs.Remaining.{seated_steps, exceptions_of}
-use Rattle.kcr_history.specs.Tables.{tables}
-use Rattle.kcr_rows.proofs.FrameLemmas.{clean_before, within_fails, within_then, within_to}
+use Rattle.kcr_store.proofs.Common.{rules, ◌∙◌, ap, seated_steps, exceptions_of, tables, clean_before, within_fails, within_then, within_to}
 use Rattle.kcr_store.proofs.QuestionLemmas.{steps_of_history}
 use Rattle.kcr_store.proofs.StoreLemmas.{held_in}
 use Rattle.kcr_store.proofs.lists.read_steps.Goals as goal
@@ -34,10 +31,7 @@ returns-clause-frame g c =
     within_to _ tt (within_then (within_then c.in_ok-row.ensures.frame c.in_ok-steps.ensures.frame.within) c.in_ok-exceptions.ensures.frame.within)
 
 pub returns-in_err-steps-clause-frame : goal.returns-in_err-steps-clause-frame
-returns-in_err-steps-clause-frame g c =
-    within_then c.in_ok-row.ensures.frame (within_fails _ c.from_residual-in_err-steps.ensures.1 (λ fault. inl fault) c.in_err-steps.ensures.frame.within)
+returns-in_err-steps-clause-frame g c = search (rules, within_then, within_fails)
 
 pub returns-in_err-exceptions-clause-frame : goal.returns-in_err-exceptions-clause-frame
-returns-in_err-exceptions-clause-frame g c =
-    within_then (within_then c.in_ok-row.ensures.frame c.in_ok-steps.ensures.frame.within)
-    (within_fails _ c.from_residual-in_err-exceptions.ensures.1 (λ fault. inl fault) c.in_err-exceptions.ensures.frame.within)
+returns-in_err-exceptions-clause-frame g c = search (rules, within_then, within_fails)

@@ -1,5 +1,4 @@
-use Rattle.kcr_history.specs.Tables.{tables}
-use Rattle.kcr_rows.proofs.FrameLemmas.{clean_before}
+use Rattle.kcr_store.proofs.Common.{rules, tables, clean_before}
 use Rattle.kcr_store.proofs.StoreLemmas.{brought_stores}
 use Rattle.kcr_store.proofs.WholeLemmas.{both_ok}
 use Rattle.kcr_store.proofs.open.brought_count.Goals as goal
@@ -11,6 +10,4 @@ returns-clause-brought g c clean A s =
     (c.last_number.ensures.frame.tables clean (tables A) held)
 
 pub returns-clause-rows : goal.returns-clause-rows
-returns-clause-rows g c clean t held =
-    let before = clean_before c.last_number.ensures.frame.within clean in
-    c.last_number.ensures.frame.holds clean _ (c.in_ok-migrate.ensures.rows before t held.0 held.1)
+returns-clause-rows g c clean t held = search (rules, clean_before)

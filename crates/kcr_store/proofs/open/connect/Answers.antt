@@ -1,4 +1,4 @@
-use Rattle.sqlite.specs.Files.{file_state}
+use Rattle.kcr_store.proofs.Common.{file_state}
 use Rattle.kcr_store.proofs.OpenLemmas.{founded_in}
 use Rattle.kcr_store.proofs.open.connect.Goals as goal
 

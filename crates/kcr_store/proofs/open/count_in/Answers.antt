@@ -1,6 +1,4 @@
-use Rattle.std.proofs.Common.{inr, refl}
-use Rattle.sqlite.specs.Held.{state}
-use Rattle.kcr_rows.proofs.FrameLemmas.{clean_before}
+use Rattle.kcr_store.proofs.Common.{inr, refl, state, clean_before}
 use Rattle.kcr_store.proofs.OpenLemmas.{still_stores, there}
 use Rattle.kcr_store.proofs.open.count_in.Goals as goal
 

@@ -1,8 +1,4 @@
-use Rattle.std.proofs.Common.{◌∙◌, ap, List, slice_get}
-use Rattle.kcr_history.specs.declared.row_types.KeyRow.{KeyRow}
-use Rattle.kcr_history.specs.Tables.{tables}
-use Rattle.kcr_history.proofs.Steps.{greatest-keys}
-use Rattle.kcr_tables.proofs.HoldLemmas.{held_of}
+use Rattle.kcr_store.proofs.Common.{◌∙◌, ap, List, slice_get, KeyRow, tables, greatest-keys, held_of}
 use Rattle.kcr_tables.proofs.ViewLemmas.{told, greatest_told}
 use Rattle.kcr_store.proofs.StoreLemmas.{held_in}
 use Rattle.kcr_store.proofs.open.last_number.Goals as goal

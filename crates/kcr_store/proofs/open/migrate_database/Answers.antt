@@ -1,27 +1,13 @@
-use Rattle.std.proofs.Common.{◌+◌, pos, rules, refl, subst, sym}
-use Rattle.sqlite.specs.Held.{state}
-use Rattle.sqlite.specs.State.{HasCleanDisk, IsUnchanged, Survives}
-use Rattle.sqlite.specs.Tree.{Trees}
-use Rattle.kcr_older.specs.OldFiles.{HoldsHistoryAs}
-use Rattle.kcr_older.specs.Versions.{number_of}
-use Rattle.kcr_rows.proofs.InsideLemmas.{was_clean}
-use Rattle.kcr_tables.specs.Creation.{schema_prefix}
-use Rattle.kcr_store.specs.Frame.{StaysOutside}
-use Rattle.kcr_older.specs.Migrated.{migrated_tables}
-use Rattle.kcr_tables.specs.StoredTables.{Holds}
-use Rattle.sqlite.specs.Effect.{Database}
-use Rattle.kcr_store.specs.Opening.{HoldsRowsAs, IsMigrated, IsOpened, RefusesBy, ShowsRows}
-use Rattle.kcr_store.specs.Stored.{Stores}
+use Rattle.kcr_store.proofs.Common.{rules, refl, subst, sym, state, HasCleanDisk, IsUnchanged, Survives, HoldsHistoryAs, number_of, was_clean}
+use Rattle.kcr_store.proofs.Common.{StaysOutside, migrated_tables, Holds, Database, HoldsRowsAs, IsMigrated, IsOpened, ShowsRows, Stores}
 use Rattle.kcr_store.proofs.OpenLemmas.{begun_says, renewed_outside}
+use Rattle.kcr_store.proofs.RowLemmas.{stood}
 use Rattle.kcr_store.proofs.StoreLemmas.{brought_stores}
 use Rattle.kcr_store.proofs.WholeLemmas.{begun_has, nothing_made, outside_then}
 use Rattle.kcr_store.proofs.open.migrate_database.Goals as goal
 
 pub returns-in-Err-clause-answer : goal.returns-in-Err-clause-answer
-returns-in-Err-clause-answer g c clean =
-    let before = was_clean _ _ _ c.drop-tx.ensures.survives (search rules) in
-    begun_says g.S.Store c.args.conn.now _ c.transaction-tx.ensures.begun (λ db. RefusesBy (pos (number_of c.args.from)) db c.in-Err.fault)
-    (schema_prefix (14 + number_of c.args.from)) (c.in-Err.ensures.answer before)
+returns-in-Err-clause-answer g c clean = search (rules, was_clean, begun_says)
 
 pub returns-in-Ok-commit-clause-shows : goal.returns-in-Ok-commit-clause-shows
 returns-in-Ok-commit-clause-shows g c clean A s =
@@ -54,29 +40,27 @@ returns-in-Ok-commit-clause-rows g c clean t held =
 
 pub returns-in-Ok-commit-clause-frame : goal.returns-in-Ok-commit-clause-frame
 returns-in-Ok-commit-clause-frame g c =
-    let left =
-    renewed_outside g.S.Store c.args.conn.now _ c.transaction-tx.ensures.begun _ c.renewed_count.ensures.frame.survives c.args.from
-    (λ clean A s. (c.in-Ok.ensures.brought clean A s).1) c.in-Ok.ensures.rows c.commit.new.self.0 c.commit.ensures.survives c.commit.ensures.ended in
+    let left = renewed_outside g.S.Store c.args.conn.now _ c.transaction-tx.ensures.begun _ c.renewed_count.ensures.frame.survives c.args.from
+    c.in-Ok.ensures.brought c.in-Ok.ensures.rows c.commit.new.self.0 c.commit.ensures.survives c.commit.ensures.ended in
     search rules
 
 -- ---- out of memory at the commit: the store is asked whether it is still open
 
 pub returns-in-Err-SqliteFailure-OutOfMemory-clause-left : goal.returns-in-Err-SqliteFailure-OutOfMemory-clause-left
 returns-in-Err-SqliteFailure-OutOfMemory-clause-left g c other =
-    let end = state g.S.Store c.commit.new.self.0 in
+    let frame = c.renewed_count.ensures.frame in
     let last = state g.S.Store c.commit_fault.new.conn in
-    let told : Survives end last (λ _. ⊥) = search rules in
-    let same : HasCleanDisk last → IsUnchanged end last = search rules in
-    nothing_made g.S.Store c.args.conn.now _ c.transaction-tx.ensures.begun _ c.renewed_count.ensures.frame.survives c.renewed_count.ensures.frame.kept
-    (λ db live is. subst (λ (t : Trees). g.S.Store.recovers c.args.conn.now.store t) (sym is) (g.met.S.Store.stays c.args.conn.now.store live))
-    end c.commit.ensures.survives c.in-Err-SqliteFailure-OutOfMemory.field-0 (search rules) c.in-Err-SqliteFailure-OutOfMemory.ensures.err
-    c.commit_fault.new.conn told same (λ db. g.met.S.Store.settled c.commit_fault.new.conn.store db)
+    let told : Survives (state g.S.Store c.commit.new.self.0) last (λ _. ⊥) = search rules in
+    let same : HasCleanDisk last → IsUnchanged (state g.S.Store c.commit.new.self.0) last = search rules in
+    nothing_made g.S.Store c.args.conn.now _ c.transaction-tx.ensures.begun _ frame.survives frame.kept
+    g.met.S.Store.stays g.met.S.Store.settled _ c.commit.ensures.survives c.commit_fault.new.conn told
+    (stood _ _ last c.commit.ensures.survives told c.in-Err-SqliteFailure-OutOfMemory.field-0 (search rules)
+    c.in-Err-SqliteFailure-OutOfMemory.ensures.err same)
 
 pub returns-in-Err-SqliteFailure-OutOfMemory-clause-frame : goal.returns-in-Err-SqliteFailure-OutOfMemory-clause-frame
 returns-in-Err-SqliteFailure-OutOfMemory-clause-frame g c =
-    let left =
-    renewed_outside g.S.Store c.args.conn.now _ c.transaction-tx.ensures.begun _ c.renewed_count.ensures.frame.survives c.args.from
-    (λ clean A s. (c.in-Ok.ensures.brought clean A s).1) c.in-Ok.ensures.rows c.commit.new.self.0 c.commit.ensures.survives c.commit.ensures.ended in
+    let left = renewed_outside g.S.Store c.args.conn.now _ c.transaction-tx.ensures.begun _ c.renewed_count.ensures.frame.survives c.args.from
+    c.in-Ok.ensures.brought c.in-Ok.ensures.rows c.commit.new.self.0 c.commit.ensures.survives c.commit.ensures.ended in
     let told : StaysOutside g.S.Store (λ _. ⊥) c.commit.new.self.0 c.commit_fault.new.conn = search rules in
     outside_then g.S.Store (IsMigrated c.args.from (state g.S.Store c.args.conn.now).now) c.args.conn.now c.commit.new.self.0
     c.commit_fault.new.conn left told
@@ -85,9 +69,8 @@ returns-in-Err-SqliteFailure-OutOfMemory-clause-frame g c =
 
 pub returns-in-Err-commit : goal.returns-in-Err-commit
 returns-in-Err-commit g c =
-    let left =
-    renewed_outside g.S.Store c.args.conn.now _ c.transaction-tx.ensures.begun _ c.renewed_count.ensures.frame.survives c.args.from
-    (λ clean A s. (c.in-Ok.ensures.brought clean A s).1) c.in-Ok.ensures.rows c.commit.new.self.0 c.commit.ensures.survives c.commit.ensures.ended in
+    let left = renewed_outside g.S.Store c.args.conn.now _ c.transaction-tx.ensures.begun _ c.renewed_count.ensures.frame.survives c.args.from
+    c.in-Ok.ensures.brought c.in-Ok.ensures.rows c.commit.new.self.0 c.commit.ensures.survives c.commit.ensures.ended in
     record {
       shows = λ clean A s. tt;
       rows = λ clean t held. tt;

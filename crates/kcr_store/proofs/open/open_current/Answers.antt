@@ -1,5 +1,4 @@
-use Rattle.sqlite.specs.Held.{state}
-use Rattle.kcr_rows.proofs.InsideLemmas.{was_clean}
+use Rattle.kcr_store.proofs.Common.{state, was_clean}
 use Rattle.kcr_store.proofs.OpenLemmas.{still_shows}
 use Rattle.kcr_store.proofs.open.open_current.Goals as goal
 

@@ -1,14 +1,9 @@
-use Rattle.std.proofs.Common.{rules, ap, inl, inr, length, sym, ℕ}
-use Rattle.sqlite.specs.Held.{state}
-use Rattle.kcr_history.specs.History.{History}
-use Rattle.kcr_rows.proofs.InsideLemmas.{was_clean}
+use Rattle.kcr_store.proofs.Common.{refl, rules, ap, inl, inr, length, sym, ℕ, state, History, was_clean, on_ok}
 use Rattle.kcr_store.proofs.WholeLemmas.{if_ok, outside_weaker}
 use Rattle.kcr_store.proofs.OpenLemmas.{is_taken, nothing_accepted, number_answer, of_empty, of_ours, of_first_version, of_second_version, of_strange}
-use Rattle.kcr_store.proofs.OpenLemmas.{empty_answer, foreign_answer, known_1, known_2, known_3, none_older, none_strange, older_kept, stranger_answer}
-use Rattle.kcr_older.specs.Kind.{IsForeignSchema, numbered_table}
-use Rattle.kcr_rows.proofs.FailLemmas.{on_ok}
+use Rattle.kcr_store.proofs.OpenLemmas.{empty_answer, foreign_answer, none_older, none_strange, older_kept, stranger_answer}
 use Rattle.kcr_older.specs.declared.migration.OldVersion.TheVariants as older
-use Rattle.std.specs.Prelude.{Ok, Err, IsTrue, is_some}
+use Rattle.std.specs.Prelude.{Ok, Err}
 use Rattle.kcr_store.proofs.open.open_or_migrate.Goals as goal
 
 -- ---- each answer is what its name says
@@ -18,38 +13,28 @@ returns-in-Err-clause-answer g c clean =
     empty_answer {A = ℕ} (state g.S.Store c.args.conn.now).now (Err c.in-Err.fault) (search rules) c.in-Err.ensures.kind
 
 pub returns-in-Current-clause-answer : goal.returns-in-Current-clause-answer
-returns-in-Current-clause-answer g c clean =
-    number_answer 3 known_3 (state g.S.Store c.args.conn.now).now c.open_current.result (search rules)
-    (c.open_current.ensures.answer clean c.inspect.ensures.live (search rules))
+returns-in-Current-clause-answer g c clean = search (rules, number_answer)
 
 pub returns-in-Version2-clause-answer : goal.returns-in-Version2-clause-answer
-returns-in-Version2-clause-answer g c clean =
-    number_answer 2 known_2 (state g.S.Store c.args.conn.now).now c.migrate_database.result (search rules)
-    (c.migrate_database.ensures.answer clean c.inspect.ensures.live (search rules))
+returns-in-Version2-clause-answer g c clean = search (rules, number_answer)
 
 pub returns-in-Version1-clause-answer : goal.returns-in-Version1-clause-answer
-returns-in-Version1-clause-answer g c clean =
-    number_answer 1 known_1 (state g.S.Store c.args.conn.now).now c.migrate_database-in-Version1.result (search rules)
-    (c.migrate_database-in-Version1.ensures.answer clean c.inspect.ensures.live (search rules))
+returns-in-Version1-clause-answer g c clean = search (rules, number_answer)
 
 pub returns-in-Versioned-clause-answer : goal.returns-in-Versioned-clause-answer
-returns-in-Versioned-clause-answer g c clean =
-    let old = (state g.S.Store c.args.conn.now).now in
-    let strange : IsForeignSchema old.schema = search rules in
-    let numbered : IsTrue (is_some (numbered_table old.schema)) = search rules in
-    stranger_answer old c.unknown_database_fault.result strange (c.unknown_database_fault.ensures.answer clean c.inspect.ensures.live numbered)
+returns-in-Versioned-clause-answer g c clean = search (rules, stranger_answer)
 
 pub returns-in-Foreign-clause-answer : goal.returns-in-Foreign-clause-answer
 returns-in-Foreign-clause-answer g c clean = foreign_answer (state g.S.Store c.args.conn.now).now (search rules) (search rules)
 
 pub returns-in-Current-clause-known : goal.returns-in-Current-clause-known
-returns-in-Current-clause-known g c = on_ok _ c.open_current.result (λ strange. none_strange 3 _ strange (search rules) known_3)
+returns-in-Current-clause-known g c = on_ok _ c.open_current.result (λ strange. none_strange 3 _ strange (search rules) (inr (inr refl)))
 
 pub returns-in-Version2-clause-known : goal.returns-in-Version2-clause-known
-returns-in-Version2-clause-known g c = on_ok _ c.migrate_database.result (λ strange. none_strange 2 _ strange (search rules) known_2)
+returns-in-Version2-clause-known g c = on_ok _ c.migrate_database.result (λ strange. none_strange 2 _ strange (search rules) (inr (inl refl)))
 
 pub returns-in-Version1-clause-known : goal.returns-in-Version1-clause-known
-returns-in-Version1-clause-known g c = on_ok _ c.migrate_database-in-Version1.result (λ strange. none_strange 1 _ strange (search rules) known_1)
+returns-in-Version1-clause-known g c = on_ok _ c.migrate_database-in-Version1.result (λ strange. none_strange 1 _ strange (search rules) (inl refl))
 
 -- ---- a genuine one is taken, and shows its history
 
@@ -66,43 +51,38 @@ returns-in-Ok-clause-found g c clean accepted founded =
 
 pub returns-in-Current-clause-found : goal.returns-in-Current-clause-found
 returns-in-Current-clause-found g c clean accepted founded =
-    let before = was_clean _ _ _ c.open_current.ensures.frame.survives clean in
-    c.open_current.ensures.shows clean accepted
-    (λ live. of_ours accepted (state g.S.Store c.args.conn.now) (search rules) c.inspect.ensures.live before live founded (search rules))
+    c.open_current.ensures.shows clean accepted (λ live. of_ours accepted (state g.S.Store c.args.conn.now) (search rules) c.inspect.ensures.live
+    (was_clean _ _ _ c.open_current.ensures.frame.survives clean) live founded (search rules))
 
 pub returns-in-Current-clause-taken : goal.returns-in-Current-clause-taken
 returns-in-Current-clause-taken g c clean live accepted founded =
-    let before = was_clean _ _ _ c.open_current.ensures.frame.survives clean in
-    let old = state g.S.Store c.args.conn.now in
-    is_taken accepted old (search rules) c.inspect.ensures.live before live founded c.open_current.result
-    (returns-in-Current-clause-answer g c clean)
+    is_taken accepted (state g.S.Store c.args.conn.now) (search rules) c.inspect.ensures.live
+    (was_clean _ _ _ c.open_current.ensures.frame.survives clean) live founded c.open_current.result (returns-in-Current-clause-answer g c clean)
 
 pub returns-in-Version2-clause-found : goal.returns-in-Version2-clause-found
 returns-in-Version2-clause-found g c clean accepted founded =
-    let before = was_clean _ _ _ c.migrate_database.ensures.frame.survives clean in
     if_ok _ _ c.migrate_database.result (c.migrate_database.ensures.opened clean)
     (λ live. c.migrate_database.ensures.shows clean accepted
-    (of_second_version accepted (state g.S.Store c.args.conn.now) (search rules) c.inspect.ensures.live before live founded (search rules)))
+    (of_second_version accepted (state g.S.Store c.args.conn.now) (search rules) c.inspect.ensures.live
+    (was_clean _ _ _ c.migrate_database.ensures.frame.survives clean) live founded (search rules)))
 
 pub returns-in-Version2-clause-taken : goal.returns-in-Version2-clause-taken
 returns-in-Version2-clause-taken g c clean live accepted founded =
-    let before = was_clean _ _ _ c.migrate_database.ensures.frame.survives clean in
-    let old = state g.S.Store c.args.conn.now in
-    is_taken accepted old (search rules) c.inspect.ensures.live before live founded c.migrate_database.result
+    is_taken accepted (state g.S.Store c.args.conn.now) (search rules) c.inspect.ensures.live
+    (was_clean _ _ _ c.migrate_database.ensures.frame.survives clean) live founded c.migrate_database.result
     (returns-in-Version2-clause-answer g c clean)
 
 pub returns-in-Version1-clause-found : goal.returns-in-Version1-clause-found
 returns-in-Version1-clause-found g c clean accepted founded =
-    let before = was_clean _ _ _ c.migrate_database-in-Version1.ensures.frame.survives clean in
     if_ok _ _ c.migrate_database-in-Version1.result (c.migrate_database-in-Version1.ensures.opened clean)
     (λ live. c.migrate_database-in-Version1.ensures.shows clean accepted
-    (of_first_version accepted (state g.S.Store c.args.conn.now) (search rules) c.inspect.ensures.live before live founded (search rules)))
+    (of_first_version accepted (state g.S.Store c.args.conn.now) (search rules) c.inspect.ensures.live
+    (was_clean _ _ _ c.migrate_database-in-Version1.ensures.frame.survives clean) live founded (search rules)))
 
 pub returns-in-Version1-clause-taken : goal.returns-in-Version1-clause-taken
 returns-in-Version1-clause-taken g c clean live accepted founded =
-    let before = was_clean _ _ _ c.migrate_database-in-Version1.ensures.frame.survives clean in
-    let old = state g.S.Store c.args.conn.now in
-    is_taken accepted old (search rules) c.inspect.ensures.live before live founded c.migrate_database-in-Version1.result
+    is_taken accepted (state g.S.Store c.args.conn.now) (search rules) c.inspect.ensures.live
+    (was_clean _ _ _ c.migrate_database-in-Version1.ensures.frame.survives clean) live founded c.migrate_database-in-Version1.result
     (returns-in-Version1-clause-answer g c clean)
 
 pub returns-in-Versioned-clause-taken : goal.returns-in-Versioned-clause-taken

@@ -1,10 +1,4 @@
-use Rattle.std.proofs.Common.{◌≡◌, Some, pos, subst}
-use Rattle.sqlite.specs.Held.{state}
-use Rattle.kcr_rows.proofs.FrameLemmas.{clean_before}
-use Rattle.kcr_older.specs.OldFiles.{HoldsHistoryAs}
-use Rattle.kcr_older.specs.Kind.{version_in}
-use Rattle.kcr_older.specs.Versions.{number_of}
-use Rattle.kcr_store.specs.Opening.{HoldsRowsAs, RefusesBy}
+use Rattle.kcr_store.proofs.Common.{◌≡◌, Some, pos, subst, state, clean_before, HoldsHistoryAs, version_in, number_of, HoldsRowsAs, RefusesBy}
 use Rattle.kcr_store.proofs.OpenLemmas.{is_known, still_has, there}
 use Rattle.kcr_store.proofs.open.renewed_count.Goals as goal
 

@@ -1,8 +1,5 @@
-use Rattle.std.proofs.Common.{arith, ◌≡◌, ◌∷◌, length, ap}
-use Rattle.std.specs.Vec.Iter.{into_iter_items}
+use Rattle.kcr_store.proofs.Common.{arith, ◌≡◌, ◌∷◌, length, ap, into_iter_items, PersonShown, AreRolesOf}
 use Rattle.std.proofs.lemmas.List.Elements.{All-push}
-use Rattle.kcr_history.specs.declared.questions.PersonShown.{PersonShown}
-use Rattle.kcr_store.specs.Shown.{AreRolesOf}
 use Rattle.kcr_store.proofs.ShownLemmas.{one_more}
 use Rattle.kcr_store.proofs.shown.people_shown.Goals as goal
 

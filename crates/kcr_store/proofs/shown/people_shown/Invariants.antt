@@ -1,8 +1,4 @@
-use Rattle.std.proofs.Common.{◌≡◌, ◌++◌, length, map}
-use Rattle.std.specs.Prelude.{All}
-use Rattle.std.specs.Vec.Iter.{into_iter_items, into_iter_len}
-use Rattle.kcr_history.specs.Questions.{person_of}
-use Rattle.kcr_store.specs.Shown.{AreRolesOf}
+use Rattle.kcr_store.proofs.Common.{◌≡◌, ◌++◌, length, map, All, into_iter_items, into_iter_len, person_of, AreRolesOf}
 use Rattle.kcr_store.proofs.shown.people_shown.Given as goal
 
 -- those shown so far and those that are left are all, and each has their roles

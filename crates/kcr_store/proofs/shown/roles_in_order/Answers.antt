@@ -1,7 +1,4 @@
-use Rattle.std.proofs.Common.{rules, subst}
-use Rattle.std.specs.List.Sorted.{IsPermutation}
-use Rattle.std.proofs.lemmas.List.Sorted.{answers_always}
-use Rattle.kcr_base.specs.Same.{role_number}
+use Rattle.kcr_store.proofs.Common.{rules, subst, IsPermutation, answers_always, role_number}
 use Rattle.kcr_store.proofs.ShownLemmas.{in_order}
 use Rattle.kcr_store.proofs.shown.roles_in_order.Goals as goal
 

@@ -1,12 +1,5 @@
-use Rattle.std.proofs.Common.{◌≡◌, ◌∙◌, sym, subst, Result, Ok, Err}
-use Rattle.std.specs.Prelude.{IsErrAnd}
-use Rattle.sqlite.specs.Held.{state}
-use Rattle.kcr_base.specs.declared.refusal.Refusal.{Refusal}
-use Rattle.kcr_history.specs.Tables.{tables}
-use Rattle.kcr_history.specs.declared.views.Verdict.{Verdict}
-use Rattle.kcr_history.proofs.Steps.{greatest-keys}
-use Rattle.kcr_rows.proofs.FrameLemmas.{within_then, within_to, within_fails, clean_before}
-use Rattle.kcr_store.specs.TransactionResult.{RefusesAsMachine}
+use Rattle.kcr_store.proofs.Common.{rules, ◌≡◌, ◌∙◌, arith, sym, Result, Ok, Err, IsErrAnd, state, Refusal, tables, Verdict, greatest-keys}
+use Rattle.kcr_store.proofs.Common.{within_then, within_to, within_fails, clean_before, RefusesAsMachine}
 use Rattle.kcr_store.proofs.ByRows.{by_early, by_fault, by_late, by_repeat, handed_on}
 use Rattle.kcr_store.proofs.StoreLemmas.{IsDecided, held_in, next_stores, refused, fault_steps, steps}
 use Rattle.kcr_store.proofs.transaction.decide_and_write.Goals as goal
@@ -36,16 +29,12 @@ returns-in_err-view-clause-frame g c =
     failed.cause.step clean A was.tables.register (kept.frame.tables before (tables A) held) (sym (kept.row before (tables A) held) ∙ c.in_default.is) number) failed)
 
 pub returns-in_err-change_all-clause-frame : goal.returns-in_err-change_all-clause-frame
-returns-in_err-change_all-clause-frame g c =
-    within_then (within_then c.in_ok-row.ensures.frame.within c.in_ok-view.ensures.frame)
-    (within_fails _ c.from_residual-in_err-change_all.ensures.1 (λ fault clean A had number. fault_steps A c.args.command.now _ fault)
-    c.in_err-change_all.ensures.frame)
+returns-in_err-change_all-clause-frame g c = search (rules, within_then, within_fails, fault_steps)
 
 -- ---- the key is new, and the rows tell a refusal, which is handed on
 
 handed : (P : Result Verdict Refusal → Type 0) (e : Refusal) (result : Result Verdict Refusal) → IsErrAnd result (λ r. r ≡ e) → P (Err e) → P result
-handed P e (Ok verdict) is p = absurd is
-handed P e (Err r) is p = subst (λ (q : Refusal). P (Err q)) (sym is) p
+handed P e result is p = grind arith
 
 pub returns-in_err-verdict-clause-frame : goal.returns-in_err-verdict-clause-frame
 returns-in_err-verdict-clause-frame g c =

@@ -1,11 +1,6 @@
-use Rattle.std.proofs.Common.{◌∙◌, [], ◌∷◌, sym, ap, refl, inl, inr, map, option_map}
-use Rattle.kcr_base.proofs.SameLemmas.{same-itself}
-use Rattle.kcr_custody.specs.Custody.{sealed_items}
+use Rattle.kcr_store.proofs.Common.{rules, ◌∙◌, [], ◌∷◌, sym, ap, refl, inr, map, option_map, same-itself, sealed_items, tables, clean_before}
+use Rattle.kcr_store.proofs.Common.{within_fails, within_then, within_to, held_of, kept_rises}
 use Rattle.kcr_custody.specs.declared.Bag.{Bag}
-use Rattle.kcr_history.specs.Tables.{tables}
-use Rattle.kcr_rows.proofs.FrameLemmas.{clean_before, within_fails, within_then, within_to}
-use Rattle.kcr_tables.proofs.HoldLemmas.{held_of}
-use Rattle.kcr_tables.proofs.JointLemmas.{kept_rises}
 use Rattle.kcr_store.proofs.QuestionLemmas.{bag_by, bag_of_history, codes_packed, spot_shown}
 use Rattle.kcr_store.proofs.StoreLemmas.{held_in}
 use Rattle.kcr_store.proofs.transaction.read_bag.Goals as goal
@@ -60,6 +55,4 @@ pub returns-clause-frame : goal.returns-clause-frame
 returns-clause-frame g c = within_to _ tt (within_then c.in_ok-bag.ensures.frame.within c.in_ok-items.ensures.frame.within)
 
 pub returns-in_err-items-clause-frame : goal.returns-in_err-items-clause-frame
-returns-in_err-items-clause-frame g c =
-    within_then c.in_ok-bag.ensures.frame.within
-    (within_fails _ c.from_residual-in_err-items.ensures.1 (λ fault. inl fault) c.in_err-items.ensures.frame.within)
+returns-in_err-items-clause-frame g c = search (rules, within_then, within_fails)

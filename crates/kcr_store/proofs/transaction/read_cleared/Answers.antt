@@ -1,18 +1,7 @@
-use Rattle.std.proofs.Common.{◌∙◌, sym, refl, inl, inr, Result, Ok, Err, IfErr}
-use Rattle.kcr_base.specs.declared.refusal.Refusal.{Refusal}
-use Rattle.kcr_base.specs.declared.refusal.Refusal.TheVariants.{Memory}
-use Rattle.kcr_history.specs.AsksByKind.{asks_of}
+use Rattle.kcr_store.proofs.Common.{rules, ◌∙◌, sym, refl, inl, inr, Err, IfErr-weaker, Memory, asks_of, IsViewOf, View, greatest-keys, is_full_by}
+use Rattle.kcr_store.proofs.Common.{if_ok, within_then, within_to, within_fails, clean_before, StaysInTransaction, state_in, RefusesNew}
 use Rattle.kcr_history.specs.Early.{Completes, early_asks}
-use Rattle.kcr_history.specs.Views.{IsViewOf}
-use Rattle.kcr_history.specs.declared.views.View.{View}
-use Rattle.kcr_history.proofs.Steps.{greatest-keys}
-use Rattle.kcr_machine.specs.RowDecision.{is_full_by}
 use Rattle.kcr_machine.proofs.Completed.{still-cleared}
-use Rattle.kcr_rows.proofs.FailLemmas.{if_ok}
-use Rattle.kcr_rows.proofs.FrameLemmas.{within_then, within_to, within_fails, clean_before}
-use Rattle.kcr_rows.specs.Frame.{StaysInTransaction, state_in}
-use Rattle.kcr_tables.specs.Refusals.{IsFault}
-use Rattle.kcr_store.specs.ByRows.{RefusesNew}
 use Rattle.kcr_store.proofs.ByRows.{fault_refuses}
 use Rattle.kcr_store.proofs.WholeLemmas.{survives_still}
 use Rattle.kcr_store.proofs.transaction.read_cleared.Goals as goal
@@ -35,14 +24,7 @@ returns-clause-cleared g c =
     c.in_ok-check_early.ensures.told) c.read_remaining_rows.result c.read_remaining_rows.ensures.completes
 
 pub returns-clause-tables : goal.returns-clause-tables
-returns-clause-tables g c clean m held =
-    let last = c.read_remaining_rows.ensures.frame in
-    last.tables clean m (c.in_ok-front.ensures.frame.tables (clean_before last.within clean) m held)
-
--- a reading fails for a fault alone
-only_fails : {A : Type 0} {Wider : Refusal → Type 0} (r : Result A Refusal) → ((e : Refusal) → IsFault e → Wider e) → IfErr r IsFault → IfErr r Wider
-only_fails (Ok x) wider may = tt
-only_fails (Err e) wider may = wider e may
+returns-clause-tables g c clean m held = search (rules, clean_before)
 
 pub returns-clause-frame : goal.returns-clause-frame
 returns-clause-frame g c =
@@ -52,7 +34,7 @@ returns-clause-frame g c =
       inside = last.inside;
       kept = last.kept;
       survives = last.survives;
-      cause = only_fails c.read_remaining_rows.result fault_refuses last.cause;
+      cause = IfErr-weaker c.read_remaining_rows.result _ _ fault_refuses last.cause;
     })
 
 -- ---- it is refused

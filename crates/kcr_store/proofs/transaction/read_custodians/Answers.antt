@@ -1,8 +1,4 @@
-use Rattle.std.proofs.Common.{◌∙◌, [], ap}
-use Rattle.kcr_people.specs.People.{holder_by}
-use Rattle.kcr_history.specs.Questions.{holders_from}
-use Rattle.kcr_history.specs.Tables.{tables}
-use Rattle.kcr_tables.proofs.HoldLemmas.{held_of}
+use Rattle.kcr_store.proofs.Common.{◌∙◌, [], ap, holder_by, holders_from, tables, held_of}
 use Rattle.kcr_store.proofs.QuestionLemmas.{custodians_of_history, holders_by}
 use Rattle.kcr_store.proofs.StoreLemmas.{held_in}
 use Rattle.kcr_store.proofs.transaction.read_custodians.Goals as goal

@@ -1,13 +1,5 @@
-use Rattle.std.proofs.Common.{◌∙◌, List, [], subst₂}
-use Rattle.std.specs.Prelude.{All}
-use Rattle.kcr_people.specs.declared.Training.{Training}
-use Rattle.kcr_people.specs.declared.Withdrawal.{Withdrawal}
-use Rattle.kcr_tables.proofs.HoldLemmas.{held_of}
-use Rattle.kcr_tables.proofs.JointLemmas.{kept_rises}
-use Rattle.kcr_history.specs.declared.questions.PersonShown.{PersonShown}
-use Rattle.kcr_history.specs.Tables.{tables}
-use Rattle.kcr_rows.proofs.FrameLemmas.{clean_before, within_fails, within_then, within_to}
-use Rattle.kcr_store.specs.Shown.{AreRolesOf}
+use Rattle.kcr_store.proofs.Common.{rules, ◌∙◌, List, [], subst₂, All, Training, Withdrawal, held_of, kept_rises, PersonShown, tables, clean_before}
+use Rattle.kcr_store.proofs.Common.{within_fails, within_then, within_to, AreRolesOf}
 use Rattle.kcr_store.proofs.ShownLemmas.{people_of_history, people_shown}
 use Rattle.kcr_store.proofs.StoreLemmas.{held_in}
 use Rattle.kcr_store.proofs.transaction.read_people.Goals as goal
@@ -51,16 +43,10 @@ returns-clause-by_rows g c =
     )
 
 pub returns-clause-frame : goal.returns-clause-frame
-returns-clause-frame g c =
-    within_to _ tt
-    (within_then (within_then c.in_ok-people.ensures.frame.within c.in_ok-trainings.ensures.frame.within) c.in_ok-withdrawals.ensures.frame.within)
+returns-clause-frame g c = search (rules, within_to, within_then)
 
 pub returns-in_err-trainings-clause-frame : goal.returns-in_err-trainings-clause-frame
-returns-in_err-trainings-clause-frame g c =
-    within_then c.in_ok-people.ensures.frame.within
-    (within_fails _ c.from_residual-in_err-trainings.ensures.1 (λ fault. fault) c.in_err-trainings.ensures.frame.within)
+returns-in_err-trainings-clause-frame g c = search (rules, within_then, within_fails)
 
 pub returns-in_err-withdrawals-clause-frame : goal.returns-in_err-withdrawals-clause-frame
-returns-in_err-withdrawals-clause-frame g c =
-    within_then (within_then c.in_ok-people.ensures.frame.within c.in_ok-trainings.ensures.frame.within)
-    (within_fails _ c.from_residual-in_err-withdrawals.ensures.1 (λ fault. fault) c.in_err-withdrawals.ensures.frame.within)
+returns-in_err-withdrawals-clause-frame g c = search (rules, within_then, within_fails)

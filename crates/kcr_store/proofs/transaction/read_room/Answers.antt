@@ -1,9 +1,5 @@
-use Rattle.std.proofs.Common.{◌≡◌, ◌∙◌, [], ◌∷◌, ap, inl, refl}
-use Rattle.std.specs.Prelude.{is_some}
-use Rattle.kcr_room.specs.Stays.{present_in_by}
-use Rattle.kcr_history.specs.Tables.{tables, ceremony_row}
-use Rattle.kcr_rows.proofs.FrameLemmas.{clean_before, within_fails, within_then, within_to}
-use Rattle.kcr_tables.proofs.HoldLemmas.{held_of}
+use Rattle.kcr_store.proofs.Common.{rules, ◌≡◌, ◌∙◌, [], ◌∷◌, ap, refl, is_some, present_in_by, tables, ceremony_row, clean_before, within_fails}
+use Rattle.kcr_store.proofs.Common.{within_then, within_to, held_of}
 use Rattle.kcr_store.proofs.QuestionLemmas.{one_planned, present_rows, room_of_history}
 use Rattle.kcr_store.proofs.StoreLemmas.{held_in}
 use Rattle.kcr_store.proofs.transaction.read_room.Goals as goal
@@ -47,6 +43,4 @@ pub returns-clause-frame : goal.returns-clause-frame
 returns-clause-frame g c = within_to _ tt (within_then c.in_ok-find_ceremony.ensures.frame c.in_ok-stays.ensures.frame.within)
 
 pub returns-in_err-stays-clause-frame : goal.returns-in_err-stays-clause-frame
-returns-in_err-stays-clause-frame g c =
-    within_then c.in_ok-find_ceremony.ensures.frame
-    (within_fails _ c.from_residual-in_err-stays.ensures.1 (λ fault. inl fault) c.in_err-stays.ensures.frame.within)
+returns-in_err-stays-clause-frame g c = search (rules, within_then, within_fails)

@@ -1,21 +1,10 @@
-use Rattle.std.proofs.Common.{inl, inr, refl, rules, Ok, ℕ}
-use Rattle.std.proofs.lemmas.Bool.{true≢false}
-use Rattle.sqlite.specs.declared.error.Error.{Error}
-use Rattle.sqlite.specs.State.{HasCleanDisk, State, Survives}
-use Rattle.sqlite.specs.Held.{state}
-use Rattle.kcr_rows.proofs.InsideLemmas.{was_clean}
-use Rattle.kcr_rows.proofs.FrameLemmas.{clean_before}
-use Rattle.kcr_history.specs.History.{History}
-use Rattle.kcr_history.specs.declared.commands.Command.{Command}
-use Rattle.kcr_store.specs.ByRows.{EndsByRows, RepliesBy}
+use Rattle.kcr_store.proofs.Common.{inl, inr, refl, rules, Ok, ℕ, true≢false, Error, HasCleanDisk, State, Survives, state, was_clean, clean_before}
+use Rattle.kcr_store.proofs.Common.{History, Command, EndsByRows, RepliesBy, Memory, Disk, EndsCommand, Accepted, InDoubt, Refused}
 use Rattle.kcr_store.proofs.ByRows.{accepted_rows, begun_had, committed_by, doubtful_rows, now_held, refused_by, refused_rows}
-use Rattle.kcr_store.proofs.RowLemmas.{begins_with, rows_stand}
+use Rattle.kcr_store.proofs.RowLemmas.{begins_with, rows_back, stood}
 use Rattle.kcr_store.proofs.WholeLemmas.{accepted_ends, begins, begun_clean, counted_as, doubtful_ends, either, either_last, made_by, read_back, read_stores}
 use Rattle.kcr_store.proofs.WholeLemmas.{refused_ends, still_counted, whole_done, whole_stands}
-use Rattle.kcr_base.specs.declared.refusal.Refusal.TheVariants.{Memory, Disk}
 use Rattle.kcr_machine.proofs.Decided.{fault-refused}
-use Rattle.kcr_store.specs.TransactionResult.{EndsCommand}
-use Rattle.kcr_store.specs.declared.transaction.TransactionResult.TheVariants.{Accepted, InDoubt, Refused}
 use Rattle.kcr_store.proofs.transaction.run_command.Goals as goal
 
 -- ---- what the command may get, whatever the tables hold
@@ -93,12 +82,12 @@ returns-in-Err-SqliteFailure-OutOfMemory-clause-rows g c clean m had = doubtful_
 
 pub returns-in-Ok-prepare-clause-rows : goal.returns-in-Ok-prepare-clause-rows
 returns-in-Ok-prepare-clause-rows g c clean m had =
-    let last = c.prepare.new.self in
-    let probed : Survives (state g.S.Store c.commit.new.self.0) (state g.S.Store last) (λ _. ⊥) = search rules in
+    let frame = c.decide_and_write.ensures.frame in
+    let probed : Survives (state g.S.Store c.commit.new.self.0) (state g.S.Store c.prepare.new.self) (λ _. ⊥) = search rules in
+    let back = stood _ _ (state g.S.Store c.prepare.new.self) c.commit.ensures.survives probed c.in-Err-SqliteFailure-OutOfMemory.field-0
+    (search rules) (λ clean. c.in-Err-SqliteFailure-OutOfMemory.ensures.err clean) (λ clean. search rules) in
     let began = begins_with g.S.Store c.args.conn.now _ c.transaction-tx.ensures.begun m had in
-    refused_rows (inl (inl refl)) (rows_stand m _ _ began c.decide_and_write.ensures.frame.survives c.decide_and_write.ensures.frame.kept _
-    (state g.S.Store last) c.commit.ensures.survives probed c.in-Err-SqliteFailure-OutOfMemory.field-0 (search rules)
-    (λ clean. c.in-Err-SqliteFailure-OutOfMemory.ensures.err clean) (λ clean. search rules))
+    refused_rows (inl (inl refl)) (rows_back m _ _ _ began frame.survives frame.kept (λ clean. (back clean).1))
 
 -- ---- refused: the transaction is dropped
 
@@ -115,30 +104,25 @@ returns-in-Err-clause-step g c clean A was =
     search rules
 
 pub returns-in-Err-clause-clean : goal.returns-in-Err-clause-clean
-returns-in-Err-clause-clean g c clean =
-    begun_clean g.S.Store c.args.conn.now _ c.transaction-tx.ensures.begun
-    (clean_before c.decide_and_write.ensures.frame (was_clean _ _ _ c.drop-tx.ensures.survives (search rules)))
+returns-in-Err-clause-clean g c clean = search (rules, begun_clean, clean_before, was_clean)
 
 -- ---- accepted: the commit stands
 
 pub returns-in-Ok-commit-clause-step : goal.returns-in-Ok-commit-clause-step
 returns-in-Ok-commit-clause-step g c clean A was =
-    let made =
-    made_by g.S.Store c.args.conn.now _ c.transaction-tx.ensures.begun _ c.decide_and_write.ensures.frame.survives c.args.command.now c.args.count c.in-Ok.verdict
-    refl c.in-Ok.ensures.done was in
+    let made = made_by g.S.Store c.args.conn.now _ c.transaction-tx.ensures.begun _ c.decide_and_write.ensures.frame.survives
+    c.args.command.now c.args.count c.in-Ok.verdict refl c.in-Ok.ensures.done was in
     let began = begins g.S.Store _ c.args.conn.now _ c.transaction-tx.ensures.begun was.whole in
     let whole = counted_as
     (whole_done _ _ _ began c.decide_and_write.ensures.frame.survives c.decide_and_write.ensures.frame.kept _ _ c.commit.ensures.survives
-    (λ db. g.met.S.Store.settled c.commit.new.self.0.store db) (λ clean. (made clean).1) (λ clean. (c.in-Ok-commit.ensures.ok clean).1))
+    (λ clean. (made clean).1) (λ db. g.met.S.Store.settled c.commit.new.self.0.store db) (λ clean. (c.in-Ok-commit.ensures.ok clean).1))
     (λ clean. (made (was_clean _ _ _ c.commit.ensures.survives clean)).2) in
     let ended : EndsCommand c.args.count A c.args.command.now (Accepted c.in-Ok.verdict) (state g.S.Store c.commit.new.self.0) =
     accepted_ends (made (was_clean _ _ _ c.commit.ensures.survives (search rules))).0 whole in
     search rules
 
 pub returns-in-Ok-commit-clause-clean : goal.returns-in-Ok-commit-clause-clean
-returns-in-Ok-commit-clause-clean g c clean =
-    begun_clean g.S.Store c.args.conn.now _ c.transaction-tx.ensures.begun
-    (clean_before c.decide_and_write.ensures.frame (was_clean _ _ _ c.commit.ensures.survives (search rules)))
+returns-in-Ok-commit-clause-clean g c clean = search (rules, begun_clean, clean_before, was_clean)
 
 -- ---- the commit failed, and may stand
 
@@ -155,9 +139,8 @@ doubtful_by e = record {
 
 pub returns-clause-step : goal.returns-clause-step
 returns-clause-step g c clean A was =
-    let made =
-    made_by g.S.Store c.args.conn.now _ c.transaction-tx.ensures.begun _ c.decide_and_write.ensures.frame.survives c.args.command.now c.args.count c.in-Ok.verdict
-    refl c.in-Ok.ensures.done was in
+    let made = made_by g.S.Store c.args.conn.now _ c.transaction-tx.ensures.begun _ c.decide_and_write.ensures.frame.survives
+    c.args.command.now c.args.count c.in-Ok.verdict refl c.in-Ok.ensures.done was in
     let began = begins g.S.Store _ c.args.conn.now _ c.transaction-tx.ensures.begun was.whole in
     let left = either _ _ _ began c.decide_and_write.ensures.frame.survives c.decide_and_write.ensures.frame.kept _ _ c.commit.ensures.survives (λ clean. (made clean).1) in
     let ended : EndsCommand c.args.count A c.args.command.now (InDoubt c.in-Err-commit.error) (state g.S.Store c.commit.new.self.0) =
@@ -165,31 +148,27 @@ returns-clause-step g c clean A was =
     doubtful_by {error = c.in-Err-commit.error} (search rules)
 
 pub returns-clause-clean : goal.returns-clause-clean
-returns-clause-clean g c clean =
-    begun_clean g.S.Store c.args.conn.now _ c.transaction-tx.ensures.begun
-    (clean_before c.decide_and_write.ensures.frame (was_clean _ _ _ c.commit.ensures.survives (search rules)))
+returns-clause-clean g c clean = search (rules, begun_clean, clean_before, was_clean)
 
 -- ---- memory ran out at the commit, and the store is asked whether it is still open
 
 pub returns-in-Err-SqliteFailure-OutOfMemory-clause-step : goal.returns-in-Err-SqliteFailure-OutOfMemory-clause-step
 returns-in-Err-SqliteFailure-OutOfMemory-clause-step g c clean A was =
-    let made =
-    made_by g.S.Store c.args.conn.now _ c.transaction-tx.ensures.begun _ c.decide_and_write.ensures.frame.survives c.args.command.now c.args.count c.in-Ok.verdict
-    refl c.in-Ok.ensures.done was in
+    let made = made_by g.S.Store c.args.conn.now _ c.transaction-tx.ensures.begun _ c.decide_and_write.ensures.frame.survives
+    c.args.command.now c.args.count c.in-Ok.verdict refl c.in-Ok.ensures.done was in
     let began = begins g.S.Store _ c.args.conn.now _ c.transaction-tx.ensures.begun was.whole in
     let probed : Survives (state g.S.Store c.commit.new.self.0) (state g.S.Store c.prepare.new.self) (λ _. ⊥) = search rules in
     let left = either_last _ _ _ began c.decide_and_write.ensures.frame.survives c.decide_and_write.ensures.frame.kept _ _ c.commit.ensures.survives
-    (state g.S.Store c.prepare.new.self) probed (λ clean. (made clean).1) in
+    (λ clean. (made clean).1) (state g.S.Store c.prepare.new.self) probed in
     doubtful_ends c.in-Ok.verdict (made (was_clean _ _ _ c.commit.ensures.survives (was_clean _ _ _ probed clean))).0 left
 
 pub returns-in-Ok-prepare-clause-step : goal.returns-in-Ok-prepare-clause-step
 returns-in-Ok-prepare-clause-step g c clean A was =
-    let last = c.prepare.new.self in
+    let frame = c.decide_and_write.ensures.frame in
     let began = begins g.S.Store _ c.args.conn.now _ c.transaction-tx.ensures.begun was.whole in
-    let probed : Survives (state g.S.Store c.commit.new.self.0) (state g.S.Store last) (λ _. ⊥) = search rules in
-    let stands = whole_stands _ _ _ began c.decide_and_write.ensures.frame.survives c.decide_and_write.ensures.frame.kept A _ c.commit.ensures.survives
-    (state g.S.Store last) probed (λ db. g.met.S.Store.settled last.store db) c.in-Err-SqliteFailure-OutOfMemory.field-0 (search rules)
-    (λ clean. c.in-Err-SqliteFailure-OutOfMemory.ensures.err clean) (λ clean. search rules) in
+    let probed : Survives (state g.S.Store c.commit.new.self.0) (state g.S.Store c.prepare.new.self) (λ _. ⊥) = search rules in
+    let back = stood _ _ (state g.S.Store c.prepare.new.self) c.commit.ensures.survives probed c.in-Err-SqliteFailure-OutOfMemory.field-0
+    (search rules) (λ clean. c.in-Err-SqliteFailure-OutOfMemory.ensures.err clean) (λ clean. search rules) in
+    let stands = whole_stands _ _ _ began frame.survives frame.kept _ (λ db. g.met.S.Store.settled c.prepare.new.self.store db) back in
     refused_ends (refl, λ memory disk. absurd (memory refl)) (counted_as stands (λ clean.
-    let before = clean_before c.decide_and_write.ensures.frame (was_clean _ _ _ c.commit.ensures.survives (was_clean _ _ _ probed clean)) in
-    was.counts (begun_clean g.S.Store c.args.conn.now _ c.transaction-tx.ensures.begun before)))
+    was.counts (begun_clean g.S.Store c.args.conn.now _ c.transaction-tx.ensures.begun (clean_before frame (back clean).1.clean))))

@@ -1,6 +1,4 @@
-use Rattle.std.proofs.Common.{[], ◌∷◌}
-use Rattle.sqlite.specs.Held.{state}
-use Rattle.kcr_rows.proofs.FailLemmas.{on_ok_then}
+use Rattle.kcr_tables.proofs.Common.{[], ◌∷◌, state, on_ok_then}
 use Rattle.kcr_tables.proofs.HoldLemmas.{held_of}
 use Rattle.kcr_tables.proofs.JointLemmas.{changes_hold}
 use Rattle.kcr_tables.proofs.changes.change.Goals as goal

@@ -1,12 +1,7 @@
-use Rattle.std.proofs.Common.{rules, arith, ◌≡◌, ◌<◌, ◌∙◌, length, get_or, sym, ap, subst}
-use Rattle.std.proofs.lemmas.List.{take_all}
-use Rattle.std.proofs.lemmas.List.Sums.{fold_more}
-use Rattle.sqlite.specs.Held.{state}
+use Rattle.kcr_tables.proofs.Common.{rules, ◌≡◌, ◌<◌, ◌∙◌, length, get_or, sym, ap, subst, take_all, fold_more, state, Holds, rows_after, changed_all}
+use Rattle.kcr_tables.proofs.Common.{within_then, clean_before}
 use Rattle.kcr_history.specs.declared.views.Change.{Change}
 use Rattle.kcr_history.specs.Tables as machine
-use Rattle.kcr_tables.specs.StoredTables.{Holds}
-use Rattle.kcr_tables.specs.Changed.{rows_after, changed_all}
-use Rattle.kcr_rows.proofs.FrameLemmas.{within_then, clean_before}
 use Rattle.kcr_tables.proofs.HoldLemmas.{held_of}
 use Rattle.kcr_tables.proofs.JointLemmas.{changes_hold}
 use Rattle.kcr_tables.proofs.changes.change_all.Goals as goal
@@ -30,9 +25,7 @@ loop-change-preserved g c =
     }
 
 pub returns-clause-holds : goal.returns-clause-holds
-returns-clause-holds g c clean t held =
-    subst (λ l. Holds (state g.S.Store c.loop-change.tx.conn.now).now (changed_all l t)) (take_all c.loop-change.change-index c.args.changes.now (omega arith))
-    (c.loop-change.invariant.built clean t held)
+returns-clause-holds g c clean t held = search (rules, take_all)
 
 pub returns-clause-tables : goal.returns-clause-tables
 returns-clause-tables g c clean m h =

@@ -1,8 +1,4 @@
-use Rattle.std.proofs.Common.{Ok, take}
-use Rattle.kcr_rows.specs.Refusals.{IsFault}
-use Rattle.kcr_rows.specs.Frame.{StaysInTransaction}
-use Rattle.kcr_tables.specs.Frame.{ChangesTables}
-use Rattle.kcr_tables.specs.Changed.{changed_all}
+use Rattle.kcr_tables.proofs.Common.{Ok, take, IsFault, StaysInTransaction, ChangesTables, changed_all}
 use Rattle.kcr_tables.proofs.changes.change_all.Given as goal
 
 abbrev pub invariant-loop-change : goal.invariant-loop-change

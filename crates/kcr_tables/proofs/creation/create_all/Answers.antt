@@ -1,20 +1,9 @@
-use Rattle.std.proofs.Common.{rules, ◌≡◌, ◌<◌, subst, arith}
-use Rattle.sqlite.specs.Held.{state}
-use Rattle.sqlite_catalog.specs.Listing.{IsSound}
-use Rattle.kcr_tables.specs.Creation.{schema_prefix, HasEmptyTables}
-use Rattle.kcr_rows.proofs.FrameLemmas.{within_then, clean_before}
+use Rattle.kcr_tables.proofs.Common.{rules, ◌≡◌, ◌<◌, subst, arith, state, IsSound, schema_prefix, HasEmptyTables, within_then, clean_before}
 use Rattle.kcr_tables.proofs.FirstLemmas.{holds_nothing}
 use Rattle.kcr_tables.proofs.creation.create_all.Goals as goal
 
 pub loop-at-preserved : goal.loop-at-preserved
-loop-at-preserved g c =
-    let had = c.loop-at.invariant in
-    let step = c.in_ok-create_one.ensures in record {
-      frame = within_then had.frame step.frame;
-      built = λ clean has.
-          let was = had.built (clean_before step.frame clean) has in
-          (step.made clean was.0, λ _. step.sound clean was.0);
-    }
+loop-at-preserved g c = search (rules, within_then, clean_before)
 
 pub returns-clause-holds : goal.returns-clause-holds
 returns-clause-holds g c clean has =

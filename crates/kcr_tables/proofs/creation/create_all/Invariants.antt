@@ -1,10 +1,4 @@
-use Rattle.std.proofs.Common.{◌≡◌, ◌<◌, Ok}
-use Rattle.sqlite.specs.Held.{state}
-use Rattle.sqlite.specs.State.{HasCleanDisk}
-use Rattle.sqlite_catalog.specs.Listing.{IsSound}
-use Rattle.kcr_rows.specs.Refusals.{IsFault}
-use Rattle.kcr_rows.specs.Frame.{StaysInTransaction}
-use Rattle.kcr_tables.specs.Creation.{schema_prefix, HasEmptyTables}
+use Rattle.kcr_tables.proofs.Common.{◌≡◌, ◌<◌, Ok, state, HasCleanDisk, IsSound, IsFault, StaysInTransaction, schema_prefix, HasEmptyTables}
 use Rattle.kcr_tables.proofs.creation.create_all.Given as goal
 
 abbrev pub invariant-loop-at : goal.invariant-loop-at

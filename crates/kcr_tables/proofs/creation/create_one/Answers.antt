@@ -1,7 +1,4 @@
-use Rattle.std.proofs.Common.{ℕ, [], Ok, OnOk, subst}
-use Rattle.sqlite.specs.Held.{state}
-use Rattle.sqlite.specs.State.{Executes, HasCleanDisk}
-use Rattle.kcr_rows.proofs.FailLemmas.{on_ok_then}
+use Rattle.kcr_tables.proofs.Common.{ℕ, [], Ok, OnOk, subst, state, Executes, HasCleanDisk, on_ok_then}
 use Rattle.kcr_tables.proofs.MakeLemmas.{create_next}
 use Rattle.kcr_tables.proofs.creation.create_one.Goals as goal
 

@@ -1,5 +1,4 @@
-use Rattle.sqlite.specs.Held.{state}
-use Rattle.kcr_rows.proofs.FailLemmas.{on_ok_then}
+use Rattle.kcr_tables.proofs.Common.{state, on_ok_then}
 use Rattle.kcr_tables.proofs.JointLemmas.{first_holds}
 use Rattle.kcr_tables.proofs.creation.make.Goals as goal
 

@@ -1,7 +1,4 @@
-use Rattle.std.proofs.Common.{subst, OnOk}
-use Rattle.sqlite.specs.Held.{state}
-use Rattle.kcr_tables.specs.StoredTables.{StoredTables, Holds}
-use Rattle.kcr_rows.proofs.FrameLemmas.{within_then, within_fails, clean_before}
+use Rattle.kcr_tables.proofs.Common.{subst, OnOk, rules, state, StoredTables, Holds, within_then, within_fails, clean_before}
 use Rattle.kcr_tables.proofs.SafeLemmas.{first_is}
 use Rattle.kcr_tables.proofs.creation.make_rows.Goals as goal
 
@@ -17,14 +14,10 @@ returns-clause-holds g c clean has =
     subst (λ (t : StoredTables). OnOk c.put.result (Holds new.now t)) first_is (c.put.ensures.holds clean _ held3)
 
 pub returns-in_err-put_pair-clause-frame : goal.returns-in_err-put_pair-clause-frame
-returns-in_err-put_pair-clause-frame g c =
-    within_then c.in_ok-create_all.ensures.frame (within_fails _ c.from_residual-in_err-put_pair.ensures.1 (λ cause. cause) c.in_err-put_pair.ensures.frame)
+returns-in_err-put_pair-clause-frame g c = search (rules, within_then, within_fails)
 
 pub returns-in_err-put_pair-2-clause-frame : goal.returns-in_err-put_pair-2-clause-frame
-returns-in_err-put_pair-2-clause-frame g c =
-    within_then (within_then c.in_ok-create_all.ensures.frame c.in_ok-put_pair.ensures.frame)
-    (within_fails _ c.from_residual-in_err-put_pair-2.ensures.1 (λ cause. cause) c.in_err-put_pair-2.ensures.frame)
+returns-in_err-put_pair-2-clause-frame g c = search (rules, within_then, within_fails)
 
 pub returns-clause-frame : goal.returns-clause-frame
-returns-clause-frame g c =
-    within_then (within_then (within_then c.in_ok-create_all.ensures.frame c.in_ok-put_pair.ensures.frame) c.in_ok-put_pair-2.ensures.frame) c.put.ensures.frame
+returns-clause-frame g c = search (rules, within_then)

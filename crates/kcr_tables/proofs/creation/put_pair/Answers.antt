@@ -1,4 +1,4 @@
-use Rattle.kcr_rows.proofs.FrameLemmas.{within_then, clean_before}
+use Rattle.kcr_tables.proofs.Common.{within_then, clean_before}
 use Rattle.kcr_tables.proofs.creation.put_pair.Goals as goal
 
 pub returns-clause-holds : goal.returns-clause-holds

@@ -1,4 +1,4 @@
-use Rattle.std.proofs.Common.{[], ◌∷◌, refl}
+use Rattle.kcr_tables.proofs.Common.{[], ◌∷◌, refl}
 use Rattle.kcr_tables.proofs.Queries.{last_of}
 use Rattle.kcr_tables.proofs.last.last_appointment_of.Goals as goal
 

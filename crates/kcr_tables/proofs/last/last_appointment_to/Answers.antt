@@ -1,5 +1,4 @@
-use Rattle.std.proofs.Common.{[], ◌∷◌, refl, ap, ◌∙◌}
-use Rattle.sqlite.specs.declared.types.Value.TheVariants.{Text}
+use Rattle.kcr_tables.proofs.Common.{[], ◌∷◌, refl, ap, ◌∙◌, Text}
 use Rattle.kcr_tables.proofs.Queries.{last_to}
 use Rattle.kcr_tables.proofs.last.last_appointment_to.Goals as goal
 

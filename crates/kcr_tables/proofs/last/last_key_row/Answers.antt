@@ -1,11 +1,4 @@
-use Rattle.std.proofs.Common.{refl, map, subst}
-use Rattle.sqlite.specs.Held.{state}
-use Rattle.kcr_rows.proofs.FailLemmas.{if_ok}
-use Rattle.kcr_rows.proofs.TableLemmas.{filter_every}
-use Rattle.kcr_rows.specs.Greatest.{IsGreatest}
-use Rattle.kcr_rows.specs.Rows.{key_row}
-use Rattle.kcr_tables.specs.Exact.{rows_at, IsOneOf}
-use Rattle.kcr_tables.specs.StoredTables.{keys_place}
+use Rattle.kcr_tables.proofs.Common.{refl, map, subst, state, if_ok, filter_every, IsGreatest, key_row, rows_at, IsOneOf, keys_place}
 use Rattle.kcr_tables.proofs.Queries.{last_key}
 use Rattle.kcr_tables.proofs.last.last_key_row.Goals as goal
 

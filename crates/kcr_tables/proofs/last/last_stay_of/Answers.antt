@@ -1,4 +1,4 @@
-use Rattle.std.proofs.Common.{[], ◌∷◌, refl}
+use Rattle.kcr_tables.proofs.Common.{[], ◌∷◌, refl}
 use Rattle.kcr_tables.proofs.Queries.{last_stay}
 use Rattle.kcr_tables.proofs.last.last_stay_of.Goals as goal
 

@@ -1,4 +1,4 @@
-use Rattle.std.proofs.Common.{[], ◌∷◌, refl}
+use Rattle.kcr_tables.proofs.Common.{[], ◌∷◌, refl}
 use Rattle.kcr_tables.proofs.Queries.{beyond}
 use Rattle.kcr_tables.proofs.select_appointments.appointments_ending_after.Goals as goal
 

@@ -1,22 +1,12 @@
-use Rattle.std.proofs.Common.{rules, arith, ◌≡◌, ◌+◌, ◌<◌, ◌≤◌, ◌++◌, [], ◌∷◌, ◌∙◌, length, take, get_or, filter, sym, ap, subst, subst₂, IsPermutation}
-use Rattle.std.proofs.lemmas.List.{take_all, take_more}
-use Rattle.sqlite.specs.Held.{state}
-use Rattle.sqlite.specs.Tree.{Trees}
-use Rattle.kcr_rows.proofs.FrameLemmas.{clean_before}
-use Rattle.kcr_tables.specs.Selected.{asked_once, is_under_any}
-use Rattle.kcr_tables.specs.Exact.{rows_at, has_key, AreShown}
+use Rattle.kcr_tables.proofs.Common.{rules, ◌≡◌, ◌+◌, ◌<◌, ◌++◌, [], ◌∷◌, ◌∙◌, length, take, get_or, filter, sym, ap, subst₂, IsPermutation, take_all}
+use Rattle.kcr_tables.proofs.Common.{take_more, state, Trees, clean_before, asked_once, is_under_any, rows_at, has_key, AreShown}
 use Rattle.kcr_tables.proofs.ExactLemmas.{EachAreShown, each_next, each_any}
 use Rattle.kcr_tables.proofs.FrameLemmas.{reads_none, reads_to, read_later, reads_on, fails_as}
 use Rattle.kcr_tables.proofs.NamedLemmas.{none_named, named_more}
 use Rattle.kcr_tables.proofs.select_by_keys.rows_named.Goals as goal
 
 pub loop-at-init : goal.loop-at-init
-loop-at-init g c = record {
-  frame = reads_none c.args.tx.now tt (search rules);
-  rows = λ clean t held. subst (IsPermutation (filter (is_under_any g.T.LookupBy.lookup_spec.is_under []) (g.T.TableRow.table.rows_in t)))
-      (sym c.new-rows.ensures.items) (none_named g.T.LookupBy.lookup_spec.is_under (g.T.TableRow.table.rows_in t));
-  exact = λ clean has. tt;
-}
+loop-at-init g c = search (rules, reads_none, none_named)
 
 pub loop-at-preserved : goal.loop-at-preserved
 loop-at-preserved g c =
@@ -51,28 +41,16 @@ loop-at-preserved g c =
     }
 
 pub returns-in_err-found-clause-frame : goal.returns-in_err-found-clause-frame
-returns-in_err-found-clause-frame g c =
-    reads_on c.loop-at.invariant.frame (fails_as c.from_residual.ensures.1 c.in_err-found.ensures.frame)
+returns-in_err-found-clause-frame g c = search (rules, reads_on, fails_as)
 
 pub returns-in_err-append-clause-frame : goal.returns-in_err-append-clause-frame
-returns-in_err-append-clause-frame g c =
-    reads_to (search rules) (reads_on c.loop-at.invariant.frame c.in_ok-found.ensures.frame)
+returns-in_err-append-clause-frame g c = search (rules, reads_to, reads_on)
 
 pub returns-clause-rows : goal.returns-clause-rows
-returns-clause-rows g c clean t held =
-    let keys = c.args.keys.now in
-    let all : length keys ≤ c.loop-at.at = omega arith in
-    subst (λ ks. IsPermutation (filter (is_under_any g.T.LookupBy.lookup_spec.is_under ks) (g.T.TableRow.table.rows_in t)) c.loop-at.rows.items)
-    (take_all c.loop-at.at keys all) (c.loop-at.invariant.rows clean t held)
+returns-clause-rows g c clean t held = search (rules, take_all)
 
 pub returns-clause-exact : goal.returns-clause-exact
-returns-clause-exact g c clean has =
-    let keys = c.args.keys.now in
-    let under = has_key g.T.LookupBy.lookup_spec.column g.K.AsCell.value_of in
-    let rows = rows_at g.T.TableRow.table.place (state g.S.Store c.args.tx.now.conn.now).now.trees in
-    let all : length keys ≤ c.loop-at.at = omega arith in
-    each_any g.T.FromRow.row_of under rows c.loop-at.rows.items keys
-    (subst (EachAreShown g.T.FromRow.row_of under rows c.loop-at.rows.items) (take_all c.loop-at.at keys all) (c.loop-at.invariant.exact clean has))
+returns-clause-exact g c clean has = search (rules, each_any, take_all)
 
 pub returns-clause-frame : goal.returns-clause-frame
 returns-clause-frame g c = reads_to tt c.loop-at.invariant.frame

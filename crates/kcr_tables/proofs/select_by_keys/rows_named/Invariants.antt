@@ -1,11 +1,5 @@
-use Rattle.std.proofs.Common.{◌≡◌, Ok, take, filter, IsPermutation}
-use Rattle.sqlite.specs.Held.{state}
-use Rattle.sqlite.specs.State.{HasCleanDisk}
-use Rattle.kcr_tables.specs.Selected.{is_under_any}
-use Rattle.kcr_tables.specs.Exact.{rows_at, has_key}
-use Rattle.kcr_tables.specs.Frame.{Reads}
-use Rattle.kcr_tables.specs.Schema.{register_schema}
-use Rattle.kcr_tables.specs.StoredTables.{StoredTables, Holds}
+use Rattle.kcr_tables.proofs.Common.{◌≡◌, Ok, take, filter, IsPermutation, state, HasCleanDisk, is_under_any, rows_at, has_key, Reads}
+use Rattle.kcr_tables.proofs.Common.{register_schema, StoredTables, Holds}
 use Rattle.kcr_tables.proofs.ExactLemmas.{EachAreShown}
 use Rattle.kcr_tables.proofs.select_by_keys.rows_named.Given as goal
 

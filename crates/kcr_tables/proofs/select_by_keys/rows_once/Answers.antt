@@ -1,16 +1,6 @@
-use Rattle.std.proofs.Common.{◌≡◌, [], Bool, false, filter, if◌then◌else◌, IfOk, sym, subst, ◌∙◌}
-use Rattle.std.specs.List.{list_any}
-use Rattle.sqlite.specs.Held.{state}
-use Rattle.kcr_tables.specs.Exact.{rows_at, has_key}
+use Rattle.kcr_tables.proofs.Common.{sym, ◌∙◌, state, rows_at, has_key}
 use Rattle.kcr_tables.proofs.ExactLemmas.{once_read}
 use Rattle.kcr_tables.proofs.select_by_keys.rows_once.Goals as goal
-
-pub returns-else-is_named-clause-rows : goal.returns-else-is_named-clause-rows
-returns-else-is_named-clause-rows g c clean t held =
-    let none : list_any (g.T.LookupByKeys.same c.args.key.now) c.args.before.now ≡ false = sym c.is_named.ensures ∙ c.if-is_named.false in
-    subst (λ (b : Bool). IfOk c.find_rows.result
-    (λ all. all.items ≡ (if b then [] else filter (g.T.LookupBy.lookup_spec.is_under c.args.key.now) (g.T.TableRow.table.rows_in t)))) (sym none)
-    (c.find_rows.ensures.rows clean t held)
 
 pub returns-else-is_named-clause-exact : goal.returns-else-is_named-clause-exact
 returns-else-is_named-clause-exact g c clean has =

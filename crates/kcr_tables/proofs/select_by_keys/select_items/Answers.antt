@@ -1,14 +1,7 @@
-use Rattle.std.proofs.Common.{rules, ◌≡◌, List, sym, ap, subst, filter, ◌∙◌, IsPermutation}
-use Rattle.std.proofs.lemmas.List.Sorted.{IsPermutation-refl}
-use Rattle.kcr_history.specs.Views.{is_item_of, Includes}
-use Rattle.kcr_history.specs.declared.views.Selection.TheVariants.{Matching}
+use Rattle.kcr_tables.proofs.Common.{rules, ◌≡◌, List, sym, ap, subst, filter, ◌∙◌, IsPermutation, IsPermutation-refl, is_item_of, Includes, Matching}
+use Rattle.kcr_tables.proofs.Common.{state, item_row, asked_of, rows_at, is_item_row, AreShown, items_place}
 use Rattle.kcr_history.specs.declared.views.ItemFilter.TheVariants.{Codes, Bag}
 use Rattle.kcr_custody.specs.declared.Item.{Item}
-use Rattle.sqlite.specs.Held.{state}
-use Rattle.kcr_rows.specs.Rows.{item_row}
-use Rattle.kcr_tables.specs.Selected.{asked_of}
-use Rattle.kcr_tables.specs.Exact.{rows_at, is_item_row, AreShown}
-use Rattle.kcr_tables.specs.StoredTables.{items_place}
 use Rattle.kcr_tables.proofs.ExactLemmas.{under_asked, all_asked}
 use Rattle.kcr_tables.proofs.NamedLemmas.{passing}
 use Rattle.kcr_tables.proofs.QueryLemmas.{if_asked}
@@ -43,6 +36,4 @@ returns-in-Matching-Bag-clause-exact g c clean has =
     (c.in-Matching-Bag.is ∙ ap Matching inner) c.find_rows.result (c.find_rows.ensures.exact clean has)
 
 pub returns-in-All-clause-exact : goal.returns-in-All-clause-exact
-returns-in-All-clause-exact g c clean has =
-    all_asked item_row items_place is_item_row c.args.asked.now (state g.S.Store c.args.tx.now.conn.now).now.trees c.in-All.is c.all_rows.result
-    (c.all_rows.ensures.exact clean has)
+returns-in-All-clause-exact g c clean has = search (rules, all_asked)

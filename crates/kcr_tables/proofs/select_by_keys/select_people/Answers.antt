@@ -1,10 +1,4 @@
-use Rattle.std.proofs.Common.{sym}
-use Rattle.kcr_history.specs.Views.{is_of_people, Includes}
-use Rattle.sqlite.specs.Held.{state}
-use Rattle.kcr_rows.specs.Rows.{person_row}
-use Rattle.kcr_tables.specs.Selected.{asked_of}
-use Rattle.kcr_tables.specs.Exact.{rows_at, has_any, AreShown}
-use Rattle.kcr_tables.specs.StoredTables.{people_place}
+use Rattle.kcr_tables.proofs.Common.{sym, rules, is_of_people, Includes, state, person_row, asked_of, rows_at, has_any, AreShown, people_place}
 use Rattle.kcr_tables.proofs.ExactLemmas.{all_asked}
 use Rattle.kcr_tables.proofs.NamedLemmas.{passing}
 use Rattle.kcr_tables.proofs.QueryLemmas.{if_asked}
@@ -22,6 +16,4 @@ returns-in-Matching-clause-exact g c clean has =
     (sym c.as_slice.ensures) (λ all h. h) c.rows_named.result (c.rows_named.ensures.exact clean has)
 
 pub returns-in-All-clause-exact : goal.returns-in-All-clause-exact
-returns-in-All-clause-exact g c clean has =
-    all_asked person_row people_place (has_any 0) c.args.asked.now (state g.S.Store c.args.tx.now.conn.now).now.trees c.in-All.is c.all_rows.result
-    (c.all_rows.ensures.exact clean has)
+returns-in-All-clause-exact g c clean has = search (rules, all_asked)

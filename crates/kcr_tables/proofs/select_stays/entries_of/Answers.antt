@@ -1,9 +1,5 @@
-use Rattle.std.proofs.Common.{rules, ◌≡◌, ◌<◌, ◌^◌, [], ◌∷◌, map, subst, Some}
+use Rattle.kcr_tables.proofs.Common.{rules, ◌≡◌, ◌<◌, ◌^◌, [], ◌∷◌, map, subst, Some, state, Row, Shown, count_row}
 use Rattle.std.specs.Prelude.{slice_get}
-use Rattle.sqlite.specs.Held.{state}
-use Rattle.sqlite.specs.Order.{Row}
-use Rattle.sqlite.specs.State.{Shown}
-use Rattle.kcr_rows.specs.CountRow.{count_row}
 use Rattle.kcr_tables.proofs.CountLemmas.{count_sql, count_bare, count_shown, count_told}
 use Rattle.kcr_tables.proofs.FrameLemmas.{reads_by, reads_to}
 use Rattle.kcr_tables.proofs.select_stays.entries_of.Goals as goal

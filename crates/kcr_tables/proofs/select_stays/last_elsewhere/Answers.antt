@@ -1,7 +1,5 @@
-use Rattle.std.proofs.Common.{rules, not}
+use Rattle.kcr_tables.proofs.Common.{rules, not, stay_reaches, Stay}
 use Rattle.std.proofs.lemmas.Fn.{filter_same}
-use Rattle.kcr_room.specs.Stays.{stay_reaches}
-use Rattle.kcr_room.specs.declared.Stay.{Stay}
 use Rattle.kcr_tables.proofs.select_stays.last_elsewhere.Goals as goal
 
 pub returns-clause-rows : goal.returns-clause-rows

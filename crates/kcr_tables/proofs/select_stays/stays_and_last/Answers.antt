@@ -1,24 +1,13 @@
-use Rattle.std.proofs.Common.{rules, arith, ◌≡◌, ◌+◌, ◌<◌, ◌++◌, ◌∷◌, [], ◌∙◌, List, ℕ, length, take, get_or, filter, sym, ap, subst, subst₂}
-use Rattle.std.proofs.lemmas.List.{take_all, take_more}
-use Rattle.sqlite.specs.Held.{state}
-use Rattle.kcr_room.specs.Stays.{stay_reaches}
-use Rattle.kcr_room.specs.declared.Stay.{Stay}
-use Rattle.kcr_rows.specs.Rows.{stay_row}
-use Rattle.kcr_rows.proofs.FrameLemmas.{clean_before}
-use Rattle.kcr_tables.specs.Exact.{rows_at, is_stay_row, AreShown}
-use Rattle.kcr_tables.specs.StoredTables.{stays_place}
+use Rattle.kcr_tables.proofs.Common.{rules, arith, ◌≡◌, ◌+◌, ◌<◌, ◌++◌, ◌∷◌, [], ◌∙◌, List, ℕ, length, take, get_or, filter, sym, ap, subst, subst₂}
+use Rattle.kcr_tables.proofs.Common.{take_all, take_more, state, stay_reaches, Stay, stay_row, clean_before, rows_at, is_stay_row, AreShown}
+use Rattle.kcr_tables.proofs.Common.{stays_place}
 use Rattle.kcr_tables.proofs.ExactLemmas.{are_shown, shown_left}
 use Rattle.kcr_tables.proofs.FrameLemmas.{reads_to, reads_on, fails_as}
 use Rattle.kcr_tables.proofs.StayLemmas.{Gathered, room_gathered, more_gathered, gathered_shows, apart_of}
 use Rattle.kcr_tables.proofs.select_stays.stays_and_last.Goals as goal
 
 pub loop-who-init : goal.loop-who-init
-loop-who-init g c =
-    let e = c.in_ok-rows.ensures in record {
-      frame = reads_to tt e.frame;
-      rows = λ clean t held. room_gathered (stay_reaches c.args.asked.now.ceremony c.args.asked.now.at) t.rows.stays c.in_ok-rows.rows.items (e.rows clean t held);
-      exact = λ clean has. are_shown stay_row _ c.in_ok-rows.rows.items (e.exact clean has);
-    }
+loop-who-init g c = search (rules, reads_to, room_gathered, are_shown)
 
 pub loop-who-preserved : goal.loop-who-preserved
 loop-who-preserved g c =
@@ -52,12 +41,10 @@ returns-clause-rows g c clean t held =
     (take_all c.loop-who.who-index people (omega arith) ∙ c.as_slice-people.ensures) (c.loop-who.invariant.rows clean t held))
 
 pub returns-in_err-last-clause-frame : goal.returns-in_err-last-clause-frame
-returns-in_err-last-clause-frame g c =
-    reads_on c.loop-who.invariant.frame (fails_as c.from_residual-in_err-last.ensures.1 c.in_err-last.ensures.frame)
+returns-in_err-last-clause-frame g c = search (rules, reads_on, fails_as)
 
 pub returns-in_err-append-clause-frame : goal.returns-in_err-append-clause-frame
-returns-in_err-append-clause-frame g c =
-    reads_to (search rules) (reads_on c.loop-who.invariant.frame c.in_ok-last.ensures.frame)
+returns-in_err-append-clause-frame g c = search (rules, reads_to, reads_on)
 
 pub returns-clause-frame : goal.returns-clause-frame
 returns-clause-frame g c = reads_to tt c.loop-who.invariant.frame

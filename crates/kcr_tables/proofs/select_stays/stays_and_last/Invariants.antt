@@ -1,12 +1,5 @@
-use Rattle.std.proofs.Common.{◌≡◌, Ok, take, filter}
-use Rattle.sqlite.specs.Held.{state}
-use Rattle.sqlite.specs.State.{HasCleanDisk}
-use Rattle.kcr_tables.specs.Frame.{Reads}
-use Rattle.kcr_room.specs.Stays.{stay_reaches}
-use Rattle.kcr_rows.specs.Rows.{stay_row}
-use Rattle.kcr_tables.specs.Exact.{rows_at, is_stay_row, AreShown}
-use Rattle.kcr_tables.specs.Schema.{register_schema}
-use Rattle.kcr_tables.specs.StoredTables.{stays_place, StoredTables, Holds}
+use Rattle.kcr_tables.proofs.Common.{◌≡◌, Ok, take, filter, state, HasCleanDisk, Reads, stay_reaches, stay_row, rows_at, is_stay_row, AreShown}
+use Rattle.kcr_tables.proofs.Common.{register_schema, stays_place, StoredTables, Holds}
 use Rattle.kcr_tables.proofs.StayLemmas.{Gathered}
 use Rattle.kcr_tables.proofs.select_stays.stays_and_last.Given as goal
 

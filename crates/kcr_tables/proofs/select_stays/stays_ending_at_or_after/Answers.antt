@@ -1,4 +1,4 @@
-use Rattle.std.proofs.Common.{[], ◌∷◌, refl}
+use Rattle.kcr_tables.proofs.Common.{[], ◌∷◌, refl}
 use Rattle.kcr_tables.proofs.Queries.{room}
 use Rattle.kcr_tables.proofs.select_stays.stays_ending_at_or_after.Goals as goal
 

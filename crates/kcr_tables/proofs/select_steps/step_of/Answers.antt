@@ -1,10 +1,5 @@
-use Rattle.std.proofs.Common.{rules, ◌≡◌, ℕ, [], ◌∷◌, refl, filter, subst}
-use Rattle.sqlite.specs.Held.{state}
-use Rattle.kcr_history.specs.Views.{step_asked}
-use Rattle.kcr_rows.specs.Rows.{step_row}
-use Rattle.kcr_rows.proofs.FrameLemmas.{clean_before}
-use Rattle.kcr_tables.specs.Exact.{rows_at, is_row_of_step, AreShown}
-use Rattle.kcr_tables.specs.StoredTables.{steps_place}
+use Rattle.kcr_tables.proofs.Common.{rules, ◌≡◌, ℕ, [], ◌∷◌, refl, filter, subst, state, step_asked, step_row, clean_before, rows_at, is_row_of_step}
+use Rattle.kcr_tables.proofs.Common.{AreShown, steps_place}
 use Rattle.kcr_tables.proofs.ExactLemmas.{are_shown}
 use Rattle.kcr_tables.proofs.FrameLemmas.{fails_as, read_later, reads_on, reads_to}
 use Rattle.kcr_tables.proofs.Queries.{last_seating, row_of_step}

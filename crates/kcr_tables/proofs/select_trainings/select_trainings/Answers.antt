@@ -1,13 +1,7 @@
-use Rattle.std.proofs.Common.{rules, ◌≡◌, List, [], ◌∷◌, filter, refl, sym, subst, IsPermutation, ap, ◌∙◌}
-use Rattle.std.proofs.lemmas.List.Sorted.{IsPermutation-refl}
-use Rattle.sqlite.specs.Held.{state}
-use Rattle.kcr_history.specs.Views.{Includes, is_training_asked}
-use Rattle.kcr_history.specs.declared.views.Selection.TheVariants.{Matching}
+use Rattle.kcr_tables.proofs.Common.{rules, ◌≡◌, List, [], ◌∷◌, filter, refl, sym, subst, IsPermutation, ap, ◌∙◌, IsPermutation-refl, state, Includes}
+use Rattle.kcr_tables.proofs.Common.{is_training_asked, Matching, training_row, is_training_row, trainings_place}
 use Rattle.kcr_history.specs.declared.views.TrainingFilter.TheVariants.{Person, EndingOnOrAfter}
 use Rattle.kcr_people.specs.declared.Training.{Training}
-use Rattle.kcr_rows.specs.Rows.{training_row}
-use Rattle.kcr_tables.specs.Exact.{is_training_row}
-use Rattle.kcr_tables.specs.StoredTables.{trainings_place}
 use Rattle.kcr_tables.proofs.ExactLemmas.{under_asked, all_asked}
 use Rattle.kcr_tables.proofs.NamedLemmas.{passing}
 use Rattle.kcr_tables.proofs.Queries.{lasting}
@@ -48,6 +42,4 @@ returns-in-Matching-EndingOnOrAfter-clause-frame g c =
     (c.shown_rows.ensures (lasting c.in-Matching-EndingOnOrAfter.day) refl (λ i. c.number_cell.ensures i ∷ [])).frame
 
 pub returns-in-All-clause-exact : goal.returns-in-All-clause-exact
-returns-in-All-clause-exact g c clean has =
-    all_asked training_row trainings_place is_training_row c.args.asked.now (state g.S.Store c.args.tx.now.conn.now).now.trees c.in-All.is c.all_rows.result
-    (c.all_rows.ensures.exact clean has)
+returns-in-All-clause-exact g c clean has = search (rules, all_asked)

@@ -1,10 +1,4 @@
-use Rattle.std.proofs.Common.{◌∙◌, true, [], map, refl, IsPermutation, sym, subst}
-use Rattle.sqlite.specs.Held.{state}
-use Rattle.kcr_rows.proofs.FailLemmas.{if_ok}
-use Rattle.kcr_rows.proofs.TableLemmas.{filter_every}
-use Rattle.kcr_tables.specs.Exact.{rows_at}
-use Rattle.kcr_tables.specs.Query.{Ordered}
-use Rattle.kcr_tables.specs.Table.{machine_rows}
+use Rattle.kcr_tables.proofs.Common.{◌∙◌, true, [], map, refl, IsPermutation, sym, subst, state, if_ok, filter_every, rows_at, Ordered, machine_rows}
 use Rattle.kcr_tables.proofs.HoldLemmas.{held_of}
 use Rattle.kcr_tables.proofs.QueryLemmas.{query}
 use Rattle.kcr_tables.proofs.table.all_rows.Goals as goal

@@ -1,6 +1,4 @@
-use Rattle.std.proofs.Common.{[], ◌∷◌}
-use Rattle.kcr_rows.proofs.FilterLemmas.{has_value}
-use Rattle.kcr_tables.specs.Query.{Ordered}
+use Rattle.kcr_tables.proofs.Common.{[], ◌∷◌, has_value, Ordered}
 use Rattle.kcr_tables.proofs.QueryLemmas.{query}
 use Rattle.kcr_tables.proofs.table.find_rows.Goals as goal
 

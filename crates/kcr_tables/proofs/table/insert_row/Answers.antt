@@ -1,9 +1,4 @@
-use Rattle.std.proofs.Common.{ℕ, Ok, OnOk, ap, length, subst}
-use Rattle.sqlite.specs.Order.{Row}
-use Rattle.sqlite.specs.Held.{state}
-use Rattle.sqlite.specs.State.{Executes}
-use Rattle.kcr_rows.proofs.CellLemmas.{params_are}
-use Rattle.kcr_rows.proofs.FailLemmas.{on_ok_then}
+use Rattle.kcr_tables.proofs.Common.{ℕ, Ok, OnOk, ap, length, subst, Row, state, Executes, params_are, on_ok_then}
 use Rattle.kcr_tables.proofs.StatementLemmas.{row_put, put_holds}
 use Rattle.kcr_tables.proofs.table.insert_row.Goals as goal
 

@@ -1,10 +1,6 @@
-use Rattle.std.proofs.Common.{ℕ, List, map, IfOk, OnOk, subst, subst₂}
-use Rattle.sqlite.specs.Order.{Row}
-use Rattle.sqlite.specs.Held.{state}
-use Rattle.sqlite.specs.State.{HasCleanDisk, IsUnchanged, Shown}
+use Rattle.kcr_tables.proofs.Common.{ℕ, List, map, IfOk, OnOk, subst, subst₂, Row, state, HasCleanDisk, IsUnchanged, Shown, understood, if_both}
+use Rattle.kcr_tables.proofs.Common.{if_ok}
 use Rattle.sqlite.specs.Given.{IsPlain}
-use Rattle.sqlite.specs.Listing.{understood}
-use Rattle.kcr_rows.proofs.FailLemmas.{if_both, if_ok}
 use Rattle.kcr_tables.proofs.FrameLemmas.{reads_by}
 use Rattle.kcr_tables.proofs.QueryLemmas.{changes_nothing, rows_told, values_told}
 use Rattle.kcr_tables.proofs.table.shown_rows.Goals as goal

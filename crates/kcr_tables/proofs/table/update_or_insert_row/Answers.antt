@@ -1,12 +1,5 @@
-use Rattle.std.proofs.Common.{rules, ◌≡◌, ◌≢◌, ℕ, Ok, OnOk, ap, length, subst}
-use Rattle.sqlite.specs.Order.{Row}
-use Rattle.sqlite.specs.Held.{state}
-use Rattle.sqlite.specs.State.{Executes}
-use Rattle.kcr_rows.proofs.CellLemmas.{params_are}
-use Rattle.kcr_rows.proofs.FailLemmas.{on_ok_then}
-use Rattle.kcr_rows.proofs.UpdateLemmas.{Updated, row_changed, changes_then}
-use Rattle.kcr_rows.proofs.FrameLemmas.{clean_before}
-use Rattle.kcr_tables.specs.Schema.{register_schema}
+use Rattle.kcr_tables.proofs.Common.{rules, ◌≡◌, ◌≢◌, ℕ, Ok, OnOk, ap, length, subst, Row, state, Executes, params_are, on_ok_then, Updated}
+use Rattle.kcr_tables.proofs.Common.{row_changed, changes_then, clean_before, register_schema}
 use Rattle.kcr_tables.proofs.StatementLemmas.{row_put, row_updated, put_holds}
 use Rattle.kcr_tables.proofs.table.update_or_insert_row.Goals as goal
 

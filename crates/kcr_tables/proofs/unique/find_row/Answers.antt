@@ -1,4 +1,4 @@
-use Rattle.std.proofs.Common.{◌≡◌, ◌∙◌, ap, sym, slice_get}
+use Rattle.kcr_tables.proofs.Common.{◌≡◌, ◌∙◌, ap, sym, slice_get}
 use Rattle.std.proofs.lemmas.Option.{MatchOption-at_none}
 use Rattle.kcr_tables.proofs.FrameLemmas.{reads_to}
 use Rattle.kcr_tables.proofs.HoldLemmas.{held_of}

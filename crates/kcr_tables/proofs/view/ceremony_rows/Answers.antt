@@ -1,11 +1,6 @@
-use Rattle.sqlite.specs.Held.{state}
-use Rattle.sqlite.specs.State.{HasCleanDisk}
-use Rattle.kcr_rows.specs.Rows.{mark_row, exception_row}
-use Rattle.kcr_rows.proofs.FrameLemmas.{clean_before}
-use Rattle.kcr_tables.specs.Selected.{asked_of}
-use Rattle.kcr_tables.specs.Exact.{has_number, StepsAreShown, rows_at, AreShown}
-use Rattle.kcr_tables.specs.StoredTables.{marks_place, exceptions_place}
-use Rattle.kcr_tables.proofs.FrameLemmas.{reads_on, fails_as, reads_to, read_later}
+use Rattle.kcr_tables.proofs.Common.{rules, mark_row, exception_row, clean_before, asked_of, has_number, StepsAreShown, rows_at, AreShown}
+use Rattle.kcr_tables.proofs.Common.{marks_place, exceptions_place}
+use Rattle.kcr_tables.proofs.FrameLemmas.{reads_on, fails_as, reads_to, clean_on, read_later}
 use Rattle.kcr_tables.proofs.view.ceremony_rows.Goals as goal
 
 pub returns-in_err-ceremonies-clause-frame : goal.returns-in_err-ceremonies-clause-frame
@@ -15,25 +10,19 @@ pub returns-in_err-marks-clause-frame : goal.returns-in_err-marks-clause-frame
 returns-in_err-marks-clause-frame g c = reads_on c.in_ok-ceremonies.ensures.frame (fails_as c.from_residual-in_err-marks.ensures.1 c.in_err-marks.ensures.frame)
 
 pub returns-in_err-script-clause-frame : goal.returns-in_err-script-clause-frame
-returns-in_err-script-clause-frame g c = reads_on (reads_on c.in_ok-ceremonies.ensures.frame c.in_ok-marks.ensures.frame)
-    (fails_as c.from_residual-in_err-script.ensures.1 c.in_err-script.ensures.frame)
+returns-in_err-script-clause-frame g c = search (rules, reads_on, fails_as)
 
 pub returns-in_err-exceptions-clause-frame : goal.returns-in_err-exceptions-clause-frame
-returns-in_err-exceptions-clause-frame g c = reads_on
-    (reads_on (reads_on c.in_ok-ceremonies.ensures.frame c.in_ok-marks.ensures.frame) c.in_ok-script.ensures.frame)
-    (fails_as c.from_residual-in_err-exceptions.ensures.1 c.in_err-exceptions.ensures.frame)
+returns-in_err-exceptions-clause-frame g c = search (rules, reads_on, fails_as)
 
 pub returns : goal.returns
 returns g c =
-    let s0 = state g.S.Store c.select_rows.new.tx.conn.now in
-    let s1 = state g.S.Store c.select_rows-2.new.tx.conn.now in
-    let s3 = state g.S.Store c.select_rows-3.new.tx.conn.now in
     let to0 = c.in_ok-ceremonies.ensures.frame in
     let to1 = reads_on to0 c.in_ok-marks.ensures.frame in
     let to2 = reads_on to1 c.in_ok-script.ensures.frame in
     let clean2 = clean_before c.in_ok-exceptions.ensures.frame.within in
-    let clean1 : HasCleanDisk s3 → HasCleanDisk s1 = λ clean. clean_before c.in_ok-script.ensures.frame.within (clean2 clean) in
-    let clean0 : HasCleanDisk s3 → HasCleanDisk s0 = λ clean. clean_before c.in_ok-marks.ensures.frame.within (clean1 clean) in record {
+    let clean1 = clean_on c.in_ok-script.ensures.frame clean2 in
+    let clean0 = clean_on c.in_ok-marks.ensures.frame clean1 in record {
       ceremonies = λ clean t held. c.in_ok-ceremonies.ensures.rows (clean0 clean) t held;
       marks = λ clean t held. c.in_ok-marks.ensures.rows (clean1 clean) t (to0.holds (clean0 clean) t held);
       steps = λ clean t held. c.in_ok-script.ensures.rows (clean2 clean) t (to1.holds (clean1 clean) t held);

@@ -1,9 +1,6 @@
-use Rattle.sqlite.specs.Held.{state}
-use Rattle.sqlite.specs.State.{HasCleanDisk}
-use Rattle.kcr_history.specs.Views.{is_of_people, is_of_serial, is_item_of, is_of_number, is_mark_of, is_exception_of}
-use Rattle.kcr_rows.proofs.FrameLemmas.{clean_before}
-use Rattle.kcr_tables.specs.Exact.{CustodyIsShown, CeremoniesAreShown}
-use Rattle.kcr_tables.proofs.FrameLemmas.{reads_on, fails_as, reads_to, read_later}
+use Rattle.kcr_tables.proofs.Common.{rules, state, is_of_people, is_of_serial, is_item_of, is_of_number, is_mark_of, is_exception_of, clean_before}
+use Rattle.kcr_tables.proofs.Common.{CustodyIsShown, CeremoniesAreShown}
+use Rattle.kcr_tables.proofs.FrameLemmas.{reads_on, fails_as, reads_to, clean_on, read_later}
 use Rattle.kcr_tables.proofs.FrontLemmas.{custody_front, ceremonies_front}
 use Rattle.kcr_tables.proofs.HoldLemmas.{held_of}
 use Rattle.kcr_tables.proofs.ScriptLemmas.{steps_on}
@@ -14,22 +11,18 @@ pub returns-in_err-people-clause-frame : goal.returns-in_err-people-clause-frame
 returns-in_err-people-clause-frame g c = fails_as c.from_residual.ensures.1 c.in_err-people.ensures.frame
 
 pub returns-in_err-custody-clause-frame : goal.returns-in_err-custody-clause-frame
-returns-in_err-custody-clause-frame g c = reads_on c.in_ok-people.ensures.frame
-    (fails_as c.from_residual-in_err-custody.ensures.1 c.in_err-custody.ensures.frame)
+returns-in_err-custody-clause-frame g c = search (rules, reads_on, fails_as)
 
 pub returns-in_err-ceremony-clause-frame : goal.returns-in_err-ceremony-clause-frame
-returns-in_err-ceremony-clause-frame g c = reads_on (reads_on c.in_ok-people.ensures.frame c.in_ok-custody.ensures.frame)
-    (fails_as c.from_residual-in_err-ceremony.ensures.1 c.in_err-ceremony.ensures.frame)
+returns-in_err-ceremony-clause-frame g c = search (rules, reads_on, fails_as)
 
 pub returns : goal.returns
 returns g c =
     let old = state g.S.Store c.args.tx.now.conn.now in
-    let s1 = state g.S.Store c.select_people.new.tx.conn.now in
-    let s3 = state g.S.Store c.ceremony_rows.new.tx.conn.now in
     let to1 = c.in_ok-people.ensures.frame in
     let to2 = reads_on to1 c.in_ok-custody.ensures.frame in
     let clean2 = clean_before c.in_ok-ceremony.ensures.frame.within in
-    let clean1 : HasCleanDisk s3 → HasCleanDisk s1 = λ clean. clean_before c.in_ok-custody.ensures.frame.within (clean2 clean) in record {
+    let clean1 = clean_on c.in_ok-custody.ensures.frame clean2 in record {
       view = λ clean m h.
           let t = h.tables.t in
           let asks = c.args.asks.now in

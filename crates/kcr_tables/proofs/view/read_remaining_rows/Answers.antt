@@ -1,14 +1,7 @@
-use Rattle.std.proofs.Common.{refl}
-use Rattle.sqlite.specs.Held.{state}
-use Rattle.sqlite.specs.State.{HasCleanDisk}
-use Rattle.kcr_history.specs.Views.{is_training_asked, is_withdrawal_of}
-use Rattle.kcr_rows.specs.Rows.{stay_row}
-use Rattle.kcr_rows.proofs.FrameLemmas.{clean_before}
-use Rattle.kcr_tables.specs.Selected.{asked_of}
-use Rattle.kcr_tables.specs.Exact.{is_stay_row, rows_at, AreShown}
-use Rattle.kcr_tables.specs.StoredTables.{stays_place}
+use Rattle.kcr_tables.proofs.Common.{refl, rules, state, is_training_asked, is_withdrawal_of, stay_row, clean_before, asked_of, is_stay_row, rows_at}
+use Rattle.kcr_tables.proofs.Common.{AreShown, stays_place}
 use Rattle.kcr_tables.proofs.AppointmentLemmas.{appointments_shown}
-use Rattle.kcr_tables.proofs.FrameLemmas.{reads_on, fails_as, reads_to, read_later}
+use Rattle.kcr_tables.proofs.FrameLemmas.{reads_on, fails_as, reads_to, clean_on, read_later}
 use Rattle.kcr_tables.proofs.FrontLemmas.{custody_whole, ceremonies_whole}
 use Rattle.kcr_tables.proofs.HoldLemmas.{held_of}
 use Rattle.kcr_tables.proofs.StayLemmas.{stays_shown, entries_shown, apart_of}
@@ -19,22 +12,18 @@ pub returns-in_err-staff-clause-frame : goal.returns-in_err-staff-clause-frame
 returns-in_err-staff-clause-frame g c = fails_as c.from_residual.ensures.1 c.in_err-staff.ensures.frame
 
 pub returns-in_err-stays-clause-frame : goal.returns-in_err-stays-clause-frame
-returns-in_err-stays-clause-frame g c = reads_on c.in_ok-staff.ensures.frame
-    (fails_as c.from_residual-in_err-stays.ensures.1 c.in_err-stays.ensures.frame)
+returns-in_err-stays-clause-frame g c = search (rules, reads_on, fails_as)
 
 pub returns-in_err-entries-clause-frame : goal.returns-in_err-entries-clause-frame
-returns-in_err-entries-clause-frame g c = reads_on (reads_on c.in_ok-staff.ensures.frame c.in_ok-stays.ensures.frame)
-    (fails_as c.from_residual-in_err-entries.ensures.1 c.in_err-entries.ensures.frame)
+returns-in_err-entries-clause-frame g c = search (rules, reads_on, fails_as)
 
 pub returns : goal.returns
 returns g c =
     let old = state g.S.Store c.args.tx.now.conn.now in
-    let s1 = state g.S.Store c.staff_rows.new.tx.conn.now in
-    let s3 = state g.S.Store c.select_stay_count.new.tx.conn.now in
     let to1 = c.in_ok-staff.ensures.frame in
     let to2 = reads_on to1 c.in_ok-stays.ensures.frame in
     let clean2 = clean_before c.in_ok-entries.ensures.frame.within in
-    let clean1 : HasCleanDisk s3 → HasCleanDisk s1 = λ clean. clean_before c.in_ok-stays.ensures.frame.within (clean2 clean) in record {
+    let clean1 = clean_on c.in_ok-stays.ensures.frame clean2 in record {
       view = λ clean m h front.
           let t = h.tables.t in
           let asks = c.args.asks.now in

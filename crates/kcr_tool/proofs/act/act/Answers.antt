@@ -1,7 +1,5 @@
-use Rattle.std.proofs.Common.{inl, inr, refl, sym, ◌∙◌, arith}
-use Rattle.std.specs.Prelude.{IsTrue}
-use Rattle.kcr_desk.specs.Streams.{streams, writing}
-use Rattle.kcr_fault.specs.declared.fault.Fault.TheVariants.{Words}
+use Rattle.kcr_tool.proofs.Common.{◌≡◌, None, inl, inr, refl, sym, ◌∙◌, arith, IsTrue, streams, writing, Words}
+use Rattle.kcr_arguments.specs.Tasks.{file_of, said}
 use Rattle.kcr_tool.proofs.Causes.{none_mapped}
 use Rattle.kcr_tool.proofs.Notes.{asked_of_finding, task_noted}
 use Rattle.kcr_tool.proofs.Told.{fault_told, is_named}
@@ -40,43 +38,33 @@ pub returns-in-Ok-run_invocation : goal.returns-in-Ok-run_invocation
 returns-in-Ok-run_invocation g c =
     let task = c.in-Ok.order.task in
     let asks = c.in-Ok.ensures.task in
+    let file = c.in-Ok.ensures.file in
+    let ends = c.in-Ok-run_invocation.ensures.ends in
+    let own = λ (none : file_of (said c.args.words.now) ≡ None).
+    c.in-Ok-run_invocation.ensures.own (none_mapped _ c.in-Ok.order.file (sym file ∙ none)) in
+    let noted = c.in-Ok-run_invocation.ensures.noted in
     let w = writing g.F.Write.contents c.args.faults.now c.run_invocation.new.faults in
-    elim c.in-Ok-run_invocation.ensures.ends [
-      | inl done ↦ (
-          let zero = done.0 in
-          record {
-            status = omega (arith, zero);
-            done = λ _ none.
-                let unnamed = none_mapped _ c.in-Ok.order.file (sym c.in-Ok.ensures.file ∙ none) in
-                (task, asks, (c.in-Ok-run_invocation.ensures.own unnamed).1);
-            answered = λ _. (task, asks, done.1);
-            noted = λ _. rw (asks, c.in-Ok.ensures.file)
-                (task_noted _ (Unit {0}) _ _ w (λ _. tt) c.in-Ok-run_invocation.ensures.noted);
-            cause = λ one. absurd (omega (arith, zero, one));
-            part = λ one none. absurd (omega (arith, zero, one));
-            answered_in_part = λ one. absurd (omega (arith, zero, one));
-            refused = λ two. absurd (omega (arith, zero, two));
-          })
-      | inr problem ↦ (
-          let one = problem.0 in
-          let named = is_named _ c.in-Ok.order.file _ c.in-Ok.ensures.file
-          (λ none. let own = c.in-Ok-run_invocation.ensures.own none in let zero = own.0 in omega (arith, zero, one)) in
-          record {
-            status = omega (arith, one);
-            done = λ zero none. absurd (omega (arith, zero, one));
-            answered = λ zero. absurd (omega (arith, zero, one));
-            noted = λ zero. absurd (omega (arith, zero, one));
-            cause = λ _. inl (
-              named,
-              (task, asks, problem.1),
-              rw (asks, c.in-Ok.ensures.file, c.in-Ok.ensures.explained)
-                  (task_noted _ (IsTrue c.in-Ok.order.is_explained) _ _ w (asked_of_finding c.in-Ok.order.is_explained _ one)
-                  c.in-Ok-run_invocation.ensures.noted),
-            );
-            part = λ _ none.
-                let own = c.in-Ok-run_invocation.ensures.own (none_mapped _ c.in-Ok.order.file (sym c.in-Ok.ensures.file ∙ none)) in
-                let zero = own.0 in absurd (omega (arith, zero, one));
-            answered_in_part = λ _. inl (task, asks, problem.1);
-            refused = λ two. absurd (omega (arith, one, two));
-          })
-    ]
+    record {
+      status = elim ends [ inl done ↦ (let zero = done.0 in omega (arith, zero)) | inr problem ↦ (let one = problem.0 in omega (arith, one)) ];
+      done = λ _ none. (task, asks, (own none).1);
+      answered = λ zero. elim ends [
+        | inl done ↦ (task, asks, done.1)
+        | inr problem ↦ absurd (let one = problem.0 in omega (arith, zero, one))
+      ];
+      noted = λ _. rw (asks, file) (task_noted _ (Unit {0}) _ _ w (λ _. tt) noted);
+      cause = λ one. inl (
+        is_named _ c.in-Ok.order.file _ file (λ none. let zero = (c.in-Ok-run_invocation.ensures.own none).0 in omega (arith, zero, one)),
+        elim ends [ inl done ↦ absurd (let zero = done.0 in omega (arith, zero, one)) | inr problem ↦ (task, asks, problem.1) ],
+        rw (asks, file, c.in-Ok.ensures.explained)
+            (task_noted _ (IsTrue c.in-Ok.order.is_explained) _ _ w (asked_of_finding c.in-Ok.order.is_explained _ one) noted),
+      );
+      part = λ one none. absurd (let zero = (own none).0 in omega (arith, zero, one));
+      answered_in_part = λ one. elim ends [
+        | inl done ↦ absurd (let zero = done.0 in omega (arith, zero, one))
+        | inr problem ↦ inl (task, asks, problem.1)
+      ];
+      refused = λ two. absurd (elim ends [
+        | inl done ↦ let zero = done.0 in omega (arith, zero, two)
+        | inr problem ↦ let one = problem.0 in omega (arith, one, two)
+      ]);
+    }

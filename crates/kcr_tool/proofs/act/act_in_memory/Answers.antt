@@ -1,8 +1,4 @@
-use Rattle.std.proofs.Common.{None}
-use Rattle.kcr_desk.specs.Streams.{streams, writing}
-use Rattle.kcr_history.specs.History.{History}
-use Rattle.kcr_arguments.specs.declared.words.Task.TheVariants.{Run}
-use Rattle.kcr_tool.specs.Runs.{EndsReportBy, EndsTaskBy}
+use Rattle.kcr_tool.proofs.Common.{None, streams, writing, History, Run, EndsReportBy, EndsTaskBy}
 use Rattle.kcr_tool.proofs.Empty.{of_fresh}
 use Rattle.kcr_tool.proofs.Notes.{noted_of}
 use Rattle.kcr_tool.proofs.act.act_in_memory.Goals as goal

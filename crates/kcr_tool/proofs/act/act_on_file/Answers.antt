@@ -1,9 +1,4 @@
-use Rattle.std.proofs.Common.{ℕ, Some, Result, IfErr, subst}
-use Rattle.std.proofs.lemmas.Result.{IfErr-weaker, err_from_is_err_and}
-use Rattle.kcr_desk.specs.Streams.{streams}
-use Rattle.kcr_fault.specs.Faults.{StopsServing}
-use Rattle.kcr_fault.specs.declared.fault.Fault.{Fault}
-use Rattle.kcr_arguments.specs.declared.words.Task.TheVariants.{Run}
+use Rattle.kcr_tool.proofs.Common.{Some, IfErr-weaker, err_from_is_err_and, streams, Run}
 use Rattle.kcr_tool.proofs.Causes.{serving_cause, task_cause}
 use Rattle.kcr_tool.proofs.act.act_on_file.Goals as goal
 
@@ -19,6 +14,5 @@ returns-in_err-served-in-Serve-2-clause-cause g c =
     let p = err_from_is_err_and made.result made.ensures.1 in
     let s = streams g.R.Read.remaining g.W.Write.contents c.args.input.now c.args.input.now c.args.output.now c.serve_file.new.output in
     let register = c.in_ok-served-in-Serve.field-0-0 in
-    let cause =
-    subst (λ (r : Result ℕ Fault). IfErr r (StopsServing register s.output)) c.in_err-served-in-Serve-2.was c.in_ok-served-in-Serve.ensures.cause in
+    let cause = rw c.in_err-served-in-Serve-2.was at c.in_ok-served-in-Serve.ensures.cause in
     rw (c.in-Serve.is, p.1, p.2) (task_cause _ _ _ s (serving_cause register c.in-Serve.serving _ s cause))

@@ -1,5 +1,4 @@
-use Rattle.std.proofs.lemmas.Result.{MatchResult-from_both, IfOk-weaker}
-use Rattle.kcr_desk.specs.Streams.{writing}
+use Rattle.kcr_tool.proofs.Common.{MatchResult-from_both, IfOk-weaker, writing}
 use Rattle.kcr_tool.proofs.Audits.{nothing_told}
 use Rattle.kcr_tool.proofs.audit.audit.Goals as goal
 

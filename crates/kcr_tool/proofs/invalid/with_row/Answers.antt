@@ -1,4 +1,4 @@
-use Rattle.std.proofs.Common.{inl, inr, ◌∙◌, Err, ap, sym}
+use Rattle.kcr_tool.proofs.Common.{inl, inr, ◌∙◌, Err, ap, sym}
 use Rattle.kcr_tool.proofs.invalid.with_row.Goals as goal
 
 -- the fault stays, or has the row that was found

@@ -1,15 +1,12 @@
-use Rattle.std.proofs.Common.{◌≡◌, ℕ, List, rules, subst, inl, inr}
-use Rattle.std.proofs.lemmas.Result.{IfOk-weaker, IfErr-weaker}
-use Rattle.kcr_desk.specs.Streams.{WritesPart, WritesText, writing}
+use Rattle.kcr_tool.proofs.Common.{◌≡◌, rules, inl, inr, IfOk-weaker, IfErr-weaker, writing, listening_line}
 use Rattle.kcr_tool.proofs.Causes.{on_err, whole_front}
-use Rattle.kcr_fault.specs.Lines.{listening_line}
 use Rattle.kcr_tool.proofs.listen.listen.Goals as goal
 
 pub returns-in-Ok-write_whole : goal.returns-in-Ok-write_whole
 returns-in-Ok-write_whole g c =
     let w = writing g.W.Write.contents c.args.output.now c.write_whole.new.writer in
     let line : c.as_bytes.result.now ≡ listening_line c.args.serving.port = search rules in
-    let all = subst (λ (text : List ℕ). WritesText w text) line c.in-Ok-write_whole.ensures.written in
+    let all = rw line at c.in-Ok-write_whole.ensures.written in
     record {
       served = IfOk-weaker c.serve_each.result _ _ (λ served count. (count, all)) c.serve_each.ensures.served;
       part = on_err c.serve_each.result (inr (whole_front w (listening_line c.args.serving.port) all));
@@ -20,6 +17,5 @@ returns-in-Ok-write_whole g c =
 
 pub returns-clause-part : goal.returns-clause-part
 returns-clause-part g c =
-    let w = writing g.W.Write.contents c.args.output.now c.write_whole.new.writer in
     let line : c.as_bytes.result.now ≡ listening_line c.args.serving.port = search rules in
-    inr (subst (λ (text : List ℕ). WritesPart w text) line c.in-Err.ensures.written)
+    inr (rw line at c.in-Err.ensures.written)

@@ -1,7 +1,4 @@
-use Rattle.std.proofs.Common.{◌≡◌, ◌≤◌, ◌+◌, ℕ, subst, arith}
-use Rattle.std.proofs.lemmas.Result.{err_from_is_err_and}
-use Rattle.kcr_desk.specs.Connections.{Connects}
-use Rattle.kcr_desk.proofs.ConnectionLemmas.{connects_both, connects_none}
+use Rattle.kcr_tool.proofs.Common.{◌≡◌, ◌≤◌, ◌+◌, arith, err_from_is_err_and, connects_both, connects_none}
 use Rattle.kcr_tool.proofs.listen.serve_each.Goals as goal
 
 pub loop-served-init : goal.loop-served-init
@@ -37,7 +34,7 @@ returns-in_err-serve_stream-clause-connects g c =
 pub returns-clause-connects : goal.returns-clause-connects
 returns-clause-connects g c =
     let all : c.loop-served.served ≡ c.args.serving.connections = omega arith in
-    subst (λ (count : ℕ). Connects g.S.Store c.args.register.now c.loop-served.register count) all c.loop-served.invariant.connects
+    rw all at c.loop-served.invariant.connects
 
 pub returns-clause-whole : goal.returns-clause-whole
 returns-clause-whole g c = c.loop-served.invariant.whole

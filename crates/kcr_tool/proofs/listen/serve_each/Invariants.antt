@@ -1,4 +1,4 @@
-use Rattle.std.proofs.Common.{◌≡◌, ◌≤◌, ◌-◌, false}
+use Rattle.kcr_tool.proofs.Common.{◌≡◌, ◌≤◌, ◌-◌, false}
 use Rattle.kcr_desk.specs.Connections.{Connects}
 use Rattle.kcr_tool.proofs.listen.serve_each.Given as goal
 

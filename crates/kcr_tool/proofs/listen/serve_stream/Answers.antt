@@ -1,4 +1,4 @@
-use Rattle.kcr_desk.proofs.ConnectionLemmas.{connects_unread}
+use Rattle.kcr_tool.proofs.Common.{connects_unread}
 use Rattle.kcr_tool.proofs.listen.serve_stream.Goals as goal
 
 pub returns-in_default-clause-connects : goal.returns-in_default-clause-connects

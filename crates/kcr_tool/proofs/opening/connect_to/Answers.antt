@@ -1,5 +1,4 @@
-use Rattle.sqlite.specs.Files.{file_state}
-use Rattle.kcr_store.proofs.OpenLemmas.{founded_in}
+use Rattle.kcr_tool.proofs.Common.{file_state, founded_in}
 use Rattle.kcr_tool.proofs.opening.connect_to.Goals as goal
 
 pub returns-in-Ok-clause-founded : goal.returns-in-Ok-clause-founded

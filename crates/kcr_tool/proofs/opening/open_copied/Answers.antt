@@ -1,6 +1,4 @@
-use Rattle.std.proofs.Common.{refl}
-use Rattle.sqlite.specs.Files.{file_state}
-use Rattle.kcr_store.proofs.OpenLemmas.{founded_in}
+use Rattle.kcr_tool.proofs.Common.{refl, file_state, founded_in}
 use Rattle.kcr_tool.proofs.Copies.{never_in_doubt}
 use Rattle.kcr_tool.proofs.opening.open_copied.Goals as goal
 

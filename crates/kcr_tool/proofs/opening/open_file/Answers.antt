@@ -1,4 +1,4 @@
-use Rattle.std.proofs.lemmas.Result.{IfOk-weaker}
+use Rattle.kcr_tool.proofs.Common.{IfOk-weaker}
 use Rattle.kcr_tool.proofs.opening.open_file.Goals as goal
 
 pub returns-in-Ok-clause-stands : goal.returns-in-Ok-clause-stands

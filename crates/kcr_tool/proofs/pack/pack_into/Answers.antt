@@ -1,6 +1,5 @@
-use Rattle.kcr_desk.specs.Streams.{writing}
+use Rattle.kcr_tool.proofs.Common.{writing, packed_head}
 use Rattle.kcr_tool.proofs.Verifications.{packed_ends}
-use Rattle.kcr_fault.specs.Lines.{packed_head}
 use Rattle.kcr_tool.proofs.pack.pack_into.Goals as goal
 
 pub returns-clause-ends : goal.returns-clause-ends

@@ -1,23 +1,12 @@
-use Rattle.std.proofs.Common.{Bool, inl, inr, refl, subst}
-use Rattle.kcr_desk.specs.Answers.{IsReply}
-use Rattle.kcr_desk.specs.Streams.{streams}
-use Rattle.kcr_store.specs.Register.{whole}
-use Rattle.kcr_tool.specs.Runs.{ServesAll, ServesPart}
+use Rattle.kcr_tool.proofs.Common.{inl, inr, refl, whole}
 use Rattle.kcr_tool.proofs.tasks.run.Goals as goal
 
 pub returns-in-Ok-clause-ends : goal.returns-in-Ok-clause-ends
 returns-in-Ok-clause-ends g c =
-    let s = streams g.R.Read.remaining g.W.Write.contents c.args.input.now c.serve.new.reader c.args.output.now c.serve.new.writer in
-    inl (
-      refl,
-      subst (λ (before : Bool). ServesAll IsReply before s) c.requires
-          (c.serve.new.register.is_broken, c.in-Ok.field-0.requests, c.in-Ok.ensures.replied),
-    )
+    inl (refl, (c.serve.new.register.is_broken, c.in-Ok.field-0.requests, rw c.requires at c.in-Ok.ensures.replied))
 
 pub returns-in-Err-clause-ends : goal.returns-in-Err-clause-ends
-returns-in-Err-clause-ends g c =
-    let s = streams g.R.Read.remaining g.W.Write.contents c.args.input.now c.serve.new.reader c.args.output.now c.serve.new.writer in
-    inr (subst (λ (before : Bool). ServesPart IsReply before s) c.requires (c.serve.new.register.is_broken, c.in-Err.ensures.replied))
+returns-in-Err-clause-ends g c = inr (c.serve.new.register.is_broken, rw c.requires at c.in-Err.ensures.replied)
 
 pub returns-in-Ok-clause-own : goal.returns-in-Ok-clause-own
 returns-in-Ok-clause-own g c clean A at =

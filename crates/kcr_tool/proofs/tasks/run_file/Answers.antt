@@ -1,4 +1,4 @@
-use Rattle.kcr_store.specs.Register.{whole}
+use Rattle.kcr_tool.proofs.Common.{whole}
 use Rattle.kcr_tool.proofs.tasks.run_file.Goals as goal
 
 pub returns-clause-led : goal.returns-clause-led

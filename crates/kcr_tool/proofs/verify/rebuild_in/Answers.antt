@@ -1,8 +1,5 @@
-use Rattle.std.proofs.Common.{inl, refl}
-use Rattle.kcr_desk.specs.Streams.{writing}
+use Rattle.kcr_tool.proofs.Common.{inl, refl, writing, rebuilt_head, IsVerification}
 use Rattle.kcr_tool.proofs.Verifications.{verification_ends}
-use Rattle.kcr_fault.specs.Lines.{rebuilt_head}
-use Rattle.kcr_verify.specs.Verification.{IsVerification}
 use Rattle.kcr_tool.proofs.verify.rebuild_in.Goals as goal
 
 pub returns-in-Ok-clause-ends : goal.returns-in-Ok-clause-ends

@@ -1,9 +1,5 @@
-use Rattle.kcr_desk.specs.Streams.{writing}
-use Rattle.kcr_fault.specs.Lines.{verified_head}
-use Rattle.kcr_history.specs.History.{History}
+use Rattle.kcr_tool.proofs.Common.{writing, verified_head, History, IsVerification, Verification}
 use Rattle.kcr_history.specs.declared.views.FullView.{FullView}
-use Rattle.kcr_verify.specs.Verification.{IsVerification}
-use Rattle.kcr_verify.specs.declared.verification.Verification.{Verification}
 use Rattle.kcr_tool.proofs.Verifications.{ends_weaker}
 use Rattle.kcr_tool.proofs.verify.verify_copied.Goals as goal
 

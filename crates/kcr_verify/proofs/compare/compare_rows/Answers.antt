@@ -1,7 +1,4 @@
-use Rattle.std.proofs.Common.{sym, subst}
-use Rattle.std.proofs.lemmas.Result.{IfOk-weaker}
-use Rattle.kcr_history.specs.Tables.{tables}
-use Rattle.kcr_store.specs.FullView.{AreRows}
+use Rattle.kcr_verify.proofs.Common.{IfOk-weaker, tables}
 use Rattle.kcr_verify.proofs.FirstRowLemmas.{compared_rows}
 use Rattle.kcr_verify.proofs.compare.compare_rows.Goals as goal
 
@@ -11,7 +8,7 @@ returns-clause-rows g c clean A at =
     let own = (c.in_ok-own.ensures.shown clean A at).1 in
     IfOk-weaker c.first_row.result _ _
     (compared_rows table g.R.Columns.kinds g.R.FromRow.row_of g.R.FromRow.is_read g.met.R.TableRow.table_laws (tables A) _ c.args.rows.now
-    (subst (AreRows table.rows_in (tables A)) (sym c.deref.ensures.value) own))
+    (rw c.deref.ensures.value own))
     c.first_row.ensures.row
 
 pub returns-clause-register : goal.returns-clause-register

@@ -1,8 +1,5 @@
-use Rattle.std.proofs.Common.{rules, ◌≡◌, Some, None}
-use Rattle.std.proofs.lemmas.Result.{IfOk-weaker}
+use Rattle.kcr_verify.proofs.Common.{rules, ◌≡◌, Some, None, IfOk-weaker, whole, HasRows}
 use Rattle.kcr_history.specs.Tables as machine
-use Rattle.kcr_store.specs.Register.{whole}
-use Rattle.kcr_verify.specs.Verification.{HasRows}
 use Rattle.kcr_verify.proofs.StandLemmas.{still_stands}
 use Rattle.kcr_verify.proofs.VerifyLemmas.{at_each, first_is_keys, first_with_keys, some_weaker}
 use Rattle.kcr_verify.proofs.compare.first_difference.Goals as goal

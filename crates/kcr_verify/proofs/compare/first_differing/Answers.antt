@@ -1,9 +1,5 @@
-use Rattle.std.proofs.Common.{rules, ◌≡◌, ◌<◌, Some, None, arith, length, subst}
-use Rattle.std.specs.List.{AllByRecursion}
-use Rattle.std.proofs.lemmas.List.{take_all}
+use Rattle.kcr_verify.proofs.Common.{rules, ◌≡◌, ◌<◌, Some, None, arith, length, subst, AllByRecursion, take_all, whole, HasRows}
 use Rattle.kcr_history.specs.Tables as machine
-use Rattle.kcr_store.specs.Register.{whole}
-use Rattle.kcr_verify.specs.Verification.{HasRows}
 use Rattle.kcr_verify.proofs.StandLemmas.{still_stands}
 use Rattle.kcr_verify.proofs.VerifyLemmas.{first_at, one_more_table}
 use Rattle.kcr_verify.proofs.compare.first_differing.Goals as goal

@@ -1,11 +1,5 @@
-use Rattle.std.proofs.Common.{take}
-use Rattle.std.specs.List.{AllByRecursion}
-use Rattle.sqlite.specs.Held.{state}
-use Rattle.sqlite.specs.State.{HasCleanDisk}
+use Rattle.kcr_verify.proofs.Common.{take, AllByRecursion, state, HasCleanDisk, OfHistory, RegisterHistory, StandsAt, HasRows, IsIntact}
 use Rattle.kcr_history.specs.Tables as machine
-use Rattle.kcr_store.specs.Calls.{OfHistory}
-use Rattle.kcr_store.specs.Register.{RegisterHistory, StandsAt}
-use Rattle.kcr_verify.specs.Verification.{HasRows, IsIntact}
 use Rattle.kcr_verify.proofs.compare.first_differing.Given as goal
 
 abbrev pub invariant-loop-table : goal.invariant-loop-table

@@ -1,4 +1,4 @@
-use Rattle.std.proofs.Common.{◌≡◌, take}
+use Rattle.kcr_verify.proofs.Common.{◌≡◌, take}
 use Rattle.kcr_verify.proofs.compare.first_other.Given as goal
 
 abbrev pub invariant-loop-index : goal.invariant-loop-index

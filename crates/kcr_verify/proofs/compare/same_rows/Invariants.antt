@@ -1,4 +1,4 @@
-use Rattle.std.proofs.Common.{◌≡◌, take, length}
+use Rattle.kcr_verify.proofs.Common.{◌≡◌, take, length}
 use Rattle.kcr_verify.proofs.compare.same_rows.Given as goal
 
 abbrev pub invariant-loop-index : goal.invariant-loop-index

@@ -1,10 +1,6 @@
-use Rattle.std.proofs.Common.{◌≡◌, IfOk, rules}
-use Rattle.std.specs.Prelude.{IfSome}
-use Rattle.sqlite.specs.Effect.{Database}
+use Rattle.kcr_verify.proofs.Common.{◌≡◌, IfOk, rules, IfSome, Database, begun_has, undone_outside, IsInvalidIn}
 use Rattle.kcr_rows.proofs.InsideLemmas.{was_clean}
-use Rattle.kcr_store.proofs.WholeLemmas.{begun_has, undone_outside}
 use Rattle.kcr_tables.specs.Schema.{register_schema}
-use Rattle.kcr_verify.specs.Invalid.{IsInvalidIn}
 use Rattle.kcr_verify.proofs.KeyLemmas.{begun_shows}
 use Rattle.kcr_verify.proofs.invalid.search_database.Goals as goal
 

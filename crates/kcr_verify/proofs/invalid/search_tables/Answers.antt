@@ -1,4 +1,4 @@
-use Rattle.std.proofs.Common.{rules}
+use Rattle.kcr_verify.proofs.Common.{rules}
 use Rattle.kcr_tables.proofs.FrameLemmas.{fails_as, reads_none, reads_on, reads_to}
 use Rattle.kcr_verify.proofs.invalid.search_tables.Goals as goal
 

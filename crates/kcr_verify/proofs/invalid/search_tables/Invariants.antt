@@ -1,4 +1,4 @@
-use Rattle.std.proofs.Common.{Ok}
+use Rattle.kcr_verify.proofs.Common.{Ok}
 use Rattle.kcr_tables.specs.Frame.{Reads}
 use Rattle.kcr_verify.proofs.invalid.search_tables.Given as goal
 

@@ -1,5 +1,4 @@
-use Rattle.std.proofs.Common.{rules, [], inl, refl}
-use Rattle.sqlite.specs.Held.{state}
+use Rattle.kcr_verify.proofs.Common.{rules, [], inl, refl, state}
 use Rattle.kcr_verify.proofs.FreshLemmas.{makes_new}
 use Rattle.kcr_verify.proofs.new_register.init.Goals as goal
 

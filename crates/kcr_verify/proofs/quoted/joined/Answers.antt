@@ -1,26 +1,18 @@
-use Rattle.std.proofs.Common.{◌<◌, length, ◌∷◌, ◌++◌, [], List, ℕ, ap, ◌∙◌, arith, Vec, Global}
-use Rattle.sqlite.specs.Values.{bound_value}
+use Rattle.kcr_verify.proofs.Common.{inl, inr, refl, take, arith, length-map, length-take, map_more, bound, bound_value}
 use Rattle.sqlite.specs.Value.{owned}
-use Rattle.kcr_verify.proofs.QuotedLemmas.{behind_both, first_value, next_value}
+use Rattle.sqlite.specs.declared.types.ValueRef.{ValueRef}
+use Rattle.kcr_verify.proofs.QuotedLemmas.{IsStarted, line_more}
 use Rattle.kcr_verify.proofs.quoted.joined.Goals as goal
 use Rattle.kcr_verify.proofs.quoted.joined.Goals.{then-index-gt0+in_ok-push, else-index-gt0}
 
 pub loop-index-preserved : goal.loop-index-preserved
 loop-index-preserved c =
-    let columns = c.args.columns.now in
     let values = c.args.values.now in
     let i = c.loop-index.index in
-    let value = c.in_ok-push_value.ensures in
-    let date = c.in_ok-push_date_of.ensures in
-    let low : i < length columns = omega arith in
-    let below : i < length values = omega arith in
-    elim c.if-index-gt0.branch [
-      | then-index-gt0+in_ok-push w ↦
-          let line = ap (λ (v : Vec ℕ Global). v.items) w.line-is ∙ w.in_ok-push.ensures.items ∙ ap (λ (l : List ℕ). l ++ 44 ∷ []) c.loop-index.invariant in
-          behind_both _ _ _ _ _ _ _ value date line
-          (next_value (λ v. bound_value (owned v)) columns values i _ _ low below w.if-index-gt0.true)
-      | else-index-gt0 w ↦
-          let line = ap (λ (v : Vec ℕ Global). v.items) w.line-is ∙ c.loop-index.invariant in
-          behind_both _ _ _ _ _ _ _ value date line
-          (first_value (λ v. bound_value (owned v)) columns values i _ _ low below (omega arith))
-    ]
+    let one = λ (v : ValueRef). bound_value (owned v) in
+    let started : IsStarted i c.loop-index.line.items c.if-index-gt0.line.items = elim c.if-index-gt0.branch [
+      | then-index-gt0+in_ok-push w ↦ inl (w.if-index-gt0.true, rw w.line-is w.in_ok-push.ensures.items)
+      | else-index-gt0 w ↦ inr (w.if-index-gt0.false, rw w.line-is refl)
+    ] in
+    line_more c.args.columns.now (bound (take i values)) _ i _ _ _ (omega arith) (omega (arith, length-map (take i values) one, length-take i values))
+    (map_more one values i _ (omega arith)) (λ k. refl) c.loop-index.invariant started c.in_ok-push_value.ensures c.in_ok-push_date_of.ensures

@@ -1,6 +1,4 @@
-use Rattle.std.proofs.Common.{◌≡◌, take}
-use Rattle.sqlite.specs.Values.{bound}
-use Rattle.kcr_verify.specs.Quoted.{row_text}
+use Rattle.kcr_verify.proofs.Common.{◌≡◌, take, bound, row_text}
 use Rattle.kcr_verify.proofs.quoted.joined.Given as goal
 
 abbrev pub invariant-loop-index : goal.invariant-loop-index

@@ -1,5 +1,4 @@
-use Rattle.std.proofs.Common.{◌≡◌, ◌++◌, take}
-use Rattle.kcr_verify.specs.Quoted.{doubled}
+use Rattle.kcr_verify.proofs.Common.{◌≡◌, ◌++◌, take, doubled}
 use Rattle.kcr_verify.proofs.quoted.push_doubled.Given as goal
 
 abbrev pub invariant-loop-byte : goal.invariant-loop-byte

@@ -1,6 +1,5 @@
-use Rattle.std.proofs.Common.{◌∙◌, ℕ, ap, length, Global, Vec}
+use Rattle.kcr_verify.proofs.Common.{◌∙◌, ℕ, ap, length, Global, Vec, row_text}
 use Rattle.kcr_rows.proofs.CellLemmas.{params_are}
-use Rattle.kcr_verify.specs.Quoted.{row_text}
 use Rattle.kcr_verify.proofs.quoted.quoted.Goals as goal
 
 pub returns-in-Ok-clause-text : goal.returns-in-Ok-clause-text

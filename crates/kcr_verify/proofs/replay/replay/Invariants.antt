@@ -1,8 +1,4 @@
-use Rattle.sqlite.specs.Held.{state}
-use Rattle.sqlite.specs.State.{HasCleanDisk}
-use Rattle.kcr_history.specs.History.{History}
-use Rattle.kcr_store.specs.Register.{StandsAt, whole}
-use Rattle.kcr_verify.specs.Verification.{IsIntact}
+use Rattle.kcr_verify.proofs.Common.{state, HasCleanDisk, History, StandsAt, whole, IsIntact}
 use Rattle.kcr_verify.proofs.ReplayLemmas.{GoesOn}
 use Rattle.kcr_verify.proofs.replay.replay.Given as goal
 

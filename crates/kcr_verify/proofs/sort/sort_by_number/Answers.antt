@@ -1,6 +1,4 @@
-use Rattle.std.proofs.Common.{rules}
-use Rattle.std.proofs.lemmas.List.Sorted.{answers_always}
-use Rattle.kcr_history.specs.declared.row_types.KeyRow.{KeyRow}
+use Rattle.kcr_verify.proofs.Common.{rules, answers_always, KeyRow}
 use Rattle.kcr_verify.proofs.sort.sort_by_number.Goals as goal
 
 pub returns-clause-order : goal.returns-clause-order

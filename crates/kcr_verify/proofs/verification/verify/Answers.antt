@@ -1,4 +1,4 @@
-use Rattle.std.proofs.lemmas.Result.{IfOk-weaker}
+use Rattle.kcr_verify.proofs.Common.{IfOk-weaker}
 use Rattle.kcr_verify.proofs.StepLemmas.{never_in_doubt}
 use Rattle.kcr_verify.proofs.verification.verify.Goals as goal
 

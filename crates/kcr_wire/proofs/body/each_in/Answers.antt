@@ -1,4 +1,4 @@
-use Rattle.std.proofs.Common.{sym, ◌∙◌}
+use Rattle.kcr_wire.proofs.Common.{sym, ◌∙◌}
 use Rattle.kcr_wire.proofs.Lists.{value_taken, value_missing, values_end}
 use Rattle.kcr_wire.proofs.body.each_in.Goals as goal
 

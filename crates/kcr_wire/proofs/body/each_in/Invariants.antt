@@ -1,7 +1,5 @@
-use Rattle.std.proofs.Common.{◌≡◌, drop}
-use Rattle.serde_json.specs.View.{items_view}
+use Rattle.kcr_wire.proofs.Common.{◌≡◌, drop, items_view, after_codes}
 use Rattle.kcr_wire.specs.Members.{each_in}
-use Rattle.kcr_forms.proofs.Listing.{after_codes}
 use Rattle.kcr_wire.proofs.body.each_in.Given as goal
 
 abbrev pub invariant-loop-item : goal.invariant-loop-item

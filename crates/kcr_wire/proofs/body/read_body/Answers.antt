@@ -1,6 +1,5 @@
-use Rattle.std.proofs.Common.{refl}
+use Rattle.kcr_wire.proofs.Common.{refl, false≢true}
 use Rattle.kcr_wire.proofs.Json.{json-some, json-none}
-use Rattle.std.proofs.lemmas.Bool.{false≢true}
 use Rattle.kcr_wire.proofs.body.read_body.Goals as goal
 
 pub returns-in-Ok-clause-ok : goal.returns-in-Ok-clause-ok

@@ -1,6 +1,4 @@
-use Rattle.std.proofs.Common.{List, ℕ, ◌++◌, codes, ap, ◌∙◌}
-use Rattle.json.specs.Print.{quoted}
-use Rattle.kcr_history.specs.Texts.{members_of}
+use Rattle.kcr_wire.proofs.Common.{List, ℕ, ◌++◌, codes, ap, ◌∙◌, quoted, members_of}
 use Rattle.kcr_wire.proofs.BodyPieces.{with_members, body_told}
 use Rattle.kcr_wire.proofs.body_text.write_body.Goals as goal
 

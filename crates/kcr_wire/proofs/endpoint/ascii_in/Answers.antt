@@ -1,6 +1,4 @@
-use Rattle.std.proofs.Common.{Some, sym, ap, ◌∙◌, arith}
-use Rattle.std.proofs.lemmas.Str.{IsUtf8-from_ascii}
-use Rattle.std.proofs.lemmas.Str.Ascii.{All-from_ascii}
+use Rattle.kcr_wire.proofs.Common.{Some, sym, ap, ◌∙◌, arith, IsUtf8-from_ascii, All-from_ascii}
 use Rattle.kcr_wire.proofs.PartLemmas.{ascii_in-some, ascii_in-none}
 use Rattle.kcr_wire.proofs.endpoint.ascii_in.Goals as goal
 use Rattle.kcr_wire.proofs.endpoint.ascii_in.Goals.{in_default-via-in-Ok+else-is_ascii, in_default-via-in_default}

@@ -1,5 +1,4 @@
-use Rattle.std.proofs.Common.{◌≡◌, rules}
-use Rattle.matchit.specs.declared.error.InsertError.TheVariants.{OutOfMemory}
+use Rattle.kcr_wire.proofs.Common.{◌≡◌, rules, OutOfMemory}
 use Rattle.kcr_wire.proofs.Tables.{add-inserted, only-memory}
 use Rattle.kcr_wire.proofs.route.add.Goals as goal
 use Rattle.kcr_wire.proofs.route.add.Goals.{in-OutOfMemory, in_default}

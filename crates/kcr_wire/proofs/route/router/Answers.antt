@@ -1,4 +1,4 @@
-use Rattle.std.proofs.Common.{rules}
+use Rattle.kcr_wire.proofs.Common.{rules}
 use Rattle.kcr_wire.specs.Routes.{table}
 use Rattle.kcr_wire.proofs.Tables.{all-can}
 use Rattle.kcr_wire.proofs.route.router.Goals as goal

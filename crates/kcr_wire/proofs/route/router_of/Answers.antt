@@ -1,5 +1,5 @@
-use Rattle.std.proofs.Common.{sym, ◌∙◌, ◌+◌, arith, subst, true, ◌≡◌, drop}
-use Rattle.kcr_wire.specs.Routes.{RouterState, rows_of, can_add_all}
+use Rattle.kcr_wire.proofs.Common.{sym, ◌∙◌, ◌+◌, arith, subst, true, ◌≡◌, drop, RouterState, rows_of}
+use Rattle.kcr_wire.specs.Routes.{can_add_all}
 use Rattle.kcr_wire.proofs.Tables.{add_all-turn, add_all-end, can_add_all-turn}
 use Rattle.kcr_wire.proofs.route.router_of.Goals as goal
 

@@ -1,5 +1,5 @@
-use Rattle.std.proofs.Common.{◌≡◌, [], true, drop}
-use Rattle.kcr_wire.specs.Routes.{rows_of, add_all, can_add_all}
+use Rattle.kcr_wire.proofs.Common.{◌≡◌, [], true, drop, rows_of}
+use Rattle.kcr_wire.specs.Routes.{add_all, can_add_all}
 use Rattle.kcr_wire.proofs.route.router_of.Given as goal
 
 abbrev pub invariant-loop-pattern : goal.invariant-loop-pattern

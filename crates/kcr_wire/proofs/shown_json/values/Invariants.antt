@@ -1,5 +1,4 @@
-use Rattle.std.proofs.Common.{◌≡◌, map, take}
-use Rattle.serde_json.specs.View.{view}
+use Rattle.kcr_wire.proofs.Common.{◌≡◌, map, take, view}
 use Rattle.kcr_wire.proofs.shown_json.values.Given as goal
 
 abbrev pub invariant-loop-thing : goal.invariant-loop-thing

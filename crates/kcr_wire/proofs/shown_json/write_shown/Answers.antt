@@ -1,5 +1,4 @@
-use Rattle.std.proofs.Common.{string_bytes, ◌∙◌}
-use Rattle.serde_json.specs.View.{view}
+use Rattle.kcr_wire.proofs.Common.{string_bytes, ◌∙◌, view}
 use Rattle.kcr_wire.proofs.ShowLemmas.{shown-written}
 use Rattle.kcr_wire.proofs.shown_json.write_shown.Goals as goal
 

@@ -1,4 +1,4 @@
-use Rattle.kcr_desk.specs.Responses.{response_value}
+use Rattle.kcr_desk.proofs.Common.{response_value}
 use Rattle.kcr_desk.proofs.AnswerLemmas.{memory_answered}
 use Rattle.kcr_desk.proofs.answer.RegisterResponder.respond.Goals as goal
 

@@ -1,6 +1,5 @@
-use Rattle.std.proofs.Common.{rules, ◌≡◌, ◌∙◌, ◌++◌, take, drop, length, sym, ap, arith}
-use Rattle.std.proofs.lemmas.List.{length-append, length-take}
-use Rattle.kcr_desk.specs.Input.{unread}
+use Rattle.kcr_desk.proofs.Common.{rules, ◌≡◌, ◌∙◌, ◌++◌, take, drop, length, sym, ap, arith, length-take, unread}
+use Rattle.std.proofs.lemmas.List.{length-append}
 use Rattle.kcr_desk.proofs.TakingLemmas.{read_behind}
 use Rattle.kcr_desk.proofs.input_buffer.InputBuffer.fill.Goals as goal
 

@@ -1,5 +1,4 @@
-use Rattle.std.proofs.Common.{◌≡◌, ◌-◌, ◌++◌, List, ℕ}
-use Rattle.kcr_desk.specs.Input.{unread}
+use Rattle.kcr_desk.proofs.Common.{◌≡◌, ◌-◌, ◌++◌, List, ℕ, unread}
 use Rattle.kcr_desk.proofs.TakingLemmas.{TakesSoFar}
 use Rattle.kcr_desk.proofs.input_buffer.InputBuffer.read_body.Given as goal
 

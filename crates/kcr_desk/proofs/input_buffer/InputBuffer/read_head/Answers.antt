@@ -1,11 +1,6 @@
-use Rattle.std.proofs.Common.{◌≡◌, refl, sym, ◌∙◌, subst}
-use Rattle.httparse.specs.Spans.{span_bytes}
-use Rattle.kcr_desk.specs.Input.{unread}
-use Rattle.kcr_desk.specs.Framing.{is_head}
-use Rattle.kcr_desk.specs.Heads.{IsWhole, IsHopeless}
-use Rattle.kcr_desk.specs.Stream.{HasNoHead, IsBlankRest, is_blank_rest, no_head}
+use Rattle.kcr_desk.proofs.Common.{◌≡◌, refl, sym, ◌∙◌, subst, span_bytes, unread, is_head, IsWhole, IsHopeless, HasNoHead, IsBlankRest}
+use Rattle.kcr_desk.proofs.Common.{is_blank_rest, no_head, MatchResult-from_err}
 use Rattle.kcr_desk.proofs.FoundLemmas.{ends_all, ends_here, failed_ends}
-use Rattle.std.proofs.lemmas.Result.{err_from_is_err_and}
 use Rattle.kcr_desk.proofs.WaitingLemmas.{sent_front}
 use Rattle.kcr_desk.proofs.input_buffer.InputBuffer.read_head.Goals as goal
 
@@ -40,5 +35,4 @@ returns-then-not-branch-clause-found g c =
 
 pub returns-in_err-fill-clause-gathered : goal.returns-in_err-fill-clause-gathered
 returns-in_err-fill-clause-gathered g c =
-    let p = err_from_is_err_and c.from_residual.result c.from_residual.ensures.1 in
-    rw p.1 (sent_front _ c.head.invariant.gathered c.in_err-fill.ensures.gathered)
+    MatchResult-from_err _ _ _ c.from_residual.ensures.0 (λ _. sent_front _ c.head.invariant.gathered c.in_err-fill.ensures.gathered)

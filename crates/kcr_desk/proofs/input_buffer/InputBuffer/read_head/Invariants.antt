@@ -1,4 +1,4 @@
-use Rattle.std.proofs.Common.{◌-◌}
+use Rattle.kcr_desk.proofs.Common.{◌-◌}
 use Rattle.kcr_desk.proofs.TakingLemmas.{TakesSoFar}
 use Rattle.kcr_desk.proofs.input_buffer.InputBuffer.read_head.Given as goal
 

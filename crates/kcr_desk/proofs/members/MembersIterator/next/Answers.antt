@@ -1,6 +1,6 @@
-use Rattle.std.proofs.Common.{◌≡◌, ◌+◌, ◌-◌, [], ◌∷◌, length, take, drop, rules, arith, sym, ap, ◌∙◌, add-one}
-use Rattle.std.proofs.lemmas.List.{take_rest}
-use Rattle.kcr_desk.specs.Members.{members, members_of_rest, members_left}
+use Rattle.kcr_desk.proofs.Common.{◌≡◌, ◌+◌, ◌-◌, [], ◌∷◌, length, take, drop, rules, arith, sym, ap, ◌∙◌, add-one, take_rest, members_of_rest}
+use Rattle.kcr_desk.proofs.Common.{members_left}
+use Rattle.kcr_desk.specs.Members.{members}
 use Rattle.kcr_desk.proofs.MembersLemmas.{members_at, members_whole}
 use Rattle.kcr_desk.proofs.members.MembersIterator.next.Goals.{After-trim, After-trim-in-None}
 use Rattle.kcr_desk.proofs.members.MembersIterator.next.Goals as goal

@@ -1,22 +1,10 @@
-use Rattle.std.proofs.Common.{◌≡◌, true, false, arith, sym, ◌∙◌}
-use Rattle.kcr_log.specs.Frames.{frame_count, carries, commits}
-use Rattle.kcr_log.proofs.Counting.{one-more}
-use Rattle.kcr_log.proofs.frames.Header.commits_from.Goals.{then-commits, else-commits}
+use Rattle.std.proofs.Common.{◌≡◌, ◌+◌, ◌-◌, suc, arith}
+use Rattle.kcr_log.specs.Frames.{frame_count, commits_from}
 use Rattle.kcr_log.proofs.frames.Header.commits_from.Goals as goal
 
 pub loop-i-preserved : goal.loop-i-preserved
+unfolding commits_from
 loop-i-preserved c =
-    let header = c.args.self.now in
-    let log = c.args.log.now in
-    let has : carries header log c.loop-i.i ≡ true = sym c.carries.ensures ∙ c.if-not-carries.false in
-    let more = one-more header log c.loop-i.i (frame_count header log) (omega (arith, c.count-i-end.ensures)) has in
-    elim c.if-commits.branch [
-      | then-commits w ↦
-          let ends : commits header log c.loop-i.i ≡ true = sym c.commits.ensures ∙ w.if-commits.true in
-          let next = rw ends at more in
-          record { so_far = omega (arith, c.loop-i.invariant.so_far, next, w.ended-is); few = omega (arith, w.ended-is) }
-      | else-commits w ↦
-          let ends : commits header log c.loop-i.i ≡ false = sym c.commits.ensures ∙ w.if-commits.false in
-          let next = rw ends at more in
-          record { so_far = omega (arith, c.loop-i.invariant.so_far, next, w.ended-is); few = omega (arith, w.ended-is) }
-    ]
+    let count = frame_count c.args.self.now c.args.log.now in
+    let next : count - c.loop-i.i ≡ suc (count - (c.loop-i.i + 1)) = omega (arith, c.count-i-end.ensures) in
+    grind (arith, rw next at c.loop-i.invariant.so_far)

@@ -1,9 +1,5 @@
-use Rattle.std.proofs.Common.{◌∙◌, map, ap, List, ℕ}
-use Rattle.kcr_custody.specs.declared.Item.{Item}
-use Rattle.kcr_history.specs.Questions.{with_items}
-use Rattle.kcr_reading.specs.Remaining.{items_by_code}
+use Rattle.kcr_reading.proofs.Common.{◌∙◌, map, ap, List, ℕ, Item, with_items, items_by_code, clean_before}
 use Rattle.kcr_history.specs.declared.report_rows.BagWithItems.{BagWithItems}
-use Rattle.kcr_rows.proofs.FrameLemmas.{clean_before}
 use Rattle.kcr_reading.proofs.ChoiceLemmas.{gives_made}
 use Rattle.kcr_reading.proofs.bags.BagCursorCursor.next.Goals as goal
 

@@ -1,5 +1,4 @@
-use Rattle.std.proofs.Common.{subst}
-use Rattle.kcr_reading.specs.Remaining.{IsNextOf, read_ahead}
+use Rattle.kcr_reading.proofs.Common.{subst, IsNextOf, read_ahead}
 use Rattle.kcr_reading.proofs.AheadLemmas.{gives_ready, gives_read}
 use Rattle.kcr_reading.proofs.batched.BatchedCursor.next.Goals as goal
 

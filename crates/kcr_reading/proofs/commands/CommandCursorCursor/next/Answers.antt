@@ -1,4 +1,4 @@
-use Rattle.std.proofs.Common.{◌<◌, ◌∙◌, sym, arith}
+use Rattle.kcr_reading.proofs.Common.{◌<◌, ◌∙◌, sym, arith}
 use Rattle.kcr_reading.proofs.CommandLemmas.{none_within, next_some, next_none}
 use Rattle.kcr_reading.proofs.commands.CommandCursorCursor.next.Goals as goal
 use Rattle.kcr_reading.proofs.commands.CommandCursorCursor.next.Goals.{then-is_some, else-is_some}

@@ -1,4 +1,4 @@
-use Rattle.kcr_rows.proofs.TableLemmas.{filter_every}
+use Rattle.kcr_reading.proofs.Common.{filter_every}
 use Rattle.kcr_reading.proofs.exceptions.ExceptionCursor.new.Goals as goal
 
 pub returns : goal.returns

@@ -1,8 +1,4 @@
-use Rattle.std.proofs.Common.{◌∙◌, List, map, ap}
-use Rattle.kcr_rows.proofs.FailLemmas.{if_ok}
-use Rattle.kcr_rows.proofs.FrameLemmas.{clean_before}
-use Rattle.kcr_room.specs.declared.Stay.{Stay}
-use Rattle.kcr_history.specs.Questions.{with_name}
+use Rattle.kcr_reading.proofs.Common.{◌∙◌, List, map, ap, if_ok, clean_before, Stay, with_name}
 use Rattle.kcr_reading.proofs.ChoiceLemmas.{several_made}
 use Rattle.kcr_reading.proofs.stays.StayBatchesBatchSource.next_batch.Goals as goal
 

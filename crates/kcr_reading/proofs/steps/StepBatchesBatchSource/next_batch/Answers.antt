@@ -1,10 +1,4 @@
-use Rattle.std.proofs.Common.{◌≡◌, ◌∙◌, [], List, map, sym, ap}
-use Rattle.std.proofs.lemmas.Bool.{eqb-true}
-use Rattle.std.proofs.lemmas.List.{nil_from_length}
-use Rattle.kcr_history.specs.declared.row_types.SeatingRow.{SeatingRow}
-use Rattle.kcr_history.specs.Questions.{with_seated}
-use Rattle.kcr_rows.proofs.FrameLemmas.{clean_before}
-use Rattle.kcr_reading.specs.Remaining.{with_people}
+use Rattle.kcr_reading.proofs.Common.{◌≡◌, ◌∙◌, [], List, map, sym, ap, eqb-true, nil_from_length, SeatingRow, with_seated, clean_before, with_people}
 use Rattle.kcr_reading.proofs.CeremonyLemmas.{people_are}
 use Rattle.kcr_reading.proofs.ChoiceLemmas.{several_made}
 use Rattle.kcr_reading.proofs.steps.StepBatchesBatchSource.next_batch.Goals as goal

@@ -1,7 +1,4 @@
-use Rattle.std.proofs.Common.{◌++◌, ◌∙◌, map, ap}
-use Rattle.kcr_rows.proofs.TableLemmas.{filter_every}
-use Rattle.kcr_history.specs.Questions.{with_seated}
-use Rattle.kcr_reading.specs.Remaining.{steps_past}
+use Rattle.kcr_reading.proofs.Common.{◌++◌, ◌∙◌, map, ap, filter_every, with_seated, steps_past}
 use Rattle.kcr_reading.proofs.steps.StepCursor.new.Goals as goal
 
 pub returns : goal.returns

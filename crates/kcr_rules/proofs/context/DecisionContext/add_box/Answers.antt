@@ -1,5 +1,4 @@
-use Rattle.std.proofs.Common.{[], ◌∷◌, ap, ◌∙◌}
-use Rattle.kcr_history.specs.declared.views.Change.TheVariants.{PutBox}
+use Rattle.kcr_rules.proofs.Common.{[], ◌∷◌, ap, ◌∙◌, PutBox}
 use Rattle.kcr_rules.proofs.Unless.{refused, accepted, refuses}
 use Rattle.kcr_rules.proofs.context.DecisionContext.add_box.Goals as goal
 

@@ -1,4 +1,4 @@
-use Rattle.std.proofs.Common.{rules}
+use Rattle.kcr_rules.proofs.Common.{rules}
 use Rattle.kcr_rules.proofs.context.DecisionContext.changed_stays.Goals as goal
 
 pub returns : goal.returns

@@ -1,8 +1,4 @@
-use Rattle.std.proofs.Common.{refl, subst}
-use Rattle.kcr_base.specs.Refuse.{IsTestResult}
-use Rattle.kcr_custody.specs.Custody.{seal_refusal}
-use Rattle.kcr_history.specs.declared.commands.Act.TheVariants.{Ceremony}
-use Rattle.kcr_history.specs.declared.commands.Deed.TheVariants.{Seal}
+use Rattle.kcr_rules.proofs.Common.{refl, subst, IsTestResult, seal_refusal, Ceremony, Seal}
 use Rattle.kcr_rules.proofs.Checked.{checked}
 use Rattle.kcr_rules.proofs.context.DecisionContext.check_seal.Goals as goal
 

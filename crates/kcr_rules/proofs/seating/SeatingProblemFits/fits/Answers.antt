@@ -1,9 +1,5 @@
-use Rattle.std.proofs.Common.{List, [], ap, ◌∙◌, get_or}
-use Rattle.std.proofs.lemmas.List.{get_or_default}
+use Rattle.kcr_rules.proofs.Common.{List, [], ap, ◌∙◌, get_or, get_or_default, Training, Staff, fits_by}
 use Rattle.kcr_base.specs.declared.place.Role.TheVariants.{Ca}
-use Rattle.kcr_people.specs.declared.Training.{Training}
-use Rattle.kcr_script.specs.declared.seat.Seat.TheVariants.{Staff}
-use Rattle.kcr_history.specs.Fitting.{fits_by}
 use Rattle.kcr_rules.proofs.Own.{fits_own, fits_there, own_row}
 use Rattle.kcr_rules.proofs.seating.SeatingProblemFits.fits.Goals as goal
 

@@ -1,10 +1,5 @@
-use Rattle.std.proofs.Common.{arith, subst, sym}
-use Rattle.sqlite.specs.Files.{over_files}
-use Rattle.sqlite.specs.Held.{Held, state}
-use Rattle.sqlite.specs.State.{HasCleanDisk}
+use Rattle.kcr_store.proofs.Common.{arith, subst, sym, over_files, Held, state, HasCleanDisk, tried, AfterCrash}
 use Rattle.kcr_store.proofs.StopLemmas.{left_either, opens_either}
-use Rattle.kcr_store.specs.Opening.{tried}
-use Rattle.kcr_store.specs.Register.{AfterCrash}
 use Rattle.kcr_store.proofs.register.Register+FileStore+D.stop.Goals as goal
 
 pub returns-clause-left : goal.returns-clause-left

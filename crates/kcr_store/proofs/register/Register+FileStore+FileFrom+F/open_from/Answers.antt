@@ -1,4 +1,4 @@
-use Rattle.kcr_rows.proofs.InsideLemmas.{was_clean}
+use Rattle.kcr_store.proofs.Common.{was_clean}
 use Rattle.kcr_store.proofs.OpenLemmas.{rows_in}
 use Rattle.kcr_store.proofs.register.Register+FileStore+FileFrom+F.open_from.Goals as goal
 

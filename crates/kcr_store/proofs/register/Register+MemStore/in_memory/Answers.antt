@@ -1,4 +1,4 @@
-use Rattle.std.proofs.Common.{refl}
+use Rattle.kcr_store.proofs.Common.{refl}
 use Rattle.sqlite_trees.specs.View.{doubt}
 use Rattle.kcr_store.proofs.register.Register+MemStore.in_memory.Goals as goal
 

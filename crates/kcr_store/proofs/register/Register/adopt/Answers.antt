@@ -1,5 +1,4 @@
-use Rattle.std.proofs.Common.{refl}
-use Rattle.sqlite.specs.Held.{state}
+use Rattle.kcr_store.proofs.Common.{refl, state}
 use Rattle.kcr_store.proofs.OpenLemmas.{adopted, opened_with}
 use Rattle.kcr_store.proofs.WholeLemmas.{counted_as, stands_whole}
 use Rattle.kcr_store.proofs.register.Register.adopt.Goals as goal

@@ -1,4 +1,4 @@
-use Rattle.std.proofs.Common.{◌∙◌}
+use Rattle.kcr_store.proofs.Common.{◌∙◌}
 use Rattle.kcr_store.proofs.WholeLemmas.{looked}
 use Rattle.kcr_store.proofs.register.Register.all_rows.Goals as goal
 

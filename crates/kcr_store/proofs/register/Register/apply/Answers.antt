@@ -1,8 +1,6 @@
-use Rattle.std.proofs.Common.{◌≡◌, ◌≢◌, refl, rules}
-use Rattle.kcr_base.specs.declared.refusal.Refusal.TheVariants.{Disk}
+use Rattle.kcr_store.proofs.Common.{◌≡◌, ◌≢◌, refl, rules, Disk, Accepted, Refused, InDoubt}
 use Rattle.kcr_store.proofs.ByRows.{calm_breaks, rows_led}
-use Rattle.kcr_store.specs.declared.transaction.TransactionResult.TheVariants.{Accepted, Refused, InDoubt}
-use Rattle.kcr_store.proofs.WholeLemmas.{accepted_leads, doubtful_leads, failed_leads, seen_unbroken}
+use Rattle.kcr_store.proofs.WholeLemmas.{accepted_leads, broken_leads, seen_unbroken}
 use Rattle.kcr_store.proofs.register.Register.apply.Goals as goal
 
 pub returns-in-Accepted-clause-step : goal.returns-in-Accepted-clause-step
@@ -14,14 +12,12 @@ returns-in-Accepted-clause-step g c =
 pub returns-in-Refused-Disk-clause-step : goal.returns-in-Refused-Disk-clause-step
 returns-in-Refused-Disk-clause-step g c =
     let unbroken = seen_unbroken c.self.view_is c.is_broken.ensures.value c.if-is_broken.false in
-    rw (← c.self.view_is, ← c.lent.view_is) (failed_leads g.S.Store _ _ c.args.command.now unbroken refl
-    (rw c.in-Refused-Disk.field-0-is at c.in-Refused-Disk.ensures.step))
+    rw (← c.self.view_is, ← c.lent.view_is) (broken_leads g.S.Store _ _ c.args.command.now unbroken refl c.in-Refused-Disk.ensures.step)
 
 pub returns-in-InDoubt-clause-step : goal.returns-in-InDoubt-clause-step
 returns-in-InDoubt-clause-step g c =
     let unbroken = seen_unbroken c.self.view_is c.is_broken.ensures.value c.if-is_broken.false in
-    rw (← c.self.view_is, ← c.lent.view_is) (doubtful_leads g.S.Store _ _ c.args.command.now unbroken c.in-InDoubt.error refl
-    c.in-InDoubt.ensures.step)
+    rw (← c.self.view_is, ← c.lent.view_is) (broken_leads g.S.Store _ _ c.args.command.now unbroken refl c.in-InDoubt.ensures.step)
 
 pub returns-in-Accepted-clause-by_rows : goal.returns-in-Accepted-clause-by_rows
 returns-in-Accepted-clause-by_rows g c _ = rw (← c.self.view_is, ← c.lent.view_is) c.in-Accepted.ensures.by_rows

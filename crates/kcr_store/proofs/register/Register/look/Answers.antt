@@ -1,5 +1,4 @@
-use Rattle.std.proofs.Common.{◌∙◌, sym}
-use Rattle.std.proofs.lemmas.Bool.{true≢false}
+use Rattle.kcr_store.proofs.Common.{◌∙◌, sym, true≢false}
 use Rattle.kcr_store.proofs.WholeLemmas.{conn_after, counted_at, looked}
 use Rattle.kcr_store.proofs.register.Register.look.Goals as goal
 

@@ -1,4 +1,4 @@
-use Rattle.std.proofs.Common.{[], inl, refl}
+use Rattle.kcr_store.proofs.Common.{[], inl, refl}
 use Rattle.kcr_store.proofs.register.Register.new_empty.Goals as goal
 
 -- an empty database is that of no command

@@ -1,5 +1,4 @@
-use Rattle.std.proofs.Common.{rules, ◌≡◌, ◌≢◌, inr, refl, sym}
-use Rattle.kcr_base.specs.declared.refusal.Refusal.TheVariants.{Disk}
+use Rattle.kcr_store.proofs.Common.{rules, ◌≡◌, ◌≢◌, inr, refl, sym, Disk}
 use Rattle.kcr_store.proofs.register.Register.note_disk_fault.Goals as goal
 
 pub returns-in-Err : goal.returns-in-Err

@@ -1,4 +1,4 @@
-use Rattle.kcr_history.specs.Tables.{tables}
+use Rattle.kcr_store.proofs.Common.{tables}
 use Rattle.kcr_store.proofs.StoreLemmas.{held_in}
 use Rattle.kcr_store.proofs.rows.Rows.next.Goals as goal
 

@@ -1,7 +1,5 @@
-use Rattle.std.proofs.Common.{[], refl}
+use Rattle.kcr_store.proofs.Common.{[], refl, tables, held_of}
 use Rattle.kcr_audit.specs.Views.{tables_of}
-use Rattle.kcr_history.specs.Tables.{tables}
-use Rattle.kcr_tables.proofs.HoldLemmas.{held_of}
 use Rattle.kcr_store.proofs.StoreLemmas.{holds_in, listed}
 use Rattle.kcr_store.proofs.transaction.QuestionTableQuery.read.Goals as goal
 

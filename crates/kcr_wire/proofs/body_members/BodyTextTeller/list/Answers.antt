@@ -1,5 +1,6 @@
-use Rattle.kcr_wire.proofs.BodyPieces.{texts-whole}
+use Rattle.kcr_wire.proofs.Common.{refl, string}
+use Rattle.kcr_wire.proofs.BodyPieces.{each-whole}
 use Rattle.kcr_wire.proofs.body_members.BodyTextTeller.list.Goals as goal
 
 pub push-requires : goal.push-requires
-push-requires g c = rw (c.in_ok-value.ensures, c.in_ok-values.ensures) (texts-whole (g.T.ListElement.texts c.as_slice.result.now))
+push-requires g c = rw (c.in_ok-value.ensures, c.in_ok-values.ensures) (each-whole string (λ _. refl) (g.T.ListElement.texts c.as_slice.result.now))

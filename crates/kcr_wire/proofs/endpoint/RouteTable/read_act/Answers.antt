@@ -1,5 +1,4 @@
-use Rattle.std.proofs.Common.{sym, ap, ◌∙◌}
-use Rattle.std.proofs.lemmas.Result.{IfOk-weaker}
+use Rattle.kcr_wire.proofs.Common.{sym, ap, ◌∙◌, IfOk-weaker}
 use Rattle.kcr_wire.specs.ActTexts.{act_of}
 use Rattle.kcr_wire.proofs.Again.{act-again, found-is}
 use Rattle.kcr_wire.proofs.endpoint.RouteTable.read_act.Goals as goal

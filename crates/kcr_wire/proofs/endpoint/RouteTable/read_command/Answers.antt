@@ -1,4 +1,4 @@
-use Rattle.std.proofs.Common.{IfOk, sym, subst}
+use Rattle.kcr_wire.proofs.Common.{IfOk, sym, subst}
 use Rattle.kcr_wire.proofs.ReadCommands.{OfValues, posted-is}
 use Rattle.kcr_wire.proofs.Targets.{IsEndpoint, target-is}
 use Rattle.kcr_wire.proofs.endpoint.RouteTable.read_command.Goals as goal

@@ -1,4 +1,4 @@
-use Rattle.std.proofs.Common.{sym}
+use Rattle.kcr_wire.proofs.Common.{sym}
 use Rattle.kcr_wire.proofs.PartLemmas.{parts-text}
 use Rattle.kcr_wire.proofs.endpoint.RouteTable.resolve.Goals as goal
 
