@@ -1,12 +1,9 @@
 -- What tests find in lists.
 use Rattle.std.proofs.Common.{◌≡◌, Bool, true, false, List, [], ◌∷◌, ◌++◌, map, find, Option, Some, None, is_some, is_none, refl, arith, ◌⊎◌, cond}
-use Rattle.std.proofs.Common.{inl, inr, subst, sym, ◌∙◌}
-use Rattle.std.specs.List.{list_any, list_all, AllByRecursion}
-use Rattle.std.proofs.lemmas.Bool.{false≢true}
-use Rattle.std.proofs.lemmas.Bool.Decides.{nat_tests}
-use Rattle.std.specs.List.Sorted.{IsPermutation}
-use Rattle.std.proofs.lemmas.List.Elements.{All-from_recursion, recursion_from_All}
-use Rattle.std.proofs.lemmas.List.Sorted.{All-permutation, list_any-IsPermutation}
+use Rattle.std.specs.List.{list_any, list_all, AllByRecursion, Sorted.IsPermutation}
+use Rattle.std.proofs.lemmas.Bool.{false≢true, Decides.nat_tests}
+use Rattle.std.proofs.lemmas.List.Elements.{All-from_recursion, recursion_from_All, All-append, All-weaker}
+use Rattle.std.proofs.lemmas.List.{Sums.AllPass-from_list_all, Sums.list_all-from_AllPass, Sorted.All-permutation, Sorted.list_any-IsPermutation}
 use Rattle.kcr_base.specs.Rows.{option_or}
 
 -- WHETHER SOME OR ALL PASS
@@ -33,51 +30,43 @@ any-more p q (x ∷ xs) f h = grind (arith, nat_tests, h, f x, any-more p q xs f
 
 -- if all elements pass the first test, all pass the second
 pub all-more : {X : Type 0} (p q : X → Bool) (xs : List X) → ((x : X) → p x ≡ true → q x ≡ true) → list_all p xs ≡ true → list_all q xs ≡ true
-all-more p q [] f h = refl
-all-more p q (x ∷ xs) f h = grind (arith, nat_tests, h, f x, all-more p q xs f)
+all-more p q xs f h = list_all-from_AllPass q xs (All-weaker (λ x. p x ≡ true) (λ x. q x ≡ true) f xs (AllPass-from_list_all p xs h))
 
 -- what holds of the elements of two lists holds of those of both together
 pub each-append : {X : Type 0} (P : X → Type 0) (xs ys : List X) → AllByRecursion P xs → AllByRecursion P ys → AllByRecursion P (xs ++ ys)
-each-append P [] ys h k = k
-each-append P (x ∷ xs) ys h k = (h.0, each-append P xs ys h.1 k)
+each-append P xs ys h k = recursion_from_All P (xs ++ ys) (All-append P xs ys (All-from_recursion P xs h) (All-from_recursion P ys k))
 
 -- what holds of each element holds of each if it is weaker
 pub each-weaker : {X : Type 0} (P Q : X → Type 0) → ((x : X) → P x → Q x) → (xs : List X) → AllByRecursion P xs → AllByRecursion Q xs
-each-weaker P Q f [] h = tt
-each-weaker P Q f (x ∷ xs) h = (f x h.0, each-weaker P Q f xs h.1)
+each-weaker P Q f xs h = recursion_from_All Q xs (All-weaker P Q f xs (All-from_recursion P xs h))
 
 -- THE FIRST THAT PASSES
-
--- nothing is found if no element passes
-pub find-none : {X : Type 0} (test : X → Bool) (xs : List X) → list_any test xs ≡ false → find test xs ≡ None
-find-none test [] h = refl
-find-none test (x ∷ xs) h = grind (arith, nat_tests, h, find-none test xs)
-
--- no element passes if nothing is found
-pub none-find : {X : Type 0} (test : X → Bool) (xs : List X) → find test xs ≡ None → list_any test xs ≡ false
-none-find test [] h = refl
-none-find test (x ∷ xs) h = grind (arith, none-find test xs)
 
 -- one passes if the first that does is found
 pub any-find : {X : Type 0} (test : X → Bool) (xs : List X) → list_any test xs ≡ is_some (find test xs)
 any-find test [] = refl
 any-find test (x ∷ xs) = grind (arith, any-find test xs)
 
+-- nothing is found if no element passes
+pub find-none : {X : Type 0} (test : X → Bool) (xs : List X) → list_any test xs ≡ false → find test xs ≡ None
+find-none test xs h = grind (arith, h, any-find test xs)
+
+-- no element passes if nothing is found
+pub none-find : {X : Type 0} (test : X → Bool) (xs : List X) → find test xs ≡ None → list_any test xs ≡ false
+none-find test xs h = grind (arith, h, any-find test xs)
+
 -- some element passes if one is found
 pub some-find : {X : Type 0} (test : X → Bool) (x : X) (xs : List X) → find test xs ≡ Some x → list_any test xs ≡ true
 some-find test x xs h = grind (arith, any-find test xs)
 
 -- the first that passes a test is the head, or is in the tail
-pub find-cases : {X : Type 0} (b : Bool) (x y : X) (rest : Option X) → cond b (Some x) rest ≡ Some y → ((b ≡ true) × (x ≡ y)) ⊎ ((b ≡ false) × (rest ≡ Some y))
-find-cases b x y rest h = grind arith
+pub find-cases : {X : Type 0} (b : Bool) (x y : X) (o : Option X) → cond b (Some x) o ≡ Some y → ((b ≡ true) × (x ≡ y)) ⊎ ((b ≡ false) × (o ≡ Some y))
+find-cases b x y o h = grind arith
 
 -- the first that passes a test does, and what holds of each holds of it
-pub first-is : {X : Type 0} (test : X → Bool) (P : X → Type 0) (y : X) (xs : List X) → AllByRecursion P xs → find test xs ≡ Some y → (test y ≡ true) × P y
-first-is test P y [] a h = absurd (let e : None ≡ Some y = h in cc)
-first-is test P y (x ∷ xs) a h = elim (find-cases (test x) x y (find test xs) h) [
-  | inl (p, e) ↦ subst (λ z. (test z ≡ true) × P z) e (p, a.0)
-  | inr (p, e) ↦ first-is test P y xs a.1 e
-]
+pub first-is : {X : Type 0} (p : X → Bool) (P : X → Type 0) (y : X) (xs : List X) → AllByRecursion P xs → find p xs ≡ Some y → (p y ≡ true) × P y
+first-is p P y [] a h = grind arith
+first-is p P y (x ∷ xs) a h = grind (arith, first-is p P y xs a.1)
 
 -- the value, if the test holds
 abbrev pub some_if : {X : Type 0} → Bool → X → Option X
@@ -99,18 +88,15 @@ find-only test v xs a h = grind (arith, h, find-all test v xs a)
 
 -- the same in any order
 pub only-order : {X : Type 0} (test : X → Bool) (v : X) (xs ys : List X) → IsPermutation xs ys → Only test v xs → Only test v ys
-only-order {X} test v xs ys p a =
-    let P : X → Type 0 = λ x. test x ≡ true → x ≡ v in
-    recursion_from_All P ys (All-permutation P xs ys p (All-from_recursion P xs a))
+only-order test v xs ys p a = recursion_from_All _ ys (All-permutation (λ x. test x ≡ true → x ≡ v) xs ys p (All-from_recursion _ xs a))
 
 -- the same element is found in any order, if all that pass equal the one that is found
 pub find-order : {X : Type 0} (test : X → Bool) (xs ys : List X) → IsPermutation xs ys → ((x : X) → find test xs ≡ Some x → Only test x xs)
     → find test ys ≡ find test xs
-find-order {X} test xs ys p only = by_first (find test xs) refl
-  where
-    by_first : (o : Option X) → find test xs ≡ o → find test ys ≡ o
-    by_first None e = find-none test ys (sym (list_any-IsPermutation test xs ys p) ∙ none-find test xs e)
-    by_first (Some x) e = find-only test x ys (only-order test x xs ys p (only x e)) (sym (list_any-IsPermutation test xs ys p) ∙ some-find test x xs e)
+find-order {X} test xs ys p only =
+    let found : (x : X) → find test xs ≡ Some x → list_any test ys ≡ true → find test ys ≡ Some x =
+    λ x e. find-only test x ys (only-order test x xs ys p (only x e)) in
+    grind (arith, found, list_any-IsPermutation test xs ys p, any-find test xs, any-find test ys)
 
 -- rows that are functions of their keys
 pub all-keys : {K X : Type 0} (test : X → Bool) (row_of : K → X) (v : X) → ((k : K) → test (row_of k) ≡ true → row_of k ≡ v) → (keys : List K)

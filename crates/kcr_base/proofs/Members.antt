@@ -1,8 +1,7 @@
 -- What is in a list.
-use Rattle.std.proofs.Common.{◌≡◌, ℕ, Bool, true, false, List, [], ◌∷◌, ◌++◌, map, filter, find, refl, sym, ap, ◌∙◌, subst, ◌⊎◌, inl, inr, arith}
-use Rattle.std.specs.List.{list_any, list_all}
-use Rattle.std.specs.List.Sorted.{IsPermutation}
-use Rattle.std.proofs.lemmas.Bool.{true≢false, false≢true, or_left, or_right, false_from_ne_true}
+use Rattle.std.proofs.Common.{◌≡◌, ℕ, Bool, true, false, List, [], ◌∷◌, ◌++◌, map, filter, find, refl, sym, ◌∙◌, subst, ◌⊎◌, inl, inr, arith}
+use Rattle.std.specs.List.{list_any, list_all, Sorted.IsPermutation}
+use Rattle.std.proofs.lemmas.Bool.{true≢false, false≢true, false_from_ne_true}
 use Rattle.kcr_base.specs.Same.{same_text}
 pub use Rattle.kcr_base.specs.Rows.{IsIn}
 use Rattle.kcr_base.proofs.RowsLemmas.{Shuffled, nothing, under, flipped, after, shuffled}
@@ -11,14 +10,12 @@ use Rattle.kcr_base.proofs.SameLemmas.{same-is, same-itself}
 -- an element of two lists together is in the first or in the second
 pub in-append : {X : Type 0} (x : X) (xs ys : List X) → IsIn x (xs ++ ys) → IsIn x xs ⊎ IsIn x ys
 in-append x [] ys i = inr i
-in-append x (z ∷ xs) ys (inl e) = inl (inl e)
-in-append x (z ∷ xs) ys (inr i) = elim (in-append x xs ys i) [ inl j ↦ inl (inr j) | inr j ↦ inr j ]
+in-append x (z ∷ xs) ys i = grind (arith, in-append x xs ys)
 
 -- an element of the first list is in both together
 pub in-front : {X : Type 0} (x : X) (xs ys : List X) → IsIn x xs → IsIn x (xs ++ ys)
 in-front x [] ys i = absurd i
-in-front x (z ∷ xs) ys (inl e) = inl e
-in-front x (z ∷ xs) ys (inr i) = inr (in-front x xs ys i)
+in-front x (z ∷ xs) ys i = grind (arith, in-front x xs ys)
 
 -- an element of the second list is in both together
 pub in-behind : {X : Type 0} (x : X) (xs ys : List X) → IsIn x ys → IsIn x (xs ++ ys)
@@ -28,14 +25,12 @@ in-behind x (z ∷ xs) ys i = inr (in-behind x xs ys i)
 -- an element of the images is the image of an element
 pub in-map : {X Y : Type 0} (f : X → Y) (y : Y) (xs : List X) → IsIn y (map f xs) → (x : X) × IsIn x xs × (y ≡ f x)
 in-map f y [] i = absurd i
-in-map f y (x ∷ xs) (inl e) = (x, inl refl, e)
-in-map f y (x ∷ xs) (inr i) = let m = in-map f y xs i in (m.0, inr m.1, m.2)
+in-map f y (x ∷ xs) i = grind (arith, in-map f y xs)
 
 -- the image of an element is among the images
 pub map-in : {X Y : Type 0} (f : X → Y) (x : X) (xs : List X) → IsIn x xs → IsIn (f x) (map f xs)
 map-in f x [] i = absurd i
-map-in f x (z ∷ xs) (inl e) = inl (ap f e)
-map-in f x (z ∷ xs) (inr i) = inr (map-in f x xs i)
+map-in f x (z ∷ xs) i = grind (arith, map-in f x xs)
 
 -- an element that a test keeps is in the list, and passes the test
 pub in-filter : {X : Type 0} (test : X → Bool) (x : X) (xs : List X) → IsIn x (filter test xs) → IsIn x xs × (test x ≡ true)
@@ -45,8 +40,7 @@ in-filter test x (z ∷ xs) i = grind (arith, in-filter test x xs)
 -- an element that passes the test is kept
 pub filter-in : {X : Type 0} (test : X → Bool) (x : X) (xs : List X) → IsIn x xs → test x ≡ true → IsIn x (filter test xs)
 filter-in test x [] i t = absurd i
-filter-in test x (z ∷ xs) (inl same) t = grind arith
-filter-in test x (z ∷ xs) (inr i) t = grind (arith, filter-in test x xs i t)
+filter-in test x (z ∷ xs) i t = grind (arith, filter-in test x xs)
 
 -- TESTS
 
@@ -58,8 +52,7 @@ any-in test (z ∷ xs) h = grind (arith, any-in test xs)
 -- if an element passes a test, some element does
 pub in-any : {X : Type 0} (test : X → Bool) (x : X) (xs : List X) → IsIn x xs → test x ≡ true → list_any test xs ≡ true
 in-any test x [] i t = absurd i
-in-any test x (z ∷ xs) (inl e) t = or_left (test z) (list_any test xs) (sym (ap test e) ∙ t)
-in-any test x (z ∷ xs) (inr i) t = or_right (test z) (list_any test xs) (in-any test x xs i t)
+in-any test x (z ∷ xs) i t = grind (arith, in-any test x xs)
 
 -- a text that a test finds in a list is in it
 pub listed-in : (k : List ℕ) (ks : List (List ℕ)) → list_any (same_text k) ks ≡ true → IsIn k ks
@@ -107,11 +100,8 @@ find-same-in p q (x ∷ xs) h = rw (h x (inl refl), find-same-in p q xs (λ y i.
 -- an element of the exchanged list is in the list
 pub in-shuffled : {X : Type 0} (x : X) {xs ys : List X} → Shuffled xs ys → IsIn x ys → IsIn x xs
 in-shuffled x nothing i = i
-in-shuffled x (under y xs ys s) (inl e) = inl e
-in-shuffled x (under y xs ys s) (inr i) = inr (in-shuffled x s i)
-in-shuffled x (flipped y z xs) (inl e) = inr (inl e)
-in-shuffled x (flipped y z xs) (inr (inl e)) = inl e
-in-shuffled x (flipped y z xs) (inr (inr i)) = inr (inr i)
+in-shuffled x (under y xs ys s) i = grind (arith, in-shuffled x s)
+in-shuffled x (flipped y z xs) i = grind arith
 in-shuffled x (after xs ys zs s t) i = in-shuffled x s (in-shuffled x t i)
 
 -- what is in a list is in it in any order

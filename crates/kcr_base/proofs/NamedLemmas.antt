@@ -1,8 +1,7 @@
 -- Whether one is among several that are named by their texts.
 use Rattle.std.proofs.Common.{◌≡◌, ℕ, Bool, List, [], ◌∷◌, map, refl}
 use Rattle.std.specs.List.{list_any}
-use Rattle.kcr_base.specs.Same.{same_text}
-use Rattle.kcr_base.specs.Lists.{is_among}
+use Rattle.kcr_base.specs.{Same.same_text, Lists.is_among}
 use Rattle.kcr_base.proofs.SameLemmas.{same-turned}
 
 -- what equals one of them has its text

@@ -1,11 +1,8 @@
 -- Tests that find two codes, roles or places the same find them equal.
 use Rattle.std.proofs.Common.{◌≡◌, ℕ, true, List, arith}
 use Rattle.std.specs.Cmp.Lexicographic.{bytes_decides}
-use Rattle.std.proofs.lemmas.Bool.Decides.{nat_tests}
-use Rattle.std.proofs.lemmas.Cmp.{nat_list_eq_equiv}
-use Rattle.kcr_base.specs.Same.{same_text, same_place, same_role}
-use Rattle.kcr_base.specs.declared.place.Place.{Place}
-use Rattle.kcr_base.specs.declared.place.Role.{Role}
+use Rattle.std.proofs.lemmas.{Bool.Decides.nat_tests, Cmp.nat_list_eq_equiv}
+use Rattle.kcr_base.specs.{Same.same_text, Same.same_place, Same.same_role, declared.place.Place.Place, declared.place.Role.Role}
 
 -- texts that the test finds the same are equal
 pub same-is : (a b : List ℕ) → same_text a b ≡ true → a ≡ b

@@ -1,9 +1,9 @@
 -- Connections one after the other.
-use Rattle.kcr_desk.proofs.Common.{ℕ, ◌+◌, List, [], ◌∷◌, ◌++◌, refl, sym, subst, arith, length-append, Result, Ok, Err, Ghosts, RegisterState}
+use Rattle.kcr_desk.proofs.Common.{ℕ, ◌+◌, List, [], ◌∷◌, ◌++◌, refl, sym, subst, arith, length-append, Result, Ghosts, RegisterState}
 use Rattle.kcr_desk.proofs.Common.{RegisterHistory, AreOfMachine, AreRegisters, IsAnswer, IsReply, Connects, Ends, Runs, Request, Exchange, Run}
 use Rattle.kcr_desk.proofs.Common.{Streams, ResponseValue, DeskFault, Served}
 use Rattle.kcr_desk.specs.Connections.{Leads}
-use Rattle.kcr_desk.proofs.RegisterLemmas.{run_keeps, run_leads}
+use Rattle.kcr_desk.proofs.{RegisterLemmas.run_keeps, RegisterLemmas.run_leads, StandingLemmas.ran}
 
 module _ {S : Type 0} (step : S → Request → ResponseValue → S → Type 0) where
   runs_both : (a b c : S) (xs ys : List (List Exchange)) → Runs step a xs b → Runs step b ys c → Runs step a (xs ++ ys) c
@@ -12,11 +12,9 @@ module _ {S : Type 0} (step : S → Request → ResponseValue → S → Type 0) 
 
   -- some connections and then others lead on as all of them together
   pub leads_both : (a b c : S) (m n : ℕ) → Leads step a b m → Leads step b c n → Leads step a c (m + n)
-  leads_both a b c m n first later = (
-    first.0 ++ later.0,
-    (let both = length-append first.0 later.0 in let p = first.1 in let q = later.1 in omega (arith, both)),
-    runs_both a b c first.0 later.0 first.2 later.2,
-  )
+  leads_both a b c m n first later =
+      let both = length-append first.0 later.0 in let p = first.1 in let q = later.1 in
+      (first.0 ++ later.0, omega (arith, both), runs_both a b c first.0 later.0 first.2 later.2)
 
   -- of a connection that was not read
   pub leads_unread : (s : S) → Leads step s s 1
@@ -24,8 +22,7 @@ module _ {S : Type 0} (step : S → Request → ResponseValue → S → Type 0) 
 
   -- a stream that was answered, whole or in part, leads on as one connection
   pub leads_one : {R W : Type 0} (s : Streams R W) (a b : S) (result : Result Served DeskFault) → Ends step s a b result → Leads step a b 1
-  leads_one s a b (Ok served) ends = (ends.exchanges ∷ [], refl, (b, ends.run, refl))
-  leads_one s a b (Err fault) ends = (ends.exchanges ∷ [], refl, (b, ends.run, refl))
+  leads_one s a b result ends = let of = ran step s a b result ends in (of.0 ∷ [], refl, (b, of.1, refl))
 
 module _ {S : Type 0} (g : Ghosts S) where
   -- no connection was served
@@ -34,11 +31,8 @@ module _ {S : Type 0} (g : Ghosts S) where
 
   -- one was served that was not read
   pub connects_unread : (a : RegisterState S) → Connects g a a 1
-  connects_unread a = record {
-    answers = λ clean s at. (s, at, leads_unread IsAnswer s);
-    replies = leads_unread IsReply a.is_broken;
-    clean = λ clean. clean;
-  }
+  connects_unread a =
+      record { answers = λ clean s at. (s, at, leads_unread IsAnswer s); replies = leads_unread IsReply a.is_broken; clean = λ clean. clean }
 
   -- some were served, and then others
   pub connects_both : (a b c : RegisterState S) (m n : ℕ) → Connects g a b m → Connects g b c n → Connects g a c (m + n)

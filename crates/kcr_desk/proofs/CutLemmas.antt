@@ -1,16 +1,11 @@
 -- A stream is cut in one way only.
-use Rattle.kcr_desk.proofs.Common.{◌≡◌, ℕ, ◌<◌, List, [], ◌∷◌, ◌++◌, length, take, drop, refl, sym, ap, ◌∙◌, subst, arith, length-append, ◌⊎◌, inl}
-use Rattle.kcr_desk.proofs.Common.{inr, Bool, true, MatchBool, Ok, Err, take-append_seam, drop-append_seam, RequestHead, request_unique, is_head}
+use Rattle.kcr_desk.proofs.Common.{◌≡◌, ℕ, ◌<◌, List, [], ◌∷◌, ◌++◌, length, refl, sym, ap, ◌∙◌, arith, length-append, ◌⊎◌, inl, is_cut, AreMessages}
+use Rattle.kcr_desk.proofs.Common.{inr, Bool, MatchBool, Ok, Err, take-append_seam, drop-append_seam, RequestHead, request_unique, is_head}
 use Rattle.kcr_desk.proofs.Common.{HasHead, framing_of, Message, IsMessage, IsEnd, Ending, clean_end, refused, cut_off, is_blank_rest, no_head, fails}
-use Rattle.kcr_desk.proofs.Common.{is_cut, AreMessages}
-use Rattle.std.specs.Prelude.{false}
 use Rattle.kcr_desk.proofs.HeadLemmas.{head_not_quiet}
 
 same_front : (a b x y : List ℕ) → length a ≡ length b → a ++ x ≡ b ++ y → (a ≡ b) × (x ≡ y)
-same_front a b x y l e = (
-  sym (take-append_seam a x) ∙ ap (take (length a)) e ∙ ap (λ n. take n (b ++ y)) l ∙ take-append_seam b y,
-  sym (drop-append_seam a x) ∙ ap (drop (length a)) e ∙ ap (λ n. drop n (b ++ y)) l ∙ drop-append_seam b y,
-)
+same_front a b x y l e = grind (arith, take-append_seam a x, take-append_seam b y, drop-append_seam a x, drop-append_seam b y)
 
 -- bytes begin with at most one head, and one rest stands behind it
 pub head_unique : (b : List ℕ) (h k : RequestHead) (r q : List ℕ) → HasHead b h r → HasHead b k q → (h ≡ k) × (r ≡ q)
@@ -34,11 +29,8 @@ EndsBy h rest (cut_off plan head_only) = (framing_of h ≡ Ok plan) × (is_head 
 pub end_by : (b : List ℕ) (h : RequestHead) (rest : List ℕ) (e : Ending) → HasHead b h rest → IsEnd b e → EndsBy h rest e
 end_by b h rest e has (is_blank_rest q) = head_not_quiet b h rest has.reads q
 end_by b h rest e has (no_head none loud) = absurd (none h rest has)
-end_by b h rest e has (fails k q has' why) =
-    let heads = head_unique b h k rest q has has' in (ap framing_of heads.0 ∙ why, ap (λ t. is_head t.method) heads.0)
-end_by b h rest e has (is_cut k q has' why short) =
-    let heads = head_unique b h k rest q has has' in
-    (ap framing_of heads.0 ∙ why, ap (λ t. is_head t.method) heads.0, rw heads.1 short)
+end_by b h rest e has (fails k q has' why) = grind (arith, head_unique b h k rest q has has')
+end_by b h rest e has (is_cut k q has' why short) = grind (arith, head_unique b h k rest q has has')
 
 -- bytes that begin with a whole message are no end
 pub message_not_end : (b : List ℕ) (m : Message) (r : List ℕ) (e : Ending) → IsMessage b m r → IsEnd b e → ⊥
@@ -57,15 +49,13 @@ end_unique b e f (fails h rest has why) y = same_ends h rest e f (why, refl) (en
 end_unique b e f (is_cut h rest has why short) y = same_ends h rest e f (why, refl, short) (end_by b h rest f has y)
 end_unique b e f x (fails h rest has why) = same_ends h rest e f (end_by b h rest e has x) (why, refl)
 end_unique b e f x (is_cut h rest has why short) = same_ends h rest e f (end_by b h rest e has x) (why, refl, short)
-end_unique b e f (is_blank_rest p) (is_blank_rest q) = refl
 end_unique b e f (is_blank_rest p) (no_head none loud) = absurd (loud p)
 end_unique b e f (no_head none loud) (is_blank_rest q) = absurd (loud q)
-end_unique b e f (no_head none loud) (no_head x y) = refl
+end_unique b e f x y = refl
 
 -- two choices by one test
 pub match_both : {A B C D : Type 0} (closes : Bool) → MatchBool closes A B → MatchBool closes C D → (A × C) ⊎ (B × D)
-match_both true p q = inl (p, q)
-match_both false p q = inr (p, q)
+match_both closes p q = grind arith
 
 -- two cuts of one input are one
 pub cut_unique : (b : List ℕ) (ms ns : List Message) (e f : Ending) → AreMessages b ms e → AreMessages b ns f → (ms ≡ ns) × (e ≡ f)
@@ -74,9 +64,7 @@ cut_unique b [] (n ∷ ns) e f x y = absurd (message_not_end b n y.0 e y.1 x)
 cut_unique b (m ∷ ms) [] e f x y = absurd (message_not_end b m x.0 f x.1 y)
 cut_unique b (m ∷ ms) (n ∷ ns) e f x y =
     let same = message_unique b m n x.0 y.0 x.1 y.1 in
-    let P : Message → List ℕ → Type 0 = λ t rest. MatchBool t.plan.closes ((ns ≡ []) × (f ≡ clean_end)) (AreMessages rest ns f) in
-    let other : P m x.0 = subst (λ t. P t x.0) (sym same.0) (subst (P n) (sym same.1) y.2) in
-    let rest : (ms ≡ ns) × (e ≡ f) = elim (match_both m.plan.closes x.2 other) [
+    let rest : (ms ≡ ns) × (e ≡ f) = elim (match_both m.plan.closes x.2 (rw (← same.0, ← same.1) at y.2)) [
       | inl p ↦ (p.0.0 ∙ sym p.1.0, p.0.1 ∙ sym p.1.1)
       | inr p ↦ cut_unique x.0 ms ns e f p.0 p.1
     ] in

@@ -2,14 +2,11 @@
 use Rattle.kcr_desk.proofs.Common.{rules, ◌≡◌, ℕ, ◌+◌, ◌-◌, ◌<◌, ◌≤◌, List, [], ◌∷◌, ◌++◌, length, take, drop, refl, sym, ap, ◌∙◌, subst, arith}
 use Rattle.kcr_desk.proofs.Common.{append_assoc, length-append, length-drop, append-nil, take-append-le, drop-append-le, nil_from_length, length-map}
 use Rattle.kcr_desk.proofs.Common.{length-take, All-nil, All-cons, take-append-add, LineEnd, lf, print_blank, RequestHead, ReadsRequest}
-use Rattle.kcr_desk.proofs.Common.{IsRequestHead, HasNoRequest, IsField, is_uri_byte, RequestOverflows, span_bytes, name_and_value, header_bytes}
+use Rattle.kcr_desk.proofs.Common.{IsRequestHead, HasNoRequest, IsField, is_uri_byte, RequestOverflows, span_bytes}
 use Rattle.kcr_desk.proofs.Common.{IsRequestAt, IsRequestWithin, IsWithin, RequestSpans, ReadsRequest-append, print_request-append, HasNoHead}
 use Rattle.kcr_desk.proofs.Common.{IsBlankRest, IsHeadAt, IsWhole, IsHopeless}
-use Rattle.std.specs.Prelude.{codes, IsTrue}
-use Rattle.httparse.specs.Grammar.{print_request}
-use Rattle.httparse.specs.Grammar.{is_token_byte}
-use Rattle.httparse.specs.declared.spans.HeaderSpan.{HeaderSpan}
-use Rattle.httparse.specs.declared.spans.Span.{Span}
+use Rattle.std.specs.Prelude.{codes, IsTrue, slice_range}
+use Rattle.httparse.specs.{Grammar.print_request, Grammar.is_token_byte, declared.spans.HeaderSpan.HeaderSpan, declared.spans.Span.Span}
 use Rattle.httparse.proofs.PieceLemmas.{Stops_token}
 use Rattle.kcr_desk.proofs.QuietLemmas.{blank_not_more}
 
@@ -27,15 +24,7 @@ abbrev small_text : List ℕ
 small_text = codes "A / HTTP/1.1" ++ 10 ∷ 10 ∷ []
 
 abbrev small : List LineEnd → RequestHead
-small ends = record {
-  blank = ends;
-  method = 65 ∷ [];
-  target = 47 ∷ [];
-  minor = 1;
-  line_end = lf;
-  fields = [];
-  last = lf;
-}
+small ends = record { blank = ends; method = 65 ∷ []; target = 47 ∷ []; minor = 1; line_end = lf; fields = []; last = lf }
 
 is_small : (ends : List LineEnd) → IsRequestHead (small ends)
 unfolding is_token_byte lib.Utf8.encode
@@ -57,13 +46,11 @@ more_behind front buf rest more e = ap (λ (t : List ℕ). t ++ more) e ∙ simp
 pub overflow_hopeless : (front buf : List ℕ) (rest : List ℕ) → buf ≡ front ++ rest → RequestOverflows 64 front → IsHopeless buf
 overflow_hopeless front buf rest e over = record {
   no_head = λ more h after has.
-      let many : 64 < length h.fields = over (rest ++ more) h after (rw (more_behind front buf rest more e) at has.reads) in
-      let few : length h.fields ≤ 64 = has.few in absurd (omega arith);
+      let many = over (rest ++ more) h after (rw (more_behind front buf rest more e) at has.reads) in absurd (omega (arith, many, has.few));
   not_quiet = λ more quiet.
-      let P : List ℕ → Type 0 = λ t. ReadsRequest t (small quiet.ends) [] in
       let whole = ap (λ (t : List ℕ). t ++ small_text) (sym quiet.is ∙ more_behind front buf rest more e) ∙ simp append_assoc in
-      let many : 64 < 0 = over (rest ++ (more ++ small_text)) (small quiet.ends) [] (subst P whole (small_reads quiet.ends)) in
-      absurd (omega arith);
+      let reads = subst (λ (t : List ℕ). ReadsRequest t (small quiet.ends) []) whole (small_reads quiet.ends) in
+      let many = over (rest ++ (more ++ small_text)) (small quiet.ends) [] reads in absurd (omega (arith, many));
 }
 
 -- ---- no whole head in 8,192 bytes
@@ -97,13 +84,12 @@ full_hopeless buf none long loud = record {
 pub within_more : {n m : ℕ} (s : Span) → n ≤ m → IsWithin n s → IsWithin m s
 within_more {n} s le within = (within.0, let e : s.end ≤ n = within.1 in omega arith)
 
-span_more : (buf more : List ℕ) (s : Span) → IsWithin (length buf) s → span_bytes (buf ++ more) s ≡ span_bytes buf s
-span_more buf more s within =
-    let ordered : s.start ≤ s.end = within.0 in
-    let fits : s.end ≤ length buf = within.1 in
-    let le : s.start ≤ length buf = omega arith in
-    let room : s.end - s.start ≤ length (drop s.start buf) = simp length-drop (omega arith) in
-    ap (take (s.end - s.start)) (drop-append-le s.start buf more le) ∙ take-append-le (s.end - s.start) (drop s.start buf) more room
+-- what lies within some bytes is the same before more
+pub slice_more : (buf more : List ℕ) (at end : ℕ) → at ≤ end → end ≤ length buf → slice_range (buf ++ more) at end ≡ slice_range buf at end
+slice_more buf more at end ordered fits =
+    let le : at ≤ length buf = omega arith in
+    let room : end - at ≤ length (drop at buf) = simp length-drop (omega arith) in
+    rw (drop-append-le at buf more le, take-append-le (end - at) (drop at buf) more room)
 
 request_some : (h : RequestHead) → IsRequestHead h → 0 < length (print_request h)
 request_some h is =
@@ -118,27 +104,19 @@ pub whole_head : (front buf rest : List ℕ) (headers : List HeaderSpan) (spans 
 whole_head front buf rest headers spans h e short room within at =
     let len : spans.len ≤ length front = within.section.len_fits in
     let longer : length front ≤ length buf = simp (e, length-append) (omega arith) in
-    let count : length h.fields ≤ 64 =
-    let same : length (take spans.headers headers) ≡ length h.fields =
-    sym (length-map (take spans.headers headers) (header_bytes front)) ∙ ap length at.fields ∙ length-map h.fields name_and_value in
-    omega (arith, same, length-take spans.headers headers, room) in
+    let same_length = simp length-map at (ap length at.fields) in
+    let count : length h.fields ≤ 64 = omega (arith, same_length, length-take spans.headers headers, room) in
     let is_len : spans.len ≡ length (print_request h) = at.len in
-    let inside : (s : Span) → IsWithin spans.len s → IsWithin (length front) s = λ s w. within_more s len w in
+    let some = request_some h at.reads.0 in
+    let inside : (s : Span) → IsWithin spans.len s → IsWithin (length buf) s = λ s w. within_more s (omega arith) w in
     let head_at : (more : List ℕ) → IsHeadAt (buf ++ more) spans h =
     λ more.
-    let split = more_behind front buf rest more e in
-    let reads : ReadsRequest (front ++ (rest ++ more)) h (drop spans.len (front ++ (rest ++ more))) =
-    rw (drop-append-le spans.len front (rest ++ more) len) (ReadsRequest-append front h (drop spans.len front) (rest ++ more) at.reads) in
-    rw split (record {
-      head = record { reads = reads; short = omega arith; few = count };
-      method = span_more front (rest ++ more) spans.method (inside spans.method within.method) ∙ at.method;
-      path = span_more front (rest ++ more) spans.path (inside spans.path within.path) ∙ at.path;
+    let reads = ReadsRequest-append front h (drop spans.len front) (rest ++ more) at.reads in
+    let same : (s : Span) → IsWithin spans.len s → span_bytes (front ++ (rest ++ more)) s ≡ span_bytes front s =
+    λ s w. slice_more front (rest ++ more) s.start s.end w.0 (let i : s.end ≤ spans.len = w.1 in omega arith) in
+    rw (more_behind front buf rest more e) (record {
+      head = record { reads = rw (drop-append-le spans.len front (rest ++ more) len) reads; short = omega arith; few = count };
+      method = same spans.method within.method ∙ at.method;
+      path = same spans.path within.path ∙ at.path;
     }) in
-    let some = request_some h at.reads.0 in
-    search (
-      rules,
-      head_at,
-      some,
-      within_more spans.method longer (inside spans.method within.method),
-      within_more spans.path longer (inside spans.path within.path),
-    )
+    search (rules, head_at, some, inside, within.method, within.path)

@@ -13,8 +13,7 @@ split_commas_at (b ∷ bs) (suc i) inside comma before =
 
 split_commas_whole : (xs : List ℕ) → ((k : ℕ) → k < length xs → get_or xs k 0 ≢ 44) → split_commas xs ≡ xs ∷ []
 split_commas_whole [] none = refl
-split_commas_whole (b ∷ bs) none =
-    rw (ne_eqb b 44 (none 0 (omega arith)), split_commas_whole bs (λ k below. none (suc k) (omega arith))) refl
+split_commas_whole (b ∷ bs) none = rw (ne_eqb b 44 (none 0 (omega arith)), split_commas_whole bs (λ k below. none (suc k) (omega arith))) refl
 
 -- the members of a value are that before its first comma, and then those behind the comma
 pub members_at : (xs : List ℕ) (i : ℕ) → i < length xs → get_or xs i 0 ≡ 44 → ((k : ℕ) → k < i → get_or xs k 0 ≢ 44)

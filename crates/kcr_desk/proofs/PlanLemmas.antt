@@ -10,8 +10,7 @@ bounded_alike : (minor : ℕ) (coded closing expecting : Bool) (n : Option ℕ)
 bounded_alike minor coded closing expecting n = grind (arith, nat_tests)
 
 -- what is planned, with the length as it is counted
-pub planned_bounded : (minor : ℕ) (fields : List (List ℕ × List ℕ))
-    → planned minor fields
+pub planned_bounded : (minor : ℕ) (fields : List (List ℕ × List ℕ)) → planned minor fields
     ≡ (if not (is_hosted minor (values_of (codes "host") fields)) then Err Host else
     measured minor (not (is_empty (values_of (codes "transfer-encoding") fields)))
     (some_has_member (codes "close") (values_of (codes "connection") fields))

@@ -1,16 +1,12 @@
 -- A request with a path and a body is a whole message.
 use Rattle.kcr_desk.proofs.Common.{◌≡◌, ℕ, ◌<◌, ◌≤◌, false, List, [], ◌∷◌, ◌++◌, length, reverse, codes, IsTrue, refl, sym, ap, arith, append_assoc}
-use Rattle.kcr_desk.proofs.Common.{length-append, length-reverse, ◌^◌, is_ascii_digit, list_all, AllDigits, nat_tests, All-cons, All-weaker}
+use Rattle.kcr_desk.proofs.Common.{length-append, length-reverse, is_ascii_digit, list_all, AllDigits, nat_tests, All-cons, All-weaker}
 use Rattle.kcr_desk.proofs.Common.{All-from_recursion, and_parts, lt-ltb, le-ltb, IsRequestHead, AllPass, IsField, is_uri_byte, is_value_byte}
-use Rattle.kcr_desk.proofs.Common.{trim_ows, skip_ows, is_ows, is_number, IsMessage, framing_of, posted_head, posted_message}
-use Rattle.std.proofs.Common.{true, Ok, append-nil}
-use Rattle.std.proofs.Math.Bool.{and-false}
-use Rattle.std.specs.Prelude.{nat_lt}
-use Rattle.std.specs.Fmt.{decimal}
-use Rattle.std.specs.Str.{IsUtf8}
-use Rattle.std.proofs.lemmas.Fmt.{decimal_is_IsNumeral, length-decimal-le}
+use Rattle.kcr_desk.proofs.Common.{trim_ows, skip_ows, IsMessage, framing_of, posted_head, posted_message}
+use Rattle.std.proofs.{Common.true, Common.Ok, Common.append-nil, Math.Bool.and-false}
+use Rattle.std.specs.{Prelude.nat_lt, Fmt.decimal, Str.Parse.digits_value, Str.IsUtf8}
+use Rattle.std.proofs.lemmas.{Fmt.decimal_is_IsNumeral, Fmt.length-decimal-le, Str.Parse.digit_at}
 use Rattle.std.proofs.lemmas.List.Sums.{AllPass-from_list_all, list_all-from_AllPass}
-use Rattle.std.proofs.lemmas.Str.Parse.{digit_at}
 use Rattle.httparse.specs.Grammar.{print_request, is_token_byte}
 use Rattle.httparse.proofs.TrimLemmas.{trim_ows_space, AllPass-reverse}
 use Rattle.kcr_desk.specs.Framing.{planned}
@@ -22,34 +18,25 @@ regroup p v c h l n = simp (append_assoc, append-nil)
 -- the head, as bytes
 head-is : (path : List ℕ) (size : ℕ) → print_request (posted_head path size) ≡ head_text path size
 unfolding print_request
-head-is path size =
-    regroup (codes "POST " ++ path) (codes " HTTP/1.1") crlf (codes "Host: l" ++ crlf) (codes "Content-Length: ") (decimal size)
+head-is path size = regroup (codes "POST " ++ path) (codes " HTTP/1.1") crlf (codes "Host: l" ++ crlf) (codes "Content-Length: ") (decimal size)
 
 -- ---- the digits of a length
 
 digit-tests : (text : List ℕ) → AllDigits 10 text → list_all is_ascii_digit text ≡ true
 digit-tests [] h = refl
-digit-tests (c ∷ cs) h =
-    let here = digit_at (c ∷ cs) 0 h (omega arith) in
-    let test : is_ascii_digit c ≡ true = grind (arith, nat_tests) in
-    rw test (digit-tests cs h.1)
+digit-tests (c ∷ cs) h = let here = digit_at (c ∷ cs) 0 h (omega arith) in grind (arith, nat_tests, here, digit-tests cs h.1)
 
-length-number : (n : ℕ) → n < 2 ^ 64 → is_number (decimal n) ≡ true
-length-number n fits =
-    let digits = (decimal_is_IsNumeral n fits).0 in
-    rw (lt-ltb 0 (length (decimal n)) digits.0) (digit-tests (decimal n) digits.1)
+decimal-digits : (n : ℕ) → n ≤ 131072 → (0 < length (decimal n)) × (list_all is_ascii_digit (decimal n) ≡ true) × (digits_value 10 (decimal n) ≡ n)
+decimal-digits n small = let d = decimal_is_IsNumeral n (omega arith) in (d.0.0, digit-tests (decimal n) d.0.1, d.1)
 
 -- digits have no white space round them
 digits-skip : (text : List ℕ) → 0 < length text → list_all is_ascii_digit text ≡ true → skip_ows text ≡ text
 digits-skip [] some h = refl
-digits-skip (c ∷ cs) some h =
-    let here : is_ascii_digit c ≡ true = (and_parts _ _ h).0 in
-    let blank : is_ows c ≡ false = grind (arith, nat_tests) in
-    rw blank refl
+digits-skip (c ∷ cs) some h = grind (arith, nat_tests, and_parts (is_ascii_digit c) (list_all is_ascii_digit cs) h)
 
 digits-trim : (text : List ℕ) → 0 < length text → list_all is_ascii_digit text ≡ true → trim_ows (32 ∷ text) ≡ text
 digits-trim text some h =
-    let back : list_all is_ascii_digit (reverse text) ≡ true = list_all-from_AllPass is_ascii_digit (reverse text) (AllPass-reverse is_ascii_digit text (AllPass-from_list_all is_ascii_digit text h)) in
+    let back = list_all-from_AllPass _ (reverse text) (AllPass-reverse is_ascii_digit text (AllPass-from_list_all is_ascii_digit text h)) in
     trim_ows_space text (digits-skip text some h) (digits-skip (reverse text) (omega (arith, length-reverse text)) back)
 
 -- ---- what the fields ask for
@@ -57,10 +44,9 @@ digits-trim text some h =
 planned-post : (path : List ℕ) (size : ℕ) → size ≤ 131072 → framing_of (posted_head path size) ≡ Ok (record { length = size; closes = false; expects_continue = false })
 unfolding planned
 planned-post path size small =
-    let numeral = decimal_is_IsNumeral size (omega (arith, small)) in
-    let trimmed : trim_ows (32 ∷ decimal size) ≡ decimal size = digits-trim (decimal size) numeral.0.0 (digit-tests (decimal size) numeral.0.1) in
-    let few : nat_lt 131072 size ≡ false = le-ltb 131072 size small in
-    rw (trimmed, length-number size (omega (arith, small)), numeral.1, few, and-false (nat_lt 0 size)) refl
+    let d = decimal-digits size small in
+    let trimmed : trim_ows (32 ∷ decimal size) ≡ decimal size = digits-trim (decimal size) d.0 d.1 in
+    rw (trimmed, lt-ltb 0 (length (decimal size)) d.0, d.1, d.2, le-ltb 131072 size small, and-false (nat_lt 0 size)) refl
 
 -- ---- the message
 
@@ -83,10 +69,8 @@ head-parts path size some uri text small = record {
     (
       record {
         name = (omega arith, AllPass-from_list_all is_token_byte (codes "Content-Length") refl);
-        raw =
-            let tests = digit-tests (decimal size) (decimal_is_IsNumeral size (omega (arith, small))).0.1 in
-            All-cons (λ b. IsTrue (is_value_byte b)) 32 (decimal size) refl
-            (All-weaker _ _ value-byte (decimal size) (AllPass-from_list_all is_ascii_digit (decimal size) tests));
+        raw = All-cons (λ b. IsTrue (is_value_byte b)) 32 (decimal size) refl
+            (All-weaker _ _ value-byte (decimal size) (AllPass-from_list_all is_ascii_digit (decimal size) (decimal-digits size small).1));
       },
       tt,
     ),
@@ -95,7 +79,7 @@ head-parts path size some uri text small = record {
 
 head-length : (path : List ℕ) (size : ℕ) → length path ≤ 8000 → size ≤ 131072 → length (head_text path size) ≤ 8192
 head-length path size short small =
-    let digits = length-decimal-le 6 size (omega arith) (omega (arith, small)) (omega (arith, small)) in
+    let digits = length-decimal-le 6 size (omega arith) (omega arith) (omega arith) in
     simp length-append (omega (arith, digits, short))
 
 -- the text of a request with a path and a body, within the limits, is a whole message

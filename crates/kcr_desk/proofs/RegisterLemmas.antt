@@ -1,17 +1,13 @@
 -- Runs lead from registers to registers, and from histories that the machine leads to, or that are of values, to such ones.
-use Rattle.kcr_desk.proofs.Common.{◌≡◌, List, [], ◌∷◌, inl, inr, Some, sym, subst, MatchOption, MatchResult, unwrap_or, Refusal, ReplyData, Command}
+use Rattle.kcr_desk.proofs.Common.{AppliesAsMachine, arith, Request, request_of, Exchange, Run, ResponseValue}
+use Rattle.kcr_desk.proofs.Common.{List, [], ◌∷◌, inl, inr, subst, unwrap_or, Refusal, ReplyData, Command}
 use Rattle.kcr_desk.proofs.Common.{Reply, History, Outcome, Accepts, with_command, machine, IsOfMachine, IsRegister, follows, step_leads, IsAct}
-use Rattle.kcr_desk.proofs.Common.{AppliesCommand, IsSameOrNext, command_of, Ask, Post, Other, RegisterHistory, AreRegisters, AreOfMachine}
-use Rattle.kcr_desk.proofs.Common.{AreOfValues, RespondsRefusal, RespondsUnread, TakesReading, TakesCommand, TakesInquiry, AnswersBy, IsAnswer}
-use Rattle.kcr_desk.proofs.Common.{Request, request_of, Exchange, Run, ResponseValue}
-use Rattle.std.proofs.Common.{Option, None, Result, Ok, Err}
-use Rattle.kcr_base.specs.declared.refusal.Refusal.TheVariants as Refusals
+use Rattle.kcr_desk.proofs.Common.{AppliesCommand, IsSameOrNext, RegisterHistory, AreRegisters, AreOfMachine}
+use Rattle.kcr_desk.proofs.Common.{AreOfValues, TakesReading, TakesCommand, TakesInquiry, IsAnswer}
+use Rattle.std.proofs.Common.{Result, Ok, Err}
 use Rattle.kcr_forms.specs.Values.{AreValues}
-use Rattle.kcr_wire.specs.Methods.{method_of}
-use Rattle.kcr_wire.specs.Questions.{question_of}
 use Rattle.kcr_wire.specs.declared.question.Inquiry.{Inquiry}
 use Rattle.kcr_wire.specs.declared.question.Inquiry.TheVariants as inquiry
-use Rattle.kcr_wire.specs.declared.method.Method.{Method}
 
 -- WHAT STEPS OF THE MACHINE KEEP
 
@@ -36,42 +32,25 @@ module _ (P : History → Type 0) (grown : (A : History) (x : Command) (answer :
   HoldsOf s = P s.accepted × P (unwrap_or s.in_doubt s.accepted)
 
   module _ (before after : RegisterHistory) (asked : Request) (told : ResponseValue) (are : HoldsOf before) where
-    refused_keeps : {Tells : Type 0} → Tells × (after ≡ before) → HoldsOf after
-    refused_keeps h = subst HoldsOf (sym h.1) are
-
-    -- a register that is not broken keeps it, and a broken one stays as it was
-    whole_keeps : {Does : Type 0} (in_doubt : Option History) → (Does → HoldsOf after)
-        → MatchOption in_doubt Does (λ _. RespondsRefusal before told after Refusals.Broken) → HoldsOf after
-    whole_keeps None keeps h = keeps h
-    whole_keeps (Some t) keeps h = refused_keeps h
+    applied_keeps : (x : Command) (result : Result Reply Refusal) → AppliesAsMachine before.accepted x result after → HoldsOf after
+    applied_keeps x result does = (
+      taken_keeps before.accepted x result after.accepted does.values are.0 does.step,
+      tried_keeps before.accepted x (unwrap_or after.in_doubt after.accepted) does.values are.0 does.tried,
+    )
 
     command_keeps : (x : Command) → TakesCommand before told after x → HoldsOf after
-    command_keeps x = whole_keeps before.in_doubt (λ h. (
-      taken_keeps before.accepted x h.0 after.accepted h.2.values are.0 h.2.step,
-      tried_keeps before.accepted x (unwrap_or after.in_doubt after.accepted) h.2.values are.0 h.2.tried,
-    ))
+    command_keeps x h = grind (arith, applied_keeps)
 
     reading_keeps : {Value : Type 0} (told_by : Result Value Refusal → ResponseValue) (Says : History → Result Value Refusal → Type 0)
         → TakesReading told_by Says before told after → HoldsOf after
-    reading_keeps told_by Says = whole_keeps before.in_doubt (λ h. (subst P (sym h.2.same) are.0, subst P (sym h.2.tried) are.0))
+    reading_keeps told_by Says h = grind arith
 
     inquiry_keeps : (inquiry : Inquiry) → TakesInquiry before told after inquiry → HoldsOf after
     inquiry_keeps (inquiry.Question question) h = reading_keeps _ _ h
     inquiry_keeps inquiry h = reading_keeps _ _ h
 
-    read_keeps : {Request : Type 0} (Takes : Request → Type 0) → ((request : Request) → Takes request → HoldsOf after)
-        → (expected : Result Request Refusal) → MatchResult expected Takes (RespondsUnread before asked.target told after) → HoldsOf after
-    read_keeps Takes keeps (Ok request) h = keeps request h
-    read_keeps Takes keeps (Err refusal) h = refused_keeps h
-
-    message_keeps : (method : Method) → AnswersBy method before asked told after → HoldsOf after
-    message_keeps Post h = read_keeps _ command_keeps (command_of asked.target asked.body) h
-    message_keeps Ask h = read_keeps _ inquiry_keeps (question_of asked.target) h
-    message_keeps Other h = refused_keeps h
-
     answer_keeps : IsAnswer before asked told after → HoldsOf after
-    answer_keeps (inl h) = refused_keeps h
-    answer_keeps (inr h) = message_keeps (method_of asked.method) h
+    answer_keeps h = grind (arith, command_keeps, inquiry_keeps)
 
   -- A STREAM
 

@@ -1,8 +1,14 @@
 -- From runs over registers to runs over their histories.
-use Rattle.kcr_desk.proofs.Common.{◌≡◌, ◌+◌, ◌<◌, ◌⊎◌, List, [], ◌∷◌, refl, ap, subst, sym, rules, IsErrOf, Result, Ok, Err, IfErr, failures_of}
+use Rattle.kcr_desk.proofs.Common.{arith, Exchange, Run, request_of, Streams, BreaksStream, ResponseValue}
+use Rattle.kcr_desk.proofs.Common.{◌≡◌, ◌+◌, ◌<◌, ◌⊎◌, List, [], ◌∷◌, refl, ap, subst, sym, IsErrOf, Result, IfErr, failures_of}
 use Rattle.kcr_desk.proofs.Common.{nonempty_reads_of, state, HasCleanDisk, Ghosts, RegisterState, DeskFault, Served, Answers, IsReply, Ends, Request}
-use Rattle.kcr_desk.proofs.Common.{Exchange, Run, request_of, Streams, BreaksStream, ResponseValue}
-use Rattle.kcr_desk.specs.declared.fault.DeskFault.TheVariants.{Read, Write, Memory}
+use Rattle.kcr_desk.specs.declared.fault.DeskFault.TheVariants.{Read, Write}
+
+-- the run of a stream that was served whole or in part; by any other run over its messages the stream ended so too
+pub ran : {S R W : Type 0} (step : S → Request → ResponseValue → S → Type 0) (s : Streams R W) (before after : S) (result : Result Served DeskFault)
+    → Ends step s before after result → (xs : List Exchange) × Run step before xs after
+    × ((T : Type 0) (other : T → Request → ResponseValue → T → Type 0) (first last : T) → Run other first xs last → Ends other s first last result)
+ran step s before after result ends = grind arith
 
 module _ {S : Type 0} (g : Ghosts S) where
   abbrev is_clean : RegisterState S → Type 0
@@ -22,8 +28,7 @@ module _ {S : Type 0} (g : Ghosts S) where
 module _ {S Stand : Type 0} (g : Ghosts S) (Stands : Stand → RegisterState S → Type 0) (step : Stand → Request → ResponseValue → Stand → Type 0) where
   -- as `Leads` and `RowsLead`
   abbrev pub Moves : RegisterState S → RegisterState S → (Stand → Stand → Type 0) → Type 0
-  Moves before after Says =
-      HasCleanDisk (state g after.conn) → (s : Stand) → Stands s before → (end : Stand) × Stands end after × Says s end
+  Moves before after Says = HasCleanDisk (state g after.conn) → (s : Stand) → Stands s before → (end : Stand) × Stands end after × Says s end
 
   module _ (one : (a b : RegisterState S) (asked : Request) (told : ResponseValue) → Answers g a asked told b → Moves a b (λ s end. step s asked told end)) where
     run_moves : (before after : RegisterState S) (xs : List Exchange) → Run (Answers g) before xs after → Moves before after (λ s end. Run step s xs end)
@@ -36,30 +41,12 @@ module _ {S Stand : Type 0} (g : Ghosts S) (Stands : Stand → RegisterState S �
     -- and so does a stream
     pub ends_moved : {R W : Type 0} (s : Streams R W) (before after : RegisterState S) (result : Result Served DeskFault)
         → Ends (Answers g) s before after result → Moves before after (λ stand end. Ends step s stand end result)
-    ends_moved s before after (Ok served) ends clean stand at =
-        let run = run_moves before after ends.exchanges ends.run clean stand at in (run.0, run.1, search (rules, ends, run))
-    ends_moved s before after (Err fault) ends clean stand at =
-        let run = run_moves before after ends.exchanges ends.run clean stand at in
-        (run.0, run.1, search (rules, ends, run))
-
--- the run of a stream that was served whole or in part
-pub ran : {S R W : Type 0} (step : S → Request → ResponseValue → S → Type 0) (s : Streams R W) (before after : S) (result : Result Served DeskFault)
-    → Ends step s before after result → (xs : List Exchange) × Run step before xs after
-ran step s before after (Ok served) ends = (ends.exchanges, ends.run)
-ran step s before after (Err fault) ends = (ends.exchanges, ends.run)
-
--- a stream ended by these steps, and so by others
-pub ends_by : {S T R W : Type 0} (step : S → Request → ResponseValue → S → Type 0) (other : T → Request → ResponseValue → T → Type 0) (s : Streams R W)
-    (before after : S) (first last : T) (result : Result Served DeskFault) → ((xs : List Exchange) → Run step before xs after → Run other first xs last)
-    → Ends step s before after result → Ends other s first last result
-ends_by step other s before after first last (Ok served) leads ends = search (rules, ends, leads)
-ends_by step other s before after first last (Err fault) leads ends = search (rules, ends, leads)
+    ends_moved s before after result ends clean stand at =
+        let of = ran (Answers g) s before after result ends in
+        let run = run_moves before after of.0 of.1 clean stand at in (run.0, run.1, of.2 Stand step stand run.0 run.2)
 
 -- what the counts of the reader and of the writer tell of a fault
 pub broken_stream : {T R W : Type 0} (s : Streams R W) (result : Result T DeskFault)
     → (IsErrOf result Read → (failures_of s.before < failures_of s.after) ⊎ (nonempty_reads_of s.after ≡ nonempty_reads_of s.before + 1000000))
     → (IsErrOf result Write → failures_of s.output.before < failures_of s.output.after) → IfErr result (BreaksStream s)
-broken_stream s (Ok value) read write = tt
-broken_stream s (Err Read) read write = read refl
-broken_stream s (Err Write) read write = write refl
-broken_stream s (Err Memory) read write = tt
+broken_stream s result read write = grind arith

@@ -1,7 +1,6 @@
 -- What a loop that takes bytes in keeps.
-use Rattle.kcr_desk.proofs.Common.{◌≡◌, ◌≤◌, ◌+◌, ◌*◌, ◌++◌, List, ℕ, length, sym, ap, ◌∙◌, append_assoc, Option, None, prepend_known, Consumes}
+use Rattle.kcr_desk.proofs.Common.{arith, ◌≡◌, ◌≤◌, ◌+◌, ◌*◌, ◌++◌, List, ℕ, length, append_assoc, Option, prepend_known, Consumes}
 use Rattle.kcr_desk.proofs.Common.{inner_of, failures_of, nonempty_reads_of, Counted, Stays, unread, left, IsQueued}
-use Rattle.std.specs.Prelude.{Some}
 use Rattle.kcr_desk.specs.declared.input_buffer.InputBuffer.{InputBuffer}
 
 -- no read and no write failed so far, and each read that gave a byte is counted
@@ -17,7 +16,4 @@ pub record TakesSoFar {R W : Type 0} (remaining : R → Option (List ℕ)) (cont
 -- bytes that were read go behind those that were held
 pub read_behind : (old new chunk : List ℕ) (unread after : Option (List ℕ)) → new ≡ old ++ chunk → Consumes unread after chunk
     → Stays (prepend_known old unread) (prepend_known new after)
-read_behind old new chunk None after e c bytes is = absurd (cc)
-read_behind old new chunk (Some xs) None e c bytes is = absurd c
-read_behind old new chunk (Some xs) (Some ys) e c bytes is =
-    let all : new ++ ys ≡ old ++ xs = ap (λ l. l ++ ys) e ∙ append_assoc old chunk ys ∙ ap (λ l. old ++ l) (sym c) in ap Some all ∙ is
+read_behind old new chunk unread after e c bytes is = grind (arith, append_assoc)

@@ -1,12 +1,10 @@
 -- One turn of the desk.
-use Rattle.kcr_desk.proofs.Common.{rules, ◌≡◌, ℕ, ◌+◌, ◌<◌, ◌≤◌, List, [], ◌++◌, length, drop, subst, arith, append_assoc, length-append, length-drop}
+use Rattle.kcr_desk.proofs.Common.{rules, ◌≡◌, ℕ, ◌+◌, ◌<◌, ◌≤◌, List, [], ◌++◌, length, drop, arith, append_assoc, length-append, length-drop}
 use Rattle.kcr_desk.proofs.Common.{Option, prepend_known, IsAtEnd, append-nil, span_bytes, RequestSpans, Framing, Stays, is_head, Ending, cut_off}
-use Rattle.kcr_desk.proofs.Common.{is_cut, IsWhole, IsHeadAt, EndsAs, HasFraming, continue_text, ending_text, IsNextOutput, nothing, continues, ends}
+use Rattle.kcr_desk.proofs.Common.{is_cut, IsHeadAt, EndsAs, HasFraming, continue_text, ending_text, nothing, continues, ends}
 use Rattle.kcr_desk.proofs.Common.{Ended, IsNextItem, BreaksItem, IsQueued, WritesPrefix}
-use Rattle.kcr_desk.specs.declared.stream.NextItem.{NextItem}
-use Rattle.kcr_desk.specs.declared.stream.NextItem.TheVariants.{Message}
-use Rattle.kcr_desk.proofs.FoundLemmas.{known_split, ends_here, head_here}
-use Rattle.kcr_desk.proofs.HeadLemmas.{within_more}
+use Rattle.kcr_desk.specs.declared.stream.NextItem.{NextItem, TheVariants.Message}
+use Rattle.kcr_desk.proofs.{FoundLemmas.known_split, FoundLemmas.ends_here, FoundLemmas.head_here, HeadLemmas.within_more}
 use Rattle.kcr_desk.proofs.WaitingLemmas.{with_more, sent_front, sent_on}
 
 -- a fault that comes while the answers that wait are written breaks the turn
@@ -26,11 +24,9 @@ pub breaks_continue : {buf : List ℕ} {left a b : Option (List ℕ)} {w : List 
     → HasFraming buf spans plan → Stays left (prepend_known buf unread) → WritesPrefix a b (w ++ continue_text plan) → BreaksItem left a b w
 breaks_continue {buf} {plan = plan} unread has stays front = record {
   next = continue_text plan;
-  is_next = λ bytes is.
-      let k = known_split buf unread bytes (stays bytes is) in
-      let P : List ℕ → Type 0 = λ t. IsNextOutput t (continue_text plan) in
-      subst P k.2 (continues has.head _ (has.whole.at k.0).head has.planned);
   written = front;
+  is_next = λ bytes is.
+      let k = known_split buf unread bytes (stays bytes is) in rw k.2 at (continues has.head _ (has.whole.at k.0).head has.planned);
 }
 
 -- a turn, behind what was read before it
@@ -53,14 +49,16 @@ plan_more {buf} {new} {spans} {plan} more has e =
     let w = has.whole in
     let longer : length buf ≤ length (buf ++ more) = simp length-append (omega arith) in
     let at : (later : List ℕ) → IsHeadAt ((buf ++ more) ++ later) spans has.head = λ later. rw append_assoc (w.at (more ++ later)) in
-    let whole : IsWhole (buf ++ more) spans has.head =
-    search (rules, at, w, within_more spans.method longer w.method, within_more spans.path longer w.path) in
-    rw e (record { head = has.head; whole = whole; planned = has.planned; fits = has.fits })
+    rw e (record {
+      head = has.head;
+      planned = has.planned;
+      fits = has.fits;
+      whole = search (rules, at, w, within_more spans.method longer w.method, within_more spans.path longer w.path);
+    })
 
 -- a stream whose body is shorter than its head asks for ends cut off
 pub cut_ends : {buf : List ℕ} {spans : RequestSpans} {plan : Framing} (unread : Option (List ℕ)) → HasFraming buf spans plan
-    → length buf < spans.len + plan.length → IsAtEnd unread
-    → EndsAs (prepend_known buf unread) (cut_off plan (is_head (span_bytes buf spans.method)))
+    → length buf < spans.len + plan.length → IsAtEnd unread → EndsAs (prepend_known buf unread) (cut_off plan (is_head (span_bytes buf spans.method)))
 cut_ends {buf} {spans} {plan} unread has few end =
     let here = head_here buf spans has.head has.whole in
     let len : spans.len ≤ length buf = has.whole.len in

@@ -1,5 +1,5 @@
 -- Answers that wait, and are written one after the other.
-use Rattle.kcr_desk.proofs.Common.{◌≡◌, ℕ, List, [], ◌++◌, length, refl, sym, ap, ◌∙◌, subst, append_assoc, Option, Result, MatchResult, Appends}
+use Rattle.kcr_desk.proofs.Common.{ℕ, List, [], ◌++◌, length, refl, sym, ap, ◌∙◌, subst, append_assoc, Option, Result, MatchResult, Appends}
 use Rattle.kcr_desk.proofs.Common.{append-nil, MatchResult-weaker, take-length, IsQueued, WritesPrefix, Writes, appends_both, appends_nothing}
 use Rattle.kcr_desk.proofs.Common.{front_both}
 
@@ -13,11 +13,11 @@ front_of_whole a b x h = (length x, subst (Appends a b) (sym (take-length x)) h)
 
 -- more behind all, and behind what waits
 pub with_more : {a b : Option (List ℕ)} {x w : List ℕ} (y : List ℕ) → IsQueued a b x w → IsQueued a b (x ++ y) (w ++ y)
-with_more {x = x} {w = w} y p = record {
-  sent = p.sent;
-  written = p.written;
-  rest = let e : (p.sent ++ w) ++ y ≡ x ++ y = ap (λ t. t ++ y) p.rest in simp append_assoc at e;
-}
+with_more y p = record { sent = p.sent; written = p.written; rest = simp append_assoc at (ap (λ (t : List ℕ). t ++ y) p.rest) }
+
+-- more behind two texts
+pub with_more_behind : {a b : Option (List ℕ)} (x y z : List ℕ) {w : List ℕ} → IsQueued a b (x ++ y) w → IsQueued a b (x ++ (y ++ z)) (w ++ z)
+with_more_behind x y z p = rw append_assoc at (with_more z p)
 
 -- what waits is written
 pub sent_whole : {a b : Option (List ℕ)} (c : Option (List ℕ)) {x w : List ℕ} → IsQueued a b x w → Appends b c w → Appends a c x
@@ -29,7 +29,7 @@ sent_front {a} {b} c {w = w} p q = subst (WritesPrefix a c) p.rest (front_both a
 
 -- and the rest of it waits
 pub sent_on : {a b c : Option (List ℕ)} {x w v : List ℕ} → IsQueued a b x w → IsQueued b c w v → IsQueued a c x v
-sent_on {a} {b} {c} {x} p q = record {
+sent_on {a} {b} {c} p q = record {
   sent = p.sent ++ q.sent;
   written = appends_both a b c p.sent q.sent p.written q.written;
   rest = simp append_assoc (ap (λ t. p.sent ++ t) q.rest ∙ p.rest);

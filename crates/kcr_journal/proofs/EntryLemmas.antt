@@ -1,29 +1,17 @@
 -- The line of a row is the line of its command.
-use Rattle.std.proofs.Common.{◌≡◌, ℕ, Bool, true, false, if◌then◌else◌, List, [], ◌∷◌, ◌++◌, map, filter, Option, Some, None, refl, sym, ap, subst, ◌∙◌}
-use Rattle.std.specs.Prelude.{unwrap_or}
-use Rattle.std.specs.Fmt.{decimal}
-use Rattle.std.specs.List.{AllByRecursion, flat_map}
-use Rattle.std.specs.Option.{option_map_or}
-use Rattle.kcr_base.specs.Initials.{IsInitials}
-use Rattle.kcr_base.specs.declared.place.Role.TheVariants.{Ca, Iw}
-use Rattle.kcr_forms.specs.Acts.{IsAct}
-use Rattle.kcr_forms.specs.Values.{AreValues}
+use Rattle.std.proofs.Common.{◌≡◌, ℕ, Bool, true, false, if◌then◌else◌, List, [], ◌∷◌, ◌++◌, map, filter, Option, Some, None, refl, ap, ◌∙◌}
+use Rattle.std.specs.{Prelude.unwrap_or, Option.option_map_or, List.AllByRecursion, List.flat_map}
+use Rattle.kcr_base.specs.{Initials.IsInitials, declared.place.Role.TheVariants.Ca, declared.place.Role.TheVariants.Iw}
+use Rattle.kcr_forms.specs.{Acts.IsAct, Values.AreValues}
 use Rattle.kcr_wire.proofs.Again.{act-again}
-use Rattle.kcr_history.specs.History.{History}
-use Rattle.kcr_history.specs.Machine.{IsRegister, IsReplyTo, seat_request}
-use Rattle.kcr_history.specs.Tables.{key_row}
-use Rattle.kcr_history.specs.Texts.{people_array, reply_text}
-use Rattle.kcr_history.specs.declared.commands.Act.{Act}
-use Rattle.kcr_history.specs.declared.commands.Act.TheVariants.{Ceremony}
+use Rattle.kcr_history.specs.{History.History, Tables.key_row, Texts.reply_text, Machine.IsRegister, Machine.IsReplyTo, Machine.seat_request}
+use Rattle.kcr_history.specs.declared.commands.{Act.Act, Act.TheVariants.Ceremony, Entry.Entry, ReplyData.ReplyData}
 use Rattle.kcr_history.specs.declared.commands.Deed.TheVariants.{Sign, RecordException}
-use Rattle.kcr_history.specs.declared.commands.Entry.{Entry}
-use Rattle.kcr_history.specs.declared.commands.ReplyData.{ReplyData}
 use Rattle.kcr_people.specs.declared.Person.{Person}
 use Rattle.kcr_script.specs.declared.seat.Seat.TheVariants.{Staff}
-use Rattle.kcr_journal.specs.Lines.{line}
-use Rattle.kcr_journal.specs.Replies.{exception_in, passed_in, seated_in}
+use Rattle.kcr_journal.specs.{Lines.line, Replies.exception_in, Replies.passed_in, Replies.seated_in}
 use Rattle.kcr_journal.specs.Journal.{is_of_ceremony, named_people, with_name, number_text, entry_line, act_line, row_line}
-use Rattle.kcr_journal.proofs.ReplyLemmas.{are-digits, signed-people, stated-number, passing-number, passing-step, passing-people, people-colon}
+use Rattle.kcr_journal.proofs.ReplyLemmas.{signed-people, stated-number, passing-number, passing-step, passing-people}
 use Rattle.kcr_journal.proofs.SeatedLemmas.{seated-initials}
 
 -- the reply has what the act's sentence tells: people with initials, and numbers
@@ -58,22 +46,12 @@ by_reply rows act reply =
 
 same-line : (rows : List Person) (act : Act) (reply : ReplyData) → IsToldOf act reply → by_text rows act reply ≡ by_reply rows act reply
 same-line rows (Ceremony c at (Sign step)) reply (n, people, each, is) =
-    let P : ReplyData → Type 0 = λ a. by_text rows (Ceremony c at (Sign step)) a ≡ by_reply rows (Ceremony c at (Sign step)) a in
-    subst P (sym is)
-    (ap (λ ps. line n (Ceremony c at (Sign step)) (map (with_name rows) ps) [] []) (signed-people (decimal n) (decimal step) people (are-digits n) (are-digits step) each))
+    rw is (ap (λ ps. line n (Ceremony c at (Sign step)) (map (with_name rows) ps) [] []) (signed-people people each n step))
 same-line rows (Ceremony c at (RecordException text true)) reply (n, e, k, people, each, is) =
-    let act : Act = Ceremony c at (RecordException text true) in
-    let P : ReplyData → Type 0 = λ a. by_text rows act a ≡ by_reply rows act a in
-    let seats = people_array people in
-    let free = people-colon people each in
-    let who = passing-people (decimal n) (decimal e) (decimal k) people (are-digits n) (are-digits e) (are-digits k) each in
-    let exception = passing-number (decimal n) (decimal e) seats (decimal k) (are-digits n) (are-digits e) free (are-digits k) in
-    let passes = passing-step (decimal n) (decimal e) seats (decimal k) (are-digits n) (are-digits e) free (are-digits k) in
-    subst P (sym is) (λ i. line n act (map (with_name rows) (who i)) (exception i) (passes i))
+    rw is (λ i. line n (Ceremony c at (RecordException text true)) (map (with_name rows) (passing-people people each n e k i))
+    (passing-number people each n e k i) (passing-step people each n e k i))
 same-line rows (Ceremony c at (RecordException text false)) reply (n, e, is) =
-    let act : Act = Ceremony c at (RecordException text false) in
-    let P : ReplyData → Type 0 = λ a. by_text rows act a ≡ by_reply rows act a in
-    subst P (sym is) (ap (λ number. line n act [] number []) (stated-number (decimal n) (decimal e) (are-digits n) (are-digits e)))
+    rw is (ap (λ number. line n (Ceremony c at (RecordException text false)) [] number []) (stated-number n e))
 same-line rows act reply told = refl
 
 -- an entry whose command and reply are of values

@@ -1,4 +1,4 @@
 mod Commas
 pub mod EntryLemmas
-mod ReplyLemmas
-mod SeatedLemmas
+pub mod ReplyLemmas
+pub mod SeatedLemmas

@@ -1,10 +1,9 @@
 -- Two decisions of one command come to the same.
 use Rattle.kcr_machine.proofs.Common.{◌≡◌, suc, List, [], ◌∷◌, length, Option, Some, None, Result, Ok, Err, MatchOption, refl, sym, ap, arith, rules}
 use Rattle.kcr_machine.proofs.Common.{Refusal, ReplyData, Command, Entry, Change, Verdict, History, all_changed, tables, SameTables, Accepts, machine}
-use Rattle.kcr_machine.proofs.Common.{IsAcceptance, IsRepeat, IsDecision}
+use Rattle.kcr_machine.proofs.{Common.IsAcceptance, Common.IsRepeat, Common.IsDecision, Leads.same-tables}
 use Rattle.kcr_laws.proofs.Fixed.{accepted_fixed, never_both, refused_fixed}
 use Rattle.kcr_machine.specs.Whole.{AcceptAlike, DecideAlike}
-use Rattle.kcr_machine.proofs.Leads.{same-tables}
 
 -- a history with one more entry is another
 grown : (A : History) (entry : Entry) → entry ∷ A ≡ A → ⊥

@@ -9,8 +9,7 @@ use Rattle.kcr_machine.proofs.Common.{item_row, added_item, safes, boxes, box_ro
 use Rattle.kcr_machine.proofs.Common.{sealed_somewhere, box-there, items_known, filter-order, same-is, IsIn, in-any, each-weaker}
 use Rattle.kcr_history.specs.declared.views.ItemFilter.TheVariants as Items
 use Rattle.kcr_base.specs.declared.place.Place.TheVariants.{Rksh}
-use Rattle.kcr_machine.proofs.Keyed.{Shown, said-shown, said-view}
-use Rattle.kcr_machine.proofs.Scenes.{said-then, some-where}
+use Rattle.kcr_machine.proofs.{Keyed.Shown, Keyed.said-shown, Keyed.said-view, Scenes.said-then, Scenes.some-where}
 
 -- where the bag is, by the rows of its serial
 pub spot-shown : (A : History) → IsRegister A → (s : List ℕ) (rows : List Bag) → Shown (is_of_serial s) (bags A) rows → spot_by rows s ≡ spot A s

@@ -15,14 +15,11 @@ use Rattle.std.specs.Prelude.{is_some}
 use Rattle.kcr_base.specs.declared.refusal.Refusal.TheVariants as Refusals
 use Rattle.kcr_base.specs.declared.refusal.Thing.TheVariants as Things
 use Rattle.kcr_history.specs.declared.row_types.CeremonyState.TheVariants as States
-use Rattle.kcr_machine.proofs.BagsWords.{open-shown}
+use Rattle.kcr_machine.proofs.{BagsWords.open-shown, UsedRooms.used-shown, LastSeated.left-shown, StepRows.keys-planned}
 use Rattle.kcr_machine.proofs.Keyed.{Shown, put-at, put-first, put-new}
 use Rattle.kcr_machine.proofs.Leads.{EarlyShown, LateShown, Leads, command_of, entry_as, new_key}
 use Rattle.kcr_machine.proofs.Scenes.{ceremony-shown, facility-shown, known-shown, mark-after, marked-opened, open-opened, open-state, opened-number}
 use Rattle.kcr_machine.proofs.Scenes.{opened-planned, said-then, scene-shown, some-where, turned}
-use Rattle.kcr_machine.proofs.LastSeated.{left-shown}
-use Rattle.kcr_machine.proofs.StepRows.{keys-planned}
-use Rattle.kcr_machine.proofs.UsedRooms.{used-shown}
 
 -- OPENING
 
@@ -97,8 +94,6 @@ module _ (A : History) (h : IsRegister A) (key : List ℕ) (answer : ReplyData) 
   pub open-leads : (view : View) → IsPermutation (ceremonies A) view.ceremonies.items → entry_of A key ≡ None → Leads A view (command_of key (Ceremony c at Open)) answer
   open-leads view v k =
       rw (row-shown A c view.ceremonies.items v, known) (rw (ceremonies-opened, marks-first, new_key A (command_of key (Ceremony c at Open)) answer k) refl)
-
--- CLOSING
 
 -- BAGS ON THE TABLE
 

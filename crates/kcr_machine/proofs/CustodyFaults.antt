@@ -10,10 +10,7 @@ use Rattle.kcr_machine.proofs.Common.{stays_by, IsIn, all-same-in, find-same-in}
 use Rattle.kcr_base.specs.declared.place.Role.TheVariants.{Ca}
 use Rattle.kcr_machine.proofs.BagsWords.{open-shown, place-shown, rest-coded, spot-shown}
 use Rattle.kcr_machine.proofs.InRoom.{attended-shown, holder_in-shown, in-shown, trained-own}
-use Rattle.kcr_machine.proofs.Keyed.{Shown}
-use Rattle.kcr_machine.proofs.Leads.{EarlyShown, LateShown}
-use Rattle.kcr_machine.proofs.People.{person-shown}
-use Rattle.kcr_machine.proofs.Scenes.{facility-shown, scene-shown}
+use Rattle.kcr_machine.proofs.{Keyed.Shown, People.person-shown, Leads.EarlyShown, Leads.LateShown, Scenes.facility-shown, Scenes.scene-shown}
 
 -- WORDS
 

@@ -12,10 +12,9 @@ use Rattle.kcr_machine.proofs.Common.{IsRegister, with_command, sealed_somewhere
 use Rattle.kcr_machine.proofs.Common.{PutKey, changed, all_changed, same_safe_row, new_key_row, SafeNumber, One, Two, SafeRow, Place, BoxRow, map-map}
 use Rattle.kcr_machine.proofs.Common.{IsIn, filter-in, in-any, in-filter, in-map, in-order, map-in, map-same-in, same-answers, listed-in, in-listed}
 use Rattle.kcr_custody.specs.Balance.{same_bag, same_item, same_box}
-use Rattle.kcr_machine.proofs.BagsWords.{added_rest}
+use Rattle.kcr_machine.proofs.{BagsWords.added_rest, Scenes.told}
 use Rattle.kcr_machine.proofs.Keyed.{Shown, put-at, put-first, put-new, put-rows}
 use Rattle.kcr_machine.proofs.Leads.{LeadsOn, all_changed-rows, command_of, new_key}
-use Rattle.kcr_machine.proofs.Scenes.{told}
 
 -- the history with an act accepted after it
 abbrev then_act : History → List ℕ → Act → ReplyData → History

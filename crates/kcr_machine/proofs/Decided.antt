@@ -9,7 +9,7 @@ use Rattle.kcr_machine.proofs.Common.{seat_request, reply_to, with_command, IsAc
 use Rattle.kcr_machine.proofs.Common.{greatest-keys, row_of_key-keys, none-some, early_refusal_by, late_refusal_by, IsCleared, IsCheckResult}
 use Rattle.kcr_machine.proofs.Common.{has_too_many_steps, seat_request_by, IsSeatedFor, IsUnseatedFor, all_changes_by, IsReplyDataOf, IsOfKind}
 use Rattle.kcr_machine.proofs.Common.{IsOwnRefusal, MayBeRefused, is_full_by, IsRowRepeat, reply_by, AcceptsNew, IsRowDecision, IsUnseatedBy}
-use Rattle.kcr_machine.proofs.Common.{none_holds, is_memory}
+use Rattle.kcr_machine.proofs.{Common.none_holds, Common.is_memory, StepRows.sign-there, StepRows.stated-shown}
 use Rattle.kcr_machine.proofs.Ceremonies.{close-early, close-late, close-leads, open-late, open-leads, plan-late, plan-leads}
 use Rattle.kcr_machine.proofs.CustodyFaults.{add_box-late, add_item-early, ca-late, cut-early, put-early, put-late, seal-early, take-early, take-late}
 use Rattle.kcr_machine.proofs.CustodyFaults.{turn-early, turn-late}
@@ -18,11 +18,8 @@ use Rattle.kcr_machine.proofs.Leads.{EarlyShown, changed_with, command_of, front
 use Rattle.kcr_machine.proofs.People.{appoint-late, appoint-leads, enter-late, enter-leads, release-late, release-leads, replace-late, replace-leads}
 use Rattle.kcr_machine.proofs.People.{train-late, train-leads, withdraw-late, withdraw-leads}
 use Rattle.kcr_machine.proofs.SheetFaults.{named_once, sheet-early, sheet-late, sheet-made}
-use Rattle.kcr_machine.proofs.SheetLeads.{sheet-leads}
+use Rattle.kcr_machine.proofs.{SheetLeads.sheet-leads, Signed.unseated-least, LastSeated.done-shown, LastSeated.not_overdone}
 use Rattle.kcr_machine.proofs.Signed.{except-early, pass-leads, seated-first, seats-shown, sign-early, sign-leads, sitting-is, state-leads, the_next}
-use Rattle.kcr_machine.proofs.Signed.{unseated-least}
-use Rattle.kcr_machine.proofs.LastSeated.{done-shown, not_overdone}
-use Rattle.kcr_machine.proofs.StepRows.{sign-there, stated-shown}
 
 -- THE REFUSALS OF BOTH STAGES by the rows are the history's
 

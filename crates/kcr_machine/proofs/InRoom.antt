@@ -10,8 +10,7 @@ use Rattle.kcr_room.specs.Stays as Stays
 use Rattle.kcr_history.specs.Room as Rooms
 use Rattle.kcr_history.proofs.Trained.{trained-rows}
 use Rattle.kcr_laws.proofs.Finds.{only-holder}
-use Rattle.kcr_machine.proofs.Keyed.{Shown, any-shown, find-shown}
-use Rattle.kcr_machine.proofs.People.{trained-shown}
+use Rattle.kcr_machine.proofs.{Keyed.Shown, Keyed.any-shown, Keyed.find-shown, People.trained-shown}
 
 -- THE ROOM
 

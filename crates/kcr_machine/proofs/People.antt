@@ -11,12 +11,10 @@ use Rattle.kcr_machine.proofs.Common.{is_person-people, ever_trained-trainings, 
 use Rattle.kcr_machine.proofs.Common.{no_begin, put-ended, orderly, standing, changes_by, new_appointment, put, put_all, Taken, Held, Range, Vacant}
 use Rattle.kcr_machine.proofs.Common.{none_holds, unmet, put_all-order, any-same, ReplyData, Command, PutWithdrawal, PutKey, same_person}
 use Rattle.kcr_machine.proofs.Common.{same_appointment, new_key_row, in-filter, map-same-in}
-use Rattle.kcr_people.proofs.Withdrawn.{is_of-true, least-day}
+use Rattle.kcr_people.proofs.{Withdrawn.is_of-true, Withdrawn.least-day, Keys.same_withdrawn-keys, Keys.withdrawn_rows-apart}
 use Rattle.std.specs.Cmp.Lexicographic.{bytes_decides}
-use Rattle.kcr_history.proofs.Settled.{settled-rows}
+use Rattle.kcr_history.proofs.{Settled.settled-rows, Distinct.trainings-apart}
 use Rattle.kcr_people.specs.Laws.{same_withdrawn}
-use Rattle.kcr_people.proofs.Keys.{same_withdrawn-keys, withdrawn_rows-apart}
-use Rattle.kcr_history.proofs.Distinct.{trainings-apart}
 use Rattle.kcr_machine.proofs.LastAppointments.{open-last, person-last, place-last, put-last}
 use Rattle.kcr_machine.proofs.Keyed.{Shown, any-shown, filter-shown, put-new}
 use Rattle.kcr_machine.proofs.Leads.{LateShown, LeadsOn, all_changed-rows, changed_with, command_of, new_key}

@@ -11,8 +11,7 @@ use Rattle.kcr_seats.specs.Seating as Search
 use Rattle.kcr_seats.specs.Seating.{count_below, can_take}
 use Rattle.kcr_room.proofs.Rising.{present_are_rising}
 use Rattle.kcr_laws.proofs.Hall.{is_one}
-use Rattle.kcr_seats.proofs.Counting.{length_under, count_all}
-use Rattle.kcr_seats.proofs.Least.{rising_apart}
+use Rattle.kcr_seats.proofs.{Counting.length_under, Counting.count_all, Least.rising_apart}
 
 -- SEATINGS OF PEOPLE, POSITION BY POSITION
 

@@ -4,22 +4,16 @@ use Rattle.kcr_machine.proofs.Common.{None, refl, sym, ap, ◌∙◌, arith, cou
 use Rattle.kcr_machine.proofs.Common.{sum_by-IsPermutation, when, first_of, not_after_mark_refusal, NoneHolds, none_holds, met, no_first, same_text}
 use Rattle.kcr_machine.proofs.Common.{Refusal, State, Late, Full, Person, is_person_by, SheetRow, Stay, Way, enters, in_row_count_by, Followed}
 use Rattle.kcr_machine.proofs.Common.{followed_rows, stay_from, next_of, stays_of, stays_by, is_out_of_turn_in, new_row, of_ceremony, stays_refusal}
-use Rattle.kcr_machine.proofs.Common.{rows_refusal, stay_count, is_overfull_by, are_apart, IsSheet, IsNeverLoneOrCrowded}
+use Rattle.kcr_machine.proofs.Common.{rows_refusal, stay_count, is_overfull_by, are_apart, IsSheet, IsNeverLoneOrCrowded, find-same-in, in-any, rooms}
 use Rattle.kcr_machine.proofs.Common.{turns_keep, refusal-order, Act, Ceremony, RecordSheet, History, is_person, is_ceremony_open, mark, sheet}
 use Rattle.kcr_machine.proofs.Common.{sheet_after, people, tables, View, IsViewOf, is_of_people, HasStayCount, ShowsLast, ShowsStaysOf, asks_of_act}
 use Rattle.kcr_machine.proofs.Common.{stay_count_asked, by_history, early_conditions, late_conditions, fault, is_full, is_overfull, sheet_conditions}
 use Rattle.kcr_machine.proofs.Common.{named_twice_refusal, IsRegister, took, not_later, is_person-people, late_refusal_by, room_refusal, IsIn}
-use Rattle.kcr_machine.proofs.Common.{find-same-in, in-any, rooms}
 use Rattle.kcr_room.specs.declared.Way.TheVariants as Ways
-use Rattle.kcr_room.proofs.Followed.{followed-same}
+use Rattle.kcr_room.proofs.{Followed.followed-same, Lasting.later-lasting, Lists.count-cons, Refusals.same_refusal}
 use Rattle.kcr_room.specs.Requests.{is_overfull as is_overfull_with}
-use Rattle.kcr_room.proofs.Lists.{count-cons}
-use Rattle.kcr_room.proofs.Refusals.{same_refusal}
-use Rattle.kcr_room.proofs.Lasting.{later-lasting}
-use Rattle.kcr_machine.proofs.Keyed.{Shown, any-shown}
-use Rattle.kcr_machine.proofs.Leads.{EarlyShown}
+use Rattle.kcr_machine.proofs.{Keyed.Shown, Keyed.any-shown, Leads.EarlyShown, Scenes.mark-shown, Scenes.marked-opened, Scenes.scene-shown}
 use Rattle.kcr_laws.proofs.Crowding.{first, ever}
-use Rattle.kcr_machine.proofs.Scenes.{mark-shown, marked-opened, scene-shown}
 use Rattle.kcr_machine.proofs.SheetStays.{IsClear, clear-order, clear-sheet, last-in, last-shown, turn-last}
 
 -- THE STAYS THAT A VIEW SHOWS OF A REQUEST

@@ -8,16 +8,12 @@ use Rattle.kcr_machine.proofs.Common.{seat_rows, seats_at, exceptions, trainings
 use Rattle.kcr_machine.proofs.Common.{same_exception, changed, IsViewOf, is_step_at, training_reaches, asks_of_act, SeatRequest, reply_to, IsRegister}
 use Rattle.kcr_machine.proofs.Common.{seat_request, ceremony_by, facility_of_row, step_by, seats_by, next_step_by, on_seat, room_by, IsSeatedBy}
 use Rattle.kcr_machine.proofs.Common.{IsUnseatedBy, staff, mark_change, seat_changes, exception_change, new_key_row, rooms, next_signed, fits-on}
-use Rattle.kcr_machine.proofs.Common.{same_Some, none-some}
+use Rattle.kcr_machine.proofs.{Common.same_Some, Common.none-some, Seatings.first-of, Seatings.least-of}
 use Rattle.std.specs.Prelude.{is_some}
-use Rattle.kcr_history.specs.declared.row_types.StepState.TheVariants.{Signed, Passed}
-use Rattle.kcr_history.specs.Fitting.{fits_by}
+use Rattle.kcr_history.specs.{declared.row_types.StepState.TheVariants.Signed, declared.row_types.StepState.TheVariants.Passed, Fitting.fits_by}
 use Rattle.kcr_machine.proofs.InRoom.{present-shown, trained-lasting, holder-lasting}
-use Rattle.kcr_machine.proofs.Keyed.{Shown, put-new}
+use Rattle.kcr_machine.proofs.{Keyed.Shown, Keyed.put-new, LastSeated.done-shown, Scenes.facility-shown, Scenes.scene-shown, Scenes.told}
 use Rattle.kcr_machine.proofs.Leads.{EarlyShown, SeatsLeadOn, changed-append, command_of, entry_as}
-use Rattle.kcr_machine.proofs.Scenes.{facility-shown, scene-shown, told}
-use Rattle.kcr_machine.proofs.Seatings.{first-of, least-of}
-use Rattle.kcr_machine.proofs.LastSeated.{done-shown}
 use Rattle.kcr_machine.proofs.StepRows.{fresh-exception, fresh-seats, pass-there, put-seats, put-step, sign-there, stated-shown, step-shown}
 
 -- THE FIRST REFUSAL

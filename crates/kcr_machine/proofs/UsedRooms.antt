@@ -3,10 +3,8 @@ use Rattle.kcr_machine.proofs.Common.{◌≡◌, ℕ, true, not, nat_lt, List, [
 use Rattle.kcr_machine.proofs.Common.{nat_tests, lt-ltb, or_left, or_right, cases_Bool, or_cases, list_any-IsPermutation, IsPermutation-reverse}
 use Rattle.kcr_machine.proofs.Common.{IsPermutation-sym, any-more, SheetRow, Stay, present_by, stay_reaches, stay_covers, stays_by, headcount_in_by}
 use Rattle.kcr_machine.proofs.Common.{same-crowd, History, sheet, is_empty, is_room_used, IsRegister, is_unended, IsIn, any-in, filter-in, in-any}
-use Rattle.kcr_machine.proofs.Common.{in-filter, in-order, same-answers}
+use Rattle.kcr_machine.proofs.{Common.in-filter, Common.in-order, Common.same-answers, Keyed.Shown, SheetFaults.sheet-made}
 use Rattle.kcr_room.proofs.Moments.{crowd-cons}
-use Rattle.kcr_machine.proofs.Keyed.{Shown}
-use Rattle.kcr_machine.proofs.SheetFaults.{sheet-made}
 use Rattle.kcr_machine.proofs.SheetStays.{EndsLater, ends-later, row-bounds, stay-begun}
 
 -- somebody is in the room if some stay holds

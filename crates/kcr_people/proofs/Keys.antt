@@ -1,10 +1,10 @@
 -- Trainings and withdrawals by their keys: no two rows of one withdrawal are of one training.
-use Rattle.std.proofs.Common.{◌≡◌, ℕ, true, List, [], sym, subst, arith}
+use Rattle.std.proofs.Common.{◌≡◌, ℕ, true, List, sym, subst, arith}
+use Rattle.std.proofs.lemmas.Bool.Decides.{nat_tests}
+use Rattle.kcr_base.proofs.SameLemmas.{same-turned}
 use Rattle.kcr_base.proofs.RowsLemmas.{IsKeyTest, Apart, filter-apart, map-apart}
 use Rattle.kcr_base.specs.declared.place.Role.{Role}
-use Rattle.kcr_people.specs.declared.Training.{Training}
-use Rattle.kcr_people.specs.declared.Withdrawal.{Withdrawal}
-use Rattle.kcr_people.specs.Laws.{same_withdrawn}
+use Rattle.kcr_people.specs.{declared.Training.Training, declared.Withdrawal.Withdrawal, Laws.same_withdrawn}
 use Rattle.kcr_people.specs.People.{is_of, same_training, ends_from, withdrawal_of, withdrawn_rows}
 use Rattle.kcr_people.proofs.Withdrawn.{training_of, is_of-true, is_of-own}
 
@@ -19,10 +19,7 @@ same_withdrawn-keys =
 -- a training's row has the training's key
 its-key : (withdrawn : List Withdrawal) (day : ℕ) (a b : Training)
     → same_withdrawn (withdrawal_of withdrawn day a) (withdrawal_of withdrawn day b) ≡ same_training a b
-its-key withdrawn day a b = grind (arith, turn a b, turn b a)
-  where
-    turn : (a b : Training) → same_training a b ≡ true → same_training b a ≡ true
-    turn a b h = subst (λ c. same_training c a ≡ true) (is_of-true b (withdrawal_of [] 0 a) h) (is_of-own (withdrawal_of [] 0 a))
+its-key withdrawn day a b = grind (arith, nat_tests, same-turned a.who b.who)
 
 -- of trainings that are all different a withdrawal makes rows of different keys
 pub withdrawn_rows-apart : (ts : List Training) (ws : List Withdrawal) (who : List ℕ) (role : Role) (day : ℕ) → Apart same_training ts

@@ -1,35 +1,26 @@
 -- What is shown of custodians, of a bag, of a ceremony and of a room, out of the rows of the tables.
-use Rattle.kcr_store.proofs.Common.{◌≡◌, ℕ, true, false, List, [], ◌∷◌, map, filter, Some, None, refl, ◌⊎◌, sym, ap, ◌∙◌, subst, arith, AllPairs}
+use Rattle.kcr_store.proofs.Common.{◌≡◌, ℕ, true, List, [], ◌∷◌, map, filter, Some, refl, ◌⊎◌, ap, ◌∙◌, arith}
 use Rattle.kcr_store.proofs.Common.{IsSome, MatchResult, IfErr, ok_or, list_any, IsPermutation, IsPermutation-map, IsPermutation-refl}
-use Rattle.kcr_store.proofs.Common.{IsPermutation-reverse, IsPermutation-trans, Trees, ascending-filter, ascending-map, is_before, Refusal, Unknown}
+use Rattle.kcr_store.proofs.Common.{IsPermutation-reverse, IsPermutation-trans, Trees, ascending-filter, ascending-map, Refusal, Unknown}
 use Rattle.kcr_store.proofs.Common.{filter-order, same-itself, holder_by, lasts_beyond, spot_by, lies_in, sealed_items, attendance_in_by}
 use Rattle.kcr_store.proofs.Common.{present_in_by, stay_covers, stay_reaches, stays_by, StayWithName, History, is_ceremony, IsRegister}
 use Rattle.kcr_store.proofs.Common.{AreCustodiansShown, AreStepsShown, IsBagShown, IsCustodyShown, IsRoomShown, IsSheetShown, holders_from, with_name}
 use Rattle.kcr_store.proofs.Common.{Tables, SameTables, tables, people, appointments, bags, ceremonies, ceremony_row, is_of_serial, is_of_number}
 use Rattle.kcr_store.proofs.Common.{ceremony_by, Rises, named_stays, TreesHoldTables, IsFault, AreCustodiansShownBy, AreStepsShownBy, HasNoRowBy}
-use Rattle.kcr_store.proofs.Common.{IsBagShownBy, IsCustodyShownBy, IsNotPlannedBy, IsRoomShownBy, IsRowBy, IsSheetShownBy}
+use Rattle.kcr_store.proofs.Common.{IsBagShownBy, IsCustodyShownBy, IsRoomShownBy, IsRowBy, IsSheetShownBy}
 use Rattle.std.specs.Prelude.{IsTrue, Result, IfOk}
 use Rattle.kcr_base.specs.declared.refusal.Thing.TheVariants as Things
 use Rattle.kcr_people.specs.declared.Appointment.{Appointment}
-use Rattle.kcr_room.specs.declared.Stay.{Stay}
-use Rattle.kcr_room.specs.Room.{ascending}
-use Rattle.kcr_room.proofs.Lists.{filter-kept}
-use Rattle.kcr_room.proofs.Orders.{present-order}
-use Rattle.kcr_history.specs.declared.row_types.CeremonyRow.{CeremonyRow}
-use Rattle.kcr_history.specs.declared.questions.BagShown.{BagShown}
-use Rattle.kcr_history.specs.declared.questions.CustodiansShown.{CustodiansShown}
-use Rattle.kcr_history.specs.declared.questions.CustodyShown.{CustodyShown}
-use Rattle.kcr_history.specs.declared.questions.RoomShown.{RoomShown}
-use Rattle.kcr_history.specs.declared.questions.StepsShown.{StepsShown}
-use Rattle.kcr_history.specs.Custody.{spot}
-use Rattle.kcr_history.specs.Room.{sheet}
-use Rattle.kcr_machine.proofs.BagsWords.{spot-shown}
-use Rattle.kcr_machine.proofs.InRoom.{present-shown, holder-lasting}
+use Rattle.kcr_room.specs.{declared.Stay.Stay, Room.ascending}
+use Rattle.kcr_room.proofs.{Lists.filter-kept, Orders.present-order}
+use Rattle.kcr_history.specs.declared.{row_types.CeremonyRow.CeremonyRow, questions.CustodyShown.CustodyShown, questions.StepsShown.StepsShown}
+use Rattle.kcr_history.specs.declared.questions.{BagShown.BagShown, RoomShown.RoomShown, CustodiansShown.CustodiansShown}
+use Rattle.kcr_history.specs.{Custody.spot, Room.sheet}
+use Rattle.kcr_machine.proofs.{BagsWords.spot-shown, InRoom.present-shown, InRoom.holder-lasting}
 use Rattle.kcr_tables.proofs.NamedLemmas.{passing}
 use Rattle.kcr_reading.proofs.StayLemmas.{one_attendance}
 use Rattle.kcr_store.specs.Rows.{IsRowOf, HasNoRow}
-use Rattle.kcr_store.proofs.PlannedLemmas.{planned_row}
-use Rattle.kcr_store.proofs.StoreLemmas.{all_pairs, by_code}
+use Rattle.kcr_store.proofs.{PlannedLemmas.planned_row, StoreLemmas.all_pairs, StoreLemmas.by_code}
 
 -- ---- what some rows show
 
@@ -38,8 +29,7 @@ pub one_planned : (ceremony : ℕ) → IsTrue (list_any (is_of_number ceremony) 
 one_planned ceremony = grind arith
 
 -- what is put in a bag is in it
-pub codes_packed : (serial : List ℕ) (codes : List (List ℕ))
-    → map (λ item. item.code) (filter (lies_in serial) (sealed_items serial codes)) ≡ codes
+pub codes_packed : (serial : List ℕ) (codes : List (List ℕ)) → map (λ item. item.code) (filter (lies_in serial) (sealed_items serial codes)) ≡ codes
 codes_packed serial [] = refl
 codes_packed serial (code ∷ codes) = grind (arith, same-itself, codes_packed serial codes)
 
@@ -80,12 +70,9 @@ module _ (m t : Tables) (same : SameTables m t) where
   -- who holds which place on a day
   pub holders_by : (day : ℕ) (shown : CustodiansShown) (rows : List Appointment) → IsPermutation (filter (lasts_beyond day) t.appointments) rows
       → shown.day ≡ day → shown.holders.items ≡ holders_from (λ place. holder_by rows place day) → AreCustodiansShownBy m day shown
-  holders_by day shown rows are asked holders = record {
-    day = asked;
-    rows = rows;
-    lasting = IsPermutation-trans _ _ _ (filter-order (lasts_beyond day) m.appointments t.appointments same.appointments) are;
-    holders = holders;
-  }
+  holders_by day shown rows are asked holders =
+      let lasting = IsPermutation-trans _ _ _ (filter-order (lasts_beyond day) m.appointments t.appointments same.appointments) are in
+      record { day = asked; rows = rows; lasting = lasting; holders = holders }
 
   -- the bag with its items
   pub bag_by : (rises : Rises t) (serial : List ℕ) (bag : BagShown) → bag.serial ≡ serial → spot_by m.bags serial ≡ Some bag.spot
@@ -93,11 +80,8 @@ module _ (m t : Tables) (same : SameTables m t) where
   bag_by rises serial bag named lies codes = record {
     serial = named;
     spot = lies;
-    items = subst (IsPermutation (map (λ item. item.code) (filter (lies_in serial) m.items))) (sym codes)
-        (IsPermutation-map (λ item. item.code) (filter (lies_in serial) m.items) (filter (lies_in serial) t.items)
-        (filter-order (lies_in serial) m.items t.items same.items));
-    order = subst (AllPairs (λ a b. IsTrue (is_before a b))) (sym codes)
-        (all_pairs _ _ (ascending-map _ (λ item. item.code) (filter (lies_in serial) t.items)
+    items = rw codes (IsPermutation-map (λ item. item.code) _ _ (filter-order (lies_in serial) m.items t.items same.items));
+    order = rw codes (all_pairs _ _ (ascending-map _ (λ item. item.code) (filter (lies_in serial) t.items)
         (ascending-filter _ (lies_in serial) t.items (by_code t.items rises.items))));
   }
 
@@ -105,27 +89,14 @@ module _ (m t : Tables) (same : SameTables m t) where
 
 -- the row of the ceremony, and if there is none it was never planned
 module _ (A : History) (ceremony : ℕ) where
-  -- a ceremony's row by the tables is its row by the history
-  pub row_of_history : (row : CeremonyRow) → IsRowBy (tables A) ceremony row → IsRowOf A ceremony row
-  row_of_history row is = grind (arith, planned_row A ceremony)
-
-  -- a ceremony without a row was not planned
-  pub none_of_history : ceremony_by (ceremonies A) ceremony ≡ None → is_ceremony A ceremony ≡ false
-  none_of_history is = grind (arith, planned_row A ceremony)
-
   -- a ceremony with a row was planned
   pub planned_of_history : IsSome (ceremony_by (ceremonies A) ceremony) → IsTrue (is_ceremony A ceremony)
   planned_of_history some = grind (arith, planned_row A ceremony)
 
-  -- a ceremony that is not planned by the tables is not so by the history, and the refusal names it
-  pub unplanned_of_history : (refusal : Refusal) → IsNotPlannedBy (tables A) ceremony refusal
-      → (is_ceremony A ceremony ≡ false) × (refusal ≡ Unknown (Things.Ceremony ceremony))
-  unplanned_of_history refusal none = (none_of_history none.0, none.1)
-
   -- the row, or why there is none
   pub found_of_history : (result : Result CeremonyRow Refusal) → MatchResult result (IsRowBy (tables A) ceremony) (HasNoRowBy (tables A) ceremony)
       → MatchResult result (IsRowOf A ceremony) (HasNoRow A ceremony)
-  found_of_history result is = grind (arith, row_of_history, unplanned_of_history)
+  found_of_history result is = grind (arith, planned_row A ceremony)
 
 -- where the bag lies
 pub spot_shown : (A : History) → IsRegister A → (serial : List ℕ) → spot_by (bags A) serial ≡ spot A serial
@@ -134,12 +105,9 @@ spot_shown A register serial = spot-shown A register serial (bags A) (IsPermutat
 module _ (A : History) (register : IsRegister A) where
   -- the custodians shown by the tables are those of the history
   pub custodians_of_history : (day : ℕ) (shown : CustodiansShown) → AreCustodiansShownBy (tables A) day shown → AreCustodiansShown A day shown
-  custodians_of_history day shown are = record {
-    day = are.day;
-    holders =
-        are.holders
-        ∙ (λ i. holders_from (λ place. holder-lasting A register are.rows day (passing (lasts_beyond day) (appointments A) are.rows are.lasting) place i));
-  }
+  custodians_of_history day shown are =
+      let kept = passing (lasts_beyond day) (appointments A) are.rows are.lasting in
+      record { day = are.day; holders = are.holders ∙ (λ i. holders_from (λ place. holder-lasting A register are.rows day kept place i)) }
 
   -- the bag shown by the tables is that of the history
   pub bag_of_history : (serial : List ℕ) (bag : BagShown) → IsBagShownBy (tables A) serial bag → IsBagShown A serial bag
@@ -148,15 +116,13 @@ module _ (A : History) (register : IsRegister A) where
 module _ (A : History) (ceremony : ℕ) where
   -- the room shown by the tables is that of the history
   pub room_of_history : (at : ℕ) (room : RoomShown) → IsRoomShownBy (tables A) ceremony at room → IsRoomShown A ceremony at room
-  room_of_history at room is = grind (
-    arith,
-    planned_of_history,
-    present-shown A ceremony at (tables A).stays (IsPermutation-refl (filter (stay_reaches ceremony at) (tables A).stays)),
-  )
+  room_of_history at room is =
+      let people = present-shown A ceremony at (tables A).stays (IsPermutation-refl (filter (stay_reaches ceremony at) (tables A).stays)) in
+      grind (arith, planned_of_history, people)
 
   -- the steps shown by the tables are those of the history
   pub steps_of_history : (steps : StepsShown) → AreStepsShownBy (tables A) ceremony steps → AreStepsShown A ceremony steps
-  steps_of_history steps are = grind (arith, row_of_history)
+  steps_of_history steps are = grind (arith, planned_row A ceremony)
 
   -- the rows of a file give the attendance of the sheet
   pub sheet_of_history : {db : Trees} → TreesHoldTables (tables A) db → (stays : List StayWithName) → IsSheetShownBy (tables A) ceremony stays

@@ -1,19 +1,23 @@
 -- What one transaction leaves of whatever rows a connection shows.
 use Rattle.kcr_store.proofs.Common.{arith, ◌≡◌, true, IsTrue, Error, Database, Held, state, State, HasCleanDisk, KeepsCommit, IsRolledBack}
-use Rattle.kcr_store.proofs.Common.{IsUnchanged, Survives, Ghosts, Tables, was_clean, HasRows}
-use Rattle.sqlite.specs.declared.error.ErrorCode.TheVariants.{OutOfMemory}
-use Rattle.sqlite.specs.declared.error.Error.TheVariants.{SqliteFailure}
-use Rattle.sqlite.specs.Steps.{FailsToCommit}
+use Rattle.kcr_store.proofs.Common.{IsUnchanged, Survives, Ghosts, Tables, was_clean, HasRows, Transaction, Shows, false, Result, StaysInTransaction}
+use Rattle.kcr_store.proofs.Common.{state_in, HoldsTables, refl}
+use Rattle.sqlite.proofs.Callers.{survives_begin}
+use Rattle.sqlite.specs.{declared.error.ErrorCode.TheVariants.OutOfMemory, declared.error.Error.TheVariants.SqliteFailure, Steps.FailsToCommit}
 
--- within a transaction that began over these rows
-pub record BeganWith (m : Tables) (s : State) : Type 0 where
-  pub inside : IsTrue s.in_transaction
-  pub has : HasRows m s
+-- what a call within a transaction leaves of the connection over which that began
+pub record Within (old mid : State) : Type 0 where
+  pub survives : Survives old mid (λ _. ⊥)
+  pub keeps : HasCleanDisk mid → KeepsCommit old mid
 
--- a transaction begins over the rows that the connection shows
-pub begins_with : {S : Type 0} (g : Ghosts S) (old begun : Held S) → begun ≡ record old { in_transaction = true } → (m : Tables)
-    → HasRows m (state g old) → BeganWith m (state g begun)
-begins_with g old begun is m had = grind arith
+-- so does a call that stays in the transaction
+pub within : {S A E : Type 0} (g : Ghosts S) (old : Held S) {MayFail : E → Type 0} {r : Result A E} {begun mid : Transaction S}
+    → StaysInTransaction g MayFail begun mid r → begun.conn.now ≡ record old { in_transaction = true } → Within (state g old) (state_in g mid)
+within g old {mid = mid} left is =
+    let kept = rw is at left.kept in record {
+      survives = survives_begin g old (state_in g mid) _ (rw is at left.survives);
+      keeps = λ clean. let k = kept clean refl in record { was_open = k.was_open; committed = k.committed };
+    }
 
 -- on a disk that is clean it is open only if the other was, and shows what that had committed
 pub record Reverts (old new : State) : Type 0 where
@@ -31,12 +35,18 @@ pub stood : (mid end last : State) → Survives mid end (λ db. db ≡ mid.now.t
     → HasCleanDisk last → IsTrue last.is_open × Reverts mid last
 stood mid end last then probed e is failed same clean = grind (arith, was_clean)
 
--- it shows again what was committed when the transaction began
-pub shown_back : (P : Database → Type 0) (begun mid end : State) → (IsTrue begun.is_open → P begun.committed) → KeepsCommit begun mid
-    → Reverts mid end → IsTrue end.is_open → P end.now × P end.committed
-shown_back P begun mid end had k r live = grind arith
+module _ {old mid : State} where
+  -- it shows again what was committed when the transaction began
+  pub shown_back : (P : Database → Type 0) {end : State} → Within old mid → Reverts mid end
+      → (HasCleanDisk old → IsTrue old.is_open → P old.committed)
+      → IsTrue end.is_open → P end.now × P end.committed
+  shown_back P w r had live = grind (arith, was_clean)
 
--- so it has the rows over which the transaction began
-pub rows_back : (m : Tables) (begun mid end : State) → BeganWith m begun → Survives begun mid (λ _. ⊥)
-    → (HasCleanDisk mid → IsTrue begun.in_transaction → KeepsCommit begun mid) → (HasCleanDisk end → Reverts mid end) → HasRows m end
-rows_back m begun mid end b kept keeps back clean live = grind (arith, was_clean, shown_back)
+  -- so it has the rows over which the transaction began
+  pub rows_back : Within old mid → (m : Tables) → HasRows m old → {end : State} → (HasCleanDisk end → Reverts mid end) → HasRows m end
+  rows_back w m had back clean live =
+      let s = shown_back (HoldsTables m) w (back clean) (λ was live. (had was live).committed) live in record { now = s.0; committed = s.1 }
+
+-- what the transaction holds the connection shows once the commit stands
+pub committed_has : (P : Database → Type 0) {mid end : State} → Shows mid end mid.now mid.now false → P mid.now → P end.now × P end.committed
+committed_has P shown has = (rw shown.now_is has, rw shown.committed_is has)

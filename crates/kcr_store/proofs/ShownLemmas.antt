@@ -1,26 +1,20 @@
 -- What is shown of people: trainings in their order, and the same out of rows in another order.
-use Rattle.kcr_store.proofs.Common.{◌≡◌, inl, inr, ℕ, ◌<◌, true, false, ◌&&◌, List, [], ◌∷◌, ◌++◌, map, filter, length, get_or, Option, option_map}
-use Rattle.kcr_store.proofs.Common.{Ordering, Less, sym, ap, ◌∙◌, subst, append_assoc, arith, All, AllPairs, ◌==◌, AllByRecursion, IsPermutation}
-use Rattle.kcr_store.proofs.Common.{IsSortedBy, nat_cmp, ordering_then, is_lt, is_eq, false≢true, cases_order, sorted_far, IsPermutation-map}
+use Rattle.kcr_store.proofs.Common.{◌≡◌, ℕ, ◌<◌, true, false, ◌&&◌, List, [], ◌∷◌, ◌++◌, map, filter, length, get_or}
+use Rattle.kcr_store.proofs.Common.{Ordering, Less, refl, sym, ap, ◌∙◌, subst, append_assoc, arith, All, AllPairs, ◌==◌, AllByRecursion}
+use Rattle.kcr_store.proofs.{Common.IsPermutation, Common.ArePeopleShownBy, Common.IsPersonShownBy, StoreLemmas.all_pairs, StoreLemmas.by_initials}
+use Rattle.kcr_store.proofs.Common.{IsSortedBy, nat_cmp, ordering_then, is_lt, is_eq, sorted_far, IsPermutation-map}
 use Rattle.kcr_store.proofs.Common.{IsPermutation-sym, IsPermutation-trans, IsAscending, along_permutation, ascending_from_map, ascending_weaker}
 use Rattle.kcr_store.proofs.Common.{same_text, role_number, filter-order, Person, Training, Withdrawal, is_of, same_training, History, Tables}
 use Rattle.kcr_store.proofs.Common.{SameTables, tables, is_training_of, training_row, withdrawal_row, Rises, key_of_trainings, key_of_withdrawals}
 use Rattle.kcr_store.proofs.Common.{PersonShown, role_shown, is_role_before, IsByInitials, roles_of, person_of, ArePeopleShown, AreRolesOf}
-use Rattle.kcr_store.proofs.Common.{ArePeopleShownBy, IsPersonShownBy}
-use Rattle.std.specs.Prelude.{IsTrue}
-use Rattle.std.specs.Cmp.{IsTotalOrder}
-use Rattle.std.specs.Cmp.Lexicographic.{bytes_decides}
-use Rattle.std.proofs.lemmas.Bool.Decides.{nat_tests}
-use Rattle.std.proofs.lemmas.Cmp.{nat_cmp_total, on_total, then_total}
-use Rattle.std.proofs.lemmas.List.{map-append, get_or_default}
-use Rattle.std.proofs.lemmas.List.MinMax.{ranks_by}
+use Rattle.std.specs.{Prelude.IsTrue, Cmp.IsTotalOrder, Cmp.Lexicographic.bytes_decides}
+use Rattle.std.proofs.lemmas.{Bool.Decides.nat_tests, Cmp.nat_cmp_total, Cmp.on_total, Cmp.then_total}
+use Rattle.std.proofs.lemmas.List.{map-append, get_or_default, MinMax.ranks_by}
 use Rattle.sqlite_keyed.proofs.ListLemmas.{map_same}
 use Rattle.kcr_people.specs.Laws.{AtMostOne, same_withdrawn}
-use Rattle.kcr_people.proofs.Orders.{find-one}
-use Rattle.kcr_people.proofs.Withdrawn.{is_of-true}
+use Rattle.kcr_people.proofs.{Orders.find-one, Withdrawn.is_of-true}
 use Rattle.kcr_rows.specs.Keyed.{by_key}
 use Rattle.kcr_history.specs.declared.questions.RoleShown.{RoleShown}
-use Rattle.kcr_store.proofs.StoreLemmas.{all_pairs, by_initials}
 
 -- ---- people one after the other
 
@@ -105,29 +99,21 @@ other_training rows up =
     all_pairs _ rows
     (ascending_weaker _ _ (λ a b less. key_of_withdrawals b a ∙ ap is_eq less) rows (ascending_from_map (λ a b. by_key 4 a b ≡ Less) withdrawal_row rows up))
 
+-- of two rows of one training none stands before the other
+not_before : (row : Training) (rows : List Withdrawal) → AllPairs (λ a b. same_withdrawn b a ≡ false) rows → (i : ℕ) (c : Withdrawal)
+    → is_of row (get_or rows i c) ≡ true → (j : ℕ) (d : Withdrawal) → j < length rows → is_of row (get_or rows j d) ≡ true → i < j → ⊥
+not_before row rows differ i c p j d below q lt =
+    grind (arith, get_or_default rows j d c below, is_of-true row (get_or rows j c), differ i j c lt below)
+
 at_most_one : (row : Training) (rows : List Withdrawal) → AllPairs (λ a b. same_withdrawn b a ≡ false) rows → AtMostOne (is_of row) rows
-at_most_one row rows differ = λ i c low p j d below q. elim (cases_order i j) [
-  | inl same ↦ get_or_default rows j d c below ∙ ap (λ n. get_or rows n c) (sym same)
-  | inr (inl lt) ↦ absurd (not_before i c low p j d below q lt)
-  | inr (inr gt) ↦ absurd (not_before j d below q i c low p gt)
-]
-  where
-    -- one of two rows does not stand before the other
-    not_before : (i : ℕ) (c : Withdrawal) → i < length rows → is_of row (get_or rows i c) ≡ true → (j : ℕ) (d : Withdrawal) → j < length rows
-        → is_of row (get_or rows j d) ≡ true → i < j → ⊥
-    not_before i c low p j d below q lt =
-        -- two withdrawals of a training are of one training
-        let there : is_of row (get_or rows j c) ≡ true = ap (is_of row) (get_or_default rows j c d below) ∙ q in
-        false≢true (sym (differ i j c lt below) ∙ subst (λ t. is_of t (get_or rows i c) ≡ true) (sym (is_of-true row (get_or rows j c) there)) p)
+at_most_one row rows differ i c low p j d below q =
+    grind (arith, get_or_default rows j d c below, not_before row rows differ i c p j d below q, not_before row rows differ j d q i c low p)
 
 -- the same day in whatever order the rows are
 same_shown : (table rows : List Withdrawal) → IsPermutation table rows → IsAscending (λ a b. by_key 4 a b ≡ Less) (map withdrawal_row rows) → (row : Training)
     → role_shown table row ≡ role_shown rows row
 same_shown table rows p up row =
-    let one = at_most_one row rows (other_training rows up) in
-    ap
-    (λ (found : Option Withdrawal). record { since = row.since; role = row.role; until = row.until; withdrawn = option_map (λ w. w.day) found })
-    (find-one (is_of row) rows table (IsPermutation-sym table rows p) one)
+    rw (find-one (is_of row) rows table (IsPermutation-sym table rows p) (at_most_one row rows (other_training rows up))) refl
 
 -- ---- what rows show, in whatever order they are
 
@@ -140,14 +126,9 @@ module _ (m t : Tables) (same : SameTables m t) (rises : Rises t) where
       (filter-order (is_training_of who) m.trainings t.trainings same.trainings))
 
   person_shown : (shown : PersonShown) → AreRolesOf t.trainings t.withdrawals shown.who shown.roles.items → IsPersonShownBy m shown
-  person_shown shown are = record {
-    roles = IsPermutation-trans (roles_of m.trainings m.withdrawals shown.who) (roles_of t.trainings t.withdrawals shown.who) shown.roles.items
-        (roles_shown shown.who) are.roles;
-    order = strictly shown.roles.items
-        ((reordered Differ turned (roles_of t.trainings t.withdrawals shown.who) shown.roles.items are.roles).1
-        (all_apart t.withdrawals shown.who t.trainings rises.trainings))
-        are.order;
-  }
+  person_shown shown are =
+      let differ = (reordered Differ turned _ shown.roles.items are.roles).1 (all_apart t.withdrawals shown.who t.trainings rises.trainings) in
+      record { roles = IsPermutation-trans _ _ _ (roles_shown shown.who) are.roles; order = strictly shown.roles.items differ are.order }
 
   -- the people with their trainings, out of the rows of the tables
   pub people_shown : (rows : List PersonShown) → map person_of rows ≡ t.people

@@ -1,32 +1,27 @@
 -- What a decision makes of the tables, and what a reading of them shows.
-use Rattle.kcr_store.proofs.Common.{arith, ◌≡◌, ℕ, List, [], ◌∷◌, map, Option, Some, None, Ok, Err, Less, IsTrue, refl, sym, ap, subst, ◌∙◌}
-use Rattle.kcr_store.proofs.Common.{MatchOption, AllPairs, IfErr, is_lt, Database, State, HasCleanDisk, IsAscending, Trees, ascending-get_or}
+use Rattle.kcr_store.proofs.Common.{arith, ◌≡◌, ℕ, List, [], ◌∷◌, map, Option, Some, None, Ok, Err, Less, IsTrue, sym, ap, subst, ◌∙◌}
+use Rattle.kcr_store.proofs.Common.{MatchOption, AllPairs, is_lt, Database, IsAscending, Trees, ascending-get_or}
 use Rattle.kcr_store.proofs.Common.{ascending_from_map, ascending_weaker, is_before, Refusal, Person, Command, Verdict, FullView, History, Tables}
-use Rattle.kcr_store.proofs.Common.{SameTables, tables, all_changed, IsRegister, IsAcceptance, IsRepeat, IsDecision, follows, numbers, person_row}
-use Rattle.kcr_store.proofs.Common.{item_row, Holds, HoldsTables, SameRows, same_holds, IsFault, IsByInitials, AppliesCommand, with_reply}
+use Rattle.kcr_store.proofs.Common.{SameTables, tables, all_changed, IsRegister, IsAcceptance, IsRepeat, follows, numbers, person_row}
+use Rattle.kcr_store.proofs.Common.{item_row, HoldsTables, SameRows, same_holds, IsFault, IsByInitials, AppliesCommand, with_reply}
 use Rattle.kcr_store.proofs.Common.{number_after, Stores, AreRows, IsListed, Lists}
-use Rattle.std.specs.Prelude.{IsPermutation, Result, length}
-use Rattle.sqlite.specs.declared.types.Value.TheVariants.{Text}
-use Rattle.sqlite.specs.Order.{Row, value_cmp}
+use Rattle.kcr_history.specs.{Machine.with_command, Audit.IsAudit}
+use Rattle.std.specs.Prelude.{IsPermutation, length}
+use Rattle.sqlite.specs.{declared.types.Value.TheVariants.Text, Order.Row, Order.value_cmp}
 use Rattle.sqlite_value.proofs.OrderLemmas.{value_cmp-Text, then-Equal}
 use Rattle.kcr_custody.specs.declared.Item.{Item}
-use Rattle.kcr_history.specs.declared.commands.ReplyData.{ReplyData}
-use Rattle.kcr_history.specs.declared.commands.Entry.{Entry}
-use Rattle.kcr_history.specs.declared.views.Change.{Change}
-use Rattle.kcr_history.specs.declared.views.Finding.{Finding}
-use Rattle.kcr_history.specs.Audit.{IsAudit}
-use Rattle.kcr_tables.specs.Keyed.{by_key}
+use Rattle.kcr_history.specs.declared.{commands.ReplyData.ReplyData, commands.Entry.Entry, views.Finding.Finding}
+use Rattle.kcr_tables.specs.{Keyed.by_key, Table.TableSpec, Table.machine_rows}
 use Rattle.kcr_rows.specs.States.{loose_value, within_value}
 use Rattle.kcr_tables.specs.StoredTables as held
-use Rattle.kcr_tables.specs.Table.{TableSpec, machine_rows}
-
--- the tables that the database holds
-pub holds_in : (A : History) (db : Database) (s : Stores A db) → Holds db s.tables.kept.t
-holds_in A db s = record { schema = s.schema; kept = s.tables.kept.kept }
 
 -- a database that stores a history holds the tables of the history
 pub held_in : (A : History) (db : Database) → Stores A db → HoldsTables (tables A) db
 held_in A db s = record { schema = s.schema; tables = s.tables.kept }
+
+-- the tables of a history, in the database of a register
+pub brought_stores : (A : History) (db : Database) → IsRegister A → HoldsTables (tables A) db → Stores A db
+brought_stores A db register h = record { schema = h.schema; tables = record { register = register; kept = h.tables } }
 
 -- a decision that answers, by its answer
 abbrev Decides : History → Command → Verdict → Option ReplyData → Type 0
@@ -37,41 +32,18 @@ module _ (A : History) (x : Command) (v : Verdict) where
   pub steps : (answer : Option ReplyData) → Decides A x v answer → AppliesCommand A x (Ok v.reply) (with_reply A x answer)
   steps answer d = grind arith
 
-  next_register : (answer : Option ReplyData) → Decides A x v answer → IsRegister A → IsRegister (with_reply A x answer)
-  next_register (Some a) d r = (follows A x a d.step, r)
-  next_register None d r = r
-
-  -- the tables with the changes are those of the history after the command, up to the order of their rows
-  next_holds : (answer : Option ReplyData) (new : Database) → Decides A x v answer → HoldsTables (all_changed v.changes.items (tables A)) new
-      → HoldsTables (tables (with_reply A x answer)) new
-  next_holds (Some a) new d h = same_holds (all_changed v.changes.items (tables A)) (tables (with_reply A x (Some a))) new d.tables h
-  next_holds None new d h = subst (λ (l : List Change). HoldsTables (all_changed l (tables A)) new) d.1.changes h
-
   -- a database with the changed tables stores the history after the command
   pub next_stores : (answer : Option ReplyData) (old new : Database) → Stores A old → Decides A x v answer
       → HoldsTables (all_changed v.changes.items (tables A)) new → Stores (with_reply A x answer) new
-  next_stores answer old new s d h =
-      let after = next_holds answer new d h in
-      record { schema = after.schema; tables = record { register = next_register answer d s.tables.register; kept = after.tables } }
+  next_stores (Some a) old new s d h =
+      brought_stores (with_command A x a) new (follows A x a d.step, s.tables.register)
+      (same_holds (all_changed v.changes.items (tables A)) (tables (with_command A x a)) new d.tables h)
+  next_stores None old new s d h = brought_stores A new s.tables.register (rw d.1.changes at h)
 
 -- the number of the last command after a decision is that of the history after it
 pub counts_after : (A : History) (x : Command) (answer : Option ReplyData) (count : ℕ) → count ≡ length A → IsRegister (with_reply A x answer)
     → number_after count answer ≡ length (with_reply A x answer)
 counts_after A x answer count is h = grind (arith, numbers)
-
--- as `OfStored`, of the states before and after a call
-abbrev pub OfStates : State → State → (History → Type 0) → Type 0
-OfStates old new Says = HasCleanDisk new → (A : History) → (IsTrue old.is_open → Stores A old.now) → Says A
-
--- over the tables of each history it is the machine's decision
-abbrev pub IsDecided : State → State → ℕ → Command → Result Verdict Refusal → Type 0
-IsDecided old new count x r = OfStates old new (λ A. count ≡ length A → IsDecision A x r)
-
--- the refusal of a decision is the machine's
-pub refused : (old new : State) (count : ℕ) (x : Command) (r : Result Verdict Refusal) → IsDecided old new count x r
-    → IfErr r (λ e. OfStates old new (λ A. count ≡ length A → AppliesCommand A x (Err e) A))
-refused old new count x (Ok v) d = tt
-refused old new count x (Err e) d = λ clean A had is. (refl, λ memory disk. d clean A had is memory)
 
 -- out of memory and an I/O error leave the history
 pub fault_steps : (A : History) (x : Command) (e : Refusal) → IsFault e → AppliesCommand A x (Err e) A
@@ -79,13 +51,9 @@ fault_steps A x e fault = grind arith
 
 -- ---- what a command may get, whatever the tables hold
 
--- the tables of a history, in the database of a register
-pub brought_stores : (A : History) (db : Database) → IsRegister A → HoldsTables (tables A) db → Stores A db
-brought_stores A db register h = record { schema = h.schema; tables = record { register = register; kept = h.tables } }
-
 -- a new register's tables
 pub first_stores : (db : Database) → HoldsTables (tables []) db → Stores [] db
-first_stores db h = record { schema = h.schema; tables = record { register = tt; kept = h.tables } }
+first_stores db h = brought_stores [] db tt h
 
 -- ---- rows as a database has them
 

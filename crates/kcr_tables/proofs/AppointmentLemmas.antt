@@ -8,8 +8,7 @@ use Rattle.kcr_base.proofs.RowsLemmas.{filter-order}
 use Rattle.kcr_history.specs.declared.views.AppointmentFilter.{AppointmentFilter}
 use Rattle.kcr_history.specs.declared.views.AppointmentFilter.TheVariants as Wanted
 use Rattle.kcr_tables.proofs.HasLemmas.{has_in, in_has, filter_from, filter_is}
-use Rattle.kcr_tables.proofs.MostLemmas.{shown_has, shown_over}
-use Rattle.kcr_tables.proofs.NamedLemmas.{passing}
+use Rattle.kcr_tables.proofs.{MostLemmas.shown_has, MostLemmas.shown_over, NamedLemmas.passing}
 
 -- if the row passes, one that is shown passes too and begins no earlier
 abbrev Reached : (Appointment → Bool) → List Appointment → Appointment → Type 0
@@ -43,23 +42,15 @@ module _ (test : Appointment → Bool) (table shown : List Appointment) (last : 
 pub both_shown : (place : Place) (who : List ℕ) (table front behind : List Appointment) → IsLast (is_appointment_to place) table front
     → IsLast (is_appointment_of who) table behind → IncludesAppointments (Matching (Wanted.LastToPlaceAndOfPerson place who)) table (front ++ behind)
 both_shown place who table front behind to of = (
-  λ x i. elim (in-append x front behind i) [
-    | inl f ↦ from_table (is_appointment_to place) table front to x f
-    | inr b ↦ from_table (is_appointment_of who) table behind of x b
-  ],
-  (
-    none_later (is_appointment_to place) table front to (front ++ behind) (λ x i. in-front x front behind i),
-    none_later (is_appointment_of who) table behind of (front ++ behind) (λ x i. in-behind x front behind i),
-  ),
+  λ x i. elim (in-append x front behind i) [ inl f ↦ from_table _ table front to x f | inr b ↦ from_table _ table behind of x b ],
+  (none_later _ table front to _ (λ x i. in-front x front behind i), none_later _ table behind of _ (λ x i. in-behind x front behind i)),
 )
 
 -- those that last beyond a day, alone
 pub beyond_shown : (day : ℕ) (table shown : List Appointment) → IsPermutation (filter (lasts_beyond day) table) shown
     → IncludesAppointments (Matching (Wanted.EndingAfter day)) table shown
-beyond_shown day table shown is = (
-  λ x i. (in-filter (lasts_beyond day) x table (in-order x (filter (lasts_beyond day) table) shown is i)).0,
-  passing (lasts_beyond day) table shown is,
-)
+beyond_shown day table shown is =
+    (λ x i. (in-filter (lasts_beyond day) x table (in-order x _ shown is i)).0, passing (lasts_beyond day) table shown is)
 
 -- the same of a table that has its rows in another order
 pub appointments_shown : (asked : Selection AppointmentFilter) (xs ys rows : List Appointment) → IsPermutation xs ys → IncludesAppointments asked ys rows

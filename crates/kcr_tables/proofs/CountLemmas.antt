@@ -63,11 +63,9 @@ of_tree ceremony db stays keeps =
     ∙ length_permutation _ _ (IsPermutation-filter of_it _ _ keeps.same)
     ∙ ap length (filter-map of_it stay_row stays)
     ∙ length-map (filter (λ x. of_it (stay_row x)) stays) stay_row
-    ∙ ap length (filter_as _ (of_ceremony ceremony) same stays)
+    ∙ ap length (filter_as _ (of_ceremony ceremony)
+    (λ x. value_is (Int (pos x.ceremony)) (Int (pos ceremony)) refl refl ∙ sym (number_ties x.ceremony ceremony)) stays)
     ∙ length-filter (of_ceremony ceremony) stays
-  where
-    same : (x : Stay) → has_number 2 ceremony (stay_row x) ≡ of_ceremony ceremony x
-    same x = value_is (Int (pos x.ceremony)) (Int (pos ceremony)) refl refl ∙ sym (number_ties x.ceremony ceremony)
 
 -- the one row that is shown has their number
 pub count_shown : (ceremony : ℕ) (old new : State) (rows : List Row) → old.now.schema ≡ register_schema
@@ -82,10 +80,8 @@ count_shown ceremony old new rows has h stays keeps =
     let p = λ (r : Row). list_all (holds (params ∷ r ∷ [])) test in
     let read = reads_shown register_schema count_sql _ count_means params old new has rows h in
     let a : IsAnswer q (overlay db []) params rows = read.answer Null in
-    let over : overlay db [] tree ≡ db tree = refl in
     let many = ap length (matched p (λ r. params ∷ r ∷ []) (overlay db [] tree))
     ∙ length-map (filter p (overlay db [] tree)) (λ r. params ∷ r ∷ [])
-    ∙ ap (λ (l : List Row). length (filter p l)) over
     ∙ ap (λ (test : Row → Bool). length (filter test (db tree))) (passes_is ceremony)
     ∙ of_tree ceremony db stays keeps in
     let out : ℕ → List Output = λ n. ([], Int (pos (min most n)) ∷ []) ∷ [] in

@@ -1,9 +1,8 @@
 -- That rows are those of values that are shown, whatever a table has.
 use Rattle.kcr_tables.proofs.Common.{◌≡◌, inl, inr, Bool, true, false, cond, List, [], ◌∷◌, ◌++◌, map, filter, take, Result, IfOk, refl, sym}
-use Rattle.kcr_tables.proofs.Common.{IsPermutation, Vec, Global, rules, AllByRecursion, list_any, nil_from_length, IsPermutation-sym}
-use Rattle.kcr_tables.proofs.Common.{length_permutation, Row, Trees, Has, all_has, all_from, some_has, has_left, has_right, has_kept, all-append}
-use Rattle.kcr_tables.proofs.Common.{all_weaker, Refusal, Selection, Matching, All, TableLayout, if_ok, has_same, mapped_from, asked_once}
-use Rattle.kcr_tables.proofs.Common.{is_under_any, asked_of, asked_all, rows_at, AreShown, IsOneOf}
+use Rattle.kcr_tables.proofs.Common.{IsPermutation, Vec, Global, rules, AllByRecursion, list_any, nil_from_length, IsPermutation-sym, IsOneOf}
+use Rattle.kcr_tables.proofs.Common.{length_permutation, Row, Has, all_has, all_from, some_has, has_left, has_right, has_kept, all-append, all_weaker}
+use Rattle.kcr_tables.proofs.Common.{Refusal, Selection, Matching, if_ok, has_same, mapped_from, asked_once, is_under_any, asked_of, AreShown}
 use Rattle.kcr_tables.proofs.HasLemmas.{filter_from, filter_is}
 
 module _ {X : Type 0} (row_of : X → Row) where
@@ -21,27 +20,16 @@ module _ {X : Type 0} (row_of : X → Row) where
 
   -- ---- rows that are asked for
 
-  shown_in : (rows : List Row) (r : Result (Vec X Global) Refusal) → IfOk r (λ all. IsPermutation rows (map row_of all.items))
-      → IfOk r (λ all. AreShown row_of all.items rows)
-  shown_in rows r h = if_ok _ _ (λ all same. are_shown rows all.items same) r h
+  -- values of some rows show what is asked for, if that is these rows
+  pub shown_as : {wanted rows : List Row} → wanted ≡ rows → (r : Result (Vec X Global) Refusal)
+      → IfOk r (λ all. IsPermutation rows (map row_of all.items)) → IfOk r (λ all. AreShown row_of all.items wanted)
+  shown_as {rows = rows} is r h = rw is (if_ok _ _ (λ all same. are_shown rows all.items same) r h)
 
-  -- values of the rows under a key show what is asked for under this key
-  pub under_asked : {K : Type 0} (place : TableLayout) (is_under : K → Row → Bool) (asked : Selection K) (db : Trees) (key : K) → asked ≡ Matching key
-      → (r : Result (Vec X Global) Refusal) → IfOk r (λ all. IsPermutation (filter (is_under key) (rows_at place db)) (map row_of all.items))
-      → IfOk r (λ all. AreShown row_of all.items (asked_of is_under asked (rows_at place db)))
-  under_asked place is_under asked db key is r h = rw is (shown_in _ r h)
-
-  -- values of all rows show what is asked for, if all of it is
-  pub all_asked : {K : Type 0} (place : TableLayout) (is_under : K → Row → Bool) (asked : Selection K) (db : Trees) → asked ≡ All
-      → (r : Result (Vec X Global) Refusal) → IfOk r (λ all. IsPermutation (rows_at place db) (map row_of all.items))
-      → IfOk r (λ all. AreShown row_of all.items (asked_of is_under asked (rows_at place db)))
-  all_asked place is_under asked db is r h = rw is (shown_in _ r h)
-
-  -- values of all rows show a table that is asked for as a whole
-  pub whole_asked : (place : TableLayout) (asked : Bool) (db : Trees) → asked ≡ true
-      → (r : Result (Vec X Global) Refusal) → IfOk r (λ all. IsPermutation (rows_at place db) (map row_of all.items))
-      → IfOk r (λ all. AreShown row_of all.items (asked_all asked (rows_at place db)))
-  whole_asked place asked db is r h = rw is (shown_in _ r h)
+  -- values that show the rows under a key show what is asked for under this key
+  pub shown_asked : {K : Type 0} (is_under : K → Row → Bool) {asked : Selection K} (key : K) {inner : K} (rows : List Row)
+      → asked ≡ Matching inner → inner ≡ key → (r : Result (Vec X Global) Refusal)
+      → IfOk r (λ it. AreShown row_of it.items (filter (is_under key) rows)) → IfOk r (λ it. AreShown row_of it.items (asked_of is_under asked rows))
+  shown_asked is_under key rows is same r h = rw (is, same) h
 
   -- ---- rows found by a list of keys, of which some may be the same
 
@@ -49,10 +37,6 @@ module _ {X : Type 0} (row_of : X → Row) where
     -- the rows of each of the keys
     abbrev pub EachAreShown : List X → List K → Type 0
     EachAreShown shown = AllByRecursion (λ key. AreShown row_of shown (filter (under key) rows))
-
-    each_left : (shown more : List X) (keys : List K) → EachAreShown shown keys → EachAreShown (shown ++ more) keys
-    each_left shown more keys each =
-        all_weaker _ (λ key. AreShown row_of (shown ++ more) (filter (under key) rows)) (λ key. shown_left shown more _) keys each
 
     one_has : (shown : List X) (row : Row) → Has rows row → (keys : List K) → is_under_any under keys row ≡ true → EachAreShown shown keys → (x : X)
         × Has shown x × (row ≡ row_of x)
@@ -68,30 +52,20 @@ module _ {X : Type 0} (row_of : X → Row) where
         (λ row h. one_has shown row (filter_from (is_under_any under keys) rows row h) keys (filter_is (is_under_any under keys) rows row h) each)
 
     module _ (same : K → K → Bool) (one : (a b : K) → same a b ≡ true → a ≡ b) where
-      -- a key that is the same as one of them
-      named_are : (shown : List X) (key : K) (keys : List K) → list_any (same key) keys ≡ true → EachAreShown shown keys
-          → AreShown row_of shown (filter (under key) rows)
-      named_are shown key keys named each =
-          let k = some_has (same key) keys named in
-          rw (one key k.0 k.2) (all_has (λ k. AreShown row_of shown (filter (under k) rows)) keys k.0 each k.1)
-
       -- one key more
       pub each_next : (keys : List K) (key : K) (shown found : List X) → EachAreShown shown keys → AreShown row_of found (asked_once same under key keys rows)
           → EachAreShown (shown ++ found) (keys ++ key ∷ [])
       each_next keys key shown found each once =
-          all-append (λ k. AreShown row_of (shown ++ found) (filter (under k) rows)) keys (key ∷ []) (each_left shown found keys each)
+          all-append (λ k. AreShown row_of (shown ++ found) (filter (under k) rows)) keys (key ∷ [])
+          (all_weaker _ (λ k. AreShown row_of (shown ++ found) (filter (under k) rows)) (λ k. shown_left shown found _) keys each)
           (by_test (list_any (same key) keys) refl once, tt)
         where
           by_test : (b : Bool) → list_any (same key) keys ≡ b → AreShown row_of found (cond b [] (filter (under key) rows))
               → AreShown row_of (shown ++ found) (filter (under key) rows)
-          by_test true e once = shown_left shown found _ (named_are shown key keys e each)
+          by_test true e once =
+              let k = some_has (same key) keys e in
+              shown_left shown found _ (rw (one key k.0 k.2) (all_has (λ k. AreShown row_of shown (filter (under k) rows)) keys k.0 each k.1))
           by_test false e once = shown_too found (shown ++ found) (has_right shown found) _ once
-
-    -- a key that is the same as none before, and was read
-    pub once_read : (same : K → K → Bool) (key : K) (before : List K) → list_any (same key) before ≡ false
-        → (r : Result (Vec X Global) Refusal) → IfOk r (λ all. IsPermutation (filter (under key) rows) (map row_of all.items))
-        → IfOk r (λ all. AreShown row_of all.items (asked_once same under key before rows))
-    once_read same key before none r h = rw none (shown_in _ r h)
 
 -- ---- the first of the rows, in some order
 

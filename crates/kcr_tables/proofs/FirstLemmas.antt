@@ -8,9 +8,7 @@ use Rattle.kcr_rows.proofs.CreateLemmas.{bare}
 use Rattle.kcr_tables.specs.StoredTables.{Holds, people_place, trainings_place, appointments_place, boxes_place, safes_place, bags_place, items_place}
 use Rattle.kcr_tables.specs.StoredTables.{ceremonies_place, marks_place, steps_place, seatings_place, sheet_place, exceptions_place, versions_place, keys_place}
 use Rattle.kcr_tables.specs.StoredTables.{stays_place, withdrawals_place}
-use Rattle.kcr_tables.specs.NewTables.{empty_tables}
-use Rattle.kcr_tables.specs.Schema.{all_tables}
-use Rattle.kcr_tables.specs.Creation.{schema_prefix}
+use Rattle.kcr_tables.specs.{NewTables.empty_tables, Schema.all_tables, Creation.schema_prefix}
 
 -- a database with the schema of a register and no entries holds no rows
 pub holds_nothing : (db : Database) → db.schema ≡ schema_prefix 17 → AreEmpty all_tables db.trees → IsSound (schema_prefix 17) db.trees → Holds db empty_tables

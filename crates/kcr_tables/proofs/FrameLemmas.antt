@@ -2,8 +2,7 @@
 use Rattle.kcr_tables.proofs.Common.{◌≡◌, ℕ, List, Result, Ok, Err, OnOk, IfErr, IsErrAnd, rules, understood, HasCleanDisk, IsUnchanged, Survives}
 use Rattle.kcr_tables.proofs.Common.{Trees, IsPlain, Refusal, IsFault, on_ok, on_ok_then, plain_in, IfClean, StaysInTransaction, state_in}
 use Rattle.kcr_tables.proofs.Common.{clean_before, within_then, within_to, within_fails, register_schema, Reads}
-use Rattle.sqlite.specs.Store.{Ghosts}
-use Rattle.sqlite.specs.declared.transaction.Transaction.{Transaction}
+use Rattle.sqlite.specs.{Store.Ghosts, declared.transaction.Transaction.Transaction}
 
 module _ {A S : Type 0} {g : Ghosts S} where
   -- what leaves the database as it is leaves the tables

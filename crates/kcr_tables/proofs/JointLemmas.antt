@@ -4,49 +4,28 @@ use Rattle.std.proofs.Common.{rules, ◌≡◌, ◌&&◌, ℕ, List, [], ◌∷�
 use Rattle.std.specs.Ordering.{is_eq}
 use Rattle.std.proofs.lemmas.List.Sorted.{IsPermutation-refl, IsPermutation-sym, IsPermutation-trans}
 use Rattle.sqlite.specs.declared.types.Value.TheVariants.{Int, Text}
-use Rattle.sqlite.specs.Order.{Row}
-use Rattle.sqlite.specs.Tree.{Trees, IsAscending}
-use Rattle.sqlite.specs.Effect.{Database}
-use Rattle.kcr_history.specs.declared.views.Change.{Change}
+use Rattle.sqlite.specs.{Order.Row, Effect.Database, Tree.Trees, Tree.IsAscending}
+use Rattle.kcr_history.specs.declared.{views.Change.Change, row_types.CeremonyRow.CeremonyRow, row_types.ExceptionRow.ExceptionRow}
 use Rattle.kcr_history.specs.declared.views.Change.TheVariants.{PutPerson, PutTraining, PutAppointment, PutBox, PutSafe, PutBag, PutItem, PutCeremony, PutMark}
 use Rattle.kcr_history.specs.declared.views.Change.TheVariants.{PutStep, PutSeating, PutSheet, PutException, PutKey, PutStay, PutWithdrawal}
 use Rattle.kcr_history.specs.Tables as machine
 use Rattle.kcr_history.specs.Changes as changes
 use Rattle.kcr_history.specs.Changes.{same_person, same_appointment, same_safe_row, same_ceremony, same_mark, same_step, same_seating, same_sheet_row}
 use Rattle.kcr_history.specs.Changes.{same_exception, same_key_row, same_stay}
-use Rattle.kcr_people.specs.People.{same_training}
-use Rattle.kcr_people.specs.Laws.{same_withdrawn}
+use Rattle.kcr_people.specs.{People.same_training, Laws.same_withdrawn}
 use Rattle.kcr_custody.specs.Balance.{same_box, same_bag, same_item}
-use Rattle.kcr_base.specs.Role.{role_text}
-use Rattle.kcr_base.specs.Place.{place_text}
-use Rattle.kcr_base.specs.Facility.{facility_text}
-use Rattle.kcr_rows.specs.States.{safe_digit}
-use Rattle.kcr_rows.specs.Keyed.{by_key}
-use Rattle.kcr_rows.proofs.OrderLemmas.{put-stands, put_in_rising}
+use Rattle.kcr_base.specs.{Role.role_text, Place.place_text, Facility.facility_text}
+use Rattle.kcr_rows.specs.{States.safe_digit, Keyed.by_key}
+use Rattle.kcr_rows.proofs.{OrderLemmas.put-stands, OrderLemmas.put_in_rising, SameLemmas.turned, StateLemmas.safe_ties}
 use Rattle.kcr_rows.proofs.SameLemmas.{text_ties, number_ties, facility_ties, role_ties, place_ties, one_column, two_columns, three_columns, four_columns}
-use Rattle.kcr_rows.proofs.SameLemmas.{turned}
-use Rattle.kcr_rows.proofs.StateLemmas.{safe_ties}
 use Rattle.kcr_rows.specs.Rows.{person_row, training_row, appointment_row, box_row, safe_row, bag_row, item_row, ceremony_row, mark_row, step_row, seating_row}
 use Rattle.kcr_rows.specs.Rows.{sheet_row, exception_row, key_row, stay_row, withdrawal_row}
-use Rattle.kcr_people.specs.declared.Person.{Person}
-use Rattle.kcr_people.specs.declared.Training.{Training}
-use Rattle.kcr_people.specs.declared.Appointment.{Appointment}
-use Rattle.kcr_custody.specs.declared.BoxRow.{BoxRow}
-use Rattle.kcr_custody.specs.declared.SafeRow.{SafeRow}
-use Rattle.kcr_custody.specs.declared.Bag.{Bag}
-use Rattle.kcr_custody.specs.declared.Item.{Item}
-use Rattle.kcr_history.specs.declared.row_types.CeremonyRow.{CeremonyRow}
-use Rattle.kcr_history.specs.declared.row_types.MarkRow.{MarkRow}
-use Rattle.kcr_history.specs.declared.row_types.StepRow.{StepRow}
-use Rattle.kcr_history.specs.declared.row_types.SeatingRow.{SeatingRow}
-use Rattle.kcr_room.specs.declared.SheetRow.{SheetRow}
-use Rattle.kcr_history.specs.declared.row_types.ExceptionRow.{ExceptionRow}
-use Rattle.kcr_history.specs.declared.row_types.KeyRow.{KeyRow}
-use Rattle.kcr_room.specs.declared.Stay.{Stay}
-use Rattle.kcr_people.specs.declared.Withdrawal.{Withdrawal}
+use Rattle.kcr_people.specs.declared.{Person.Person, Training.Training, Appointment.Appointment, Withdrawal.Withdrawal}
+use Rattle.kcr_custody.specs.declared.{BoxRow.BoxRow, SafeRow.SafeRow, Bag.Bag, Item.Item}
+use Rattle.kcr_history.specs.declared.row_types.{MarkRow.MarkRow, KeyRow.KeyRow, StepRow.StepRow, SeatingRow.SeatingRow}
+use Rattle.kcr_room.specs.declared.{SheetRow.SheetRow, Stay.Stay}
 use Rattle.kcr_tables.specs.StoredTables.{StoredTables, TreesHold, Holds}
-use Rattle.kcr_tables.specs.NewTables.{new_tables}
-use Rattle.kcr_tables.specs.Changed.{rows_after, changed, changed_all}
+use Rattle.kcr_tables.specs.{NewTables.new_tables, Changed.rows_after, Changed.changed, Changed.changed_all}
 use Rattle.kcr_tables.specs.MachineTables.{SameRows, TreesHoldTables, HoldsTables}
 use Rattle.kcr_tables.proofs.HoldLemmas.{tables_of}
 

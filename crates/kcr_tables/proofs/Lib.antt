@@ -19,4 +19,3 @@ pub mod ScriptLemmas
 pub mod StatementLemmas
 pub mod StayLemmas
 pub mod ViewLemmas
-pub mod FrontLemmas

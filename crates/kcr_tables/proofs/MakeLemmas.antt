@@ -1,8 +1,7 @@
 -- Written by tools/tables.py from tools/table_list.py: do not edit.
 -- One CREATE TABLE after the other.
 use Rattle.std.proofs.Common.{◌≡◌, ℕ, zero, suc, ◌+◌, ◌<◌, [], ◌∷◌, ◌++◌, take, Ok, refl, arith}
-use Rattle.sqlite.specs.Table.{Table}
-use Rattle.sqlite.specs.State.{State, Executes}
+use Rattle.sqlite.specs.{Table.Table, State.State, State.Executes}
 use Rattle.sqlite_tied.specs.Compute.{everything}
 use Rattle.sqlite_catalog.specs.Listing.{IsSound}
 use Rattle.sqlite_trees.proofs.ListLemmas.{all-append}

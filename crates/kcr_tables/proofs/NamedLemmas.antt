@@ -20,12 +20,6 @@ apart {X = X} p q none (x ∷ xs) = by_tests (p x) (q x) refl refl (apart p q no
         (IsPermutation-sym _ _ (IsPermutation-middle (filter p xs) x (filter q xs)))
     by_tests false false e f ih = ih
 
-or_false : (b : Bool) → (b || false) ≡ b
-or_false b = grind arith
-
-or_in : (a b : Bool) → (b ≡ true → a ≡ true) → (a || b) ≡ a
-or_in a b h = grind arith
-
 -- no keys have no rows
 pub none_named : {X K : Type 0} (is_under : K → X → Bool) (xs : List X) → IsPermutation (filter (is_under_any is_under []) xs) []
 none_named is_under [] = IsPermutation-refl []
@@ -33,7 +27,7 @@ none_named is_under (x ∷ xs) = none_named is_under xs
 
 module _ {X K : Type 0} (same : K → K → Bool) (is_under : K → X → Bool) (one_key : (a b : K) (x : X) → is_under a x ≡ true → is_under b x ≡ same a b) where
   more_is : (keys : List K) (key : K) (x : X) → is_under_any is_under (keys ++ key ∷ []) x ≡ (is_under_any is_under keys x || is_under key x)
-  more_is keys key x = list_any-append (λ k. is_under k x) keys (key ∷ []) ∙ ap (λ b. is_under_any is_under keys x || b) (or_false (is_under key x))
+  more_is keys key x = list_any-append (λ k. is_under k x) keys (key ∷ []) ∙ grind arith
 
   same_key : (keys : List K) (key : K) (x : X) → is_under key x ≡ true → is_under_any is_under keys x ≡ list_any (same key) keys
   same_key [] key x is = refl
@@ -42,14 +36,13 @@ module _ {X K : Type 0} (same : K → K → Bool) (is_under : K → X → Bool) 
   -- one key more adds its rows, and nothing if it was named before
   pub named_more : (keys : List K) (key : K) (xs rows found : List X) → IsPermutation (filter (is_under_any is_under keys) xs) rows
       → found ≡ asked_once same is_under key keys xs → IsPermutation (filter (is_under_any is_under (keys ++ key ∷ [])) xs) (rows ++ found)
-  named_more keys key xs rows found so is = subst (λ l. IsPermutation (filter (is_under_any is_under (keys ++ key ∷ [])) xs) (rows ++ l)) (sym is)
-      (by_test (list_any (same key) keys) refl)
+  named_more keys key xs rows found so is = rw is (by_test (list_any (same key) keys) refl)
     where
       by_test : (b : Bool) → list_any (same key) keys ≡ b
           → IsPermutation (filter (is_under_any is_under (keys ++ key ∷ [])) xs) (rows ++ cond b [] (filter (is_under key) xs))
       by_test true there =
-          subst (IsPermutation (filter (is_under_any is_under (keys ++ key ∷ [])) xs)) (sym (append-nil rows))
-          (subst (λ l. IsPermutation l rows) (sym (filter_as _ _ (λ x. more_is keys key x ∙ or_in _ _ (λ is. same_key keys key x is ∙ there)) xs)) so)
+          rw (append-nil rows)
+          (subst (λ l. IsPermutation l rows) (sym (filter_as _ _ (λ x. more_is keys key x ∙ grind (arith, same_key keys key x)) xs)) so)
       by_test false none =
           subst (λ l. IsPermutation l (rows ++ filter (is_under key) xs)) (sym (filter_as _ _ (more_is keys key) xs))
           (IsPermutation-trans _ _ _ (apart (is_under_any is_under keys) (is_under key) (λ x a b. true≢false (sym a ∙ same_key keys key x b ∙ none)) xs)

@@ -1,12 +1,11 @@
 -- Of the rows with a value that at most one row has, the first is the machine's.
 use Rattle.kcr_tables.proofs.Common.{◌≡◌, Bool, true, List, [], ◌∷◌, ◌++◌, filter, find, length, slice_get, Option, Some, None, refl, ap, ◌∙◌, arith}
 use Rattle.kcr_tables.proofs.Common.{IsPermutation, is_eq, Database, Row, all_from, has_found, has_same, by_key, HoldsTables, TableSpec, IsTable}
-use Rattle.kcr_tables.proofs.Common.{machine_rows}
+use Rattle.kcr_tables.proofs.{Common.machine_rows, HasLemmas.one_key_of}
 use Rattle.std.specs.Option.{option_to_list}
 use Rattle.sqlite_keyed.proofs.ListLemmas.{slice_get-filter}
 use Rattle.kcr_base.proofs.ListLemmas.{find-order}
 use Rattle.kcr_history.specs.Tables as machine
-use Rattle.kcr_tables.proofs.HasLemmas.{one_key_of}
 
 -- the first of a table's rows that pass is the one that the machine finds, if all that pass have one key
 pub first_is : {X : Type 0} (table : TableSpec X) (row_of : X → Row) (is_read : X → Type 0) → IsTable table row_of is_read → (p : X → Bool)

@@ -1,15 +1,12 @@
 -- The trees of a file tell its schema.
-use Rattle.kcr_tables.proofs.Common.{refl, filter, false, ◌≡◌, true≢false, subst₂, inl, inr, List, [], ◌∷◌, sym, ap, subst, ◌∙◌, rules, AllZip}
-use Rattle.kcr_tables.proofs.Common.{append_cancel_left, Row, Trees, IsSound, IsTableRow, IsIndexRow, IsViewRow, is_table_row, is_index_row}
-use Rattle.kcr_tables.proofs.Common.{is_view_row, Has, all_has}
+use Rattle.kcr_tables.proofs.Common.{refl, filter, false, ◌≡◌, List, [], ◌∷◌, sym, ap, ◌∙◌, rules, AllZip, append_cancel_left, Row, Trees, IsSound}
+use Rattle.kcr_tables.proofs.Common.{IsTableRow, IsIndexRow, IsViewRow, is_table_row, is_index_row, is_view_row, Has}
 use Rattle.std.proofs.lemmas.Fmt.{decimal_injective}
-use Rattle.sqlite.specs.Schema.{Schema}
-use Rattle.sqlite.specs.Table.{Table}
-use Rattle.sqlite_trees.specs.Objects.{catalog_tree}
-use Rattle.sqlite_trees.specs.Tree.{IsAscending}
+use Rattle.sqlite.specs.{Schema.Schema, Table.Table}
+use Rattle.sqlite_trees.specs.{Objects.catalog_tree, Tree.IsAscending}
 use Rattle.sqlite_catalog.proofs.StepLemmas.{same_itself}
-use Rattle.sqlite_schema.specs.Names.{same_name}
-use Rattle.sqlite_schema.specs.declared.schema.Index.{Index}
+use Rattle.sqlite_schema.specs.{Names.same_name, declared.schema.Index.Index}
+use Rattle.kcr_tables.proofs.HasLemmas.{one_of_rising}
 
 zip_same : {A B : Type 0} (R : A → B → Type 0) → ((x : A) (a b : B) → R x a → R x b → a ≡ b) → (xs : List A) (ys bs : List B) → AllZip R xs ys → AllZip R xs bs
     → ys ≡ bs
@@ -31,15 +28,10 @@ table_same row a b p q = search rules
 -- ---- with the indexes of its tables
 
 -- two tables of one name are one
-one_name : (tables : List Table) (a b : Table) → IsAscending (λ s t. same_name s.name t.name ≡ false) tables → Has tables a → Has tables b → a.name ≡ b.name
-    → a ≡ b
-one_name [] a b up p q e = absurd p
-one_name (x ∷ xs) a b up (inl p) (inl q) e = p ∙ sym q
-one_name (x ∷ xs) a b up (inl p) (inr q) e = absurd
-    (true≢false (sym (same_itself a.name) ∙ subst₂ (λ s t. same_name s t ≡ false) (ap (λ (t : Table). t.name) (sym p)) (sym e) (all_has _ xs b up.0 q)))
-one_name (x ∷ xs) a b up (inr p) (inl q) e = absurd
-    (true≢false (sym (same_itself b.name) ∙ subst₂ (λ s t. same_name s t ≡ false) (ap (λ (t : Table). t.name) (sym q)) e (all_has _ xs a up.0 p)))
-one_name (x ∷ xs) a b up (inr p) (inr q) e = one_name xs a b up.1 p q e
+one_name : (tables : List Table) → IsAscending (λ s t. same_name s.name t.name ≡ false) tables → (a b : Table)
+    → Has tables a → Has tables b → a.name ≡ b.name → a ≡ b
+one_name tables = one_of_rising (λ s t. same_name s.name t.name ≡ false) (λ s t. s.name ≡ t.name)
+    (λ x y e. let is = same_itself x.name in (λ r. cc (ap (λ n. same_name x.name n) e), λ r. cc (ap (λ n. same_name n x.name) e))) tables
 
 index_same : (tables : List Table) → IsAscending (λ s t. same_name s.name t.name ≡ false) tables → (row : Row) (a b : Index) → IsIndexRow tables row a
     → IsIndexRow tables row b → a ≡ b
@@ -51,10 +43,8 @@ one_schema s t db plain p q =
     let a = p.lists.listed in
     let b = q.lists.listed in
     let tables : s.tables ≡ t.tables = zip_same IsTableRow table_same (filter is_table_row (db catalog_tree)) s.tables t.tables a.tables b.tables in
-    let theirs : AllZip (IsIndexRow t.tables) (filter is_index_row (db catalog_tree)) s.indexes =
-    subst (λ l. AllZip (IsIndexRow l) (filter is_index_row (db catalog_tree)) s.indexes) tables a.indexes in
     let indexes : s.indexes ≡ t.indexes = zip_same (IsIndexRow t.tables) (index_same t.tables b.named)
-    (filter is_index_row (db catalog_tree)) s.indexes t.indexes theirs b.indexes in
+    (filter is_index_row (db catalog_tree)) s.indexes t.indexes (rw tables at a.indexes) b.indexes in
     let views : s.views ≡ [] = zip_nil IsViewRow IsViewRow (filter is_view_row (db catalog_tree)) s.views (rw plain at b.views) a.views in
     ap (λ x. record s { tables = x }) tables ∙ ap (λ x. record s { tables = t.tables; indexes = x }) indexes
     ∙ ap (λ x. record t { views = x }) (views ∙ sym plain)

@@ -1,21 +1,18 @@
 -- The texts that show a part of one table, beside those of the table's own module.
-use Rattle.kcr_tables.proofs.Common.{◌≡◌, ℕ, pos, ◌&&◌, ◌||◌, not, ◌==◌, nat_le, nat_lt, Bool, true, false, List, [], ◌∷◌, codes, Option, Some, None}
-use Rattle.kcr_tables.proofs.Common.{refl, sym, ap, subst, ◌∙◌, arith, rules, is_ge, is_gt, is_eq, nat_tests, tied_itself, Null, Int, Text, Row}
-use Rattle.kcr_tables.proofs.Common.{column, Select, Term, lit, col, op2, compiled, equal, ascending, same_text, Place as Custodian, lasts_beyond}
-use Rattle.kcr_tables.proofs.Common.{ends_after, is_appointment_to, is_appointment_of, is_seating_of, is_step_at, training_reaches, stay_reaches}
+use Rattle.kcr_tables.proofs.Common.{◌≡◌, ℕ, pos, ◌&&◌, ◌||◌, not, ◌==◌, nat_le, nat_lt, Bool, true, List, [], ◌∷◌, codes, Option, Some, None, refl}
+use Rattle.kcr_tables.proofs.Common.{sym, ap, subst, ◌∙◌, arith, rules, is_ge, is_gt, is_eq, nat_tests, tied_itself, Null, Int, Text, Row, ends_after}
+use Rattle.kcr_tables.proofs.Common.{is_appointment_to, is_appointment_of, is_seating_of, is_step_at, training_reaches, stay_reaches}
 use Rattle.kcr_tables.proofs.Common.{ends_at_or_after, appointment_row, key_row, seating_row, stay_row, step_row, training_row, TableLayout, Means}
 use Rattle.kcr_tables.proofs.Common.{value_is, text_ties, place_ties, number_ties, reading, has_number, has_text, has_from, is_beyond_row}
 use Rattle.kcr_tables.proofs.Common.{is_lasting_row, is_row_of_step, Ordered, Unordered, Last, SelectsLast, Query, register_schema, is_given}
 use Rattle.kcr_tables.proofs.Common.{shown_columns, SelectsRows, appointments_place, keys_place, seatings_place, stays_place, steps_place}
 use Rattle.kcr_tables.proofs.Common.{trainings_place, SelectsUnordered, passing, wanted_passing}
-use Rattle.sqlite.specs.declared.types.Value.{Value}
-use Rattle.sqlite.specs.Order.{value_cmp}
+use Rattle.kcr_tables.proofs.Common.{column, Select, Term, lit, col, op2, compiled, equal, ascending, same_text, Place as Custodian, lasts_beyond}
+use Rattle.sqlite.specs.{declared.types.Value.Value, Order.value_cmp, Collation.TheVariants.Binary}
 use Rattle.sqlite.specs.Ops.{is_null, is_true, truth, from_truth, or3, binary}
-use Rattle.sqlite.specs.Collation.TheVariants.{Binary}
 use Rattle.sqlite_schema.specs.declared.schema.Table.{Table}
 use Rattle.sqlite_sql.specs.declared.ops.BinaryOp.TheVariants.{Compare, Is, Or}
-use Rattle.sqlite_sql.specs.declared.ops.CompareOp.{CompareOp}
-use Rattle.sqlite_sql.specs.declared.ops.CompareOp.TheVariants.{Eq, Ge, Gt}
+use Rattle.sqlite_sql.specs.declared.ops.CompareOp.{CompareOp, TheVariants.Eq, TheVariants.Ge, TheVariants.Gt}
 use Rattle.sqlite_sql.specs.Ops as compared
 use Rattle.sqlite_value.specs.declared.keys.Key.{Key}
 use Rattle.sqlite_value.proofs.OrderLemmas.{value_cmp-Int, value_cmp_total}
@@ -43,18 +40,14 @@ same_number_is a b = value_is (Int (pos a)) (Int (pos b)) refl refl ∙ sym (num
 
 -- ---- one row, with the greatest number
 
--- the last accepted command
-abbrev key_sql : List ℕ
-key_sql = codes "SELECT \"key\", accepted, command, reply FROM keys ORDER BY accepted DESC LIMIT 1"
-
 -- the text shows the row of keys with the greatest number of a command
-pub selects_key : SelectsLast key_sql keys_place [] (λ _. true) 1
+pub selects_key : SelectsLast (codes "SELECT \"key\", accepted, command, reply FROM keys ORDER BY accepted DESC LIMIT 1") keys_place [] (λ _. true) 1
 unfolding everything
 selects_key = record { test = []; project = shown_columns keys_place; names = column_names schema.keys; means = (refl, refl, refl); is = refl }
 
 -- the query for the row of the last accepted command
 abbrev pub last_key : Query keys.table key_row
-last_key = query key_sql [] (Last (λ x. x.accepted)) (λ _. true) (λ _. true) (λ x. refl) (λ x y. keys.one_value x y tt tt, (1, selects_key, λ x. refl))
+last_key = query _ [] (Last (λ x. x.accepted)) (λ _. true) (λ _. true) (λ x. refl) (λ x y. keys.one_value x y tt tt, (1, selects_key, λ x. refl))
 
 -- the stay of a person that began last
 abbrev stay_sql : List ℕ
@@ -137,9 +130,6 @@ ends op until n = is_true (binary Or (binary (Is Binary) until Null) (binary (Co
 abbrev either : Bool → Bool → Bool
 either a b = is_true (from_truth (or3 (truth (from_truth (Some a))) (truth (from_truth (Some b)))))
 
-either_is : (b : Bool) → either false b ≡ b
-either_is b = grind arith
-
 nothing_is : (v : Value) → is_eq (value_cmp v Null) ≡ is_null v
 unfolding value_cmp
 nothing_is Null = ap is_eq (tied_itself value_cmp_total Null)
@@ -149,7 +139,7 @@ nothing_is v = refl
 pub ends_is : (op : CompareOp) (v : Value) (n : ℕ) → ends op v n ≡ (is_null v || (not (is_null v) && compared.test op (value_cmp v (Int (pos n)))))
 unfolding binary
 ends_is op Null n = ap (λ a. is_true (from_truth (or3 (truth (from_truth (Some a))) None))) (nothing_is Null)
-ends_is op v n = let b = compared.test op (value_cmp v (Int (pos n))) in ap (λ a. either a b) (nothing_is v) ∙ either_is b
+ends_is op v n = let b = compared.test op (value_cmp v (Int (pos n))) in ap (λ a. either a b) (nothing_is v) ∙ grind arith
 
 -- a number is at or after another as a value if and only if it is as a number
 pub number_from : (n day : ℕ) → is_ge (value_cmp (Int (pos n)) (Int (pos day))) ≡ nat_le day n

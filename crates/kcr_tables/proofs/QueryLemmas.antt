@@ -3,9 +3,9 @@ use Rattle.kcr_tables.proofs.Common.{◌≡◌, ℕ, pos, Bool, List, [], map, f
 use Rattle.kcr_tables.proofs.Common.{AllByRecursion, map-id, IsPermutation-map, Null, Row, overlay, Output, IsAnswer, State, Shown, understood}
 use Rattle.kcr_tables.proofs.Common.{IsPlain, map-map, Refusal, Selection, Matching, if_ok, filter_as, kept_cells, is_plain, reads_shown, IsGreatest}
 use Rattle.kcr_tables.proofs.Common.{TableLayout, TreeHolds, register_schema, rows_at, IsOneOf, Which, Ordered, Unordered, Last, Shows, ShowsRows}
-use Rattle.kcr_tables.proofs.Common.{SelectsLast, SelectsWhich, Query, TableSpec}
+use Rattle.kcr_tables.proofs.Common.{SelectsLast, SelectsWhich, Query, TableSpec, Vec, Global, Includes, IsPermutation-same}
 use Rattle.kcr_rows.proofs.GreatestLemmas.{greatest, with_number, shown_greatest}
-use Rattle.kcr_tables.proofs.ExactLemmas.{one_of}
+use Rattle.kcr_tables.proofs.{ExactLemmas.one_of, NamedLemmas.passing}
 use Rattle.kcr_tables.proofs.StatementLemmas.{rows_shown, every_row, passing_rows, passing_values}
 
 -- whatever the tree has, the row that is shown is one of its rows that pass
@@ -44,8 +44,7 @@ module _ {X : Type 0} (row_of : X → Row) (sql : List ℕ) (place : TableLayout
       → AllByRecursion IsStored ys → TreeHolds place old.now.trees (map row_of ys) → Shows which (filter test ys) xs
   values_told IsRead IsStored one test same Ordered s old new xs ys has h read stored keeps = search (rules, rows_shown)
   values_told IsRead IsStored one test same Unordered s old new xs ys has h read stored keeps =
-      subst (λ l. IsPermutation l xs) (filter_as (λ x. passes (row_of x)) test same ys)
-      (passing_values s.1 row_of (λ x y _ _. s.0 x y) old new xs ys has h keeps)
+      rw (filter_as (λ x. passes (row_of x)) test same ys) at (passing_values s.1 row_of (λ x y _ _. s.0 x y) old new xs ys has h keeps)
   values_told IsRead IsStored one test same (Last number) s old new xs ys has h read stored keeps =
       let it = s.1.1 in
       subst (λ l. IsGreatest number l xs) (filter_as (λ x. passes (row_of x)) test same ys)
@@ -62,3 +61,13 @@ query sql params which test passes same selects =
 pub if_asked : {F V : Type 0} (P : Selection F → V → Type 0) {Q : V → Type 0} (filter : F) {asked : Selection F} {inner : F} → asked ≡ Matching inner
     → inner ≡ filter → ((v : V) → Q v → P (Matching filter) v) → (r : Result V Refusal) → IfOk r Q → IfOk r (P asked)
 if_asked {F} P filter is same f r told = subst (λ (q : Selection F). IfOk r (P q)) (ap Matching (sym same) ∙ sym is) (if_ok _ _ f r told)
+
+module _ {X K : Type 0} (is_under : K → X → Bool) (xs : List X) (key : K) {asked : Selection K} {inner : K}
+    (is : asked ≡ Matching inner) (same : inner ≡ key) (r : Result (Vec X Global) Refusal) where
+  -- the rows under a key, in any order, are those asked for
+  pub rows_asked : IfOk r (λ all. IsPermutation (filter (is_under key) xs) all.items) → IfOk r (λ all. Includes is_under asked xs all.items)
+  rows_asked = if_asked (λ q all. Includes is_under q xs all.items) key is same (λ all. passing (is_under key) xs all.items) r
+
+  -- and so are they in the order of the table
+  pub found_asked : IfOk r (λ all. all.items ≡ filter (is_under key) xs) → IfOk r (λ all. Includes is_under asked xs all.items)
+  found_asked told = rows_asked (if_ok _ _ (λ all e. IsPermutation-same _ _ (sym e)) r told)

@@ -3,8 +3,7 @@ use Rattle.kcr_tables.proofs.Common.{◌≡◌, [], List, refl, ap, put_in, safe
 use Rattle.sqlite.specs.Order.{value_cmp}
 use Rattle.sqlite_tied.specs.Compute.{everything}
 use Rattle.kcr_base.specs.declared.place.Facility.TheVariants.{East, West}
-use Rattle.kcr_custody.specs.declared.SafeNumber.TheVariants.{One, Two}
-use Rattle.kcr_custody.specs.declared.SafeRow.{SafeRow}
+use Rattle.kcr_custody.specs.declared.{SafeNumber.TheVariants.One, SafeNumber.TheVariants.Two, SafeRow.SafeRow}
 use Rattle.kcr_tables.specs.NewTables.{empty_tables, new_tables, shut}
 
 -- in the order of their keys

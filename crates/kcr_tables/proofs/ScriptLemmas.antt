@@ -2,13 +2,10 @@
 use Rattle.kcr_tables.proofs.Common.{◌≡◌, ◌≤◌, ℕ, List, filter, Option, Some, None, refl, sym, ◌∙◌, arith, IsPermutation, rules, IsPermutation-sym}
 use Rattle.kcr_tables.proofs.Common.{IsPermutation-trans, Has, has_kept, IsPermutation-filter, IsPermutation-same, is_step_at, is_seating_of}
 use Rattle.kcr_tables.proofs.Common.{last_seated, step_asked, ShowsStepOf, IncludesStep, IsGreatest, has_same}
-use Rattle.kcr_history.specs.declared.row_types.SeatingRow.{SeatingRow}
-use Rattle.kcr_history.specs.declared.row_types.StepRow.{StepRow}
-use Rattle.kcr_history.specs.declared.views.StepFilter.{StepFilter}
+use Rattle.kcr_history.specs.declared.{row_types.SeatingRow.SeatingRow, row_types.StepRow.StepRow, views.StepFilter.StepFilter}
 use Rattle.kcr_history.proofs.Tops.{top, top-more}
-use Rattle.kcr_tables.proofs.HasLemmas.{filter_from, filter_is}
+use Rattle.kcr_tables.proofs.{HasLemmas.filter_from, HasLemmas.filter_is, NamedLemmas.twice}
 use Rattle.kcr_tables.proofs.MostLemmas.{shown_has, shown_over, most_same}
-use Rattle.kcr_tables.proofs.NamedLemmas.{twice}
 
 -- the last step that has a seating is the same in two lists of which neither exceeds the other
 seated_same : (xs ys : List SeatingRow) → ((x : SeatingRow) → Has xs x → (y : SeatingRow) × Has ys y × (x.step ≤ y.step))

@@ -72,9 +72,7 @@ module _ {place : TableLayout} {sql : List ℕ} {params : Row} {passes : Row →
       → IsPermutation (filter (λ y. passes (row_of y)) ys) xs
   passing_values row_of one old new xs ys has h keeps =
       let mine = filter (λ y. passes (row_of y)) ys in
-      let passed : IsPermutation (map row_of mine) (filter passes (rows_at place old.now.trees)) =
-      subst (λ l. IsPermutation l (filter passes (rows_at place old.now.trees))) (filter-map passes row_of ys)
-      (IsPermutation-filter passes _ _ keeps.same) in
+      let passed = rw (filter-map passes row_of ys) at (IsPermutation-filter passes _ _ keeps.same) in
       let found = in_row_order row_of mine (map row_of xs) (IsPermutation-trans _ _ _ passed (passing_rows old new (map row_of xs) has h)) in
       let same = same_values row_of (λ _. ⊤) (λ _. ⊤) one xs found.0 (each_is xs) (each_is found.0) found.1 in
       subst (IsPermutation mine) (sym same) found.2

@@ -1,71 +1,46 @@
 -- The stays of a ceremony, and of some people the one that began last.
-use Rattle.kcr_tables.proofs.Common.{◌≡◌, ◌⊎◌, inl, inr, ◌≤◌, ◌&&◌, not, Bool, true, false, cond, ℕ, List, [], ◌∷◌, ◌++◌, filter, map, Option, Some}
-use Rattle.kcr_tables.proofs.Common.{None, refl, sym, ap, subst, ◌∙◌, arith, append_assoc, append-nil, IsPermutation, Less, rules, AllByRecursion}
-use Rattle.kcr_tables.proofs.Common.{eq-eqb, not-true, filter-append, nat_tests, IsPermutation-sym, IsPermutation-trans, IsPermutation-append_left}
+use Rattle.kcr_tables.proofs.Common.{◌≡◌, inl, inr, ◌≤◌, ◌&&◌, not, Bool, true, false, cond, ℕ, List, [], ◌∷◌, ◌++◌, filter, map, Option, Some, None}
+use Rattle.kcr_tables.proofs.Common.{refl, sym, ap, subst, ◌∙◌, arith, append_assoc, append-nil, IsPermutation, Less, rules, AllByRecursion, eq-eqb}
+use Rattle.kcr_tables.proofs.Common.{not-true, filter-append, nat_tests, IsPermutation-sym, IsPermutation-trans, IsPermutation-append_left}
 use Rattle.kcr_tables.proofs.Common.{sum_by-IsPermutation, IsAscending, Has, all_from, has_either, has_left, has_right, has_kept}
 use Rattle.kcr_tables.proofs.Common.{IsPermutation-filter, all-append, all_weaker, filter_none, same_text, in-order, of_ceremony, stay_reaches, Stay}
-use Rattle.kcr_tables.proofs.Common.{Selection, Nothing, Matching, All, later_stay, last_of, last_stay, ShowsLast, ShowsStaysOf, IncludesStays}
-use Rattle.kcr_tables.proofs.Common.{HasStayCount, by_key, IsGreatest, has_same, stay_row}
+use Rattle.kcr_tables.proofs.Common.{Selection, Nothing, Matching, All, last_of, last_stay, ShowsLast, ShowsStaysOf, IncludesStays, HasStayCount}
+use Rattle.kcr_tables.proofs.Common.{by_key, IsGreatest, has_same, stay_row}
 use Rattle.std.proofs.lemmas.Slice.Eq.{bytes_eq-Decides}
 use Rattle.kcr_history.specs.declared.views.StayFilter.{StayFilter}
-use Rattle.kcr_tables.proofs.JointLemmas.{key_of_stays}
+use Rattle.kcr_tables.proofs.{JointLemmas.key_of_stays, NamedLemmas.twice, MostLemmas.shown_has, MostLemmas.shown_over}
 use Rattle.kcr_tables.proofs.HasLemmas.{has_in, in_has, filter_from, filter_is, one_key_of}
-use Rattle.kcr_tables.proofs.MostLemmas.{shown_has, shown_over}
-use Rattle.kcr_tables.proofs.NamedLemmas.{twice}
 
 -- ---- the stay of a list that began last
 
-later_is : (x : Stay) (o : Option Stay) (z : Stay) → later_stay x o ≡ Some z → (z ≡ x) ⊎ (o ≡ Some z)
-later_is x o z h = grind arith
-
-later_some : (x : Stay) (o : Option Stay) → later_stay x o ≡ None → ⊥
-later_some x o h = grind arith
-
-later_low : (x : Stay) (o : Option Stay) (z : Stay) → later_stay x o ≡ Some z → x.since ≤ z.since
-later_low x o z h = grind (arith, nat_tests)
-
--- what is below each last stay of the rest is below the last
-later_most : (y : Stay) (o : Option Stay) (z x : Stay) → later_stay y o ≡ Some z → (o ≡ None → ⊥)
-    → ((w : Stay) → o ≡ Some w → x.since ≤ w.since) → x.since ≤ z.since
-later_most y o z x h some low = grind (arith, nat_tests)
-
-only_one : (o : Option Stay) (s : Stay) → (o ≡ None → ⊥) → ((z : Stay) → o ≡ Some z → z ≡ s) → o ≡ Some s
-only_one None s some is = absurd (some refl)
-only_one (Some z) s some is = ap Some (is z refl)
-
 last_has : (xs : List Stay) (z : Stay) → last_of xs ≡ Some z → Has xs z
 last_has [] z h = absurd (cc)
-last_has (x ∷ xs) z h = elim (later_is x (last_of xs) z h) [ inl same ↦ inl same | inr later ↦ inr (last_has xs z later) ]
+last_has (x ∷ xs) z h = grind (arith, last_has xs z)
 
 last_none : (xs : List Stay) (x : Stay) → last_of xs ≡ None → Has xs x → ⊥
 last_none [] x h there = there
-last_none (y ∷ xs) x h there = later_some y (last_of xs) h
+last_none (y ∷ xs) x h there = grind arith
 
 last_most : (xs : List Stay) (z : Stay) → last_of xs ≡ Some z → (x : Stay) → Has xs x → x.since ≤ z.since
 last_most [] z h x there = absurd there
-last_most (y ∷ xs) z h x (inl same) = let low = later_low y (last_of xs) z h in let e = ap (λ (s : Stay). s.since) same in omega (arith, low, e)
-last_most (y ∷ xs) z h x (inr there) = later_most y (last_of xs) z x h (λ e. last_none xs x e there) (λ w e. last_most xs w e x there)
-
--- it is the one that none exceeds, if no other began with it
-last_is : (xs : List Stay) (s : Stay) → Has xs s → ((x : Stay) → Has xs x → x.since ≤ s.since) → ((x : Stay) → Has xs x → x.since ≡ s.since → x ≡ s)
-    → last_of xs ≡ Some s
-last_is xs s there most one = only_one (last_of xs) s (λ e. last_none xs s e there) (λ z e.
-    let has = last_has xs z e in
-    let high = last_most xs z e s there in
-    let low = most z has in one z has (omega (arith, high, low)))
-
-none_there : (xs : List Stay) → ((x : Stay) → Has xs x → ⊥) → xs ≡ []
-none_there [] h = refl
-none_there (x ∷ xs) h = absurd (h x (inl refl))
+last_most (y ∷ xs) z h x (inl same) = grind (arith, nat_tests, ap (λ (s : Stay). s.since) same)
+last_most (y ∷ xs) z h x (inr there) =
+    let none : last_of xs ≡ None → ⊥ = λ e. last_none xs x e there in
+    let low : (w : Stay) → last_of xs ≡ Some w → x.since ≤ w.since = λ w e. last_most xs w e x there in grind (arith, nat_tests)
 
 -- a list of stays that another has, with the other's last, has the same last, if no two of them began at once
 last_within : (xs ys : List Stay) → ((x : Stay) → Has xs x → Has ys x) → ((z : Stay) → last_of ys ≡ Some z → Has xs z)
     → ((x y : Stay) → Has ys x → Has ys y → x.since ≡ y.since → x ≡ y) → last_of xs ≡ last_of ys
-last_within xs ys into has one = by_last (last_of ys) refl
+last_within xs ys into has one = by_last (last_of xs) (last_of ys) refl refl
   where
-    by_last : (o : Option Stay) → last_of ys ≡ o → last_of xs ≡ o
-    by_last None e = ap last_of (none_there xs (λ x h. last_none ys x e (into x h)))
-    by_last (Some s) e = last_is xs s (has s e) (λ x h. last_most ys s e x (into x h)) (λ x h. one x s (into x h) (last_has ys s e))
+    by_last : (o p : Option Stay) → last_of xs ≡ o → last_of ys ≡ p → o ≡ p
+    by_last None None d e = refl
+    by_last None (Some s) d e = absurd (last_none xs s d (has s e))
+    by_last (Some z) None d e = absurd (last_none ys z e (into z (last_has xs z d)))
+    by_last (Some z) (Some s) d e =
+        let there = into z (last_has xs z d) in
+        let high = last_most xs z d s (has s e) in
+        let low = last_most ys s e z there in ap Some (one z s there (last_has ys s e) (omega (arith, high, low)))
 
 -- ---- of one person
 
@@ -124,10 +99,6 @@ room_gathered mine table rows are = search (rules, append-nil)
 none_both : {X : Type 0} (p : X → Bool) (xs : List X) → filter p (filter (λ x. not (p x)) xs) ≡ []
 none_both p xs = filter_none p _ (all_from _ _ (λ x h. not-true _ (filter_is (λ y. not (p y)) xs x h)))
 
-all_more : (table rows found : List Stay) (people : List (List ℕ)) → AllByRecursion (HasLast table rows) people
-    → AllByRecursion (HasLast table (rows ++ found)) people
-all_more table rows found people all = search (rules, all_weaker, has_left)
-
 module _ (mine : Stay → Bool) (people : List (List ℕ)) (table rows last found : List Stay) (who : List ℕ) (had : Gathered mine people table rows)
     (greatest : IsGreatest (λ x. x.since) (filter (is_of who) table) last) (found_is : found ≡ filter (λ x. not (mine x)) last) where
   in_table : (x : Stay) → Has last x → Has table x
@@ -138,25 +109,18 @@ module _ (mine : Stay → Bool) (people : List (List ℕ)) (table rows last foun
     where
       by_test : (b : Bool) → mine x ≡ b → Has (rows ++ found) x
       by_test true e = has_left rows found x
-          (has_same _ rows x had.are
-          (has_left (filter mine table) had.more x (has_kept mine table x (in_table x h) e)))
+          (has_same _ rows x had.are (has_left (filter mine table) had.more x (has_kept mine table x (in_table x h) e)))
       by_test false e = has_right rows found x (subst (λ l. Has l x) (sym found_is) (has_kept (λ y. not (mine y)) last x h (ap not e)))
 
   -- with one person's last stay added, the rows have the last stay of one person more
   pub more_gathered : Gathered mine (people ++ who ∷ []) table (rows ++ found)
   more_gathered = record {
     more = had.more ++ found;
-    are = subst (λ l. IsPermutation l (rows ++ found)) (append_assoc (filter mine table) had.more found)
-        (IsPermutation-append_left found _ rows had.are);
-    elsewhere = filter-append mine had.more found ∙ ap (λ l. l ++ filter mine found) had.elsewhere
-        ∙ ap (filter mine) found_is ∙ none_both mine last;
-    there = λ x h. elim
-        (has_either had.more found x h) [
-          | inl before ↦ had.there x before
-          | inr new ↦ in_table x
-              (filter_from (λ y. not (mine y)) last x (subst (λ l. Has l x) found_is new))
-        ];
-    last = all-append (HasLast table (rows ++ found)) people (who ∷ []) (all_more table rows found people had.last) ((last, greatest, here), tt);
+    are = rw (append_assoc (filter mine table) had.more found) at (IsPermutation-append_left found _ rows had.are);
+    elsewhere = rw (filter-append mine had.more found, had.elsewhere, found_is, none_both mine last) refl;
+    there = λ x h. elim (has_either had.more found x h)
+        [ inl before ↦ had.there x before | inr new ↦ in_table x (filter_from (λ y. not (mine y)) last x (subst (λ l. Has l x) found_is new)) ];
+    last = all-append (HasLast table (rows ++ found)) people (who ∷ []) (search (rules, all_weaker, has_left)) ((last, greatest, here), tt);
   }
 
 all_last : (table rows : List Stay) → Apart table → ((x : Stay) → Has rows x → Has table x) → (people : List (List ℕ))
@@ -169,15 +133,12 @@ pub gathered_shows : (asked : StayFilter) (table rows : List Stay) → Apart tab
     → Gathered (stay_reaches asked.ceremony asked.at) asked.people table rows → ShowsStaysOf asked table rows
 gathered_shows asked table rows apart had =
     let mine = stay_reaches asked.ceremony asked.at in
-    let within : (x : Stay) → Has rows x → Has table x = λ x h. elim
-    (has_either (filter mine table) had.more x (has_same rows _ x (IsPermutation-sym _ rows had.are) h)) [
-      | inl room ↦ filter_from mine table x room
-      | inr more ↦ had.there x more
-    ] in
-    let room : filter mine (filter mine table ++ had.more) ≡ filter mine table = filter-append mine (filter mine table) had.more
-    ∙ ap (λ l. filter mine (filter mine table) ++ l) had.elsewhere ∙ append-nil _ ∙ twice mine table in
+    let within : (x : Stay) → Has rows x → Has table x = λ x h.
+    elim (has_either (filter mine table) had.more x (has_same rows _ x (IsPermutation-sym _ rows had.are) h))
+    [ inl room ↦ filter_from mine table x room | inr more ↦ had.there x more ] in
     record {
-      room = subst (λ l. IsPermutation l (filter mine rows)) room (IsPermutation-filter mine _ rows had.are);
+      room = rw (filter-append mine (filter mine table) had.more, had.elsewhere, append-nil, twice mine table) at
+          (IsPermutation-filter mine _ rows had.are);
       last = all_last table rows apart within asked.people had.last;
       within = λ x i. has_in x table (within x (in_has x rows i));
     }

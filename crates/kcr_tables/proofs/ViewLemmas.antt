@@ -1,12 +1,10 @@
 -- The rows that are read are those that a decision asks for.
 use Rattle.kcr_tables.proofs.Common.{◌≡◌, inl, inr, Bool, true, false, ℕ, List, slice_get, Option, Some, None, refl, sym, subst, ◌∙◌, arith}
-use Rattle.kcr_tables.proofs.Common.{IsPermutation, rules, IsPermutation-sym, IsPermutation-trans, Database, Has, IsPermutation-filter, Selection}
-use Rattle.kcr_tables.proofs.Common.{Nothing, Matching, All, Includes, IncludesAll, greatest_number, IsGreatest, has_same, asked_of, asked_all}
-use Rattle.kcr_tables.proofs.Common.{HoldsTables}
+use Rattle.kcr_tables.proofs.Common.{IsPermutation, rules, IsPermutation-sym, IsPermutation-trans, Database, IsPermutation-filter, Selection, Nothing}
+use Rattle.kcr_tables.proofs.Common.{Matching, All, Includes, IncludesAll, greatest_number, IsGreatest, has_same, asked_of, asked_all, HoldsTables}
 use Rattle.kcr_history.specs.declared.row_types.KeyRow.{KeyRow}
 use Rattle.kcr_history.specs.Tables as machine
-use Rattle.kcr_tables.proofs.MostLemmas.{shown_has, shown_over, most_same}
-use Rattle.kcr_tables.proofs.NamedLemmas.{twice}
+use Rattle.kcr_tables.proofs.{MostLemmas.shown_has, MostLemmas.shown_over, MostLemmas.most_same, NamedLemmas.twice}
 
 -- ---- rows under a key, or all
 
@@ -38,21 +36,11 @@ module _ (m : machine.Tables) (db : Database) (h : HoldsTables m db) where
   abbrev t : machine.Tables
   t = h.tables.t.rows
 
-  mine : (x : KeyRow) → Has t.keys x → Has m.keys x
-  mine x there = has_same t.keys m.keys x (IsPermutation-sym _ _ h.tables.stands.rows.keys) there
-
-  theirs : (x : KeyRow) → Has m.keys x → Has t.keys x
-  theirs x there = has_same m.keys t.keys x h.tables.stands.rows.keys there
-
   -- the row with the greatest number tells that number
   pub greatest_told : (last : List KeyRow) → IsGreatest (λ x. x.accepted) t.keys last → told (slice_get last 0) ≡ greatest_number m.keys
   greatest_told last greatest =
-      first_told ∙ most_same (λ (x : KeyRow). x.accepted) greatest_number refl (λ x xs. refl) last m.keys
-      (λ x h. (x, mine x (shown_has (λ (x : KeyRow). x.accepted) t.keys last greatest x h), omega arith))
-      (λ x h. shown_over (λ (x : KeyRow). x.accepted) t.keys last greatest x (theirs x h))
-    where
-      first_told : told (slice_get last 0) ≡ greatest_number last
-      first_told = elim greatest [
-        | inl none ↦ rw none.1 refl
-        | inr some ↦ rw some.1 (omega arith)
-      ]
+      let keys = h.tables.stands.rows.keys in
+      let first : told (slice_get last 0) ≡ greatest_number last = elim greatest [ inl none ↦ rw none.1 refl | inr some ↦ rw some.1 (omega arith) ] in
+      first ∙ most_same (λ (x : KeyRow). x.accepted) greatest_number refl (λ x xs. refl) last m.keys
+      (λ x i. (x, has_same _ _ x (IsPermutation-sym _ _ keys) (shown_has (λ (x : KeyRow). x.accepted) t.keys last greatest x i), omega arith))
+      (λ x i. shown_over (λ (x : KeyRow). x.accepted) t.keys last greatest x (has_same _ _ x keys i))

@@ -1,9 +1,7 @@
 -- A register in memory, whose disk is never in doubt.
 use Rattle.kcr_tool.proofs.Common.{[], refl, Held, HasCleanDisk, History, RegisterState, IsFresh}
-use Rattle.sqlite.specs.Held.{state}
-use Rattle.sqlite.specs.Steps.{over_memory}
-use Rattle.sqlite_trees.specs.declared.memory.MemStore.{MemStore}
-use Rattle.sqlite_trees.specs.View.{doubt}
+use Rattle.sqlite.specs.{Held.state, Steps.over_memory}
+use Rattle.sqlite_trees.specs.{declared.memory.MemStore.MemStore, View.doubt}
 use Rattle.kcr_store.specs.Calls.{OfHistory}
 
 -- the disk of a register in memory is clean

@@ -1,5 +1,5 @@
 -- A report whose fault has an invalid row in place of an I/O error.
-use Rattle.kcr_tool.proofs.Common.{inl, inr, ◌∙◌, ℕ, Bool, Result, Err, sym, Disk, MayNote, Fault, Invalid, Refused, MayNameRow}
+use Rattle.kcr_tool.proofs.Common.{arith, inl, inr, ℕ, Bool, Result, Err, Disk, MayNote, Fault, Invalid, Refused, MayNameRow}
 use Rattle.kcr_verify.specs.declared.invalid.InvalidRow.{InvalidRow}
 
 -- what is said of how a task ended, and as well of a row as of an I/O error
@@ -10,6 +10,4 @@ row_said Says ended result same (inr (row, was, is)) says = rw is (same row (rw 
 
 -- notes are told all the same
 pub row_noted : (is_explained : Bool) (ended result : Result ℕ Fault) → MayNameRow ended result → MayNote is_explained ended → MayNote is_explained result
-row_noted is_explained ended result named (inl is) = inl is
-row_noted is_explained ended result (inl same) (inr done) = inr (same ∙ done)
-row_noted is_explained ended result (inr named) (inr done) = absurd (let both = sym named.1 ∙ done in cc)
+row_noted is_explained ended result named noted = grind arith

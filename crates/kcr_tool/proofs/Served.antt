@@ -1,7 +1,6 @@
 -- What connections make of the history at which a register stood.
 use Rattle.kcr_tool.proofs.Common.{ℕ, Result, Ok, Err, HasCleanDisk, RegisterHistory, RegisterState, StandsAt, Fault, ConnectsUpTo, ServesTo}
-use Rattle.sqlite.specs.Held.{state}
-use Rattle.sqlite.specs.Store.{Ghosts}
+use Rattle.sqlite.specs.{Held.state, Store.Ghosts}
 
 -- connections lead by runs of the machine from the history of a register to the one after them
 pub served_to : {S T : Type 0} (g : Ghosts S) (connections : ℕ) (old new : RegisterState S) (result : Result T Fault)

@@ -1,5 +1,5 @@
 -- What the words name, and what is told of it.
-use Rattle.kcr_tool.proofs.Common.{◌≡◌, ℕ, List, Bool, Option, Some, None, Err, refl, IsSome, IsTrue, option_map, Streams, Writing, writing}
+use Rattle.kcr_tool.proofs.Common.{◌≡◌, ◌⊎◌, arith, ℕ, List, Bool, Option, Some, None, Err, IsSome, IsTrue, option_map, Streams, Writing, writing}
 use Rattle.kcr_tool.proofs.Common.{AreLinesOf, HasCause, TellsFault, IsNoted, MayNote, WritesLines, Fault, Task}
 use Rattle.kcr_base.specs.declared.counted.Counted.{Counted}
 use Rattle.kcr_tool.proofs.Notes.{asked_of_fault, task_noted}
@@ -20,5 +20,12 @@ fault_told said file_said into_said explained_said task file into is_explained t
 
 -- a file that is not unnamed is named
 pub is_named : {X : Type 0} (f : X → List ℕ) (o : Option X) (said : Option (List ℕ)) → said ≡ option_map f o → (o ≡ None → ⊥) → IsSome said
-is_named f None said e some = absurd (some refl)
-is_named f (Some x) said e some = rw e refl
+is_named f o said e some = grind (arith, some)
+
+-- a task whose status is 0 was done
+pub done_at_zero : {Done Problem : Type 0} (status : ℕ) → status ≡ 0 → ((status ≡ 0) × Done) ⊎ ((status ≡ 1) × Problem) → Done
+done_at_zero status zero ends = grind (arith, ends)
+
+-- and one whose status is 1 found a problem
+pub found_at_one : {Done Problem : Type 0} (status : ℕ) → status ≡ 1 → ((status ≡ 0) × Done) ⊎ ((status ≡ 1) × Problem) → Problem
+found_at_one status one ends = grind (arith, ends)

@@ -14,13 +14,9 @@ has_mapped f [] i x h is = absurd (omega arith)
 has_mapped f (y ∷ ys) zero x h is = inl (ap f is)
 has_mapped f (y ∷ ys) (suc i) x h is = inr (has_mapped f ys i x (omega arith) is)
 
--- a row that is invalid among those that are shown is so among the same rows in any other order
-pub invalid_among : (kinds : List Kind) (rows shown : List Row) (row : Row) → IsPermutation rows shown → IsInvalidOf kinds shown row → IsInvalidOf kinds rows row
-invalid_among kinds rows shown row same is =
-    record { there = has_same shown rows row (IsPermutation-sym rows shown same) is.there; invalid = is.invalid }
-
--- so is a row that was found among them, if one was
+-- a row that is invalid among those that are shown, if one was found, is so among the same rows in any other order
 pub found_among : (kinds : List Kind) (rows shown : List Row) (found : Option Row) → IsPermutation rows shown
     → IfSome found (IsInvalidOf kinds shown) → IfSome found (IsInvalidOf kinds rows)
 found_among kinds rows shown None same is = tt
-found_among kinds rows shown (Some row) same is = invalid_among kinds rows shown row same is
+found_among kinds rows shown (Some row) same is =
+    record { there = has_same shown rows row (IsPermutation-sym rows shown same) is.there; invalid = is.invalid }

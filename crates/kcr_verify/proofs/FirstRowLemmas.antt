@@ -1,12 +1,10 @@
 -- The first row in which two lists of rows differ, and what it says of a table.
 use Rattle.kcr_verify.proofs.Common.{◌≡◌, ◌≢◌, List, Option, Some, None, map, sym, ◌∙◌, IsPermutation, IsSorted, MatchOption, IsPermutation-refl}
 use Rattle.kcr_verify.proofs.Common.{IsPermutation-trans, Row, History, IsRegister, Tables, key_row, KeyRow, Kind, AreRows, TableSpec, IsTable}
-use Rattle.kcr_verify.proofs.Common.{IsFirstCommand, by_number, RowDifference}
+use Rattle.kcr_verify.proofs.{Common.IsFirstCommand, Common.by_number, Common.RowDifference, NumberLemmas.in_number_order, OrderLemmas.one_table}
 use Rattle.kcr_rows.specs.Kinds.{key_kinds}
 use Rattle.kcr_rows.specs.Rows as stored
 use Rattle.kcr_verify.specs.FirstRow.{DiffersAt, IsFirstRow}
-use Rattle.kcr_verify.proofs.NumberLemmas.{in_number_order}
-use Rattle.kcr_verify.proofs.OrderLemmas.{one_table}
 
 -- what the comparison of two lists says of a table
 pub compared_rows : {X : Type 0} (table : TableSpec X) (kinds : List Kind) (row_of : X → Row) (is_read : X → Type 0) → IsTable table row_of is_read → (m : Tables)

@@ -3,8 +3,7 @@ use Rattle.kcr_verify.proofs.Common.{◌≡◌, ◌≢◌, inl, inr, refl, arith
 use Rattle.sqlite.proofs.StateLemmas.{survives_weaker}
 use Rattle.sqlite.specs.Schema.{Schema}
 use Rattle.kcr_older.specs.Kind.{IsOfKind, no_schema}
-use Rattle.kcr_older.specs.declared.kind.DatabaseKind.{DatabaseKind}
-use Rattle.kcr_older.specs.declared.kind.DatabaseKind.TheVariants.{Empty, Versioned, Foreign}
+use Rattle.kcr_older.specs.declared.kind.DatabaseKind.{DatabaseKind, TheVariants.Empty, TheVariants.Versioned, TheVariants.Foreign}
 use Rattle.kcr_store.proofs.OpenLemmas.{apart}
 use Rattle.kcr_store.specs.Opening.{IsOpeningOf}
 use Rattle.kcr_verify.specs.Fresh.{IsNewOf}

@@ -2,8 +2,7 @@
 use Rattle.kcr_verify.proofs.Common.{◌≡◌, ◌⊎◌, inl, inr, ℕ, suc, ◌+◌, ◌<◌, ◌≤◌, List, [], ◌∷◌, ◌++◌, take, length, get_or, refl, sym, ap, add-one}
 use Rattle.kcr_verify.proofs.Common.{arith, join_with_byte, take_more, Row, Value, Kind, cell_text, cell_texts, date_behind, doubled, row_text}
 use Rattle.kcr_verify.proofs.Common.{value_text}
-use Rattle.std.proofs.Common.{append_assoc}
-use Rattle.std.proofs.lemmas.List.Concat.{flat_map-append}
+use Rattle.std.proofs.{Common.append_assoc, lemmas.List.Concat.flat_map-append}
 
 -- one more byte of a text adds its own doubled text
 pub doubled_more : (text : List ℕ) (i : ℕ) → i < length text → doubled (take (i + 1) text) ≡ doubled (take i text) ++ doubled (get_or text i 0 ∷ [])

@@ -5,9 +5,7 @@ use Rattle.kcr_verify.proofs.Common.{seat_request, SameTables, ceremonies, cerem
 use Rattle.kcr_verify.proofs.Common.{Ceremony, Sign, RecordException, FullView, seat_request_by, fill, fill_by}
 use Rattle.kcr_base.proofs.RowsLemmas.{filter-order}
 use Rattle.kcr_script.specs.declared.script.Step.{Step}
-use Rattle.kcr_history.specs.Audit.{ceremony_in}
-use Rattle.kcr_history.specs.Ceremonies.{is_ceremony, step_at, steps_of}
-use Rattle.kcr_history.specs.Views.{is_step_at}
+use Rattle.kcr_history.specs.{Audit.ceremony_in, Views.is_step_at, Ceremonies.is_ceremony, Ceremonies.step_at, Ceremonies.steps_of}
 use Rattle.kcr_history.proofs.Words.{planned-number}
 use Rattle.kcr_rules.specs.Signing.{seats_by, step_by}
 use Rattle.kcr_machine.proofs.StepRows.{step-shown}

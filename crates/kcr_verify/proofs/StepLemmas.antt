@@ -4,13 +4,11 @@ use Rattle.kcr_verify.proofs.Common.{IfSome, Held, state, HasCleanDisk, Refusal,
 use Rattle.kcr_verify.proofs.Common.{machine, Accepts, Refuses, key_row, reply_text, command_text, KeyRow, Act, Command, Entry, IsAct, step_leads_on}
 use Rattle.kcr_verify.proofs.Common.{machine_first, TellsSeating, AnswersElse, AreValues, GivesRow, IsOther, IsFirstOther}
 use Rattle.sqlite.specs.Steps.{over_memory}
-use Rattle.sqlite_trees.specs.declared.memory.MemStore.{MemStore}
-use Rattle.sqlite_trees.specs.View.{doubt}
+use Rattle.sqlite_trees.specs.{declared.memory.MemStore.MemStore, View.doubt}
 use Rattle.kcr_history.specs.declared.commands.Reply.{Reply}
 use Rattle.kcr_store.specs.Commands.{AppliesCommand}
 use Rattle.kcr_verify.specs.declared.verification.Difference.TheVariants as Differences
-use Rattle.kcr_verify.proofs.NumberLemmas.{passes_back}
-use Rattle.kcr_verify.proofs.SeatingLemmas.{accepted_step, refused_step}
+use Rattle.kcr_verify.proofs.{NumberLemmas.passes_back, SeatingLemmas.accepted_step, SeatingLemmas.refused_step}
 
 -- the disk of a register in memory is never in doubt
 pub never_in_doubt : (conn : Held MemStore) → HasCleanDisk (state over_memory conn)

@@ -7,12 +7,9 @@ use Rattle.kcr_verify.proofs.Common.{DiffersIn, GivesRows, HasRows, HaveOwnKeys,
 use Rattle.kcr_verify.proofs.Common.{by_number, compared, rows_by_number, RowDifference, Difference}
 use Rattle.std.specs.Prelude.{Option, Some, None}
 use Rattle.kcr_verify.specs.declared.verification.Difference.TheVariants as Differences
-use Rattle.kcr_verify.specs.declared.verification.Verification.{Verification}
-use Rattle.kcr_verify.specs.declared.verification.Verification.TheVariants.{Verified, Differs}
-use Rattle.kcr_verify.specs.declared.compare.TableName.{TableName}
-use Rattle.kcr_verify.specs.declared.compare.TableName.TheVariants.{Keys}
-use Rattle.kcr_verify.proofs.NumberLemmas.{in_number_order}
-use Rattle.kcr_verify.proofs.StepLemmas.{never_other}
+use Rattle.kcr_verify.specs.declared.verification.Verification.{Verification, TheVariants.Verified, TheVariants.Differs}
+use Rattle.kcr_verify.specs.declared.compare.TableName.{TableName, TheVariants.Keys}
+use Rattle.kcr_verify.proofs.{NumberLemmas.in_number_order, StepLemmas.never_other}
 
 -- rows that have keys of their own have them in any order
 own_along : (rows sorted : List KeyRow) → IsPermutation rows sorted → HaveOwnKeys rows → HaveOwnKeys sorted

@@ -1,6 +1,5 @@
-use Rattle.kcr_desk.proofs.Common.{◌∙◌, Some, ap, sym, arith, IsFeed, IsFeedByRows, MayBeFed, report_response, Text}
+use Rattle.kcr_desk.proofs.Common.{arith, IsFeed, IsFeedByRows, MayBeFed, report_response, Text}
 use Rattle.std.specs.Prelude.{◌<◌, ◌≤◌}
-use Rattle.kcr_desk.specs.Pages.{text_of}
 use Rattle.kcr_desk.proofs.ReportLemmas.{answered_again, feed_answered}
 use Rattle.kcr_desk.proofs.answer.answer_feed.Goals as goal
 
@@ -19,5 +18,4 @@ pub returns-in-None : goal.returns-in-None
 returns-in-None g c =
     let e = rw c.get-first.ensures.value at c.export-outcome.ensures in
     feed_answered g.S.Store _ Text c.into_text-text.result.items c.args.after 1000 some_commands most_commands e c.requires.enough
-    (ap (λ p. Some (text_of p)) c.new-page.ensures.inner ∙ ap Some c.new.ensures)
-    (ap (λ p. Some (text_of p)) (sym c.into_inner-page.ensures) ∙ ap Some (sym c.into_text-text.ensures)) c.report_response.ensures
+    (rw (c.new-page.ensures.inner, c.new.ensures)) (rw (c.into_text-text.ensures, c.into_inner-page.ensures)) c.report_response.ensures

@@ -1,5 +1,4 @@
-use Rattle.kcr_desk.proofs.Common.{sym}
-use Rattle.kcr_desk.proofs.AnswerLemmas.{refused_answered}
+use Rattle.kcr_desk.proofs.{Common.sym, AnswerLemmas.refused_answered}
 use Rattle.kcr_desk.proofs.answer.answer_inquiry.Goals as goal
 
 pub returns-in-Ok : goal.returns-in-Ok

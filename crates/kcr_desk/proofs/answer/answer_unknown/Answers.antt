@@ -1,6 +1,5 @@
 use Rattle.kcr_desk.proofs.Common.{refl, no_command, report_response, Text}
-use Rattle.kcr_desk.proofs.AnswerLemmas.{refused_or_memory}
-use Rattle.kcr_desk.proofs.ReportLemmas.{unknown_answered}
+use Rattle.kcr_desk.proofs.{AnswerLemmas.refused_or_memory, ReportLemmas.unknown_answered}
 use Rattle.kcr_desk.proofs.answer.answer_unknown.Goals as goal
 
 pub returns : goal.returns

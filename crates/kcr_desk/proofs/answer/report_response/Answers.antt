@@ -1,5 +1,4 @@
-use Rattle.kcr_desk.proofs.Common.{refl, refusal_of, report_response}
-use Rattle.kcr_desk.proofs.AnswerLemmas.{refused_or_memory}
+use Rattle.kcr_desk.proofs.{Common.refl, Common.refusal_of, Common.report_response, AnswerLemmas.refused_or_memory}
 use Rattle.kcr_desk.proofs.answer.report_response.Goals as goal
 
 pub returns-in-Err : goal.returns-in-Err

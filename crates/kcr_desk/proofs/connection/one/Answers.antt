@@ -1,5 +1,4 @@
-use Rattle.kcr_desk.proofs.Common.{IsAnswer, IsReply, streams}
-use Rattle.kcr_desk.proofs.ConnectionLemmas.{leads_one}
+use Rattle.kcr_desk.proofs.{Common.IsAnswer, Common.IsReply, Common.streams, ConnectionLemmas.leads_one}
 use Rattle.kcr_desk.proofs.connection.one.Goals as goal
 
 pub returns-clause-connects : goal.returns-clause-connects

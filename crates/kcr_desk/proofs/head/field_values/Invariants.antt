@@ -1,13 +1,11 @@
 use Rattle.kcr_desk.proofs.Common.{◌≡◌, ◌++◌, ℕ, List, [], ◌∷◌, length, map, drop, ⊤, header_bytes, span_bytes, IsWithin, values_of}
-use Rattle.kcr_desk.specs.declared.head.FieldValues.{FieldValues}
-use Rattle.kcr_desk.specs.declared.head.FieldValues.TheVariants.{Absent, One, Many}
+use Rattle.kcr_desk.specs.declared.head.FieldValues.{FieldValues, TheVariants.Absent, TheVariants.One, TheVariants.Many}
 use Rattle.kcr_desk.proofs.head.field_values.Given as goal
 
 -- the values that were found so far
 abbrev pub seen : List ℕ → FieldValues → List (List ℕ)
-seen buf Absent = []
 seen buf (One s) = span_bytes buf s ∷ []
-seen buf Many = []
+seen buf found = []
 
 abbrev pub IsSeen : List ℕ → FieldValues → Type 0
 IsSeen buf Absent = ⊤

@@ -1,6 +1,5 @@
 use Rattle.kcr_desk.proofs.Common.{rules, tests, same_case, members_left}
-use Rattle.std.proofs.lemmas.Iterator.Consumers.{YieldsList-from_first}
-use Rattle.std.proofs.lemmas.Iterator.Search.{any_from_yields_List}
+use Rattle.std.proofs.lemmas.Iterator.{Consumers.YieldsList-from_first, Search.any_from_yields_List}
 use Rattle.kcr_desk.proofs.members.has_member.Goals as goal
 
 pub returns : goal.returns

@@ -9,9 +9,6 @@ returns g c =
     let text = answer c.args.head_only c.args.closes (response_value c.args.reply.now) in
     let pieces : c.add_head.new.page.items ++ c.sent_body.result.now ≡ c.reserve.new.queue.items ++ text =
     simp (c.add_head.ensures, c.sent_body.ensures, c.bytes-body.ensures, append_assoc) in
-    record {
-      gathered = gathers_on c.enqueue.result _ c.enqueue.new.queue.items (with_more text c.in_ok-reserve.ensures.queued.gathered)
-          (rw pieces at c.enqueue.ensures.gathered);
-      calm = search rules;
-      fault = search rules;
-    }
+    let front = with_more text c.in_ok-reserve.ensures.queued.gathered in
+    let gathered = gathers_on c.enqueue.result _ c.enqueue.new.queue.items front (rw pieces at c.enqueue.ensures.gathered) in
+    search (rules, gathered)

@@ -1,15 +1,10 @@
-use Rattle.kcr_desk.proofs.Common.{append-nil, MatchResult-from_err, MatchResult-weaker, unread, clean_end, refused, Ended}
-use Rattle.kcr_desk.proofs.TurnLemmas.{breaks_at_once, ends_before, breaks_ending, turn_later, breaks_later}
+use Rattle.kcr_desk.proofs.Common.{MatchResult-from_err, MatchResult-weaker, unread, refused, Ended}
+use Rattle.kcr_desk.proofs.TurnLemmas.{breaks_at_once, breaks_ending, turn_later, breaks_later}
 use Rattle.kcr_desk.proofs.stream.next_item.Goals as goal
 
 pub returns-in_err-read_head-clause-turn : goal.returns-in_err-read_head-clause-turn
 returns-in_err-read_head-clause-turn g c =
     MatchResult-from_err _ _ _ c.from_residual.ensures.0 (λ _. breaks_at_once _ _ _ c.in_err-read_head.ensures.gathered)
-
-pub returns-in-Quiet-clause-turn : goal.returns-in-Quiet-clause-turn
-returns-in-Quiet-clause-turn g c =
-    let found = rw c.in-Quiet.is at c.in_ok-read_head.ensures.found in
-    (clean_end, ends_before _ _ clean_end c.in_ok-read_head.ensures.takes.kept found, rw append-nil c.in_ok-read_head.ensures.gathered)
 
 pub returns-in_err-enqueue_refusal-in-Refused-clause-turn : goal.returns-in_err-enqueue_refusal-in-Refused-clause-turn
 returns-in_err-enqueue_refusal-in-Refused-clause-turn g c =

@@ -1,5 +1,6 @@
-use Rattle.kcr_desk.proofs.Common.{◌<◌, ◌∙◌, length, refl, ap, arith, MatchResult-from_err, MatchResult-weaker, unread}
-use Rattle.kcr_desk.proofs.ServeLemmas.{serving_first, ended_served, ended_broken, turn_broken, serving_then, closed_served, closed_broken, answer_broken}
+use Rattle.kcr_desk.proofs.Common.{◌<◌, ◌∙◌, length, refl, ap, arith, MatchResult-from_err, MatchResult-weaker}
+use Rattle.kcr_desk.proofs.ServeLemmas.{serving_first, ended_served, turn_broken, serving_then, closed_served, closed_broken}
+use Rattle.kcr_desk.proofs.{TurnLemmas.breaks_ending, WaitingLemmas.gathered_nothing, WaitingLemmas.sent_front}
 use Rattle.kcr_desk.proofs.stream.serve_stream.Goals as goal
 
 pub returns-in_err-next_item-clause-served : goal.returns-in_err-next_item-clause-served
@@ -26,14 +27,15 @@ returns-in-Ended-clause-served g c =
     let turn = rw c.in-Ended.is at c.in_ok-next_item.ensures.turn in
     MatchResult-weaker c.finish.result c.finish.ensures.ended
     (λ served is. rw is.0 (ended_served c.messages.invariant.serving turn.0 _ _ turn.1 turn.2 is.1))
-    (λ _. ended_broken c.messages.invariant.serving turn.0 _ _ turn.1 turn.2)
+    (λ _ is. turn_broken c.messages.invariant.serving (breaks_ending turn.0 turn.1 (sent_front _ turn.2 is)))
 
 pub returns-in_err-answer_front-in-Message-clause-served : goal.returns-in_err-answer_front-in-Message-clause-served
 returns-in_err-answer_front-in-Message-clause-served g c =
     let turn = rw c.in-Message.is at c.in_ok-next_item.ensures.turn in
     let told = c.in_err-answer_front-in-Message.ensures.answered in
     MatchResult-from_err _ _ _ c.from_residual-in_err-answer_front-in-Message.ensures.0
-    (λ _. answer_broken c.messages.invariant.serving turn.0 _ c.in_ok-next_item.ensures.takes.kept told.0 _ told.1 _ _ turn.1 told.2.gathered)
+    (λ _. closed_broken c.messages.invariant.serving turn.0 _ c.in_ok-next_item.ensures.takes.kept told.0 _ told.1 _ _ turn.1 _
+    (gathered_nothing _ _) told.2.gathered)
 
 pub returns-then-plan-clause-served : goal.returns-then-plan-clause-served
 returns-then-plan-clause-served g c =
@@ -46,9 +48,7 @@ returns-then-plan-clause-served g c =
 
 pub messages-init : goal.messages-init
 messages-init g c = record {
-  serving =
-      serving_first _ (g.R.Read.remaining c.args.reader.now.inner) (g.W.Write.contents c.args.writer.now.inner) c.args.responder.now
-      (unread c.new-intake.result) c.new-queue.result.items c.new-intake.ensures.held c.new-queue.ensures;
+  serving = rw (c.new-intake.ensures.held, c.new-queue.ensures) (serving_first _ _ _ c.args.responder.now);
   room = omega (arith, ap length c.new-intake.ensures.held);
   calm_reader = refl;
   calm_writer = refl;

@@ -1,15 +1,12 @@
-use Rattle.std.proofs.Common.{◌≡◌, ◌∙◌, ℕ, zero, List, [], ◌∷◌, length, refl, arith}
-use Rattle.std.proofs.lemmas.Bool.Decides.{nat_tests}
-use Rattle.kcr_edges.proofs.Filling.{each_clean}
+use Rattle.std.proofs.Common.{◌∙◌, arith}
+use Rattle.std.proofs.lemmas.{Bool.and_parts, Bool.Decides.nat_tests, List.nil_from_length}
 use Rattle.kcr_edges.proofs.packing.are_empty.Goals as goal
-
-no_bytes : (n : ℕ) (bytes : List ℕ) → n ≡ zero → n ≡ length bytes → bytes ≡ []
-no_bytes n [] is_zero is_length = refl
-no_bytes n (byte ∷ bytes) is_zero is_length = absurd (omega (arith, is_zero, is_length))
 
 pub returns-in_ok-len-2-clause-empty : goal.returns-in_ok-len-2-clause-empty
 returns-in_ok-len-2-clause-empty g c is_zero clean =
-    let each = each_clean _ _ clean in (
-      c.len-then-branch-eq0.ensures.seen ∙ no_bytes c.in_ok-len-2.field-0 _ (grind (arith, nat_tests)) (c.in_ok-len-2.ensures.len each.0),
-      c.len.ensures.seen ∙ no_bytes c.in_ok-len.field-0 _ (grind (arith, nat_tests)) (c.in_ok-len.ensures.len each.1),
+    let each = and_parts _ _ clean in
+    let log = c.in_ok-len-2.ensures.len each.0 in
+    let file = c.in_ok-len.ensures.len each.1 in (
+      c.len-then-branch-eq0.ensures.seen ∙ nil_from_length _ (grind (arith, nat_tests, log)),
+      c.len.ensures.seen ∙ nil_from_length _ (grind (arith, nat_tests, file)),
     )

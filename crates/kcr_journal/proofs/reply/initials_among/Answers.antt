@@ -1,7 +1,6 @@
 use Rattle.std.proofs.Common.{◌≡◌, ◌+◌, ◌<◌, ℕ, List, [], ◌++◌, map, take, length, get_or, Option, None, Bor, ap, sym, ◌∙◌, append-nil}
 use Rattle.std.specs.List.{filter_map, cons_option}
-use Rattle.std.proofs.lemmas.List.{map_more}
-use Rattle.std.proofs.lemmas.List.Elements.{filter_map-append}
+use Rattle.std.proofs.lemmas.List.{map_more, Elements.filter_map-append}
 use Rattle.kcr_forms.specs.Forms.{initials_of}
 use Rattle.kcr_journal.proofs.reply.initials_among.Goals as goal
 use Rattle.kcr_journal.proofs.reply.initials_among.Goals.{in-Some+in_ok-push, in_default}

@@ -1,6 +1,4 @@
-use Rattle.kcr_machine.proofs.Common.{arith}
-use Rattle.kcr_machine.proofs.Decided.{repeat-kind, new-kind}
-use Rattle.kcr_machine.proofs.KeyRows.{key-seen, none-seen}
+use Rattle.kcr_machine.proofs.{Common.arith, KeyRows.key-seen, KeyRows.none-seen, Decided.repeat-kind, Decided.new-kind}
 use Rattle.kcr_machine.proofs.whole.decide.Goals as goal
 
 -- the key has a row

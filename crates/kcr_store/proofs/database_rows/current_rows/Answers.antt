@@ -1,6 +1,5 @@
 use Rattle.kcr_store.proofs.Common.{refl, inr, pos, IfOk-weaker, state, clean_before, Holds, IsKeptView}
-use Rattle.kcr_store.proofs.ListingLemmas.{given_answer, given_rows}
-use Rattle.kcr_store.proofs.OpenLemmas.{still_has, there}
+use Rattle.kcr_store.proofs.{ListingLemmas.given_answer, ListingLemmas.given_rows, OpenLemmas.still_has, OpenLemmas.there}
 use Rattle.kcr_store.proofs.database_rows.current_rows.Goals as goal
 
 pub returns-in-Err-clause-gives : goal.returns-in-Err-clause-gives

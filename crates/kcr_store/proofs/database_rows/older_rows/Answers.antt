@@ -1,14 +1,12 @@
-use Rattle.kcr_store.proofs.Common.{◌≡◌, ◌+◌, Some, pos, subst, state, migrated_tables, HoldsFirst, HoldsHistoryAs, version_in, number_of, tables}
-use Rattle.kcr_store.proofs.Common.{clean_before, IsKeptView, RefusesBy, IsListed}
-use Rattle.kcr_store.proofs.ListingLemmas.{given_answer, given_rows}
+use Rattle.kcr_store.proofs.Common.{◌+◌, pos, state, migrated_tables, HoldsFirst, HoldsHistoryAs, number_of, tables}
+use Rattle.kcr_store.proofs.{Common.clean_before, Common.IsKeptView, Common.IsListed, ListingLemmas.given_answer, ListingLemmas.given_rows}
 use Rattle.kcr_store.proofs.OpenLemmas.{is_known, still_has, there}
 use Rattle.kcr_store.proofs.database_rows.older_rows.Goals as goal
 
 pub returns-in-Err-clause-gives : goal.returns-in-Err-clause-gives
 returns-in-Err-clause-gives g c clean live = record {
   answer = λ is.
-      subst (λ n. RefusesBy (pos n) (state g.S.Store c.args.tx.now.conn.now).now c.in-Err.fault) c.number.ensures
-      (c.in-Err.ensures.answer clean live (there (number_of c.args.from) (is_known c.args.from) _ is));
+      rw c.number.ensures at (c.in-Err.ensures.answer clean live (there (number_of c.args.from) (is_known c.args.from) _ is));
   rows = λ t held number. tt;
   own = λ A s. tt;
 }
@@ -23,7 +21,7 @@ returns-in-Ok-clause-gives g c clean live =
     record {
       answer = λ is.
           given_answer (pos (number_of from)) old.now c.given.result
-          (subst (λ n. version_in old.now ≡ Some (pos n)) c.number.ensures (c.in-Ok.ensures.answer before live (known _ is))) c.given.ensures.kind;
+          (rw c.number.ensures at (c.in-Ok.ensures.answer before live (known _ is))) c.given.ensures.kind;
       rows = λ t held number.
           let still = still_has (λ db. HoldsFirst (14 + number_of from) db t) old mid (c.in-Ok.ensures.same before (known _ held.schema)) held in
           given_rows (IsKeptView (migrated_tables from t)) c.migrated_rows.result c.given.result c.given.ensures.rows

@@ -1,5 +1,4 @@
-use Rattle.kcr_store.proofs.Common.{rules}
-use Rattle.kcr_store.proofs.WholeLemmas.{undone_outside}
+use Rattle.kcr_store.proofs.{Common.rules, WholeLemmas.undone_outside}
 use Rattle.kcr_store.proofs.database_rows.rows_then_rollback.Goals as goal
 
 pub returns-clause-frame : goal.returns-clause-frame

@@ -1,28 +1,21 @@
-use Rattle.kcr_store.proofs.Common.{rules, IfOk-weaker, tables, held_of, HoldsTables, was_clean}
-use Rattle.kcr_store.proofs.StoreLemmas.{held_in, listed}
-use Rattle.kcr_store.proofs.WholeLemmas.{begun_has, if_ok, read_back, read_stores}
+use Rattle.kcr_store.proofs.Common.{rules, held_of, was_clean, IfOk-weaker, IsListed}
+use Rattle.kcr_store.proofs.{StoreLemmas.listed, WholeLemmas.of_durable, WholeLemmas.read_back}
 use Rattle.kcr_store.proofs.full_view.full_view.Goals as goal
 
 pub returns-clause-rows : goal.returns-clause-rows
 returns-clause-rows g c clean m held =
-    let before = was_clean _ _ _ c.rollback.ensures.survives (search rules) in
-    let begun = begun_has g.S.Store c.args.conn.now _ (HoldsTables m) c.transaction-tx.ensures.begun held in
-    IfOk-weaker c.read_full_view-view.result _ _ (λ view. listed begun.tables.kept begun.tables.stands) (c.read_full_view-view.ensures.rows before _ (held_of m _ begun))
-
-pub returns-clause-register : goal.returns-clause-register
-returns-clause-register g c accepted was clean =
-    let back = c.rollback.ensures.survives in
-    let before = was_clean _ _ _ back (search rules) in
-    let had =
-    read_stores g.S.Store c.args.conn.now _ c.transaction-tx.ensures.begun _ _ c.read_full_view-view.ensures.frame.within.survives back accepted was (search rules) in
-    if_ok _ _ c.read_full_view-view.result (c.read_full_view-view.ensures.opened before)
-    (λ live.
-    let held = held_in accepted _ (had live) in
-    IfOk-weaker c.read_full_view-view.result _ _ (λ view lists. ((had live).tables.register, listed held.tables.kept held.tables.stands lists))
-    (c.read_full_view-view.ensures.rows before _ (held_of (tables accepted) _ held)))
+    let said = rw c.transaction-tx.ensures.begun at c.read_full_view-view.ensures.rows in
+    IfOk-weaker c.read_full_view-view.result _ _ (λ view. listed held.tables.kept held.tables.stands)
+    (said (was_clean _ _ _ c.rollback.ensures.survives (search rules)) _ (held_of m _ held))
 
 pub returns-clause-frame : goal.returns-clause-frame
 returns-clause-frame g c =
     let left = read_back g.S.Store c.args.conn.now c.rollback.new.self.0 c.read_full_view-view.ensures.frame.within c.transaction-tx.ensures.begun
     c.rollback.ensures.survives c.rollback.ensures.undone c.rollback.ensures.ended in
     search rules
+
+pub returns-clause-register : goal.returns-clause-register
+returns-clause-register g c =
+    let opened = rw c.transaction-tx.ensures.begun at c.read_full_view-view.ensures.opened in
+    of_durable IsListed (returns-clause-frame g c) (returns-clause-rows g c)
+    (λ clean. opened (was_clean _ _ _ c.rollback.ensures.survives (search rules)))

@@ -1,30 +1,8 @@
-use Rattle.kcr_store.proofs.Common.{fails_as, reads_to}
+use Rattle.kcr_store.proofs.Common.{rules, fails_as, reads_to}
 use Rattle.kcr_store.proofs.full_view.read_full_view.Goals as goal
 
 pub returns-clause-rows : goal.returns-clause-rows
-returns-clause-rows g c clean t held =
-    let (
-      (((people, trainings), (withdrawals, appointments)), ((boxes, safes), (bags, items))),
-      (((ceremonies, marks), (steps, seatings)), ((sheet, stays), (exceptions, keys))),
-    ) = c.in_ok-people.ensures.rows clean t held
-    in λ i. record {
-      people = people i;
-      trainings = trainings i;
-      withdrawals = withdrawals i;
-      appointments = appointments i;
-      boxes = boxes i;
-      safes = safes i;
-      bags = bags i;
-      items = items i;
-      ceremonies = ceremonies i;
-      marks = marks i;
-      steps = steps i;
-      seatings = seatings i;
-      sheet = sheet i;
-      stays = stays i;
-      exceptions = exceptions i;
-      keys = keys i;
-    }
+returns-clause-rows g c clean t held = let (ones, others) = c.in_ok-people.ensures.rows clean t held in search rules
 
 pub returns-in_err-people-clause-frame : goal.returns-in_err-people-clause-frame
 returns-in_err-people-clause-frame g c = fails_as c.from_residual.ensures.1 c.in_err-people.ensures.frame

@@ -1,7 +1,6 @@
-use Rattle.kcr_store.proofs.Common.{◌∙◌, sym, tables, clean_before, held_of}
+use Rattle.kcr_store.proofs.Common.{rules, ◌∙◌, sym, tables, clean_before, held_of}
 use Rattle.kcr_reading.proofs.CustodyLemmas.{safes_stand}
-use Rattle.kcr_store.proofs.QuestionLemmas.{custody_of_history}
-use Rattle.kcr_store.proofs.StoreLemmas.{held_in}
+use Rattle.kcr_store.proofs.{QuestionLemmas.custody_of_history, StoreLemmas.held_in}
 use Rattle.kcr_store.proofs.lists.read_custody.Goals as goal
 
 pub returns-clause-rows : goal.returns-clause-rows
@@ -18,5 +17,4 @@ returns-clause-rows g c clean m had =
     }
 
 pub returns-clause-shown : goal.returns-clause-shown
-returns-clause-shown g c clean accepted had =
-    custody_of_history accepted _ (returns-clause-rows g c clean (tables accepted) (λ live. held_in accepted _ (had live)))
+returns-clause-shown g c clean accepted had = search (rules, held_in, custody_of_history, returns-clause-rows g c)

@@ -1,6 +1,5 @@
 use Rattle.kcr_store.proofs.Common.{rules, ◌∙◌, ap, seated_steps, exceptions_of, tables, clean_before, within_fails, within_then, within_to}
-use Rattle.kcr_store.proofs.QuestionLemmas.{steps_of_history}
-use Rattle.kcr_store.proofs.StoreLemmas.{held_in}
+use Rattle.kcr_store.proofs.{QuestionLemmas.steps_of_history, StoreLemmas.held_in}
 use Rattle.kcr_store.proofs.lists.read_steps.Goals as goal
 
 pub returns-clause-rows : goal.returns-clause-rows
@@ -12,19 +11,12 @@ returns-clause-rows g c clean m had =
     let held2 = c.in_ok-steps.ensures.frame.tables clean2 m held1 in
     record {
       row = c.in_ok-row.ensures.rows clean1 m had;
-      steps =
-          c.in_ok-steps.ensures.rows clean2 m held1
-          ∙ c.new.ensures m
-          ∙ ap (λ n. seated_steps n m) c.get.ensures.value;
-      exceptions =
-          c.in_ok-exceptions.ensures.rows clean m held2
-          ∙ c.new-2.ensures m
-          ∙ ap (λ n. exceptions_of n m) c.get-2.ensures.value;
+      steps = c.in_ok-steps.ensures.rows clean2 m held1 ∙ c.new.ensures m ∙ ap (λ n. seated_steps n m) c.get.ensures.value;
+      exceptions = c.in_ok-exceptions.ensures.rows clean m held2 ∙ c.new-2.ensures m ∙ ap (λ n. exceptions_of n m) c.get-2.ensures.value;
     }
 
 pub returns-clause-shown : goal.returns-clause-shown
-returns-clause-shown g c clean accepted had =
-    steps_of_history accepted c.args.ceremony _ (returns-clause-rows g c clean (tables accepted) (λ live. held_in accepted _ (had live)))
+returns-clause-shown g c clean accepted had = search (rules, held_in, steps_of_history, returns-clause-rows g c)
 
 pub returns-clause-frame : goal.returns-clause-frame
 returns-clause-frame g c =

@@ -1,5 +1,4 @@
-use Rattle.kcr_store.proofs.Common.{file_state}
-use Rattle.kcr_store.proofs.OpenLemmas.{founded_in}
+use Rattle.kcr_store.proofs.{Common.file_state, OpenLemmas.founded_in}
 use Rattle.kcr_store.proofs.open.connect.Goals as goal
 
 pub returns-in-Ok-clause-founded : goal.returns-in-Ok-clause-founded

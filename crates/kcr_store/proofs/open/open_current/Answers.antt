@@ -1,5 +1,4 @@
-use Rattle.kcr_store.proofs.Common.{state, was_clean}
-use Rattle.kcr_store.proofs.OpenLemmas.{still_shows}
+use Rattle.kcr_store.proofs.{Common.state, Common.was_clean, OpenLemmas.still_shows}
 use Rattle.kcr_store.proofs.open.open_current.Goals as goal
 
 pub returns-clause-shows : goal.returns-clause-shows

@@ -1,21 +1,19 @@
-use Rattle.kcr_store.proofs.Common.{rules, was_clean}
-use Rattle.kcr_store.proofs.RowLemmas.{reverted}
-use Rattle.kcr_store.proofs.WholeLemmas.{undone_shows, undone_outside}
-use Rattle.kcr_store.proofs.OpenLemmas.{begun_inside, begun_says, begun_shows}
+use Rattle.kcr_store.proofs.{Common.rules, Common.was_clean, RowLemmas.reverted, RowLemmas.within}
+use Rattle.kcr_store.proofs.WholeLemmas.{synced_back, undone_outside}
 use Rattle.kcr_store.proofs.open.read_count.Goals as goal
 
 pub returns-clause-answer : goal.returns-clause-answer
-returns-clause-answer g c clean = search (rules, was_clean, begun_says)
+returns-clause-answer g c clean = let said = rw c.transaction-tx.ensures.begun at c.count_in-count.ensures.answer in search (rules, was_clean, said)
 
 pub returns-clause-count : goal.returns-clause-count
-returns-clause-count g c clean accepted shows = search (rules, was_clean, begun_shows)
+returns-clause-count g c clean accepted shows =
+    let said = rw c.transaction-tx.ensures.begun at c.count_in-count.ensures.count in
+    said (was_clean _ _ _ c.rollback.ensures.survives (search rules)) accepted (λ live. (shows live).now)
 
 pub returns-clause-shows : goal.returns-clause-shows
 returns-clause-shows g c clean accepted shows =
-    let undone = reverted _ _ c.rollback.ensures.survives c.rollback.ensures.undone (search rules) in
-    let keeps = c.count_in-count.ensures.frame.kept undone.clean (begun_inside g.S.Store c.args.conn.now _ c.transaction-tx.ensures.begun) in
-    let shown = begun_shows g.S.Store c.args.conn.now _ c.transaction-tx.ensures.begun accepted shows in
-    let back = undone_shows accepted _ _ _ shown keeps undone in
+    let w = within g.S.Store c.args.conn.now c.count_in-count.ensures.frame c.transaction-tx.ensures.begun in
+    let back = synced_back w (reverted _ _ c.rollback.ensures.survives c.rollback.ensures.undone (search rules)) (λ _. shows) in
     search rules
 
 pub returns-clause-frame : goal.returns-clause-frame

@@ -1,17 +1,15 @@
-use Rattle.kcr_store.proofs.Common.{◌≡◌, Some, pos, subst, state, clean_before, HoldsHistoryAs, version_in, number_of, HoldsRowsAs, RefusesBy}
+use Rattle.kcr_store.proofs.Common.{state, clean_before, HoldsHistoryAs, number_of, HoldsRowsAs}
 use Rattle.kcr_store.proofs.OpenLemmas.{is_known, still_has, there}
 use Rattle.kcr_store.proofs.open.renewed_count.Goals as goal
 
 pub returns-in-Err-clause-answer : goal.returns-in-Err-clause-answer
 returns-in-Err-clause-answer g c clean live is =
-    subst (λ n. RefusesBy (pos n) (state g.S.Store c.args.tx.now.conn.now).now c.in-Err.fault) c.number.ensures
-    (c.in-Err.ensures.answer clean live (there (number_of c.args.from) (is_known c.args.from) _ is))
+    rw c.number.ensures at (c.in-Err.ensures.answer clean live (there (number_of c.args.from) (is_known c.args.from) _ is))
 
 pub returns-in-Ok-clause-answer : goal.returns-in-Ok-clause-answer
 returns-in-Ok-clause-answer g c clean live is =
     let before = clean_before c.brought_count.ensures.frame clean in
-    subst (λ n. version_in (state g.S.Store c.args.tx.now.conn.now).now ≡ Some (pos n)) c.number.ensures
-    (c.in_default.ensures.answer before live (there (number_of c.args.from) (is_known c.args.from) _ is))
+    rw c.number.ensures at (c.in_default.ensures.answer before live (there (number_of c.args.from) (is_known c.args.from) _ is))
 
 pub returns-in-Ok-clause-brought : goal.returns-in-Ok-clause-brought
 returns-in-Ok-clause-brought g c clean A s =

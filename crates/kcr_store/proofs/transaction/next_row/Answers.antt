@@ -1,6 +1,4 @@
-use Rattle.kcr_store.proofs.Common.{rules, was_clean}
-use Rattle.kcr_store.proofs.ByRows.{begun_had}
-use Rattle.kcr_store.proofs.WholeLemmas.{read_back}
+use Rattle.kcr_store.proofs.{Common.rules, Common.was_clean, ByRows.begun_had, WholeLemmas.read_back}
 use Rattle.kcr_store.proofs.transaction.next_row.Goals as goal
 
 pub returns-clause-rows : goal.returns-clause-rows

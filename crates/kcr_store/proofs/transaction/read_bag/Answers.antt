@@ -7,15 +7,13 @@ use Rattle.kcr_store.proofs.transaction.read_bag.Goals as goal
 
 pub returns-in_default-clause-rows : goal.returns-in_default-clause-rows
 returns-in_default-clause-rows g c clean m had =
-    let read = c.in_ok-bag.ensures in
-    let found = read.row clean m (had (read.opened clean)) in
+    let found = c.in_ok-bag.ensures.row clean m (had (c.in_ok-bag.ensures.opened clean)) in
     inr (ap (option_map (λ (bag : Bag). bag.spot)) (sym found ∙ c.in_default.is), refl)
 
 pub returns-in_default-clause-shown : goal.returns-in_default-clause-shown
 returns-in_default-clause-shown g c clean accepted had =
-    let read = c.in_ok-bag.ensures in
-    let was = had (read.opened clean) in
-    let found = read.row clean (tables accepted) (held_in accepted _ was) in
+    let was = had (c.in_ok-bag.ensures.opened clean) in
+    let found = c.in_ok-bag.ensures.row clean (tables accepted) (held_in accepted _ was) in
     inr (sym (spot_shown accepted was.tables.register c.args.serial) ∙ ap (option_map (λ (bag : Bag). bag.spot)) (sym found ∙ c.in_default.is), refl)
 
 pub returns-clause-rows : goal.returns-clause-rows
@@ -44,11 +42,7 @@ returns-clause-by_rows g c = (
     bags = record { serial = c.args.serial; spot = c.in-Some.bag.spot } ∷ [];
     items = sealed_items c.args.serial c.in_ok-codes_of.field-0.items;
   },
-  record {
-    serial = refl;
-    spot = rw (same-itself c.args.serial) refl;
-    items = sym (codes_packed c.args.serial c.in_ok-codes_of.field-0.items);
-  },
+  record { serial = refl; spot = rw (same-itself c.args.serial) refl; items = sym (codes_packed c.args.serial c.in_ok-codes_of.field-0.items) },
 )
 
 pub returns-clause-frame : goal.returns-clause-frame

@@ -1,7 +1,5 @@
-use Rattle.kcr_store.proofs.Common.{rules, ◌∙◌, List, [], subst₂, All, Training, Withdrawal, held_of, kept_rises, PersonShown, tables, clean_before}
-use Rattle.kcr_store.proofs.Common.{within_fails, within_then, within_to, AreRolesOf}
-use Rattle.kcr_store.proofs.ShownLemmas.{people_of_history, people_shown}
-use Rattle.kcr_store.proofs.StoreLemmas.{held_in}
+use Rattle.kcr_store.proofs.Common.{rules, ◌∙◌, [], held_of, kept_rises, tables, clean_before, within_fails, within_then, within_to}
+use Rattle.kcr_store.proofs.{ShownLemmas.people_of_history, ShownLemmas.people_shown, StoreLemmas.held_in}
 use Rattle.kcr_store.proofs.transaction.read_people.Goals as goal
 
 pub returns-clause-rows : goal.returns-clause-rows
@@ -15,31 +13,22 @@ returns-clause-rows g c clean m had =
     let held2 = c.in_ok-trainings.ensures.frame.holds clean2 t held1 in
     let trainings = c.in_ok-trainings.ensures.rows clean2 t held1 in
     let withdrawals = c.in_ok-withdrawals.ensures.rows clean t held2 in
-    let rows : List PersonShown = c.in_ok-people_shown.field-0.items in
-    let HaveRoles : List Training → List Withdrawal → Type 0 =
-    λ taught withdrawn. All (λ (shown : PersonShown). AreRolesOf taught withdrawn shown.who shown.roles.items) rows in
-    people_shown m t.rows was.tables.stands.rows (kept_rises _ _ was.tables.kept) rows
+    people_shown m t.rows was.tables.stands.rows (kept_rises _ _ was.tables.kept) c.in_ok-people_shown.field-0.items
     (c.in_ok-people_shown.ensures.people ∙ c.in_ok-people.ensures.rows clean1 _ held)
-    (subst₂ HaveRoles (c.deref.ensures.value ∙ trainings) (c.deref-2.ensures.value ∙ withdrawals) c.in_ok-people_shown.ensures.roles)
+    (rw (c.deref.ensures.value ∙ trainings, c.deref-2.ensures.value ∙ withdrawals) at c.in_ok-people_shown.ensures.roles)
 
 pub returns-clause-shown : goal.returns-clause-shown
-returns-clause-shown g c clean accepted had =
-    people_of_history accepted _ (returns-clause-rows g c clean (tables accepted) (λ live. held_in accepted _ (had live)))
+returns-clause-shown g c clean accepted had = search (rules, held_in, people_of_history, returns-clause-rows g c)
 
 pub returns-clause-by_rows : goal.returns-clause-by_rows
 returns-clause-by_rows g c =
-    let rows : List PersonShown = c.in_ok-people_shown.field-0.items in
-    let HaveRoles : List Training → List Withdrawal → Type 0 =
-    λ taught withdrawn. All (λ (shown : PersonShown). AreRolesOf taught withdrawn shown.who shown.roles.items) rows in (
+    let roles = rw (c.deref.ensures.value, c.deref-2.ensures.value) at c.in_ok-people_shown.ensures.roles in (
       record (tables []) {
         people = c.in_ok-people.people.items;
         trainings = c.in_ok-trainings.trainings.items;
         withdrawals = c.in_ok-withdrawals.withdrawals.items;
       },
-      record {
-        people = c.in_ok-people_shown.ensures.people;
-        each = subst₂ HaveRoles c.deref.ensures.value c.deref-2.ensures.value c.in_ok-people_shown.ensures.roles;
-      },
+      record { people = c.in_ok-people_shown.ensures.people; each = roles },
     )
 
 pub returns-clause-frame : goal.returns-clause-frame

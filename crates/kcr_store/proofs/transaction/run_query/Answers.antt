@@ -1,10 +1,5 @@
-use Rattle.kcr_store.proofs.Common.{rules, was_clean}
-use Rattle.kcr_store.proofs.ByRows.{begun_had}
-use Rattle.kcr_store.proofs.WholeLemmas.{read_back, read_stores, undone_outside}
+use Rattle.kcr_store.proofs.{Common.rules, Common.was_clean, ByRows.begun_had, WholeLemmas.read_back, WholeLemmas.undone_outside}
 use Rattle.kcr_store.proofs.transaction.run_query.Goals as goal
-
-pub returns-clause-answer : goal.returns-clause-answer
-returns-clause-answer g c accepted was clean = search (rules, was_clean, read_stores)
 
 pub returns-clause-rows : goal.returns-clause-rows
 returns-clause-rows g c clean m had = search (rules, was_clean, begun_had)
@@ -17,3 +12,8 @@ returns-clause-frame g c =
     let left = read_back g.S.Store c.args.conn.now c.rollback.new.self.0 c.read-answer.ensures.frame c.transaction-tx.ensures.begun
     c.rollback.ensures.survives c.rollback.ensures.undone c.rollback.ensures.ended in
     search rules
+
+pub returns-clause-answer : goal.returns-clause-answer
+returns-clause-answer g c accepted was clean =
+    let said = rw c.transaction-tx.ensures.begun at c.read-answer.ensures.answer in
+    said (was_clean _ _ _ c.rollback.ensures.survives (search rules)) accepted (λ live. (was.shows ((returns-clause-frame g c).clean clean) live).now)

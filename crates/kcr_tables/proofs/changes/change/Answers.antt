@@ -1,6 +1,5 @@
 use Rattle.kcr_tables.proofs.Common.{[], ◌∷◌, state, on_ok_then}
-use Rattle.kcr_tables.proofs.HoldLemmas.{held_of}
-use Rattle.kcr_tables.proofs.JointLemmas.{changes_hold}
+use Rattle.kcr_tables.proofs.{HoldLemmas.held_of, JointLemmas.changes_hold}
 use Rattle.kcr_tables.proofs.changes.change.Goals as goal
 
 pub returns-clause-tables : goal.returns-clause-tables

@@ -1,9 +1,7 @@
-use Rattle.kcr_tables.proofs.Common.{rules, ◌≡◌, ◌<◌, ◌∙◌, length, get_or, sym, ap, subst, take_all, fold_more, state, Holds, rows_after, changed_all}
-use Rattle.kcr_tables.proofs.Common.{within_then, clean_before}
+use Rattle.kcr_tables.proofs.Common.{rules, ◌≡◌, ◌∙◌, get_or, sym, ap, subst, take_all, fold_more, state, Holds, rows_after, changed_all, within_then}
+use Rattle.kcr_tables.proofs.{Common.clean_before, HoldLemmas.held_of, JointLemmas.changes_hold}
 use Rattle.kcr_history.specs.declared.views.Change.{Change}
 use Rattle.kcr_history.specs.Tables as machine
-use Rattle.kcr_tables.proofs.HoldLemmas.{held_of}
-use Rattle.kcr_tables.proofs.JointLemmas.{changes_hold}
 use Rattle.kcr_tables.proofs.changes.change_all.Goals as goal
 
 pub loop-change-preserved : goal.loop-change-preserved
@@ -17,9 +15,8 @@ loop-change-preserved g c =
           let i = c.loop-change.change-index in
           let item = c.change-item.result in
           let was = had.built (clean_before step.frame clean) t held in
-          let low : i < length changes = search rules in
           let at : get_or changes i item ≡ item = search rules in
-          let more = fold_more (λ (rows : machine.Tables) (x : Change). rows_after x rows) t.rows changes i item low
+          let more = fold_more (λ (rows : machine.Tables) (x : Change). rows_after x rows) t.rows changes i item (search rules)
           ∙ ap (λ (x : Change). rows_after x (changed_all (Rattle.std.proofs.Common.take i changes) t).rows) at in
           subst (λ (rows : machine.Tables). Holds new.now (record t { rows = rows })) (sym more) (step.holds clean _ was);
     }

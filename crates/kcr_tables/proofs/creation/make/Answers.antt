@@ -1,5 +1,4 @@
-use Rattle.kcr_tables.proofs.Common.{state, on_ok_then}
-use Rattle.kcr_tables.proofs.JointLemmas.{first_holds}
+use Rattle.kcr_tables.proofs.{Common.state, Common.on_ok_then, JointLemmas.first_holds}
 use Rattle.kcr_tables.proofs.creation.make.Goals as goal
 
 pub returns-clause-made : goal.returns-clause-made

@@ -7,11 +7,10 @@ returns-clause-holds g c clean has =
     let new = state g.S.Store c.put.new.tx.conn.now in
     let clean3 = clean_before c.put.ensures.frame clean in
     let clean2 = clean_before c.put_pair-2.ensures.frame clean3 in
-    let clean1 = clean_before c.put_pair.ensures.frame clean2 in
-    let held1 = c.in_ok-create_all.ensures.holds clean1 has in
+    let held1 = c.in_ok-create_all.ensures.holds (clean_before c.put_pair.ensures.frame clean2) has in
     let held2 = c.in_ok-put_pair.ensures.holds clean2 _ held1 in
-    let held3 = c.in_ok-put_pair-2.ensures.holds clean3 _ held2 in
-    subst (λ (t : StoredTables). OnOk c.put.result (Holds new.now t)) first_is (c.put.ensures.holds clean _ held3)
+    subst (λ (t : StoredTables). OnOk c.put.result (Holds new.now t)) first_is
+    (c.put.ensures.holds clean _ (c.in_ok-put_pair-2.ensures.holds clean3 _ held2))
 
 pub returns-in_err-put_pair-clause-frame : goal.returns-in_err-put_pair-clause-frame
 returns-in_err-put_pair-clause-frame g c = search (rules, within_then, within_fails)

@@ -1,19 +1,17 @@
-use Rattle.kcr_tables.proofs.Common.{rules, IncludesAppointments, is_appointment_to, is_appointment_of, if_ok}
+use Rattle.kcr_tables.proofs.{Common.rules, Common.IncludesAppointments, Common.if_ok, ExactLemmas.are_shown, QueryLemmas.if_asked}
 use Rattle.kcr_history.specs.declared.views.AppointmentFilter.TheVariants as Wanted
 use Rattle.kcr_tables.proofs.AppointmentLemmas.{last_shown, beyond_shown}
-use Rattle.kcr_tables.proofs.ExactLemmas.{are_shown}
-use Rattle.kcr_tables.proofs.QueryLemmas.{if_asked}
 use Rattle.kcr_tables.proofs.select_appointments.select_appointments.Goals as goal
 
 pub returns-in-Matching-Place-clause-rows : goal.returns-in-Matching-Place-clause-rows
 returns-in-Matching-Place-clause-rows g c clean t held =
     if_asked (λ q all. IncludesAppointments q t.rows.appointments all.items) (Wanted.Place c.in-Matching-Place.place) c.in-Matching-Place.is (search rules)
-    (λ all. last_shown (is_appointment_to c.in-Matching-Place.place) t.rows.appointments all.items) c.last_appointment_to.result (c.last_appointment_to.ensures.rows clean t held)
+    (λ all. last_shown _ t.rows.appointments all.items) c.last_appointment_to.result (c.last_appointment_to.ensures.rows clean t held)
 
 pub returns-in-Matching-Person-clause-rows : goal.returns-in-Matching-Person-clause-rows
 returns-in-Matching-Person-clause-rows g c clean t held =
     if_asked (λ q all. IncludesAppointments q t.rows.appointments all.items) (Wanted.Person c.in-Matching-Person.who) c.in-Matching-Person.is (search rules)
-    (λ all. last_shown (is_appointment_of c.in-Matching-Person.who) t.rows.appointments all.items) c.last_appointment_of.result (c.last_appointment_of.ensures.rows clean t held)
+    (λ all. last_shown _ t.rows.appointments all.items) c.last_appointment_of.result (c.last_appointment_of.ensures.rows clean t held)
 
 pub returns-in-Matching-EndingAfter-clause-rows : goal.returns-in-Matching-EndingAfter-clause-rows
 returns-in-Matching-EndingAfter-clause-rows g c clean t held = search (rules, if_asked, beyond_shown)

@@ -1,8 +1,6 @@
-use Rattle.kcr_tables.proofs.Common.{rules, ◌≡◌, ◌+◌, ◌<◌, ◌++◌, [], ◌∷◌, ◌∙◌, length, take, get_or, filter, sym, ap, subst₂, IsPermutation, take_all}
-use Rattle.kcr_tables.proofs.Common.{take_more, state, Trees, clean_before, asked_once, is_under_any, rows_at, has_key, AreShown}
-use Rattle.kcr_tables.proofs.ExactLemmas.{EachAreShown, each_next, each_any}
+use Rattle.kcr_tables.proofs.Common.{rules, ◌≡◌, ◌+◌, ◌++◌, [], ◌∷◌, take, take_all, take_more, state, clean_before, rows_at, has_key}
+use Rattle.kcr_tables.proofs.{ExactLemmas.each_next, ExactLemmas.each_any, NamedLemmas.none_named, NamedLemmas.named_more}
 use Rattle.kcr_tables.proofs.FrameLemmas.{reads_none, reads_to, read_later, reads_on, fails_as}
-use Rattle.kcr_tables.proofs.NamedLemmas.{none_named, named_more}
 use Rattle.kcr_tables.proofs.select_by_keys.rows_named.Goals as goal
 
 pub loop-at-init : goal.loop-at-init
@@ -11,7 +9,6 @@ loop-at-init g c = search (rules, reads_none, none_named)
 pub loop-at-preserved : goal.loop-at-preserved
 loop-at-preserved g c =
     let T = g.T.TableRow.table in
-    let is_under = g.T.LookupBy.lookup_spec.is_under in
     let same = g.T.LookupByKeys.same in
     let laws = g.met.T.LookupByKeys in
     let under = has_key g.T.LookupBy.lookup_spec.column g.K.AsCell.value_of in
@@ -22,22 +19,16 @@ loop-at-preserved g c =
     let keys = c.args.keys.now in
     let key = c.index-keys-at.result in
     let found = c.in_ok-found.found.items in
-    let low : i < length keys = search rules in
-    let own : get_or keys i key ≡ key = search rules in
-    let more : take (i + 1) keys ≡ take i keys ++ key ∷ [] = take_more keys i key low ∙ ap (λ k. take i keys ++ k ∷ []) own in record {
+    let more : take (i + 1) keys ≡ take i keys ++ key ∷ [] = search (rules, take_more) in record {
       frame = reads_to tt (reads_on had.frame step.frame);
       rows = λ clean t held.
           let before = clean_before step.frame.within clean in
-          subst₂ (λ ks l. IsPermutation (filter (is_under_any is_under ks) (T.rows_in t)) l) (sym more) (sym c.in_ok-append.ensures.items)
-          (named_more same is_under laws.apart (take i keys) key (T.rows_in t) c.loop-at.rows.items found (had.rows before t held)
-          (step.rows clean t (had.frame.holds before t held)));
+          rw (more, c.in_ok-append.ensures.items) (named_more same _ laws.apart (take i keys) key (T.rows_in t) c.loop-at.rows.items found
+          (had.rows before t held) (step.rows clean t (had.frame.holds before t held)));
       exact = λ clean has.
           let before = clean_before step.frame.within clean in
-          let rows = rows_at T.place old.now.trees in
-          subst₂ (λ l ks. EachAreShown g.T.FromRow.row_of under rows l ks) (sym c.in_ok-append.ensures.items) (sym more)
-          (each_next g.T.FromRow.row_of under rows same laws.one (take i keys) key c.loop-at.rows.items found (had.exact before has)
-          (read_later (λ (db : Trees). AreShown g.T.FromRow.row_of found (asked_once same under key (take i keys) (rows_at T.place db)))
-          had.frame before has (step.exact clean)));
+          rw (more, c.in_ok-append.ensures.items) (each_next g.T.FromRow.row_of under (rows_at T.place old.now.trees) same laws.one (take i keys) key
+          c.loop-at.rows.items found (had.exact before has) (search (rules, read_later)));
     }
 
 pub returns-in_err-found-clause-frame : goal.returns-in_err-found-clause-frame

@@ -1,6 +1,5 @@
 use Rattle.kcr_tables.proofs.Common.{◌≡◌, Ok, take, filter, IsPermutation, state, HasCleanDisk, is_under_any, rows_at, has_key, Reads}
-use Rattle.kcr_tables.proofs.Common.{register_schema, StoredTables, Holds}
-use Rattle.kcr_tables.proofs.ExactLemmas.{EachAreShown}
+use Rattle.kcr_tables.proofs.{Common.register_schema, Common.StoredTables, Common.Holds, ExactLemmas.EachAreShown}
 use Rattle.kcr_tables.proofs.select_by_keys.rows_named.Given as goal
 
 abbrev pub invariant-loop-at : goal.invariant-loop-at

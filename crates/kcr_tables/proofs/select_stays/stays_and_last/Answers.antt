@@ -1,7 +1,5 @@
-use Rattle.kcr_tables.proofs.Common.{rules, arith, ◌≡◌, ◌+◌, ◌<◌, ◌++◌, ◌∷◌, [], ◌∙◌, List, ℕ, length, take, get_or, filter, sym, ap, subst, subst₂}
-use Rattle.kcr_tables.proofs.Common.{take_all, take_more, state, stay_reaches, Stay, stay_row, clean_before, rows_at, is_stay_row, AreShown}
-use Rattle.kcr_tables.proofs.Common.{stays_place}
-use Rattle.kcr_tables.proofs.ExactLemmas.{are_shown, shown_left}
+use Rattle.kcr_tables.proofs.Common.{rules, arith, ◌≡◌, ◌+◌, ◌++◌, ◌∷◌, [], ◌∙◌, List, ℕ, take, subst, take_all, take_more, stay_reaches}
+use Rattle.kcr_tables.proofs.{Common.clean_before, ExactLemmas.are_shown, ExactLemmas.shown_left}
 use Rattle.kcr_tables.proofs.FrameLemmas.{reads_to, reads_on, fails_as}
 use Rattle.kcr_tables.proofs.StayLemmas.{Gathered, room_gathered, more_gathered, gathered_shows, apart_of}
 use Rattle.kcr_tables.proofs.select_stays.stays_and_last.Goals as goal
@@ -11,7 +9,6 @@ loop-who-init g c = search (rules, reads_to, room_gathered, are_shown)
 
 pub loop-who-preserved : goal.loop-who-preserved
 loop-who-preserved g c =
-    let old = state g.S.Store c.args.tx.now.conn.now in
     let had = c.loop-who.invariant in
     let step = c.in_ok-last.ensures in record {
       frame = reads_to tt (reads_on had.frame step.frame);
@@ -20,17 +17,12 @@ loop-who-preserved g c =
           let i = c.loop-who.who-index in
           let people = c.as_slice-people.result.now in
           let who = c.who-item.result in
-          let low : i < length people = search rules in
-          let at : get_or people i who ≡ who = search rules in
           let last = step.rows clean t (had.frame.holds before t held) in
-          let more : take (i + 1) people ≡ take i people ++ who ∷ [] = take_more people i who low ∙ ap (λ k. take i people ++ k ∷ []) at in
-          subst₂ (λ (ks : List (List ℕ)) (l : List Stay). Gathered (stay_reaches c.args.asked.now.ceremony c.args.asked.now.at) ks t.rows.stays l) (sym more) (sym c.in_ok-append.ensures.items)
-          (more_gathered (stay_reaches c.args.asked.now.ceremony c.args.asked.now.at) (take i people) t.rows.stays c.loop-who.rows.items last.0 c.in_ok-last.last.items who
-          (had.rows before t held) last.1 last.2);
-      exact = λ clean has.
-          let was = had.exact (clean_before step.frame.within clean) has in
-          subst (λ (l : List Stay). AreShown stay_row l (filter (is_stay_row c.args.asked.now) (rows_at stays_place old.now.trees)))
-          (sym c.in_ok-append.ensures.items) (shown_left stay_row c.loop-who.rows.items c.in_ok-last.last.items _ was);
+          let more : take (i + 1) people ≡ take i people ++ who ∷ [] = search (rules, take_more) in
+          rw (more, c.in_ok-append.ensures.items)
+          (more_gathered (stay_reaches c.args.asked.now.ceremony c.args.asked.now.at) (take i people) t.rows.stays c.loop-who.rows.items last.0
+          c.in_ok-last.last.items who (had.rows before t held) last.1 last.2);
+      exact = λ clean has. search (rules, shown_left, clean_before);
     }
 
 pub returns-clause-rows : goal.returns-clause-rows

@@ -1,9 +1,6 @@
-use Rattle.kcr_tables.proofs.Common.{rules, ◌≡◌, ℕ, [], ◌∷◌, refl, filter, subst, state, step_asked, step_row, clean_before, rows_at, is_row_of_step}
-use Rattle.kcr_tables.proofs.Common.{AreShown, steps_place}
-use Rattle.kcr_tables.proofs.ExactLemmas.{are_shown}
+use Rattle.kcr_tables.proofs.Common.{rules, ◌≡◌, [], ◌∷◌, refl, step_asked, clean_before}
+use Rattle.kcr_tables.proofs.{ExactLemmas.are_shown, ScriptLemmas.step_told, Queries.last_seating, Queries.row_of_step}
 use Rattle.kcr_tables.proofs.FrameLemmas.{fails_as, read_later, reads_on, reads_to}
-use Rattle.kcr_tables.proofs.Queries.{last_seating, row_of_step}
-use Rattle.kcr_tables.proofs.ScriptLemmas.{step_told}
 use Rattle.kcr_tables.proofs.select_steps.step_of.Goals as goal
 
 pub returns-in_err-seatings-clause-frame : goal.returns-in_err-seatings-clause-frame
@@ -24,19 +21,15 @@ returns-in_err-steps-clause-frame g c =
 pub returns : goal.returns
 returns g c =
     let asked = c.args.asked.now in
-    let old = state g.S.Store c.args.tx.now.conn.now in
     let seatings = c.in_ok-seatings.seatings.items in
-    let steps = c.in_ok-steps.steps.items in
     let number = c.in-Some.number in
     let is : number ≡ step_asked asked seatings = search rules in
     let last = c.in_ok-seatings.ensures (last_seating asked.ceremony) refl (λ i. c.number_cell.ensures i ∷ []) in
     let found = c.in_ok-steps.ensures (row_of_step asked.ceremony number) refl (λ i. c.number_cell-2.ensures i ∷ c.number_cell-3.ensures i ∷ []) in
     let before = clean_before found.frame.within in record {
-      rows = λ clean t held. step_told asked t.rows.seatings seatings t.rows.steps steps number is (last.rows (before clean) t held)
-          (found.rows clean t (last.frame.holds (before clean) t held));
+      rows = λ clean t held. step_told asked t.rows.seatings seatings t.rows.steps c.in_ok-steps.steps.items number is
+          (last.rows (before clean) t held) (found.rows clean t (last.frame.holds (before clean) t held));
       seating = λ clean has. last.exact (before clean) has;
-      step = λ clean has. subst (λ (n : ℕ). AreShown step_row steps (filter (is_row_of_step asked.ceremony n) (rows_at steps_place old.now.trees))) is
-          (read_later (λ db. AreShown step_row steps (filter (is_row_of_step asked.ceremony number) (rows_at steps_place db)))
-          last.frame (before clean) has (λ h. are_shown step_row _ steps (found.exact clean h)));
+      step = λ clean has. search (rules, read_later, are_shown, clean_before);
       frame = reads_to tt (reads_on last.frame found.frame);
     }

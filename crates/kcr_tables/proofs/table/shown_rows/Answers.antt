@@ -1,8 +1,5 @@
-use Rattle.kcr_tables.proofs.Common.{ℕ, List, map, IfOk, OnOk, subst, subst₂, Row, state, HasCleanDisk, IsUnchanged, Shown, understood, if_both}
-use Rattle.kcr_tables.proofs.Common.{if_ok}
-use Rattle.sqlite.specs.Given.{IsPlain}
-use Rattle.kcr_tables.proofs.FrameLemmas.{reads_by}
-use Rattle.kcr_tables.proofs.QueryLemmas.{changes_nothing, rows_told, values_told}
+use Rattle.kcr_tables.proofs.Common.{state, HasCleanDisk, if_both, if_ok}
+use Rattle.kcr_tables.proofs.{FrameLemmas.reads_by, QueryLemmas.changes_nothing, QueryLemmas.rows_told, QueryLemmas.values_told}
 use Rattle.kcr_tables.proofs.table.shown_rows.Goals as goal
 
 pub returns : goal.returns
@@ -13,8 +10,7 @@ returns g c q text params =
     let old = state g.S.Store c.args.tx.now.conn.now in
     let new = state g.S.Store c.query_rows.new.tx.conn.now in
     let did = c.query_rows.ensures in
-    let shown = λ (clean : HasCleanDisk new). subst₂ (λ (sql : List ℕ) (v : Row). IfOk c.query_rows.result
-    (λ all. Shown sql v old new (map row_of all.items))) text params (did.shown clean) in record {
+    let shown = λ (clean : HasCleanDisk new). rw (text, params) at (did.shown clean) in record {
       rows = λ clean t held. if_both _ _ _ (λ all h read.
           values_told row_of q.sql T.place q.params q.passes g.T.FromRow.is_read T.is_stored laws.one_value q.test q.same q.which q.selects old new all.items
           (T.rows_in t) held.schema h read (laws.stores old.now.trees t held.kept) (laws.keeps old.now.trees t held.kept))
@@ -23,6 +19,5 @@ returns g c q text params =
           c.query_rows.result (shown clean);
       opened = did.opened;
       frame = reads_by q.sql (changes_nothing row_of q.sql T.place q.params q.passes q.which q.selects)
-          (subst (λ (sql : List ℕ). HasCleanDisk new → IsPlain (understood old.now.schema sql) → OnOk c.query_rows.result (IsUnchanged old new)) text did.same)
-          did.frame;
+          (rw text at did.same) did.frame;
     }

@@ -1,8 +1,6 @@
 use Rattle.kcr_tables.proofs.Common.{◌≡◌, ◌∙◌, ap, sym, slice_get}
 use Rattle.std.proofs.lemmas.Option.{MatchOption-at_none}
-use Rattle.kcr_tables.proofs.FrameLemmas.{reads_to}
-use Rattle.kcr_tables.proofs.HoldLemmas.{held_of}
-use Rattle.kcr_tables.proofs.OneLemmas.{first_is, given_first}
+use Rattle.kcr_tables.proofs.{FrameLemmas.reads_to, HoldLemmas.held_of, OneLemmas.first_is, OneLemmas.given_first}
 use Rattle.kcr_tables.proofs.unique.find_row.Goals as goal
 
 pub returns : goal.returns

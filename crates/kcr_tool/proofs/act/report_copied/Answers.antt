@@ -1,7 +1,5 @@
 use Rattle.kcr_tool.proofs.Common.{inr, IfErr, refl, IfErr-weaker, writing, EndsReport, EndsReportBy, StopsCopied}
-use Rattle.kcr_tool.proofs.Copies.{never_in_doubt}
-use Rattle.kcr_tool.proofs.Notes.{noted_weaker}
-use Rattle.kcr_tool.proofs.Rows.{row_noted, row_said}
+use Rattle.kcr_tool.proofs.{Copies.never_in_doubt, Notes.noted_weaker, Rows.row_noted, Rows.row_said}
 use Rattle.kcr_tool.proofs.act.report_copied.Goals as goal
 
 pub returns-clause-own : goal.returns-clause-own
@@ -24,6 +22,4 @@ returns-clause-cause g c =
 pub returns-clause-noted : goal.returns-clause-noted
 returns-clause-noted g c =
     let w = writing g.F.Write.contents c.args.faults.now c.note.new.faults in
-    noted_weaker _ _ _ w
-    (λ told. row_noted c.args.is_explained c.write_report-ended.result c.with_row.result c.with_row.ensures (c.may_note-is_told.ensures told))
-    c.note.ensures
+    noted_weaker _ _ _ w (λ told. row_noted c.args.is_explained _ _ c.with_row.ensures (c.may_note-is_told.ensures told)) c.note.ensures

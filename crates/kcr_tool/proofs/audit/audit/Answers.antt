@@ -1,5 +1,4 @@
-use Rattle.kcr_tool.proofs.Common.{MatchResult-from_both, IfOk-weaker, writing}
-use Rattle.kcr_tool.proofs.Audits.{nothing_told}
+use Rattle.kcr_tool.proofs.{Common.MatchResult-from_both, Common.IfOk-weaker, Common.writing, Audits.nothing_told}
 use Rattle.kcr_tool.proofs.audit.audit.Goals as goal
 
 pub returns-in-Ok-clause-ends : goal.returns-in-Ok-clause-ends
@@ -9,9 +8,8 @@ returns-in-Ok-clause-ends g c =
 
 pub returns-in-Ok-clause-found : goal.returns-in-Ok-clause-found
 returns-in-Ok-clause-found g c whole clean m held =
-    let finds = c.in-Ok.ensures.found whole clean m held in
-    MatchResult-from_both c.write_audit.result _ _
-    (IfOk-weaker c.write_audit.result _ _ (λ status told. (c.in-Ok.found, finds, told)) c.write_audit.ensures.told) c.write_audit.ensures.part
+    MatchResult-from_both c.write_audit.result _ _ (IfOk-weaker c.write_audit.result _ _
+    (λ status told. (c.in-Ok.found, c.in-Ok.ensures.found whole clean m held, told)) c.write_audit.ensures.told) c.write_audit.ensures.part
 
 pub returns-in-Ok-clause-nothing : goal.returns-in-Ok-clause-nothing
 returns-in-Ok-clause-nothing g c clean A at =

@@ -1,5 +1,4 @@
-use Rattle.kcr_tool.proofs.Common.{whole}
-use Rattle.kcr_tool.proofs.Served.{served_to}
+use Rattle.kcr_tool.proofs.{Common.whole, Served.served_to}
 use Rattle.kcr_tool.proofs.listen.serve_file.Goals as goal
 
 pub returns-clause-led : goal.returns-clause-led

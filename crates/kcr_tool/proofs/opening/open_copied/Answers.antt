@@ -1,5 +1,4 @@
-use Rattle.kcr_tool.proofs.Common.{refl, file_state, founded_in}
-use Rattle.kcr_tool.proofs.Copies.{never_in_doubt}
+use Rattle.kcr_tool.proofs.{Common.refl, Common.file_state, Common.founded_in, Copies.never_in_doubt}
 use Rattle.kcr_tool.proofs.opening.open_copied.Goals as goal
 
 pub returns-clause-stands : goal.returns-clause-stands

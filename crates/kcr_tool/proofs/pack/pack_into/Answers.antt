@@ -1,5 +1,4 @@
-use Rattle.kcr_tool.proofs.Common.{writing, packed_head}
-use Rattle.kcr_tool.proofs.Verifications.{packed_ends}
+use Rattle.kcr_tool.proofs.{Common.writing, Common.packed_head, Verifications.packed_ends}
 use Rattle.kcr_tool.proofs.pack.pack_into.Goals as goal
 
 pub returns-clause-ends : goal.returns-clause-ends

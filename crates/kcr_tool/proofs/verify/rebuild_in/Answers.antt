@@ -5,8 +5,7 @@ use Rattle.kcr_tool.proofs.verify.rebuild_in.Goals as goal
 pub returns-in-Ok-clause-ends : goal.returns-in-Ok-clause-ends
 returns-in-Ok-clause-ends g c =
     let w = writing g.W.Write.contents c.args.output.now c.write_verification.new.output in
-    verification_ends rebuilt_head w (λ _. Unit {0}) c.in-Ok.verified c.write_verification.result tt
-    c.write_verification.ensures.told c.write_verification.ensures.part
+    verification_ends rebuilt_head w (λ _. Unit {0}) _ _ tt c.write_verification.ensures.told c.write_verification.ensures.part
 
 pub returns-in-Ok-clause-found : goal.returns-in-Ok-clause-found
 returns-in-Ok-clause-found g c clean =
@@ -20,11 +19,8 @@ returns-in-Ok-clause-found g c clean =
 
 pub returns-in-Err-clause-found : goal.returns-in-Err-clause-found
 returns-in-Err-clause-found g c clean =
-    let end = c.in-Err.ensures.led clean in
-    (end.0, end.1, inl refl)
+    let end = c.in-Err.ensures.led clean in (end.0, end.1, inl refl)
 
 pub returns-in-Ok-clause-own : goal.returns-in-Ok-clause-own
 returns-in-Ok-clause-own g c clean A is values listed =
-    let own = (c.in-Ok.ensures.led clean).2.own A is values listed in
-    let whole = own.0 in
-    rw whole at c.write_verification.ensures.told
+    rw ((c.in-Ok.ensures.led clean).2.own A is values listed).0 at c.write_verification.ensures.told

@@ -1,5 +1,4 @@
-use Rattle.kcr_tool.proofs.Common.{refl, file_state, founded_in}
-use Rattle.kcr_tool.proofs.Copies.{never_in_doubt}
+use Rattle.kcr_tool.proofs.{Common.refl, Common.file_state, Common.founded_in, Copies.never_in_doubt}
 use Rattle.kcr_tool.proofs.verify.rows_of.Goals as goal
 
 pub returns-in-Ok-read_tables-clause-own : goal.returns-in-Ok-read_tables-clause-own

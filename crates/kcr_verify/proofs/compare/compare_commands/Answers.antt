@@ -1,5 +1,4 @@
-use Rattle.kcr_verify.proofs.Common.{IfOk-weaker}
-use Rattle.kcr_verify.proofs.FirstRowLemmas.{compared_commands}
+use Rattle.kcr_verify.proofs.{Common.IfOk-weaker, FirstRowLemmas.compared_commands}
 use Rattle.kcr_verify.proofs.compare.compare_commands.Goals as goal
 
 pub returns-clause-register : goal.returns-clause-register

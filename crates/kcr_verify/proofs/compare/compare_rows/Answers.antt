@@ -1,5 +1,4 @@
-use Rattle.kcr_verify.proofs.Common.{IfOk-weaker, tables}
-use Rattle.kcr_verify.proofs.FirstRowLemmas.{compared_rows}
+use Rattle.kcr_verify.proofs.{Common.IfOk-weaker, Common.tables, FirstRowLemmas.compared_rows}
 use Rattle.kcr_verify.proofs.compare.compare_rows.Goals as goal
 
 pub returns-clause-rows : goal.returns-clause-rows

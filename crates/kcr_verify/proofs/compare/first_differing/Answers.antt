@@ -1,7 +1,6 @@
 use Rattle.kcr_verify.proofs.Common.{rules, ◌≡◌, ◌<◌, Some, None, arith, length, subst, AllByRecursion, take_all, whole, HasRows}
 use Rattle.kcr_history.specs.Tables as machine
-use Rattle.kcr_verify.proofs.StandLemmas.{still_stands}
-use Rattle.kcr_verify.proofs.VerifyLemmas.{first_at, one_more_table}
+use Rattle.kcr_verify.proofs.{StandLemmas.still_stands, VerifyLemmas.first_at, VerifyLemmas.one_more_table}
 use Rattle.kcr_verify.proofs.compare.first_differing.Goals as goal
 
 pub loop-table-preserved : goal.loop-table-preserved

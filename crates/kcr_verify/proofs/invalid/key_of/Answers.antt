@@ -1,8 +1,7 @@
 use Rattle.kcr_verify.proofs.Common.{◌≡◌, inl, inr, refl, length, sym, ap, ◌∙◌, arith, take_all, column, first_cells, cell_text}
 use Rattle.std.specs.Str.Lossy.{utf8_lossy}
 use Rattle.std.proofs.lemmas.List.FromFn.{length-map-range_with_len, map-range_with_len_more}
-use Rattle.kcr_verify.proofs.KeyLemmas.{bound_text}
-use Rattle.kcr_verify.proofs.QuotedLemmas.{IsStarted, line_more}
+use Rattle.kcr_verify.proofs.{KeyLemmas.bound_text, QuotedLemmas.IsStarted, QuotedLemmas.line_more}
 use Rattle.kcr_verify.proofs.invalid.key_of.Goals as goal
 use Rattle.kcr_verify.proofs.invalid.key_of.Goals.{then-index-gt0+in_ok-push, else-index-gt0}
 

@@ -1,6 +1,5 @@
 use Rattle.kcr_verify.proofs.Common.{inl, inr, refl, take, arith, length-map, length-take, map_more, bound, bound_value}
-use Rattle.sqlite.specs.Value.{owned}
-use Rattle.sqlite.specs.declared.types.ValueRef.{ValueRef}
+use Rattle.sqlite.specs.{Value.owned, declared.types.ValueRef.ValueRef}
 use Rattle.kcr_verify.proofs.QuotedLemmas.{IsStarted, line_more}
 use Rattle.kcr_verify.proofs.quoted.joined.Goals as goal
 use Rattle.kcr_verify.proofs.quoted.joined.Goals.{then-index-gt0+in_ok-push, else-index-gt0}

@@ -1,6 +1,5 @@
-use Rattle.kcr_verify.proofs.Common.{arith}
+use Rattle.kcr_verify.proofs.{Common.arith, QuotedLemmas.doubled_more, QuotedLemmas.quote_doubled, QuotedLemmas.other_kept}
 use Rattle.std.proofs.Common.{append_assoc}
-use Rattle.kcr_verify.proofs.QuotedLemmas.{doubled_more, quote_doubled, other_kept}
 use Rattle.kcr_verify.proofs.quoted.push_doubled.Goals as goal
 use Rattle.kcr_verify.proofs.quoted.push_doubled.Goals.{then-byte-eq39+in_ok-push-2, else-byte-eq39}
 

@@ -1,6 +1,5 @@
 use Rattle.kcr_verify.proofs.Common.{rules, ◌≡◌, ◌≢◌, false, Ok, subst, false_from_ne_true, err_from_is_err_and, Disk, IsOfMachine, left_at}
-use Rattle.kcr_verify.proofs.Common.{counted_at, none_in_doubt, stands_whole}
-use Rattle.kcr_verify.proofs.StandLemmas.{left_accepted, still_stands}
+use Rattle.kcr_verify.proofs.{Common.counted_at, Common.none_in_doubt, Common.stands_whole, StandLemmas.left_accepted, StandLemmas.still_stands}
 use Rattle.kcr_verify.proofs.StepLemmas.{answers_else, leads_on, read_of, refuses, takes}
 use Rattle.kcr_verify.proofs.replay.replay_one.Goals as goal
 

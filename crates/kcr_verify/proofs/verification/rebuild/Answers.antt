@@ -1,6 +1,5 @@
 use Rattle.kcr_verify.proofs.Common.{rules, ◌≡◌, Some, None, refl, length, subst, err_from_is_err_and, IsOfMachine, FullView, left_at, whole}
-use Rattle.kcr_verify.proofs.Common.{counted_at, stands_whole}
-use Rattle.kcr_verify.proofs.StandLemmas.{left_accepted, still_stands}
+use Rattle.kcr_verify.proofs.{Common.counted_at, Common.stands_whole, StandLemmas.left_accepted, StandLemmas.still_stands}
 use Rattle.kcr_verify.proofs.VerifyLemmas.{compared_all, stopped, told_of}
 use Rattle.kcr_verify.proofs.verification.rebuild.Goals as goal
 use Rattle.kcr_verify.proofs.verification.rebuild.Goals.{in-Some-2, in-None}

@@ -1,5 +1,4 @@
-use Rattle.kcr_verify.proofs.Common.{IfOk-weaker}
-use Rattle.kcr_verify.proofs.StepLemmas.{never_in_doubt}
+use Rattle.kcr_verify.proofs.{Common.IfOk-weaker, StepLemmas.never_in_doubt}
 use Rattle.kcr_verify.proofs.verification.verify.Goals as goal
 
 pub returns-clause-told : goal.returns-clause-told

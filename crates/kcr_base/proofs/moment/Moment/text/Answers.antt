@@ -1,14 +1,12 @@
-use Rattle.std.proofs.Common.{◌<◌, refl}
+use Rattle.std.proofs.Common.{arith, ◌<◌}
 use Rattle.std.proofs.lemmas.List.Elements.{All-same}
-use Rattle.kcr_base.specs.Day.{day_text}
-use Rattle.kcr_base.specs.Moment.{moment_text}
+use Rattle.kcr_base.specs.{Day.day_text, Moment.moment_text}
 use Rattle.kcr_base.proofs.DayLemmas.{moment_ascii}
 use Rattle.kcr_base.proofs.moment.Moment.text.Goals as goal
 
 pub returns-clause-bytes : goal.returns-clause-bytes
 unfolding day_text moment_text
-returns-clause-bytes c = rw
-    (c.text.ensures.bytes, c.day.ensures, c.write_two.ensures, c.write_two-2.ensures, c.write_two-3.ensures, c.number-second.ensures.value) refl
+returns-clause-bytes c = grind arith
 
 pub returns-clause-ascii : goal.returns-clause-ascii
 returns-clause-ascii c =

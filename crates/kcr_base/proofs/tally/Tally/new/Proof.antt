@@ -1,7 +1,7 @@
 -- `new` makes a value of no bytes, at 0.
 use Rattle.std.proofs.raw_atomic.Walks.{proved}
-use Rattle.kcr_base.proofs.Walks.{refl, [], ◌∷◌, vstruct, vnil, emp, via, fst∗, ‵, raw, ◌$◌, ◌∵◌, !, qed, move, suffices, done, no_more}
-use Rattle.kcr_base.proofs.Walks.{returns, enter, agg, alloc_all, pass_all, free_all, look_at, sets, owns, pure_i, alive, says, walk_of, ends_at}
+use Rattle.kcr_base.proofs.Walks.{refl, [], ◌∷◌, vstruct, vnil, emp, via, fst∗, ‵, raw, ◌$◌, ◌∵◌, !, qed, move, suffices, done, no_more, returns}
+use Rattle.kcr_base.proofs.Walks.{enter, agg, alloc_all, pass_all, free_all, look_at, sets, owns, pure_i, alive, says, walk_of, ends_at}
 use Rattle.kcr_base.specs.contracts.tally.Tally as made
 use Rattle.kcr_base.specs.contracts.tally.Tally.new as f
 use Rattle.kcr_base.proofs.tally.Tally.new.Statement.{statement}

@@ -1,5 +1,4 @@
-use Rattle.kcr_desk.proofs.Common.{rules, MatchResult-from_err}
-use Rattle.kcr_desk.proofs.WaitingLemmas.{sent_front, sent_on}
+use Rattle.kcr_desk.proofs.{Common.rules, Common.MatchResult-from_err, WaitingLemmas.sent_front, WaitingLemmas.sent_on}
 use Rattle.kcr_desk.proofs.input_buffer.InputBuffer.read_body.Goals as goal
 
 pub returns-in_err-fill-clause-gathered : goal.returns-in_err-fill-clause-gathered

@@ -1,14 +1,5 @@
+use Rattle.std.proofs.Common.{rules}
 use Rattle.kcr_edges.proofs.noted.CopyFileDisk.set_len.Goals as goal
 
 pub returns-clause-frozen : goal.returns-clause-frozen
-returns-clause-frozen c frozen =
-    let stays = c.set_len-outcome.ensures.frozen frozen in (
-      stays.0,
-      record {
-        frozen = stays.1.frozen;
-        same = stays.1.same;
-        clean = stays.1.clean;
-        no_more = stays.1.no_more;
-        no_fewer = stays.1.no_fewer;
-      },
-    )
+returns-clause-frozen c frozen = let stays = c.set_len-outcome.ensures.frozen frozen in (stays.0, search (rules, stays.1))

@@ -1,5 +1,4 @@
-use Rattle.kcr_store.proofs.Common.{was_clean}
-use Rattle.kcr_store.proofs.OpenLemmas.{rows_in}
+use Rattle.kcr_store.proofs.{Common.was_clean, OpenLemmas.rows_in}
 use Rattle.kcr_store.proofs.register.Register+FileStore+FileFrom+F.open_from.Goals as goal
 
 pub returns-in-Ok-clause-stands : goal.returns-in-Ok-clause-stands

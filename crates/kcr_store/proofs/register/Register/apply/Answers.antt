@@ -1,12 +1,10 @@
 use Rattle.kcr_store.proofs.Common.{◌≡◌, ◌≢◌, refl, rules, Disk, Accepted, Refused, InDoubt}
-use Rattle.kcr_store.proofs.ByRows.{calm_breaks, rows_led}
-use Rattle.kcr_store.proofs.WholeLemmas.{accepted_leads, broken_leads, seen_unbroken}
+use Rattle.kcr_store.proofs.{ByRows.calm_breaks, ByRows.rows_led, WholeLemmas.accepted_leads, WholeLemmas.broken_leads, WholeLemmas.seen_unbroken}
 use Rattle.kcr_store.proofs.register.Register.apply.Goals as goal
 
 pub returns-in-Accepted-clause-step : goal.returns-in-Accepted-clause-step
 returns-in-Accepted-clause-step g c =
-    let unbroken = seen_unbroken c.self.view_is c.is_broken.ensures.value c.if-is_broken.false in
-    rw (← c.self.view_is, ← c.lent.view_is) (accepted_leads g.S.Store _ _ c.args.command.now unbroken c.in-Accepted.verdict unbroken
+    rw (← c.self.view_is, ← c.lent.view_is) (accepted_leads g.S.Store _ _ c.args.command.now (cc) c.in-Accepted.verdict (cc)
     c.number_after-self-inside.ensures c.in-Accepted.ensures.step)
 
 pub returns-in-Refused-Disk-clause-step : goal.returns-in-Refused-Disk-clause-step
@@ -16,8 +14,7 @@ returns-in-Refused-Disk-clause-step g c =
 
 pub returns-in-InDoubt-clause-step : goal.returns-in-InDoubt-clause-step
 returns-in-InDoubt-clause-step g c =
-    let unbroken = seen_unbroken c.self.view_is c.is_broken.ensures.value c.if-is_broken.false in
-    rw (← c.self.view_is, ← c.lent.view_is) (broken_leads g.S.Store _ _ c.args.command.now unbroken refl c.in-InDoubt.ensures.step)
+    rw (← c.self.view_is, ← c.lent.view_is) (broken_leads g.S.Store _ _ c.args.command.now (cc) refl c.in-InDoubt.ensures.step)
 
 pub returns-in-Accepted-clause-by_rows : goal.returns-in-Accepted-clause-by_rows
 returns-in-Accepted-clause-by_rows g c _ = rw (← c.self.view_is, ← c.lent.view_is) c.in-Accepted.ensures.by_rows
@@ -29,9 +26,8 @@ returns-in-Refused-clause-by_rows g c _ = rw (← c.self.view_is, ← c.lent.vie
 
 pub returns-in-Accepted-clause-rows : goal.returns-in-Accepted-clause-rows
 returns-in-Accepted-clause-rows g c =
-    let unbroken = seen_unbroken c.self.view_is c.is_broken.ensures.value c.if-is_broken.false in
-    rw (← c.self.view_is, ← c.lent.view_is) (rows_led g.S.Store _ _ c.args.command.now unbroken (Accepted c.in-Accepted.verdict)
-    c.number_after-self-inside.ensures (calm_breaks unbroken (λ ok. let p = ok in cc)) c.in-Accepted.ensures.rows)
+    rw (← c.self.view_is, ← c.lent.view_is) (rows_led g.S.Store _ _ c.args.command.now (cc) (Accepted c.in-Accepted.verdict)
+    c.number_after-self-inside.ensures (calm_breaks (cc) (λ ok. let p = ok in cc)) c.in-Accepted.ensures.rows)
 
 pub returns-in-Refused-Disk-clause-rows : goal.returns-in-Refused-Disk-clause-rows
 returns-in-Refused-Disk-clause-rows g c =
@@ -41,13 +37,11 @@ returns-in-Refused-Disk-clause-rows g c =
 
 pub returns-in-Refused-clause-rows : goal.returns-in-Refused-clause-rows
 returns-in-Refused-clause-rows g c =
-    let unbroken = seen_unbroken c.self.view_is c.is_broken.ensures.value c.if-is_broken.false in
     let other : c.in-Refused.refusal ≢ Disk = search rules in
-    rw (← c.self.view_is, ← c.lent.view_is) (rows_led g.S.Store _ _ c.args.command.now unbroken (Refused c.in-Refused.refusal) refl
-    (calm_breaks unbroken (λ is. other (let e : c.in-Refused.refusal ≡ Disk = cc in e))) c.in-Refused.ensures.rows)
+    rw (← c.self.view_is, ← c.lent.view_is) (rows_led g.S.Store _ _ c.args.command.now (cc) (Refused c.in-Refused.refusal) refl
+    (calm_breaks (cc) (λ is. other (let e : c.in-Refused.refusal ≡ Disk = cc in e))) c.in-Refused.ensures.rows)
 
 pub returns-in-InDoubt-clause-rows : goal.returns-in-InDoubt-clause-rows
 returns-in-InDoubt-clause-rows g c =
-    let unbroken = seen_unbroken c.self.view_is c.is_broken.ensures.value c.if-is_broken.false in
-    rw (← c.self.view_is, ← c.lent.view_is) (rows_led g.S.Store _ _ c.args.command.now unbroken (InDoubt c.in-InDoubt.error) refl (λ _. refl, λ _. refl)
+    rw (← c.self.view_is, ← c.lent.view_is) (rows_led g.S.Store _ _ c.args.command.now (cc) (InDoubt c.in-InDoubt.error) refl (λ _. refl, λ _. refl)
     c.in-InDoubt.ensures.rows)

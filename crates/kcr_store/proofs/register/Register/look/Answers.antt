@@ -20,8 +20,7 @@ pub returns-clause-shown : goal.returns-clause-shown
 returns-clause-shown g c clean A at =
     let lent = c.in_ok-lent.ensures in
     let said = rw (c.lent.view_is ∙ lent.begun) at c.run_query-shown.ensures.answer in
-    rw c.note_disk_fault.ensures.same
-    (said A (counted_at lent.broken at).whole (rw (conn_after c.note_disk_fault.ensures.settled) at clean))
+    rw c.note_disk_fault.ensures.same (said A (counted_at lent.broken at).whole (rw (conn_after c.note_disk_fault.ensures.settled) at clean))
 
 pub returns-in_err-lent-clause-rows : goal.returns-in_err-lent-clause-rows
 returns-in_err-lent-clause-rows g c calm = absurd (true≢false (sym c.in_err-lent.ensures.broken.1 ∙ calm))

@@ -1,5 +1,4 @@
-use Rattle.kcr_store.proofs.Common.{tables}
-use Rattle.kcr_store.proofs.StoreLemmas.{held_in}
+use Rattle.kcr_store.proofs.{Common.tables, StoreLemmas.held_in}
 use Rattle.kcr_store.proofs.rows.Rows.next.Goals as goal
 
 pub returns-clause-gives : goal.returns-clause-gives
