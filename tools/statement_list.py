@@ -224,7 +224,7 @@ PARTS = [
     ("The program",
      "Which arguments are which task, and what each task writes.",
      """kcr_verify/src/new_register kcr_log/src/judgement kcr_store/src/breakage kcr_arguments/src/words kcr_fault/src/fault
-     kcr_arguments/Commands kcr_arguments/Tasks kcr_fault/Lines kcr_fault/Notes kcr_fault/Faults kcr_tool/Audits
+     kcr_arguments/Commands kcr_arguments/Tasks kcr_fault/Lines kcr_fault/Faults kcr_tool/Audits
      kcr_tool/Verifications kcr_tool/Runs"""),
 ]
 

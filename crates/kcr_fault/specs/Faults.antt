@@ -1,32 +1,55 @@
--- Why a task was not done to its end, and what is told of it.
+-- Why a task was not done to its end, what is told of it, and of a register that is not there or has no command.
 use Rattle.std.specs.Fmt.{decimal}
-use Rattle.std.specs.Prelude.{◌≡◌, ◌≢◌, ◌⊎◌, ℕ, Bool, List, [], ◌++◌, codes, Option, Some, None, IsSome, IsTrue}
-use Rattle.std.specs.Prelude.{if◌then◌else◌, unwrap_or}
-use Rattle.kcr_base.specs.declared.counted.Counted.{Counted}
-use Rattle.kcr_base.specs.Refusal.{number_of, word_of, thing_text}
-use Rattle.kcr_base.specs.declared.refusal.Refusal.{Refusal}
+use Rattle.std.specs.Prelude.{◌≡◌, ◌≢◌, ◌⊎◌, ℕ, Bool, List, [], ◌++◌, codes, Option, Some, None, Result, Ok, IsSome, IsTrue, if◌then◌else◌, unwrap_or}
+use Rattle.kcr_base.specs.{declared.counted.Counted.Counted, declared.refusal.Refusal.Refusal, Refusal.number_of, Refusal.word_of, Refusal.thing_text}
 use Rattle.kcr_base.specs.declared.refusal.Refusal.TheVariants as refusal
-use Rattle.kcr_desk.specs.Streams.{Streams, Writing, BreaksStream, HasFailed, IsUntouched, WritesNothing, writing}
+use Rattle.kcr_desk.specs.Streams.{Streams, Writing, BreaksStream, HasFailed, IsUntouched, WritesNothing, WritesPart, WritesText, writing}
 use Rattle.kcr_desk.specs.declared.fault.DeskFault.TheVariants as stream
 use Rattle.kcr_print.specs.declared.fault.PrintFault.{PrintFault}
 use Rattle.kcr_print.specs.declared.fault.PrintFault.TheVariants as print
-use Rattle.kcr_store.specs.Register.{RegisterState}
-use Rattle.kcr_store.specs.Rows.{MayHaveNoRow}
-use Rattle.kcr_store.specs.declared.breakage.Breakage.{Breakage}
+use Rattle.kcr_store.specs.{Register.RegisterState, Rows.MayHaveNoRow, declared.breakage.Breakage.Breakage}
 use Rattle.kcr_store.specs.declared.«open».OpenFault.TheVariants as opening
 use Rattle.kcr_log.specs.declared.judgement.Log.TheVariants as logs
 use Rattle.kcr_tables.specs.Refusals.{IsFault}
 use Rattle.kcr_verify.specs.declared.new_register.CreateFault.TheVariants as fresh
 use Rattle.kcr_fault.specs.Lines.{broken_line, call_head, found_line, invalid_line, log_line, missing_line, numbered, step_head}
-use Rattle.kcr_fault.specs.Notes.{IsMissing, IsNoted, IsUnfilled, WritesLines}
-use Rattle.kcr_fault.specs.declared.fault.Fault.{Fault}
+use Rattle.kcr_fault.specs.declared.fault.{Fault.Fault, Missing.Missing, Missing.TheVariants.Unnamed}
 use Rattle.kcr_fault.specs.declared.fault.Fault.TheVariants.{Open, File, Log, Nothing, Into, IntoFile, Stream, Refused}
 use Rattle.kcr_fault.specs.declared.fault.Fault.TheVariants.{Broken, Invalid, Unwritten, Net, Lost, Words}
 use Rattle.kcr_fault.specs.declared.fault.Call.TheVariants as call
-use Rattle.kcr_arguments.specs.declared.words.Serving.{Serving}
-use Rattle.kcr_arguments.specs.declared.words.Task.{Task}
-use Rattle.kcr_arguments.specs.declared.words.Report.TheVariants.{Print, Attendance}
+use Rattle.kcr_arguments.specs.declared.words.{Serving.Serving, Task.Task, Report.Report, Report.TheVariants.Print, Report.TheVariants.Attendance}
 use Rattle.kcr_arguments.specs.declared.words.Task.TheVariants.{Run, Serve, Write, Verify, Rebuild, Pack}
+
+-- the words name no file, or one that is not there or has no command
+abbrev pub IsMissing : Option (List ℕ) → Missing → Type 0
+IsMissing file Unnamed = file ≡ None
+IsMissing file other = IsSome file
+
+-- a file is named that is not there or has no command
+abbrev pub IsUnfilled : Missing → Type 0
+IsUnfilled Unnamed = ⊥
+IsUnfilled other = Unit {0}
+
+-- the lines were written, or a prefix of them before a write failed
+abbrev pub WritesLines : {W : Type 0} → Writing W → List ℕ → Type 0
+WritesLines w lines = WritesText w lines ⊎ (HasFailed w × WritesPart w lines)
+
+-- that it is missing was told, or not if there was no memory for the line
+abbrev pub IsTold : {W : Type 0} → Option (List ℕ) → Missing → Writing W → Type 0
+IsTold file missing w = WritesNothing w ⊎ WritesLines w (missing_line file missing)
+
+-- notes are told if the program explains what it meets, or if the task is done
+abbrev pub MayNote : {E : Type 0} → Bool → Result ℕ E → Type 0
+MayNote is_explained result = IsTrue is_explained ⊎ (result ≡ Ok 0)
+
+-- standard error is as it was, or that the register is missing was told, if it may be
+abbrev pub IsNotedOf : {W : Type 0} → Type 0 → Option (List ℕ) → Writing W → Type 0
+IsNotedOf May file w =
+    WritesNothing w ⊎ (May × ((missing : Missing) × IsMissing file missing × WritesLines w (missing_line file missing)))
+
+-- it is as it was, or a report has told that the register is missing, if it may
+abbrev pub IsNoted : {W : Type 0} → Type 0 → Option Task → Option (List ℕ) → Writing W → Type 0
+IsNoted May task file w = WritesNothing w ⊎ ((report : Report) × (task ≡ Some (Write report)) × IsNotedOf May file w)
 
 -- what a refusal names, and the end of its line
 abbrev pub named : Refusal → List ℕ
@@ -87,8 +110,7 @@ AreLinesOf is_explained task file into fault lines =
     (lines ≡ lines_of is_explained task file into fault) ⊎ (lines ≡ reason_of fault)
 
 -- the lines of a fault stand on standard error, unless a write failed; before them only a note, if it is explained
-abbrev pub TellsFault
-    : {W : Type 0} → Bool → Option Task → Option (List ℕ) → Option (List ℕ) → Fault → Writing W → Type 0
+abbrev pub TellsFault : {W : Type 0} → Bool → Option Task → Option (List ℕ) → Option (List ℕ) → Fault → Writing W → Type 0
 TellsFault {W} is_explained task file into fault w =
     (between : Counted W) × IsNoted (IsTrue is_explained) task file (writing w.contents w.before between)
     × ((lines : List ℕ) × AreLinesOf is_explained task file into fault lines

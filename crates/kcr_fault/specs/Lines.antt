@@ -1,25 +1,18 @@
 -- The lines that the program writes beside reports.
-use Rattle.std.specs.Prelude.{if◌then◌else◌, ◌||◌, ℕ, Bool, true, false, List, [], ◌++◌, codes, map, nat_eq, nat_lt}
-use Rattle.std.specs.Prelude.{Option, Some, None, unwrap_or}
+use Rattle.std.specs.Prelude.{if◌then◌else◌, ◌||◌, ℕ, Bool, true, false, List, [], ◌++◌, codes, map, nat_eq, nat_lt, Option, Some, None, unwrap_or}
 use Rattle.std.specs.Fmt.{decimal}
 use Rattle.kcr_base.specs.Moment.{moment_text}
-use Rattle.kcr_history.specs.Refusals.{refusal_text}
-use Rattle.kcr_history.specs.declared.views.Finding.{Finding}
+use Rattle.kcr_history.specs.{Refusals.refusal_text, declared.views.Finding.Finding}
 use Rattle.kcr_history.specs.declared.views.Finding.TheVariants.{Seating, Custody, Bag, Key, Lone, Crowd}
 use Rattle.kcr_log.specs.declared.judgement.Log.{Log}
 use Rattle.kcr_log.specs.declared.judgement.Log.TheVariants as Logs
 use Rattle.kcr_store.specs.declared.breakage.Breakage.{Breakage}
 use Rattle.kcr_store.specs.declared.breakage.Breakage.TheVariants as Breakages
-use Rattle.kcr_verify.specs.Quoted.{row_line}
-use Rattle.kcr_verify.specs.Verification.{name_of as table_name}
-use Rattle.kcr_verify.specs.declared.invalid.InvalidRow.{InvalidRow}
-use Rattle.kcr_verify.specs.declared.verification.Difference.{Difference}
+use Rattle.kcr_verify.specs.{Quoted.row_line, Verification.name_of as table_name}
+use Rattle.kcr_verify.specs.declared.{invalid.InvalidRow.InvalidRow, verification.Difference.Difference}
 use Rattle.kcr_verify.specs.declared.verification.Difference.TheVariants.{Number, Command, Refused, Reply, Rows}
-use Rattle.kcr_fault.specs.declared.fault.Call.{Call}
-use Rattle.kcr_fault.specs.declared.fault.Call.TheVariants.{Binding, Accepting}
-use Rattle.kcr_fault.specs.declared.fault.Missing.{Missing}
-use Rattle.kcr_fault.specs.declared.fault.Missing.TheVariants.{Unnamed, Absent, Empty}
-use Rattle.kcr_fault.specs.declared.fault.Step.{Step}
+use Rattle.kcr_fault.specs.declared.fault.{Call.Call, Call.TheVariants.Binding, Call.TheVariants.Accepting, Step.Step}
+use Rattle.kcr_fault.specs.declared.fault.Missing.{Missing, TheVariants.Unnamed, TheVariants.Absent, TheVariants.Empty}
 use Rattle.kcr_fault.specs.declared.fault.Step.TheVariants.{Missing as NotThere, Opening, Locking, Reading}
 
 -- a number, and a text behind a space

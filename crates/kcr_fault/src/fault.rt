@@ -1,8 +1,7 @@
 //! Why a task was not done to its end, and the line that tells it.
 ghost use Rattle.std.specs.Prelude.{◌≡◌, ℕ, List, [], Some, IfOk, option_map, string_bytes, unwrap_or};
 ghost use Rattle.kcr_desk.specs.Streams.{writing};
-ghost use Rattle.kcr_fault.specs.Faults.{AreLinesOf, refusal_line, reason_of, second_line, lines_of, port_of};
-ghost use Rattle.kcr_fault.specs.Notes.{IsTold, WritesLines};
+ghost use Rattle.kcr_fault.specs.Faults.{AreLinesOf, IsTold, WritesLines, refusal_line, reason_of, second_line, lines_of, port_of};
 ghost use Rattle.kcr_arguments.specs.Tasks.{file_in, into_in};
 ghost use Rattle.kcr_fault.specs.Lines.{broken_line, call_head, invalid_line, log_line, missing_line, step_head};
 

@@ -12,7 +12,7 @@ pub use Rattle.kcr_desk.specs.Streams.{IsUntouched, Streams, WritesNothing, Writ
 pub use Rattle.kcr_fault.specs.Faults.{AreLinesOf, HasCause, MayMeet, MeetsOver, StopsMaking, StopsOpening, StopsReading, StopsRebuild, StopsReplay}
 pub use Rattle.kcr_fault.specs.Faults.{StopsReport, StopsServing, StopsTask, TellsFault}
 pub use Rattle.kcr_fault.specs.Lines.{listening_line, packed_head, rebuilt_head, verified_head}
-pub use Rattle.kcr_fault.specs.Notes.{IsMissing, IsNoted, IsNotedOf, IsTold, IsUnfilled, MayNote, WritesLines}
+pub use Rattle.kcr_fault.specs.Faults.{IsMissing, IsNoted, IsNotedOf, IsTold, IsUnfilled, MayNote, WritesLines}
 pub use Rattle.kcr_fault.specs.declared.fault.Fault.{Fault, TheVariants.Invalid, TheVariants.Refused, TheVariants.Words}
 pub use Rattle.kcr_fault.specs.declared.fault.Missing.{Missing}
 pub use Rattle.kcr_history.specs.History.{History}

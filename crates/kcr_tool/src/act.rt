@@ -3,15 +3,12 @@ ghost use Rattle.std.specs.Prelude.{◌≡◌, ◌≢◌, ◌≤◌, ◌⊎◌, 
 ghost use Rattle.sqlite.specs.Steps.{over_memory};
 ghost use Rattle.kcr_desk.specs.Streams.{IsUntouched, WritesNothing, streams, writing};
 ghost use Rattle.kcr_fault.specs.declared.fault.Fault.{Fault as WhyNot};
-ghost use Rattle.kcr_fault.specs.Faults.{HasCause, MayMeet, StopsOpening, StopsReport, TellsFault};
-ghost use Rattle.kcr_fault.specs.Notes.{IsMissing, IsNoted, IsNotedOf, MayNote};
+ghost use Rattle.kcr_fault.specs.Faults.{HasCause, IsMissing, IsNoted, IsNotedOf, MayMeet, MayNote, StopsOpening, StopsReport, TellsFault};
 ghost use Rattle.kcr_tool.specs.Runs.{Completes, CompletesInPart, CompletesUnknown, CompletesUnknownInPart, EndsReport};
-ghost use Rattle.kcr_tool.specs.Runs.{EndsReportBy, EndsTask, EndsTaskBy, OfTask, WritesProblem};
+ghost use Rattle.kcr_tool.specs.Runs.{EndsReportBy, EndsTask, EndsTaskBy, OfTask, WritesProblem, StopsCopied};
 ghost use Rattle.kcr_edges.specs.Image.{image};
 ghost use Rattle.kcr_history.specs.History.{History};
-ghost use Rattle.kcr_store.specs.Calls.{OfHistory};
-ghost use Rattle.kcr_store.specs.Opening.{FilesHoldHistory};
-ghost use Rattle.kcr_tool.specs.Runs.{StopsCopied};
+ghost use Rattle.kcr_store.specs.{Calls.OfHistory, Opening.FilesHoldHistory};
 ghost use Rattle.kcr_verify.specs.Verification.{IsFresh};
 ghost use Rattle.kcr_arguments.specs.Tasks.{task_of, file_in, file_of, into_of, faults_of, is_explained, names_companion, said};
 

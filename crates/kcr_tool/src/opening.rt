@@ -1,18 +1,12 @@
 //! The register in a file: opened to be written, or read into memory.
 ghost use Rattle.std.specs.Prelude.{◌≡◌, false, IsTrue, IfOk, IfErr, IfSome};
 ghost use Rattle.sqlite_std_file.specs.File.{file_is_usable};
-ghost use Rattle.kcr_edges.specs.Image.{image};
-ghost use Rattle.kcr_edges.specs.Unread.{IsCause};
-ghost use Rattle.kcr_fault.specs.Faults.{StopsOpening};
-ghost use Rattle.kcr_fault.specs.Notes.{IsUnfilled};
+ghost use Rattle.kcr_edges.specs.{Image.image, Unread.IsCause};
+ghost use Rattle.kcr_fault.specs.Faults.{StopsOpening, IsUnfilled};
 ghost use Rattle.sqlite.specs.Files.{file_state, over_files, IsOpened as IsNewlyOpened};
-ghost use Rattle.sqlite.specs.Held.{state};
-ghost use Rattle.sqlite.specs.Start.{FindsIn};
-ghost use Rattle.sqlite.specs.State.{HasCleanDisk};
-ghost use Rattle.sqlite.specs.WalFiles.{image_at};
+ghost use Rattle.sqlite.specs.{Held.state, Start.FindsIn, State.HasCleanDisk, WalFiles.image_at};
 ghost use Rattle.kcr_history.specs.History.{History};
-ghost use Rattle.kcr_store.specs.Opening.{FilesHoldHistory, IsGenuine};
-ghost use Rattle.kcr_store.specs.Register.{StandsAt, whole};
+ghost use Rattle.kcr_store.specs.{Opening.FilesHoldHistory, Opening.IsGenuine, Register.StandsAt, Register.whole};
 
 use kcr_edges::{Copied, CopyConnection, CopyFile, Unread, Watch, connect, copy_of, have_failed};
 use kcr_fault::{Fault, Missing, Step};
