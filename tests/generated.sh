@@ -1,10 +1,11 @@
 #!/usr/bin/env bash
-# tests/generated.sh: what `tools/statement.py`, `tools/layers.py` and `tools/tables.py` write is what stands in the
-# repository. The last one runs in a copy. It ends with status 0 if no file differs.
+# tests/generated.sh: what `tools/statement.py`, `tools/layers.py`, `tools/imports.py` and `tools/tables.py` write is what
+# stands in the repository. The last one runs in a copy. It ends with status 0 if no file differs.
 set -eu
 cd "$(dirname "$0")/.."
 python3 tools/statement.py --check
 python3 tools/layers.py --check
+python3 tools/imports.py --check
 room=$(mktemp -d)
 trap 'rm -rf "$room"' EXIT
 mkdir "$room/crates"

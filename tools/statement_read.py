@@ -52,10 +52,12 @@ def import_line(source, text):
     listed = re.match(r"(.*?)\.\{(.*)\}$", text)
     if listed:
         for part in filter(None, (p.strip() for p in listed[2].split(","))):
-            name, _, other = part.partition(" as ")
-            source.imports[other or name] = (listed[1], name)
+            path, _, other = part.partition(" as ")
+            *below, name = path.split(".")
+            module = ".".join([listed[1], *below])
+            source.imports[other or name] = (module, name)
             if handed_on:
-                source.exports.append((other or name, listed[1], name))
+                source.exports.append((other or name, module, name))
         return
     module, _, other = text.partition(" as ")
     source.imports[other or module.split(".")[-1]] = (module, None)

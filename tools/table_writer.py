@@ -2,6 +2,7 @@
 import os
 import re
 
+from imports import with_joined
 from table_layout import DEFINITIONS, PROOFS, laid_out
 
 TABLES_CRATE = "kcr_tables"
@@ -42,6 +43,7 @@ def write(path, text, crate=TABLES_CRATE):
     text = f"{sign} Written by tools/tables.py from tools/table_list.py: do not edit.\n" + without_unused(text)
     if path.endswith(".antt"):
         text = laid_out(text, DEFINITIONS if "/specs/" in path else PROOFS)
+    text = with_joined(text)
     os.makedirs(os.path.dirname(path), exist_ok=True)
     with open(path, "w") as f:
         f.write(text if text.endswith("\n") else text + "\n")

@@ -1,9 +1,8 @@
 -- What the definitions give on words that are written out.
 use Rattle.std.proofs.Common.{◌≡◌, codes, Some, [], ◌∷◌, true, false, refl}
 use Rattle.clap.proofs.OnLiterals.{clap_on_literals}
-use Rattle.kcr_arguments.specs.Commands.{tool_app}
+use Rattle.kcr_arguments.specs.{Commands.tool_app, declared.words.Task.TheVariants.Run}
 use Rattle.kcr_arguments.specs.Tasks.{faults_of, met_in, task_of, is_existing, is_explained}
-use Rattle.kcr_arguments.specs.declared.words.Task.TheVariants.{Run}
 
 taken : faults_of (codes "kcr" ∷ codes "run" ∷ []) ≡ []
 unfolding faults_of tool_app clap_on_literals

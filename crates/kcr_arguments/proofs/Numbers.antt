@@ -1,12 +1,9 @@
 -- What an option's number is, by the text that it was given.
 use Rattle.std.proofs.Common.{◌≡◌, ◌^◌, ◌<◌, ◌≤◌, ℕ, false, Option, Some, None, Result, Ok, Err, refl, arith}
 use Rattle.std.specs.Str.Parse.{ParsesUnsigned}
-use Rattle.clap.specs.Matches.{ReadsOne, one_text}
-use Rattle.clap.specs.declared.builder.value_parser.ValueParser.TheVariants.{Unsigned}
-use Rattle.clap.specs.Words.{Text, rows_of}
-use Rattle.clap.proofs.ValueTestLemmas.{accepts-Accepts, Accepts-accepts}
-use Rattle.clap.proofs.WalkLemmas.{one_text-rows}
-use Rattle.clap.specs.declared.parser.matches.Found.{Found}
+use Rattle.clap.specs.{Matches.ReadsOne, Matches.one_text, Words.Text, Words.rows_of}
+use Rattle.clap.specs.declared.{builder.value_parser.ValueParser.TheVariants.Unsigned, parser.matches.Found.Found}
+use Rattle.clap.proofs.{ValueTestLemmas.accepts-Accepts, ValueTestLemmas.Accepts-accepts, WalkLemmas.one_text-rows}
 use Rattle.kcr_arguments.specs.Tasks.{number_between, number_at}
 
 module _ (E : Type 0) (G : Text → Result ℕ E → Type 0) (exact : (u : Text) (x : Result ℕ E) → G u x → ParsesUnsigned 32 10 u x)

@@ -2,35 +2,23 @@
 use Rattle.std.proofs.Common.{◌≡◌, ◌⊎◌, ◌&&◌, ◌==◌, ℕ, zero, suc, Bool, true, false, not, cond, List, [], ◌∷◌, Option, Some, None, refl, sym, ap, ◌∙◌, subst, length}
 use Rattle.std.proofs.Common.{drop, arith, inl, inr}
 use Rattle.std.specs.Prelude.{is_some, fold, find, MatchOption, option_and_then, slice_get, encode_utf8}
-use Rattle.std.specs.List.{AllByRecursion, list_any}
-use Rattle.std.specs.Option.{option_map_or}
-use Rattle.std.specs.Str.{bytes_eq, chars}
+use Rattle.std.specs.{List.AllByRecursion, List.list_any, Option.option_map_or, Str.bytes_eq, Str.chars}
 use Rattle.kcr_base.proofs.ListLemmas.{each-weaker, first-is}
-use Rattle.std.proofs.lemmas.Bool.{and_parts, not-true}
-use Rattle.std.proofs.lemmas.Bool.Decides.{nat_tests}
-use Rattle.std.proofs.lemmas.Slice.Eq.{bytes_eq-Decides}
-use Rattle.clap.specs.Lexer.{long_of}
+use Rattle.std.proofs.lemmas.{Bool.and_parts, Bool.not-true, Bool.Decides.nat_tests, Slice.Eq.bytes_eq-Decides}
+use Rattle.clap.specs.{Lexer.long_of, Takes.is_given, Facts.explicit_source, Simple.Shape, Simple.filled}
 use Rattle.clap.specs.Kinds.{Kinds, check_kinds, or_else, range_kinds}
-use Rattle.clap.specs.Facts.{explicit_source}
-use Rattle.clap.specs.Takes.{is_given}
 use Rattle.clap.specs.Faults.{bundle_step_fault, check_fault, defaults_fault, flags_fault, flag_word_fault, level_fault, repeat_fault, values_fault, long_fault}
 use Rattle.clap.specs.Faults.{option_fault, react_fault, settle_fault, short_fault, step_fault, turn_fault, use_fault, walk_fault, word_fault}
-use Rattle.clap.specs.Simple.{Shape, filled}
 use Rattle.clap.specs.Walk.{Held, Names, Outcome, Row, Rule, Step, Text, Waiting, Walk, action_of, after_flag, after_step, arg_by_id, arg_by_long, arg_by_short}
 use Rattle.clap.specs.Walk.{attached_value, first_of, bundle, bundle_met, bundle_step, done, plain, finished, has_row, long_met, long_or_other, nothing_held}
 use Rattle.clap.specs.Walk.{option_met, reacted, row_text, rows_after, settled, settled_rows, short_met, used, walk, walk_from, walked, with_default}
 use Rattle.clap.specs.Walk.{reading_by, used_as, values_or_missing, with_values, without, word_met}
 use Rattle.clap.specs.declared.error.kind.ErrorKind.TheVariants as kind
-use Rattle.clap.specs.declared.builder.action.ArgAction.{ArgAction}
-use Rattle.clap.specs.declared.builder.action.ArgAction.TheVariants.{Set, SetTrue, Help}
-use Rattle.clap.specs.declared.parser.matches.ValueSource.TheVariants.{CommandLine, DefaultValue}
-use Rattle.clap.specs.declared.builder.value_parser.Reading.TheVariants.{AsWritten}
-use Rattle.clap.specs.declared.builder.value_parser.ValueParser.{ValueParser}
-use Rattle.clap.specs.declared.builder.value_parser.ValueParser.TheVariants.{String, Unsigned}
-use Rattle.clap.specs.declared.parser.matches.ValueSource.{ValueSource}
-use Rattle.clap.specs.declared.builder.value_parser.Reading.{Reading}
-use Rattle.kcr_arguments.specs.Commands.{value_rule}
-use Rattle.kcr_arguments.specs.Tasks.{number_between, number_at}
+use Rattle.clap.specs.declared.builder.action.ArgAction.{ArgAction, TheVariants.Set, TheVariants.SetTrue, TheVariants.Help}
+use Rattle.clap.specs.declared.parser.matches.ValueSource.{TheVariants.CommandLine, TheVariants.DefaultValue, ValueSource}
+use Rattle.clap.specs.declared.builder.value_parser.Reading.{TheVariants.AsWritten, Reading}
+use Rattle.clap.specs.declared.builder.value_parser.ValueParser.{ValueParser, TheVariants.String, TheVariants.Unsigned}
+use Rattle.kcr_arguments.specs.{Commands.value_rule, Tasks.number_between, Tasks.number_at}
 
 -- a list, and the one that is taken when it is empty, are both empty if nothing is taken
 pub both_empty : (a b : Kinds) → or_else a b ≡ [] → (a ≡ []) × (b ≡ [])

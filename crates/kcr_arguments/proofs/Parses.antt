@@ -1,18 +1,12 @@
 -- The program's command line is simple, so its matches are exact.
 use Rattle.std.proofs.Common.{◌≡◌, ◌⊎◌, List, [], ◌∷◌, true, Option, Some, None, option_map, refl, sym, inl, inr, ◌∙◌}
-use Rattle.std.specs.Prelude.{Box}
-use Rattle.std.specs.Box.{box_value}
-use Rattle.clap.specs.declared.error.kind.ErrorKind.{ErrorKind}
-use Rattle.clap.specs.declared.error.kind.ErrorKind.TheVariants.{OutOfMemory}
+use Rattle.std.specs.{Prelude.Box, Box.box_value}
+use Rattle.clap.specs.declared.{error.kind.ErrorKind.ErrorKind, error.kind.ErrorKind.TheVariants.OutOfMemory, parser.matches.SubCommand.SubCommand}
 use Rattle.clap.specs.Words.{IsAmong, Kinds, App, Text, Row, is_simple, is_simple_and_free, fault_of, subcommand_rows, HasMatchesOf}
 use Rattle.clap.specs.Words.{subcommand_rows_of}
-use Rattle.clap.specs.declared.parser.matches.ArgMatches.{ArgMatches}
-use Rattle.clap.specs.declared.parser.matches.SubCommand.{SubCommand}
-use Rattle.clap.specs.declared.parser.matches.ArgMatches.TheViews.{out-SubCommand}
+use Rattle.clap.specs.declared.parser.matches.ArgMatches.{ArgMatches, TheViews.out-SubCommand, TheViews.out-ArgMatches}
 use Rattle.clap.proofs.OnLiterals.{clap_on_literals}
-use Rattle.kcr_arguments.specs.Commands.{tool_app}
-use Rattle.kcr_arguments.specs.Tasks.{met_in, faults_of}
-use Rattle.clap.specs.declared.parser.matches.ArgMatches.TheViews.{out-ArgMatches}
+use Rattle.kcr_arguments.specs.{Commands.tool_app, Tasks.met_in, Tasks.faults_of}
 
 -- the program's command line is simple
 pub tool-simple : is_simple tool_app ≡ true

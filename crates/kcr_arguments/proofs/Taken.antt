@@ -2,28 +2,18 @@
 use Rattle.std.proofs.Common.{◌≡◌, ◌&&◌, ◌++◌, ℕ, Bool, true, false, not, codes, List, [], ◌∷◌, Option, Some, None, refl, sym, ap, ◌∙◌, option_map, map}
 use Rattle.std.proofs.Common.{arith, drop, inl, inr}
 use Rattle.std.specs.Prelude.{is_some, find, MatchOption, option_and_then}
-use Rattle.std.specs.List.{AllByRecursion}
-use Rattle.std.specs.Str.{bytes_eq}
-use Rattle.std.proofs.Math.Bool.{or-false}
-use Rattle.std.proofs.lemmas.Bool.{cases_Bool}
-use Rattle.std.proofs.lemmas.Slice.Eq.{bytes_eq-Decides}
+use Rattle.std.specs.{List.AllByRecursion, List.list_any, Str.bytes_eq, Option.option_map_or}
+use Rattle.std.proofs.{Math.Bool.or-false, lemmas.Bool.cases_Bool, lemmas.Slice.Eq.bytes_eq-Decides}
 use Rattle.clap.specs.Words.{Row, Shape, Text, subcommand_rows_of}
-use Rattle.clap.specs.declared.parser.matches.ArgMatches.{ArgMatches}
+use Rattle.clap.specs.{declared.parser.matches.ArgMatches.ArgMatches, Takes.is_given, Faults.step_fault}
 use Rattle.clap.specs.Walk.{Held, Names, Rule, Step, Waiting, Walk, subcommand, walked, walk, walk_from, word_met, after_step}
 use Rattle.clap.specs.Walk.{nothing_held, answers_to, stop_after, finished, settled, rows_after}
-use Rattle.clap.specs.Kinds.{or_else, check_kinds}
-use Rattle.clap.specs.Takes.{is_given}
-use Rattle.clap.specs.Facts.{explicit_source}
-use Rattle.std.specs.List.{list_any}
-use Rattle.std.specs.Option.{option_map_or}
+use Rattle.clap.specs.{Kinds.or_else, Kinds.check_kinds, Facts.explicit_source}
 use Rattle.clap.specs.Faults.{check_fault, defaults_fault, settle_fault, entered_fault, built_fault, level_fault, walk_fault, turn_fault, word_fault}
-use Rattle.clap.specs.Faults.{step_fault}
 use Rattle.clap.specs.Simple.{App, built, built_leaf, names_of, label_of, entered, rows_at, argument_words, help_shape}
 use Rattle.kcr_arguments.specs.Commands.{ceremony_rule, into_rule, serve_rules, sub, tool_app, tool_subs}
 use Rattle.kcr_arguments.specs.Tasks.{task_at, met_in, faults_of, ceremony_at, into_at}
-use Rattle.kcr_arguments.specs.declared.words.Serving.{Serving}
-use Rattle.kcr_arguments.specs.declared.words.Task.{Task}
-use Rattle.kcr_arguments.specs.declared.words.Report.TheVariants.{Print, Attendance}
+use Rattle.kcr_arguments.specs.declared.words.{Serving.Serving, Task.Task, Report.TheVariants.Print, Report.TheVariants.Attendance}
 use Rattle.kcr_arguments.specs.declared.words.Task.TheVariants.{Serve, Write, Rebuild, Pack}
 use Rattle.kcr_arguments.proofs.Options.{both_empty, walk_keeps, required_number, required_text}
 

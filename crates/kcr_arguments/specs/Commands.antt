@@ -1,12 +1,9 @@
 -- The command line of the program, as `clap` reads it.
 use Rattle.std.specs.Prelude.{[], ◌∷◌, ◌++◌, ℕ, Bool, codes, false, true, Some, List, length, fold}
-use Rattle.clap.specs.Simple.{parser_for}
+use Rattle.clap.specs.{Simple.parser_for, declared.builder.action.ArgAction.TheVariants.Set, declared.builder.action.ArgAction.TheVariants.SetTrue}
 use Rattle.clap.specs.Words.{App, Rule, Shape, Text, new_app, new_rule, with_rule, with_subcommand}
-use Rattle.clap.specs.declared.builder.action.ArgAction.TheVariants.{Set, SetTrue}
-use Rattle.clap.specs.declared.builder.value_parser.ValueParser.{ValueParser}
-use Rattle.clap.specs.declared.builder.value_parser.ValueParser.TheVariants.{Unsigned}
-use Rattle.kcr_arguments.specs.declared.commands.CommandOption.{CommandOption}
-use Rattle.kcr_arguments.specs.declared.commands.Subcommand.{Subcommand}
+use Rattle.clap.specs.declared.builder.value_parser.ValueParser.{ValueParser, TheVariants.Unsigned}
+use Rattle.kcr_arguments.specs.declared.commands.{CommandOption.CommandOption, Subcommand.Subcommand}
 use Rattle.kcr_base.specs.declared.limits.TheConstants.{MAX_CEREMONY, MAX_COMMANDS}
 
 -- the program is nothing without a subcommand, and tells its version

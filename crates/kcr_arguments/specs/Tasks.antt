@@ -1,20 +1,13 @@
 -- The task that the words hold, by what `clap` makes of a simple command.
 use Rattle.std.specs.Prelude.{ℕ, List, codes, Bool, false, ◌||◌, nat_eq, Option, Some, None, option_and_then, option_map}
 use Rattle.std.specs.Prelude.{unwrap_or, if◌then◌else◌, String, map, string_bytes}
-use Rattle.std.specs.List.{ends_with}
-use Rattle.std.specs.Option.{option_map_or}
-use Rattle.std.specs.Str.{bytes_eq}
-use Rattle.std.specs.Str.Parse.{digits_value, without_leading_plus}
+use Rattle.std.specs.{List.ends_with, Option.option_map_or, Str.bytes_eq, Str.Parse.digits_value, Str.Parse.without_leading_plus}
 use Rattle.clap.specs.ValueTests.{is_unsigned_in}
 use Rattle.clap.specs.Words.{Kinds, Row, Text, fault_of, first_of, one_of, subcommand_of}
 use Rattle.kcr_arguments.specs.Commands.{tool_app}
-use Rattle.kcr_arguments.specs.declared.words.WordsFault.{WordsFault}
+use Rattle.kcr_arguments.specs.declared.words.{WordsFault.WordsFault, Order.Order, Task.Task, Serving.Serving, Report.Report}
 use Rattle.kcr_arguments.specs.declared.words.WordsFault.TheVariants as WordsFaults
-use Rattle.kcr_arguments.specs.declared.words.Order.{Order}
-use Rattle.kcr_arguments.specs.declared.words.Serving.{Serving}
-use Rattle.kcr_arguments.specs.declared.words.Report.{Report}
 use Rattle.kcr_arguments.specs.declared.words.Report.TheVariants.{Print, Attendance, Custody, Export, Journal, Audit}
-use Rattle.kcr_arguments.specs.declared.words.Task.{Task}
 use Rattle.kcr_arguments.specs.declared.words.Task.TheVariants.{Run, Serve, Write, Verify, Rebuild, Pack}
 use Rattle.kcr_base.specs.declared.limits.TheConstants.{MAX_CEREMONY, MAX_COMMANDS}
 

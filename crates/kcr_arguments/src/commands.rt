@@ -1,7 +1,6 @@
 //! The command line of the program, as `clap` takes it, with what its help says.
 ghost use Rattle.std.specs.Prelude.{◌≡◌, false, fold, IfOk};
-ghost use Rattle.clap.specs.Words.{app_of};
-ghost use Rattle.clap.specs.declared.builder.command.Command.TheViews.{out-Command};
+ghost use Rattle.clap.specs.{Words.app_of, declared.builder.command.Command.TheViews.out-Command};
 ghost use Rattle.kcr_arguments.specs.Commands.{app_in, root_app, tool_app, with_option, with_sub};
 
 use clap::builder::ValueParser;

@@ -1,6 +1,5 @@
 //! The words of the command line, and the task that they hold.
-ghost use Rattle.std.specs.Prelude.{◌≡◌, ◌≢◌, ◌≤◌, [], true, false, Some, IfOk, IfErr, IfSome};
-ghost use Rattle.std.specs.Prelude.{option_map};
+ghost use Rattle.std.specs.Prelude.{◌≡◌, ◌≢◌, ◌≤◌, [], true, false, Some, IfOk, IfErr, IfSome, option_map};
 ghost use Rattle.clap.specs.Words.{rows_of, found_of, subcommand_rows_of};
 ghost use Rattle.kcr_arguments.specs.Tasks.{IsLine, task_of, task_at, file_of, file_at, into_of, into_at, number_at};
 ghost use Rattle.kcr_arguments.specs.Tasks.{ceremony_at, command_at, export_at, report_at, serve_at, met_in, flag_at};

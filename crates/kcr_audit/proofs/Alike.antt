@@ -4,8 +4,7 @@ use Rattle.kcr_audit.proofs.Common.{inr, rules, ◌⊎◌, reverse, list_any, fi
 use Rattle.kcr_audit.proofs.Common.{IsPermutation-reverse, IsPermutation-sym, IsPermutation-trans, none_holds, filter-order, same-is, same-itself}
 use Rattle.kcr_audit.proofs.Common.{same-turned, IsIn, in-order, in-append, in-filter, filter-in, same_text, SheetRow, enters, later_row, last_onto}
 use Rattle.kcr_audit.proofs.Common.{last_row, last_enters, in_by, headcount_by, Act, Ceremony, RecordSheet, History, fault, IsRegister, took, turns}
-use Rattle.kcr_room.specs.declared.Way.{Way}
-use Rattle.kcr_room.specs.Requests.{is_out_of_turn_by, new_row}
+use Rattle.kcr_room.specs.{declared.Way.Way, Requests.is_out_of_turn_by, Requests.new_row}
 use Rattle.kcr_history.specs.Room.{sheet, sheet_after}
 use Rattle.kcr_laws.proofs.Rooms.{HaveTurns, same_room}
 

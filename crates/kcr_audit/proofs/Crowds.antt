@@ -3,14 +3,10 @@ use Rattle.kcr_audit.proofs.Common.{◌≡◌, ℕ, ◌≤◌, Bool, true, false
 use Rattle.kcr_audit.proofs.Common.{arith, option_map, find, Contains, list_any, true≢false, ltb-false, and_parts, eqb-true, eq-eqb, none-find}
 use Rattle.kcr_audit.proofs.Common.{any-map, any-more, SheetRow, headcount_by, Followed, followed_rows, Finding, FullView, IsTrueOf, rank, IsSometime}
 use Rattle.kcr_audit.proofs.Common.{IsSoughtAmong, is_lone, is_crowd, is_crowd_at}
-use Rattle.std.proofs.lemmas.List.Elements.{All-contains}
-use Rattle.std.proofs.lemmas.Map.Views.{Contains-from_any}
-use Rattle.kcr_room.specs.declared.Stay.{Stay}
-use Rattle.kcr_room.specs.Moments.{IsEver}
+use Rattle.std.proofs.lemmas.{List.Elements.All-contains, Map.Views.Contains-from_any}
+use Rattle.kcr_room.specs.{declared.Stay.Stay, Moments.IsEver}
 use Rattle.kcr_room.specs.Stays.{stay_covers, stays_of, stays_by, is_crowd_in_by, comings_by}
-use Rattle.kcr_room.proofs.Followed.{followed-same}
-use Rattle.kcr_room.proofs.Agreement.{same-crowd}
-use Rattle.kcr_room.proofs.Moments.{crowded-is_ever}
+use Rattle.kcr_room.proofs.{Followed.followed-same, Agreement.same-crowd, Moments.crowded-is_ever}
 use Rattle.kcr_audit.proofs.Found.{is-found, counted-any}
 
 -- the stay, the row is of the ceremony

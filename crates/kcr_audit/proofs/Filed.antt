@@ -8,21 +8,16 @@ use Rattle.kcr_audit.proofs.Common.{reply_to, seat_request, IsRegister, Took, to
 use Rattle.kcr_audit.proofs.Common.{IsPermutation-trans, StepRow, FullView, IsTrueOf, has_valid_seating, ceremony_in, has_invalid_seating, tables_of}
 use Rattle.std.proofs.Common.{filter}
 use Rattle.kcr_base.specs.Rows.{option_or}
-use Rattle.kcr_base.specs.declared.place.Role.TheVariants.{Ca, Iw}
-use Rattle.kcr_base.specs.declared.refusal.Refusal.TheVariants.{Unknown}
+use Rattle.kcr_base.specs.declared.{place.Role.TheVariants.Ca, place.Role.TheVariants.Iw, refusal.Refusal.TheVariants.Unknown}
 use Rattle.kcr_base.specs.declared.refusal.Thing.TheVariants as Things
 use Rattle.kcr_script.specs.declared.seat.Seat.TheVariants.{Staff}
-use Rattle.kcr_history.specs.declared.commands.ReplyData.{ReplyData}
-use Rattle.kcr_history.specs.declared.row_types.StepState.{StepState}
-use Rattle.kcr_history.specs.declared.row_types.StepState.TheVariants.{Signed, Passed, Undone}
-use Rattle.kcr_history.specs.declared.commands.Entry.{Entry}
+use Rattle.kcr_history.specs.declared.commands.{ReplyData.ReplyData, Entry.Entry}
+use Rattle.kcr_history.specs.declared.row_types.StepState.{StepState, TheVariants.Signed, TheVariants.Passed, TheVariants.Undone}
 use Rattle.kcr_history.proofs.Piled.{filter-pushed, pushed-alone}
-use Rattle.kcr_laws.proofs.Done.{next_signed, next-undone}
+use Rattle.kcr_laws.proofs.{Done.next_signed, Done.next-undone, Seated.seated}
 use Rattle.kcr_history.specs.declared.views.Finding.TheVariants as Findings
 use Rattle.kcr_history.specs.Prints.{seatings_at, seated_at, seats_filled}
-use Rattle.kcr_laws.proofs.Seated.{seated}
-use Rattle.kcr_audit.proofs.Placed.{seats-in-order, people-of-seats, seats-numbered}
-use Rattle.kcr_audit.proofs.Fitting.{ceremony-found, seating-same}
+use Rattle.kcr_audit.proofs.{Placed.seats-in-order, Placed.people-of-seats, Placed.seats-numbered, Fitting.ceremony-found, Fitting.seating-same}
 
 abbrev pub is_of : ℕ → ℕ → SeatingRow → Bool
 is_of c k row = row.ceremony == c && row.step == k

@@ -5,22 +5,13 @@ use Rattle.kcr_audit.proofs.Common.{list_any-IsPermutation, sum_by-IsPermutation
 use Rattle.kcr_audit.proofs.Common.{any-same, any-map, any-more, KeyRow, FullView, Finding, IsTrueOf, is_duplicate, is_bag_there, is_lost}
 use Rattle.kcr_audit.proofs.Common.{is_in_missing_box, History, values_of_acts, is_kept, has_its_box, boxes, bags, bag_row, sealed_serial, item_row}
 use Rattle.kcr_audit.proofs.Common.{added_item, keys, key_row, tables, SameTables, IsRegister, rooms, tables_of}
-use Rattle.kcr_custody.specs.Balance.{all_differ, holds_items}
-use Rattle.kcr_custody.specs.Custody.{is_box}
-use Rattle.kcr_custody.specs.declared.Bag.{Bag}
-use Rattle.kcr_custody.specs.declared.Rest.{Rest}
-use Rattle.kcr_custody.specs.declared.Rest.TheVariants.{Loose}
-use Rattle.kcr_custody.specs.declared.Spot.{Spot}
-use Rattle.kcr_custody.specs.declared.Spot.TheVariants.{InBox, Spent}
+use Rattle.kcr_custody.specs.{Balance.all_differ, Balance.holds_items, Custody.is_box}
+use Rattle.kcr_custody.specs.declared.{Bag.Bag, Rest.Rest, Rest.TheVariants.Loose, Spot.Spot, Spot.TheVariants.InBox, Spot.TheVariants.Spent}
 use Rattle.kcr_base.specs.declared.place.Facility.TheVariants.{East}
 use Rattle.kcr_history.specs.declared.views.Finding.TheVariants as Findings
 use Rattle.kcr_history.specs.Custody.{spot, rest}
-use Rattle.kcr_laws.proofs.Once.{once}
-use Rattle.kcr_laws.proofs.Balance.{balanced}
-use Rattle.kcr_audit.proofs.Alike.{shown-crowd}
-use Rattle.kcr_audit.proofs.Found.{none-counted}
-use Rattle.kcr_laws.proofs.Stored.{sealed_somewhere, box-there}
-use Rattle.kcr_audit.proofs.Filed.{no-seating}
+use Rattle.kcr_laws.proofs.{Once.once, Balance.balanced, Stored.sealed_somewhere, Stored.box-there}
+use Rattle.kcr_audit.proofs.{Alike.shown-crowd, Filed.no-seating, Found.none-counted}
 
 -- DOUBLED
 

@@ -1,11 +1,9 @@
 -- The keys that were seen so far.
 use Rattle.kcr_audit.proofs.Common.{◌≡◌, ℕ, ◌+◌, ◌<◌, ◌≤◌, Bool, true, false, cond, List, take, length, get_or, refl, sym, ap, ◌∙◌, arith, list_any}
 use Rattle.kcr_audit.proofs.Common.{count_by, true≢false, le-ltb, same_text, same-is, same-itself, KeyRow, Finding, FullView, IsTrueOf, rank}
-use Rattle.kcr_audit.proofs.Common.{is_key_duplicate}
-use Rattle.std.proofs.lemmas.List.Folds.{list_any_more}
-use Rattle.std.proofs.lemmas.List.Sums.{count_by_more_yes, count_by_more_no, sum_by-take-le}
+use Rattle.kcr_audit.proofs.{Common.is_key_duplicate, Found.none-counted, Found.some-counted}
+use Rattle.std.proofs.lemmas.List.{Folds.list_any_more, Sums.count_by_more_yes, Sums.count_by_more_no, Sums.sum_by-take-le}
 use Rattle.kcr_history.specs.declared.views.Finding.TheVariants as Findings
-use Rattle.kcr_audit.proofs.Found.{none-counted, some-counted}
 
 -- the row has the key
 abbrev has : List ℕ → KeyRow → Bool

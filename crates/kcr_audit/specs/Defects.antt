@@ -2,12 +2,8 @@
 use Rattle.std.specs.Prelude.{◌≡◌, ℕ, Bool, true, false, not, ◌&&◌, ◌||◌, nat_lt, List, Option, Some, None}
 use Rattle.std.specs.List.{list_any}
 use Rattle.kcr_base.specs.Same.{same_text}
-use Rattle.kcr_custody.specs.declared.Bag.{Bag}
-use Rattle.kcr_custody.specs.declared.Item.{Item}
-use Rattle.kcr_history.specs.declared.row_types.KeyRow.{KeyRow}
-use Rattle.kcr_history.specs.declared.row_types.SeatingRow.{SeatingRow}
-use Rattle.kcr_history.specs.declared.row_types.StepRow.{StepRow}
-use Rattle.kcr_history.specs.declared.views.FullView.{FullView}
+use Rattle.kcr_custody.specs.declared.{Bag.Bag, Item.Item}
+use Rattle.kcr_history.specs.declared.{row_types.KeyRow.KeyRow, row_types.StepRow.StepRow, row_types.SeatingRow.SeatingRow, views.FullView.FullView}
 use Rattle.kcr_history.specs.Audit.{is_done, has_valid_seating, ceremony_in, is_lost, is_in_missing_box, is_duplicate}
 use Rattle.kcr_history.specs.Prints.{put_in_order, in_order}
 

@@ -2,10 +2,7 @@
 use Rattle.std.specs.Prelude.{◌≡◌, ℕ, ◌==◌, Bool, true, false, ◌&&◌, nat_lt, List, Option, Some, None}
 use Rattle.std.specs.List.{All}
 use Rattle.kcr_base.specs.declared.limits.TheConstants.{MAX_PRESENT}
-use Rattle.kcr_room.specs.declared.SheetRow.{SheetRow}
-use Rattle.kcr_room.specs.declared.Stay.{Stay}
-use Rattle.kcr_room.specs.Room.{headcount_by}
-use Rattle.kcr_room.specs.Stays.{is_crowd_in_by}
+use Rattle.kcr_room.specs.{declared.SheetRow.SheetRow, declared.Stay.Stay, Room.headcount_by, Stays.is_crowd_in_by}
 
 -- exactly one person is in the room
 abbrev pub is_lone : List SheetRow → ℕ → ℕ → Bool

@@ -1,6 +1,5 @@
 -- The rows of a view as tables.
-use Rattle.kcr_history.specs.declared.views.FullView.{FullView}
-use Rattle.kcr_history.specs.Tables.{Tables}
+use Rattle.kcr_history.specs.{declared.views.FullView.FullView, Tables.Tables}
 
 -- begin: written by tools/tables.py
 

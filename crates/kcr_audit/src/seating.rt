@@ -1,6 +1,5 @@
 //! Steps that were signed or passed, and whether their recorded people are a seating of their seats.
-ghost use Rattle.std.specs.Prelude.{◌≡◌, ◌++◌, ◌≤◌, ◌∷◌, take, drop, length, map, find, filter, option_map};
-ghost use Rattle.std.specs.Prelude.{◌&&◌, ◌==◌, IfOk};
+ghost use Rattle.std.specs.Prelude.{◌≡◌, ◌++◌, ◌≤◌, ◌∷◌, take, drop, length, map, find, filter, option_map, ◌&&◌, ◌==◌, IfOk};
 ghost use Rattle.kcr_room.specs.Room;
 ghost use Rattle.kcr_history.specs.Audit;
 ghost use Rattle.kcr_history.specs.Prints;

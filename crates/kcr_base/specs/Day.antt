@@ -1,6 +1,5 @@
 -- Days: their numbers, dates and texts.
-use Rattle.std.specs.Prelude.{◌≡◌, ℕ, zero, suc, ◌+◌, ◌-◌, ◌/◌, ◌%◌, ◌<◌, ◌≤◌, nat_lt, if◌then◌else◌, List, [], ◌∷◌}
-use Rattle.std.specs.Prelude.{◌++◌, pos}
+use Rattle.std.specs.Prelude.{◌≡◌, ℕ, zero, suc, ◌+◌, ◌-◌, ◌/◌, ◌%◌, ◌<◌, ◌≤◌, nat_lt, if◌then◌else◌, List, [], ◌∷◌, ◌++◌, pos}
 use Rattle.jiff_core.specs.Calendar.{IsCivilDate, days_from_civil, days_in_year, days_in_month}
 
 -- day number n is this date, of the years 2000 to 2099

@@ -1,21 +1,11 @@
 -- The forms of texts, as the value that each of them tells.
 use Rattle.std.specs.Prelude.{ℕ, ◌+◌, ◌*◌, ◌-◌, ◌&&◌, ◌||◌, ◌==◌, not, List, [], ◌∷◌, ◌++◌, length, map, nat_le}
 use Rattle.std.specs.Prelude.{Bool, Option, Some, None, if◌then◌else◌}
-use Rattle.std.specs.Fmt.{decimal}
-use Rattle.std.specs.Str.{is_utf8}
-use Rattle.std.specs.List.{list_all, find, range_with_len}
-use Rattle.kcr_base.specs.Same.{same_text}
-use Rattle.kcr_base.specs.Day.{day_text}
-use Rattle.kcr_base.specs.Facility.{facility_text}
-use Rattle.kcr_base.specs.Moment.{moment_text}
-use Rattle.kcr_base.specs.Place.{place_text}
-use Rattle.kcr_base.specs.Role.{role_text}
+use Rattle.std.specs.{Fmt.decimal, Str.is_utf8, List.list_all, List.find, List.range_with_len}
+use Rattle.kcr_base.specs.{Same.same_text, Day.day_text, Place.place_text, Role.role_text, Facility.facility_text, Moment.moment_text}
 use Rattle.kcr_base.specs.declared.limits.TheConstants.{MAX_BOX, MAX_CEREMONY, MAX_STEPS}
-use Rattle.kcr_base.specs.declared.place.Facility.{Facility}
-use Rattle.kcr_base.specs.declared.place.Facility.TheVariants.{East, West}
-use Rattle.kcr_base.specs.declared.place.Place.{Place}
-use Rattle.kcr_base.specs.declared.place.Place.TheVariants.{Co, Rksh}
-use Rattle.kcr_base.specs.declared.place.Role.{Role}
+use Rattle.kcr_base.specs.declared.place.Facility.{Facility, TheVariants.East, TheVariants.West}
+use Rattle.kcr_base.specs.declared.place.{Place.Place, Place.TheVariants.Co, Place.TheVariants.Rksh, Role.Role}
 use Rattle.kcr_base.specs.declared.place.Role.TheVariants.{Ca, Iw, Sa, Ssc1, Ssc2, Rkos, Sw}
 
 -- TEXTS THAT ARE THEIR OWN VALUE

@@ -1,7 +1,6 @@
 -- The form of a command's key.
 use Rattle.std.specs.Prelude.{◌≡◌, ℕ, ◌≤◌, ◌⊎◌, List, length, All}
-use Rattle.kcr_base.specs.Initials.{IsCapital}
-use Rattle.kcr_base.specs.Serial.{IsDigit}
+use Rattle.kcr_base.specs.{Initials.IsCapital, Serial.IsDigit}
 
 -- a letter, a digit or `-`
 abbrev pub IsKeyByte : ℕ → Type 0

@@ -1,21 +1,15 @@
 -- The numbers, words and statuses of refusals, and the texts of what they carry.
 use Rattle.std.specs.Prelude.{ℕ, List, ◌++◌, codes}
 use Rattle.std.specs.Fmt.{decimal}
-use Rattle.kcr_base.specs.Place.{place_text}
-use Rattle.kcr_base.specs.Role.{role_text}
-use Rattle.kcr_base.specs.declared.refusal.Absentee.{Absentee}
+use Rattle.kcr_base.specs.{Place.place_text, Role.role_text}
+use Rattle.kcr_base.specs.declared.refusal.{Absentee.Absentee, Part.Part, Thing.Thing, Member.Member, Refusal.Refusal}
 use Rattle.kcr_base.specs.declared.refusal.Absentee.TheVariants as Absentees
-use Rattle.kcr_base.specs.declared.refusal.Member.{Member}
 use Rattle.kcr_base.specs.declared.refusal.Member.TheVariants as Members
-use Rattle.kcr_base.specs.declared.refusal.Part.{Part}
 use Rattle.kcr_base.specs.declared.refusal.Part.TheVariants as Parts
-use Rattle.kcr_base.specs.declared.refusal.Refusal.{Refusal}
 use Rattle.kcr_base.specs.declared.refusal.Refusal.TheVariants.{Head, Host, Length, Coding, Large, Cut, Path, Method}
-use Rattle.kcr_base.specs.declared.refusal.Refusal.TheVariants.{Json, Form, Key, Unknown, Taken, Range, Apart, Held}
+use Rattle.kcr_base.specs.declared.refusal.Refusal.TheVariants.{Json, Form, Key, Unknown, Taken, Range, Apart, Held, Short, Memory, Disk, Broken}
 use Rattle.kcr_base.specs.declared.refusal.Refusal.TheVariants.{Vacant, Settled, Script, State, Busy, Late, Order, Turn}
 use Rattle.kcr_base.specs.declared.refusal.Refusal.TheVariants.{Crowd, Lone, Full, Safe, Elsewhere, Absent, Unfinished}
-use Rattle.kcr_base.specs.declared.refusal.Refusal.TheVariants.{Short, Memory, Disk, Broken}
-use Rattle.kcr_base.specs.declared.refusal.Thing.{Thing}
 use Rattle.kcr_base.specs.declared.refusal.Thing.TheVariants as Things
 
 -- the number of a refusal: those of a request are tested in the order of their numbers

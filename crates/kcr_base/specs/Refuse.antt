@@ -1,8 +1,7 @@
 -- The first refusal in order.
 use Rattle.std.specs.Prelude.{◌≡◌, ◌≢◌, ℕ, nat_lt, nat_le, Bool, true, false, not, List, [], ◌∷◌, Option, Some, None}
 use Rattle.std.specs.Prelude.{option_map, find, Result, Ok, Err, MatchResult}
-use Rattle.kcr_base.specs.declared.refusal.Refusal.{Refusal}
-use Rattle.kcr_base.specs.declared.refusal.Refusal.TheVariants.{Unknown, Late, Memory}
+use Rattle.kcr_base.specs.declared.refusal.Refusal.{Refusal, TheVariants.Unknown, TheVariants.Late, TheVariants.Memory}
 use Rattle.kcr_base.specs.declared.refusal.Thing.TheVariants as Things
 
 -- the refusal, if its condition holds

@@ -1,13 +1,9 @@
 -- When two codes are the same, and their order, as tests that compute.
 use Rattle.std.specs.Prelude.{ℕ, Bool, false, ◌&&◌, nat_eq, List, Option, Some, None}
-use Rattle.std.specs.Ordering.{nat_cmp, is_lt}
-use Rattle.std.specs.Cmp.Lexicographic.{pointwise, slice_cmp}
-use Rattle.kcr_base.specs.declared.place.Facility.{Facility}
-use Rattle.kcr_base.specs.declared.place.Facility.TheVariants.{East, West}
-use Rattle.kcr_base.specs.declared.place.Role.{Role}
+use Rattle.std.specs.{Ordering.nat_cmp, Ordering.is_lt, Cmp.Lexicographic.pointwise, Cmp.Lexicographic.slice_cmp}
+use Rattle.kcr_base.specs.declared.place.Facility.{Facility, TheVariants.East, TheVariants.West}
+use Rattle.kcr_base.specs.declared.place.{Role.Role, Place.Place, Place.TheVariants.Co, Place.TheVariants.Rksh}
 use Rattle.kcr_base.specs.declared.place.Role.TheVariants.{Ca, Iw, Sa, Ssc1, Ssc2, Rkos, Sw}
-use Rattle.kcr_base.specs.declared.place.Place.{Place}
-use Rattle.kcr_base.specs.declared.place.Place.TheVariants.{Co, Rksh}
 
 -- two codes or texts are the same bytes
 abbrev pub same_text : List ℕ → List ℕ → Bool

@@ -1,12 +1,8 @@
 //! Short texts that lie in the value itself.
-ghost use Rattle.std.specs.Prelude.{◌≡◌, ℕ, ◌-◌, ◌<◌, ◌≤◌, List, All, length, take, Some, nat_eq};
-ghost use Rattle.std.specs.Prelude.{refl};
-ghost use Rattle.std.specs.Ordering.{nat_cmp};
-ghost use Rattle.std.specs.Cmp.{partial_equiv_from_equiv};
-ghost use Rattle.std.specs.Cmp.Lexicographic.{pointwise, slice_cmp, nat_list_eq_equiv, nat_list_cmp_total, texts_po};
-ghost use Rattle.std.specs.Cmp.Lexicographic.{texts_ties};
+ghost use Rattle.std.specs.Prelude.{◌≡◌, ℕ, ◌-◌, ◌<◌, ◌≤◌, List, All, length, take, Some, nat_eq, refl};
+ghost use Rattle.std.specs.{Ordering.nat_cmp, Cmp.partial_equiv_from_equiv, Cmp.Rules.hashing};
+ghost use Rattle.std.specs.Cmp.Lexicographic.{pointwise, slice_cmp, nat_list_eq_equiv, nat_list_cmp_total, texts_po, texts_ties};
 ghost use Rattle.std.specs.Hash as fed;
-ghost use Rattle.std.specs.Cmp.Rules.{hashing};
 ghost use Rattle.std.proofs.Common.{rules};
 ghost use Rattle.kcr_base.specs.Code.{filled};
 

@@ -17,8 +17,7 @@ pub struct Day {
 
 impl Model for Day {
     ghost use Rattle.std.specs.Prelude.{ℕ};
-    ghost use Rattle.kcr_base.specs.Reads.{HasText, ReadsText};
-    ghost use Rattle.kcr_base.specs.Day.{IsDay};
+    ghost use Rattle.kcr_base.specs.{Reads.HasText, Reads.ReadsText, Day.IsDay};
 
     ghost Value = { ℕ };
 

@@ -1,7 +1,6 @@
 //! Dates and times of day in digits.
 ghost use Rattle.std.specs.Prelude.{◌≡◌, ℕ, ◌<◌, [], ◌∷◌, ◌++◌, Some, IfSome};
-ghost use Rattle.kcr_base.specs.Day.{two_digits, date_text, IsDateParts};
-ghost use Rattle.kcr_base.specs.Moment.{clock_text};
+ghost use Rattle.kcr_base.specs.{Day.two_digits, Day.date_text, Day.IsDateParts, Moment.clock_text};
 
 /// The number below `limit` that two digits tell.
 fn read_two(limit: u8, tens: u8, ones: u8) -> Option<u8>

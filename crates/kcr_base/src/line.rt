@@ -1,7 +1,6 @@
 //! Lines of text: names, activities and remarks.
 ghost use Rattle.std.specs.Prelude.{◌≡◌, ℕ, List, Some, SomeIff, IfOk, nat_eq, string_bytes};
-ghost use Rattle.std.specs.Cmp.{partial_equiv_from_equiv};
-ghost use Rattle.std.specs.Cmp.Lexicographic.{pointwise, nat_list_eq_equiv};
+ghost use Rattle.std.specs.Cmp.{partial_equiv_from_equiv, Lexicographic.pointwise, Lexicographic.nat_list_eq_equiv};
 ghost use Rattle.kcr_base.specs.Line.{IsLine};
 
 use crate::limits::MAX_REMARK;

@@ -1,11 +1,9 @@
 //! The people and the items that a command names: lists in the order in which they are given, of which none is named
 //! twice.
 ghost use Rattle.std.specs.Prelude.{◌≡◌, ℕ, List, map, SomeIff};
-ghost use Rattle.std.proofs.Common.{rules, sym};
-ghost use Rattle.std.proofs.lemmas.List.{map-id};
+ghost use Rattle.std.proofs.{Common.rules, Common.sym, lemmas.List.map-id};
 ghost use Rattle.kcr_base.specs.Lists;
-ghost use Rattle.kcr_base.specs.Lists.{IsListed};
-ghost use Rattle.kcr_base.specs.Same.{same_text};
+ghost use Rattle.kcr_base.specs.{Lists.IsListed, Same.same_text};
 
 use crate::initials::Initials;
 use crate::serial::ItemCode;

@@ -1,8 +1,6 @@
 //! Moments, to the second.
 ghost use Rattle.std.specs.Prelude.{◌≡◌, All, ℕ, ◌+◌, ◌*◌, ◌/◌, ◌%◌, ◌<◌, Some, SomeIff};
-ghost use Rattle.kcr_base.specs.Reads.{HasText, ReadsText};
-ghost use Rattle.kcr_base.specs.Days.{day_of};
-ghost use Rattle.kcr_base.specs.Moment.{IsMoment, moment_text};
+ghost use Rattle.kcr_base.specs.{Reads.HasText, Reads.ReadsText, Days.day_of, Moment.IsMoment, Moment.moment_text};
 
 use crate::code::Code;
 use crate::day::Day;

@@ -1,10 +1,7 @@
 //! Facilities, the roles of staff, and the places of custodians.
-ghost use Rattle.std.specs.Prelude.{⊤, codes, ◌<◌, ◌≡◌, ◌≢◌, ℕ, ◌+◌, ◌≤◌, List, [], ◌∷◌, ◌++◌, Some, SomeIff};
-ghost use Rattle.std.specs.Prelude.{MatchOption};
-ghost use Rattle.kcr_base.specs.Facility.{facility_text};
-ghost use Rattle.kcr_base.specs.Role.{role_text};
+ghost use Rattle.std.specs.Prelude.{⊤, codes, ◌<◌, ◌≡◌, ◌≢◌, ℕ, ◌+◌, ◌≤◌, List, [], ◌∷◌, ◌++◌, Some, SomeIff, MatchOption};
+ghost use Rattle.kcr_base.specs.{Facility.facility_text, Role.role_text, Reads.HasText, Reads.ReadsText};
 ghost use Rattle.kcr_base.specs.Place.{IsPlaceNumber, IsPlace, place_text};
-ghost use Rattle.kcr_base.specs.Reads.{HasText, ReadsText};
 
 use crate::code::Code;
 use std::marker::Model;

@@ -1,6 +1,5 @@
 //! Positions of seats.
-ghost use Rattle.std.specs.Prelude.{◌≡◌, ◌↔◌, IsTrue, ℕ, suc, ◌+◌, ◌<◌, List, All, length, map, take, Some};
-ghost use Rattle.std.specs.Prelude.{SomeIff};
+ghost use Rattle.std.specs.Prelude.{◌≡◌, ◌↔◌, IsTrue, ℕ, suc, ◌+◌, ◌<◌, List, All, length, map, take, Some, SomeIff};
 ghost use Rattle.std.specs.List.Sorted.{IsStrictlyIncreasing};
 ghost use Rattle.kcr_base.specs.Positions.{IsPositions};
 

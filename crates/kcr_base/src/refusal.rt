@@ -1,8 +1,7 @@
 //! Why a request is refused.
 ghost use Rattle.std.specs.Prelude.{◌≡◌, ◌++◌, IfOk, string_bytes};
 ghost use Rattle.std.specs.Fmt.{decimal};
-ghost use Rattle.kcr_base.specs.Refusal.{number_of, word_of, status_of, member_text, thing_text, absentee_text};
-ghost use Rattle.kcr_base.specs.Refusal.{part_text};
+ghost use Rattle.kcr_base.specs.Refusal.{number_of, word_of, status_of, member_text, thing_text, absentee_text, part_text};
 
 use crate::code::Code;
 use crate::day::Day;

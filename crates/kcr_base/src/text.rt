@@ -1,7 +1,6 @@
 //! Texts of any length.
 ghost use Rattle.std.specs.Prelude.{◌≡◌, ℕ, List, IfOk, IsUtf8, SomeIff, Some, nat_eq, string_bytes};
-ghost use Rattle.std.specs.Cmp.{partial_equiv_from_equiv};
-ghost use Rattle.std.specs.Cmp.Lexicographic.{pointwise, nat_list_eq_equiv};
+ghost use Rattle.std.specs.Cmp.{partial_equiv_from_equiv, Lexicographic.pointwise, Lexicographic.nat_list_eq_equiv};
 
 use std::alloc::{AllocError, Global};
 use std::marker::Model;

@@ -2,18 +2,10 @@
 #![tactic(auto, using(crate::proofs::FormLemmas::form_readings, crate::proofs::FormLemmas::own_readings, crate::proofs::ValueLemmas::value_readings))]
 
 ghost use Rattle.std.specs.Prelude.{⊤, ◌≡◌, ℕ, Bool, true, false, List, Option, IfOk, OnErr, IsTrue, IsUtf8};
-ghost use Rattle.kcr_base.specs.Day.{IsDay, day_text};
-ghost use Rattle.kcr_base.specs.Facility.{facility_text};
-ghost use Rattle.kcr_base.specs.Forms.{initials_of, key_of, serial_of, line_of, script_of, day_of, moment_of};
-ghost use Rattle.kcr_base.specs.Forms.{facility_of, role_of, place_of};
-ghost use Rattle.kcr_base.specs.Initials.{IsInitials};
-ghost use Rattle.kcr_base.specs.Key.{IsKey};
-ghost use Rattle.kcr_base.specs.Line.{IsLine};
-ghost use Rattle.kcr_base.specs.Moment.{IsMoment, moment_text};
-ghost use Rattle.kcr_base.specs.Place.{IsPlace, place_text};
-ghost use Rattle.kcr_base.specs.Reads.{HasText, ReadsText};
-ghost use Rattle.kcr_base.specs.Role.{role_text};
-ghost use Rattle.kcr_base.specs.Serial.{IsSerial};
+ghost use Rattle.kcr_base.specs.{Day.IsDay, Day.day_text, Key.IsKey, Line.IsLine, Facility.facility_text, Initials.IsInitials};
+ghost use Rattle.kcr_base.specs.Forms.{initials_of, key_of, serial_of, line_of, script_of, day_of, moment_of, facility_of, role_of, place_of};
+ghost use Rattle.kcr_base.specs.{Moment.IsMoment, Moment.moment_text, Role.role_text, Serial.IsSerial};
+ghost use Rattle.kcr_base.specs.{Place.IsPlace, Place.place_text, Reads.HasText, Reads.ReadsText};
 
 use crate::day::Day;
 use crate::initials::Initials;

@@ -1,15 +1,9 @@
 -- Rows put under their keys, and what keeps items from being lost or doubled.
-use Rattle.std.specs.Prelude.{ℕ, Bool, true, false, not, ◌&&◌, List, [], ◌∷◌, map, Option, Some, None, is_some}
-use Rattle.std.specs.Prelude.{IsTrue}
+use Rattle.std.specs.Prelude.{ℕ, Bool, true, false, not, ◌&&◌, List, [], ◌∷◌, map, Option, Some, None, is_some, IsTrue}
 use Rattle.std.specs.List.{list_any, list_all}
 use Rattle.kcr_base.specs.Same.{same_text}
-use Rattle.kcr_custody.specs.declared.BoxRow.{BoxRow}
-use Rattle.kcr_custody.specs.declared.Spot.{Spot}
-use Rattle.kcr_custody.specs.declared.Spot.TheVariants.{InBox, Spent}
-use Rattle.kcr_custody.specs.declared.Rest.{Rest}
-use Rattle.kcr_custody.specs.declared.Rest.TheVariants.{Loose, Within}
-use Rattle.kcr_custody.specs.declared.Bag.{Bag}
-use Rattle.kcr_custody.specs.declared.Item.{Item}
+use Rattle.kcr_custody.specs.declared.{BoxRow.BoxRow, Bag.Bag, Item.Item, Spot.Spot, Spot.TheVariants.InBox, Spot.TheVariants.Spent}
+use Rattle.kcr_custody.specs.declared.Rest.{Rest, TheVariants.Loose, TheVariants.Within}
 use Rattle.kcr_custody.specs.Custody.{is_box, place_of_box_by, spot_by}
 
 -- rows of one key

@@ -2,32 +2,18 @@
 use Rattle.std.specs.Prelude.{ℕ, Bool, true, false, not, ◌&&◌, ◌||◌, nat_eq, List, [], ◌∷◌, map, filter, find}
 use Rattle.std.specs.Prelude.{Option, Some, None, option_map, option_and_then, is_some, is_none, if◌then◌else◌}
 use Rattle.std.specs.List.{list_any, list_all}
-use Rattle.kcr_base.specs.Same.{same_text, same_facility, same_place}
+use Rattle.kcr_base.specs.{Same.same_text, Same.same_facility, Same.same_place, declared.refusal.Refusal.Refusal}
 use Rattle.kcr_base.specs.Refuse.{when, first_of, unknown_person_refusal, unknown_ceremony_refusal, before_mark_refusal}
-use Rattle.kcr_base.specs.declared.place.Facility.{Facility}
-use Rattle.kcr_base.specs.declared.place.Place.{Place}
-use Rattle.kcr_base.specs.declared.place.Place.TheVariants.{Co, Rksh}
-use Rattle.kcr_base.specs.declared.refusal.Refusal.{Refusal}
+use Rattle.kcr_base.specs.declared.place.{Facility.Facility, Role.TheVariants.Ca, Place.Place, Place.TheVariants.Co, Place.TheVariants.Rksh}
 use Rattle.kcr_base.specs.declared.refusal.Refusal.TheVariants as Refusals
-use Rattle.kcr_base.specs.declared.refusal.Refusal.TheVariants.{Unknown, Taken, Range, State, Full, Elsewhere}
-use Rattle.kcr_base.specs.declared.refusal.Refusal.TheVariants.{Absent}
+use Rattle.kcr_base.specs.declared.refusal.Refusal.TheVariants.{Unknown, Taken, Range, State, Full, Elsewhere, Absent}
 use Rattle.kcr_base.specs.declared.refusal.Thing.TheVariants as Things
 use Rattle.kcr_base.specs.declared.refusal.Absentee.TheVariants as Absentees
-use Rattle.kcr_base.specs.declared.place.Role.TheVariants.{Ca}
-use Rattle.kcr_custody.specs.declared.CeremonyStatus.{CeremonyStatus}
-use Rattle.kcr_custody.specs.declared.SafeOperator.{SafeOperator}
-use Rattle.kcr_custody.specs.declared.SafeNumber.{SafeNumber}
-use Rattle.kcr_custody.specs.declared.SafeNumber.TheVariants.{One, Two}
-use Rattle.kcr_custody.specs.declared.SafeRow.{SafeRow}
-use Rattle.kcr_custody.specs.declared.BoxRow.{BoxRow}
-use Rattle.kcr_custody.specs.declared.Spot.{Spot}
-use Rattle.kcr_custody.specs.declared.Spot.TheVariants.{Table, Equipment, InBox}
-use Rattle.kcr_custody.specs.declared.Rest.{Rest}
-use Rattle.kcr_custody.specs.declared.Rest.TheVariants.{Loose, Within}
-use Rattle.kcr_custody.specs.declared.Bag.{Bag}
-use Rattle.kcr_custody.specs.declared.Item.{Item}
-use Rattle.kcr_custody.specs.declared.Destination.{Destination}
-use Rattle.kcr_custody.specs.declared.Destination.TheVariants.{SafeOne, DepositBox}
+use Rattle.kcr_custody.specs.declared.{CeremonyStatus.CeremonyStatus, SafeRow.SafeRow, BoxRow.BoxRow}
+use Rattle.kcr_custody.specs.declared.{SafeOperator.SafeOperator, Bag.Bag, Item.Item, Rest.Rest, Rest.TheVariants.Loose, Rest.TheVariants.Within}
+use Rattle.kcr_custody.specs.declared.SafeNumber.{SafeNumber, TheVariants.One, TheVariants.Two}
+use Rattle.kcr_custody.specs.declared.Spot.{Spot, TheVariants.Table, TheVariants.Equipment, TheVariants.InBox}
+use Rattle.kcr_custody.specs.declared.Destination.{Destination, TheVariants.SafeOne, TheVariants.DepositBox}
 
 -- WHAT THE ROWS SAY
 

@@ -1,12 +1,8 @@
 -- Where a bag is put, and the text of it.
 use Rattle.std.specs.Prelude.{ℕ, List, codes, ⊤, Option, Some, option_map, if◌then◌else◌}
 use Rattle.std.specs.Fmt.{decimal}
-use Rattle.kcr_base.specs.Forms.{box_of}
-use Rattle.kcr_base.specs.Number.{IsNumber}
-use Rattle.kcr_base.specs.Same.{same_text}
-use Rattle.kcr_base.specs.declared.limits.TheConstants.{MAX_BOX}
-use Rattle.kcr_custody.specs.declared.Destination.{Destination}
-use Rattle.kcr_custody.specs.declared.Destination.TheVariants.{SafeOne, DepositBox}
+use Rattle.kcr_base.specs.{Forms.box_of, Same.same_text, Number.IsNumber, declared.limits.TheConstants.MAX_BOX}
+use Rattle.kcr_custody.specs.declared.Destination.{Destination, TheVariants.SafeOne, TheVariants.DepositBox}
 
 -- safe 1, or a box with a number that boxes have
 abbrev pub IsDestination : Destination → Type 0

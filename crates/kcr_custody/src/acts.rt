@@ -5,8 +5,7 @@ ghost use Rattle.std.specs.Prelude.{◌≡◌, ◌∷◌, [], true, false, IfOk}
 ghost use Rattle.kcr_base.specs.Refuse.{first_of, unless, IsTestResult, IsValueOrRefusal};
 ghost use Rattle.std.specs.Result.{result_err};
 ghost use Rattle.kcr_custody.specs.Custody;
-ghost use Rattle.kcr_custody.specs.declared.Rest.TheVariants.{Loose};
-ghost use Rattle.kcr_custody.specs.declared.Spot.TheVariants.{Table, Spent};
+ghost use Rattle.kcr_custody.specs.declared.{Rest.TheVariants.Loose, Spot.TheVariants.Table, Spot.TheVariants.Spent};
 
 use crate::checks::{
     check_bag, check_box, check_ca, check_ceremony, check_keepers, check_open, check_operator,

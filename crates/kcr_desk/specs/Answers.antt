@@ -1,53 +1,29 @@
 -- What a message is told, and what it leaves of the register.
 use Rattle.std.specs.Prelude.{◌+◌, ◌<◌, ◌≤◌, ◌≡◌, ◌⊎◌, ◌↔◌, ◌≢◌, ⊤, ℕ, Bool, List, length, Option, None, Result, Ok, Err}
 use Rattle.std.specs.Prelude.{IfErr, IsSome, IsTrue, MatchBool, MatchOption, MatchResult, unwrap_or}
-use Rattle.sqlite.specs.Held.{state}
-use Rattle.sqlite.specs.State.{HasCleanDisk}
-use Rattle.sqlite.specs.Store.{Ghosts}
-use Rattle.kcr_desk.specs.declared.answer.TheConstants.{MAX_FEED_COMMANDS}
-use Rattle.kcr_forms.specs.Acts.{IsAct}
-use Rattle.kcr_forms.specs.Values.{AreValues}
-use Rattle.kcr_base.specs.Refusal.{status_of}
-use Rattle.kcr_base.specs.declared.refusal.Refusal.{Refusal}
+use Rattle.sqlite.specs.{Held.state, Store.Ghosts, State.HasCleanDisk}
+use Rattle.kcr_desk.specs.{declared.answer.TheConstants.MAX_FEED_COMMANDS, Run.Request, Texts.ResponseValue}
+use Rattle.kcr_forms.specs.{Acts.IsAct, Values.AreValues}
+use Rattle.kcr_base.specs.{Refusal.status_of, declared.refusal.Refusal.Refusal}
 use Rattle.kcr_base.specs.declared.refusal.Refusal.TheVariants as Refusals
 use Rattle.kcr_base.specs.declared.refusal.Thing.TheVariants as Things
-use Rattle.kcr_history.specs.History.{History}
-use Rattle.kcr_history.specs.Machine.{IsOfMachine, IsRegister}
-use Rattle.kcr_history.specs.Refusals.{refusal_text}
-use Rattle.kcr_history.specs.declared.commands.Command.{Command}
-use Rattle.kcr_history.specs.declared.commands.Reply.{Reply}
-use Rattle.kcr_history.specs.Ceremonies.{is_ceremony}
-use Rattle.kcr_history.specs.Prints.{annotated, attendance, custody}
-use Rattle.kcr_history.specs.Tables.{Tables}
+use Rattle.kcr_history.specs.{History.History, Tables.Tables, Machine.IsOfMachine, Machine.IsRegister}
+use Rattle.kcr_history.specs.{Refusals.refusal_text, Ceremonies.is_ceremony, Prints.annotated, Prints.attendance, Prints.custody}
+use Rattle.kcr_history.specs.declared.{commands.Command.Command, commands.Reply.Reply, questions.Question.Question, questions.Shown.Shown}
 use Rattle.kcr_tables.specs.Refusals.{IsFault}
-use Rattle.kcr_store.specs.Register.{RegisterState}
+use Rattle.kcr_store.specs.{Register.RegisterState, Calls.Leads, Calls.RowsLead, ShownBy.HasNoRowBy, ShownBy.IsQuestionResultBy}
 pub use Rattle.kcr_store.specs.Register.{RegisterHistory, RegisterRows, whole}
-use Rattle.kcr_store.specs.ByRows.{DecidesRows}
-use Rattle.kcr_store.specs.Calls.{Leads, RowsLead}
-use Rattle.kcr_store.specs.Rows.{HasNoRow, MayHaveNoRow}
-use Rattle.kcr_store.specs.Shown.{IsShownByRows}
-use Rattle.kcr_store.specs.ShownBy.{HasNoRowBy, IsQuestionResultBy}
+use Rattle.kcr_store.specs.{ByRows.DecidesRows, Shown.IsShownByRows, Rows.HasNoRow, Rows.MayHaveNoRow}
 use Rattle.kcr_store.specs.Commands.{AppliesCommand, IsSameOrNext, IsQuestionResult, MayBeReplied, MayRefuseQuestion}
-use Rattle.kcr_history.specs.declared.questions.Question.{Question}
-use Rattle.kcr_history.specs.declared.questions.Shown.{Shown}
-use Rattle.kcr_wire.specs.Commands.{command_of}
-use Rattle.kcr_wire.specs.Methods.{method_of, refused_of}
-use Rattle.kcr_wire.specs.Questions.{question_of}
-use Rattle.kcr_wire.specs.ShownJson.{shown_text}
-use Rattle.kcr_wire.specs.Endpoints.{allow_of, if_method}
-use Rattle.kcr_wire.specs.declared.allow.Allow.{Allow}
-use Rattle.kcr_wire.specs.declared.question.Inquiry.{Inquiry}
+use Rattle.kcr_wire.specs.{Commands.command_of, ShownJson.shown_text, Endpoints.allow_of, Endpoints.if_method}
+use Rattle.kcr_wire.specs.{Methods.method_of, Methods.refused_of, Questions.question_of}
+use Rattle.kcr_wire.specs.declared.{allow.Allow.Allow, question.Inquiry.Inquiry}
 use Rattle.kcr_wire.specs.declared.question.Inquiry.TheVariants as inquiry
-use Rattle.kcr_wire.specs.declared.method.Method.{Method}
-use Rattle.kcr_wire.specs.declared.method.Method.TheVariants.{Ask, Post, Other}
-use Rattle.kcr_desk.specs.declared.response.MediaType.{MediaType}
-use Rattle.kcr_desk.specs.declared.response.MediaType.TheVariants.{Json, Text, Csv}
+use Rattle.kcr_wire.specs.declared.method.Method.{Method, TheVariants.Ask, TheVariants.Post, TheVariants.Other}
+use Rattle.kcr_desk.specs.declared.response.MediaType.{MediaType, TheVariants.Json, TheVariants.Text, TheVariants.Csv}
 use Rattle.kcr_print.specs.ByRows.{annotated_by, attendance_by, custody_by, row_of_ceremony}
 use Rattle.kcr_print.specs.Requests.{requests_between, row_requests}
-use Rattle.kcr_print.specs.declared.fault.PrintFault.{PrintFault}
-use Rattle.kcr_print.specs.declared.fault.PrintFault.TheVariants.{Refused, Write}
-use Rattle.kcr_desk.specs.Run.{Request}
-use Rattle.kcr_desk.specs.Texts.{ResponseValue}
+use Rattle.kcr_print.specs.declared.fault.PrintFault.{PrintFault, TheVariants.Refused, TheVariants.Write}
 
 -- 200 with a text of this kind
 abbrev pub ok_response : MediaType → List ℕ → ResponseValue

@@ -1,16 +1,10 @@
 -- How a connection ends, and what connections make of a register.
 use Rattle.std.specs.Prelude.{◌≡◌, ℕ, List, [], ◌∷◌, length, Result, MatchResult}
-use Rattle.sqlite.specs.Held.{state}
-use Rattle.sqlite.specs.State.{HasCleanDisk}
-use Rattle.sqlite.specs.Store.{Ghosts}
-use Rattle.kcr_store.specs.Register.{RegisterState}
-use Rattle.kcr_store.specs.Calls.{Leads as Moves}
-use Rattle.kcr_desk.specs.Answers.{IsAnswer, IsReply}
+use Rattle.sqlite.specs.{Held.state, Store.Ghosts, State.HasCleanDisk}
+use Rattle.kcr_store.specs.{Register.RegisterState, Calls.Leads as Moves}
+use Rattle.kcr_desk.specs.{Answers.IsAnswer, Answers.IsReply, Texts.ResponseValue, declared.fault.DeskFault.DeskFault, declared.stream.Served.Served}
 use Rattle.kcr_desk.specs.Run.{Request, Exchange, Run, IsServed, IsServedInPart}
 use Rattle.kcr_desk.specs.Streams.{Streams, input_of, bytes_before, bytes_after}
-use Rattle.kcr_desk.specs.Texts.{ResponseValue}
-use Rattle.kcr_desk.specs.declared.fault.DeskFault.{DeskFault}
-use Rattle.kcr_desk.specs.declared.stream.Served.{Served}
 
 -- a stream was answered whole, or a prefix of it before a fault
 abbrev pub Ends

@@ -1,22 +1,13 @@
 -- The requests of commands as the messages of a stream, and what a register makes of its own commands.
 use Rattle.std.specs.Prelude.{◌≢◌, ℕ, ◌≤◌, false, List, [], ◌∷◌, length, map, codes, None}
-use Rattle.std.specs.List.{flat_map, AllByRecursion}
-use Rattle.std.specs.Fmt.{decimal}
+use Rattle.std.specs.{List.flat_map, List.AllByRecursion, Fmt.decimal}
 use Rattle.httparse.specs.Grammar.{RequestHead, crlf}
-use Rattle.kcr_base.specs.Key.{IsKey}
-use Rattle.kcr_base.specs.declared.refusal.Refusal.TheVariants.{Memory, Disk}
-use Rattle.kcr_desk.specs.declared.head.TheConstants.{MAX_BODY}
+use Rattle.kcr_base.specs.{Key.IsKey, declared.refusal.Refusal.TheVariants.Memory, declared.refusal.Refusal.TheVariants.Disk}
+use Rattle.kcr_desk.specs.{declared.head.TheConstants.MAX_BODY, Run.Exchange, Stream.Message, Texts.ResponseValue}
 use Rattle.kcr_forms.specs.Acts.{IsAct}
-use Rattle.kcr_history.specs.History.{History}
-use Rattle.kcr_history.specs.Texts.{path_text, reply_text}
-use Rattle.kcr_history.specs.declared.commands.Command.{Command}
-use Rattle.kcr_history.specs.declared.commands.Entry.{Entry}
-use Rattle.kcr_wire.specs.Bodies.{body_text}
-use Rattle.kcr_wire.specs.Requests.{request_text}
+use Rattle.kcr_history.specs.{History.History, Texts.path_text, Texts.reply_text, declared.commands.Command.Command, declared.commands.Entry.Entry}
+use Rattle.kcr_wire.specs.{Bodies.body_text, Requests.request_text}
 use Rattle.kcr_desk.specs.Answers.{RegisterHistory, json_response, refusal_response}
-use Rattle.kcr_desk.specs.Run.{Exchange}
-use Rattle.kcr_desk.specs.Stream.{Message}
-use Rattle.kcr_desk.specs.Texts.{ResponseValue}
 
 -- the head of a request with a path and a body of this size
 abbrev pub posted_head : List ℕ → ℕ → RequestHead

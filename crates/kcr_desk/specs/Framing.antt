@@ -1,18 +1,12 @@
 -- What the fields of a head ask for.
 use Rattle.std.specs.Prelude.{◌≡◌, ℕ, ◌≤◌, Bool, true, false, not, ◌==◌, ◌&&◌, ◌||◌, List, [], ◌∷◌, map, length, Option}
 use Rattle.std.specs.Prelude.{Some, None, Result, Ok, Err, if◌then◌else◌, nat_lt, codes, min}
-use Rattle.std.specs.Str.{bytes_eq}
-use Rattle.std.specs.Str.Parse.{digits_value}
-use Rattle.std.specs.Char.{to_ascii_lowercase, is_ascii_digit}
-use Rattle.std.specs.List.{list_all}
+use Rattle.std.specs.{Str.bytes_eq, Str.Parse.digits_value, List.list_all, Char.to_ascii_lowercase, Char.is_ascii_digit}
 use Rattle.httparse.specs.Spans.{span_bytes, IsWithin}
-use Rattle.kcr_desk.specs.Members.{some_has_member}
-use Rattle.kcr_desk.specs.declared.head.Framing.{Framing}
-use Rattle.kcr_desk.specs.declared.head.FieldValues.{FieldValues}
-use Rattle.kcr_desk.specs.declared.head.FieldValues.TheVariants.{Absent, One, Many}
+use Rattle.kcr_desk.specs.{Members.some_has_member, declared.head.Framing.Framing, declared.head.TheConstants.MAX_BODY}
+use Rattle.kcr_desk.specs.declared.head.FieldValues.{FieldValues, TheVariants.Absent, TheVariants.One, TheVariants.Many}
 use Rattle.kcr_base.specs.declared.refusal.Refusal.{Refusal}
 use Rattle.kcr_base.specs.declared.refusal.Refusal.TheVariants.{Host, Length, Coding, Large}
-use Rattle.kcr_desk.specs.declared.head.TheConstants.{MAX_BODY}
 
 -- the name is this one, in any case
 abbrev pub is_named : List ℕ → List ℕ × List ℕ → Bool

@@ -1,12 +1,9 @@
 -- What a try to read a head says of the bytes, and of all bytes that begin with them.
 use Rattle.std.specs.Prelude.{◌≡◌, ℕ, ◌≤◌, ◌<◌, false, List, ◌++◌, length, drop, IfErr, IfOk}
-use Rattle.httparse.specs.Grammar.{RequestHead}
-use Rattle.httparse.specs.Spans.{span_bytes, IsWithin}
-use Rattle.httparse.specs.declared.spans.RequestSpans.{RequestSpans}
+use Rattle.httparse.specs.{Grammar.RequestHead, Spans.span_bytes, Spans.IsWithin, declared.spans.RequestSpans.RequestSpans}
 use Rattle.kcr_desk.specs.declared.head.TheConstants.{MAX_BODY, MAX_HEAD}
 use Rattle.kcr_history.specs.Refusals.{carries}
-use Rattle.kcr_desk.specs.declared.head.HeadParse.{HeadParse}
-use Rattle.kcr_desk.specs.declared.head.HeadParse.TheVariants.{Whole, More, Nothing}
+use Rattle.kcr_desk.specs.declared.head.HeadParse.{HeadParse, TheVariants.Whole, TheVariants.More, TheVariants.Nothing}
 use Rattle.kcr_desk.specs.Stream.{HasHead, HasNoHead, IsBlankRest, framing_of}
 
 -- text begins with the head h, and the spans cover its parts

@@ -1,12 +1,9 @@
 -- The bytes that were taken in and those that are still to be read.
 use Rattle.std.specs.Prelude.{◌≡◌, ◌+◌, ◌*◌, ◌<◌, ◌≤◌, ◌⊎◌, ℕ, List, Option, Some, Result, OnOk, IsErrOf, drop, length}
 use Rattle.std.specs.Io.KnownBytes.{prepend_known}
-use Rattle.kcr_base.specs.Counted.{inner_of, failures_of, nonempty_reads_of}
-use Rattle.kcr_base.specs.declared.counted.Counted.{Counted}
-use Rattle.kcr_desk.specs.declared.fault.DeskFault.{DeskFault}
-use Rattle.kcr_desk.specs.declared.fault.DeskFault.TheVariants.{Read, Write}
-use Rattle.kcr_desk.specs.declared.input_buffer.InputBuffer.{InputBuffer}
-use Rattle.kcr_desk.specs.Streams.{Streams, HasFailed}
+use Rattle.kcr_base.specs.{Counted.inner_of, Counted.failures_of, Counted.nonempty_reads_of, declared.counted.Counted.Counted}
+use Rattle.kcr_desk.specs.declared.fault.DeskFault.{DeskFault, TheVariants.Read, TheVariants.Write}
+use Rattle.kcr_desk.specs.{declared.input_buffer.InputBuffer.InputBuffer, Streams.Streams, Streams.HasFailed}
 
 -- what stays known of a stream
 abbrev pub Stays : Option (List ℕ) → Option (List ℕ) → Type 0

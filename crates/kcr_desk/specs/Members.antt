@@ -1,9 +1,6 @@
 -- Values that are lists: members between commas, with the blanks around them dropped.
 use Rattle.std.specs.Prelude.{ℕ, Bool, List, [], ◌∷◌, map, if◌then◌else◌, ◌==◌, Option, Some, None}
-use Rattle.std.specs.Borrow.{Bor}
-use Rattle.std.specs.List.{list_any}
-use Rattle.std.specs.Str.{bytes_eq}
-use Rattle.std.specs.Char.{to_ascii_lowercase}
+use Rattle.std.specs.{Borrow.Bor, Str.bytes_eq, List.list_any, Char.to_ascii_lowercase}
 use Rattle.httparse.specs.Grammar.{trim_ows}
 use Rattle.kcr_desk.specs.declared.members.Members.{Members}
 

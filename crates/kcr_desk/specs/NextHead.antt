@@ -1,14 +1,11 @@
 -- What was found at the front of a stream: buf was taken in, and unread is still to be read, if it is known.
 use Rattle.std.specs.Prelude.{◌≡◌, ℕ, ◌+◌, ◌≤◌, false, List, length, Option, Some, Ok}
 use Rattle.std.specs.Io.KnownBytes.{prepend_known}
-use Rattle.httparse.specs.Grammar.{RequestHead}
-use Rattle.httparse.specs.declared.spans.RequestSpans.{RequestSpans}
+use Rattle.httparse.specs.{Grammar.RequestHead, declared.spans.RequestSpans.RequestSpans}
 use Rattle.kcr_history.specs.Refusals.{carries}
-use Rattle.kcr_desk.specs.declared.head.Framing.{Framing}
-use Rattle.kcr_desk.specs.declared.input_buffer.NextHead.{NextHead}
-use Rattle.kcr_desk.specs.declared.input_buffer.NextHead.TheVariants.{Whole, Refused, Quiet}
+use Rattle.kcr_desk.specs.{declared.head.Framing.Framing, Heads.IsWhole}
+use Rattle.kcr_desk.specs.declared.input_buffer.NextHead.{NextHead, TheVariants.Whole, TheVariants.Refused, TheVariants.Quiet}
 use Rattle.kcr_desk.specs.Stream.{framing_of, IsEnd, Ending, clean_end, refused}
-use Rattle.kcr_desk.specs.Heads.{IsWhole}
 
 -- the stream that is left is such an end, if it is known
 abbrev pub EndsAs : Option (List ℕ) → Ending → Type 0

@@ -1,19 +1,11 @@
 -- What one turn of the desk found and answered.
 use Rattle.std.specs.Prelude.{◌≡◌, ℕ, ◌+◌, List, ◌++◌, Option, Some, Result, MatchResult, slice_range}
-use Rattle.httparse.specs.Spans.{span_bytes}
-use Rattle.httparse.specs.declared.spans.RequestSpans.{RequestSpans}
-use Rattle.kcr_desk.specs.declared.fault.DeskFault.{DeskFault}
-use Rattle.kcr_desk.specs.declared.head.Framing.{Framing}
-use Rattle.kcr_desk.specs.declared.stream.NextItem.{NextItem}
-use Rattle.kcr_desk.specs.declared.stream.NextItem.TheVariants.{Message, Ended}
-use Rattle.kcr_desk.specs.Stream.{Ending}
-use Rattle.kcr_desk.specs.NextHead.{IsReady, EndsAs}
-use Rattle.kcr_desk.specs.Texts.{continue_text}
-use Rattle.kcr_desk.specs.Run.{Request, ending_text, IsNextOutput}
-use Rattle.kcr_desk.specs.Output.{IsQueued}
-use Rattle.kcr_desk.specs.Input.{left, unread}
+use Rattle.httparse.specs.{Spans.span_bytes, declared.spans.RequestSpans.RequestSpans}
+use Rattle.kcr_desk.specs.declared.{fault.DeskFault.DeskFault, head.Framing.Framing, input_buffer.InputBuffer.InputBuffer}
+use Rattle.kcr_desk.specs.declared.stream.NextItem.{NextItem, TheVariants.Message, TheVariants.Ended}
+use Rattle.kcr_desk.specs.{Stream.Ending, Output.IsQueued, NextHead.IsReady, NextHead.EndsAs}
+use Rattle.kcr_desk.specs.{Texts.continue_text, Input.left, Input.unread, Run.Request, Run.ending_text, Run.IsNextOutput}
 use Rattle.kcr_desk.specs.Streams.{Streams, bytes_before, bytes_after}
-use Rattle.kcr_desk.specs.declared.input_buffer.InputBuffer.{InputBuffer}
 use Rattle.kcr_print.specs.Written.{WritesPrefix}
 
 -- left is what is known of the stream, buf the bytes that were taken in, and waited what waited to be written before

@@ -1,9 +1,7 @@
 -- A reply as clauses see it.
 use Rattle.std.specs.Prelude.{ℕ, List}
-use Rattle.kcr_desk.specs.declared.response.Body.{Body}
-use Rattle.kcr_desk.specs.declared.response.Body.TheVariants.{Made, Printed, Fixed}
-use Rattle.kcr_desk.specs.declared.response.Response.{Response}
-use Rattle.kcr_desk.specs.Texts.{ResponseValue}
+use Rattle.kcr_desk.specs.declared.response.Body.{Body, TheVariants.Made, TheVariants.Printed, TheVariants.Fixed}
+use Rattle.kcr_desk.specs.{declared.response.Response.Response, Texts.ResponseValue}
 
 abbrev pub body_bytes : Body → List ℕ
 body_bytes (Made text) = text

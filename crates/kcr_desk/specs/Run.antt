@@ -1,11 +1,9 @@
 -- A run of the machine over the messages of a stream, and the bytes of its answers.
 use Rattle.std.specs.Prelude.{◌≡◌, ℕ, true, List, [], ◌∷◌, ◌++◌, length, map, Option, Some, Ok, MatchBool}
-use Rattle.std.specs.List.{flat_map}
-use Rattle.std.specs.Io.KnownBytes.{Appends}
+use Rattle.std.specs.{List.flat_map, Io.KnownBytes.Appends}
 use Rattle.httparse.specs.Grammar.{RequestHead}
-use Rattle.kcr_desk.specs.declared.head.Framing.{Framing}
+use Rattle.kcr_desk.specs.{declared.head.Framing.Framing, Framing.is_head}
 use Rattle.kcr_base.specs.declared.refusal.Refusal.TheVariants.{Cut}
-use Rattle.kcr_desk.specs.Framing.{is_head}
 use Rattle.kcr_desk.specs.Stream.{Message, Ending, clean_end, refused, cut_off, HasHead, IsMessage, IsEnd, AreMessages, framing_of}
 use Rattle.kcr_desk.specs.Texts.{ResponseValue, answer, continue_text, fault_response}
 use Rattle.kcr_print.specs.Written.{WritesPrefix}

@@ -1,13 +1,9 @@
 -- What a stream of bytes says: messages one after the other, and then nothing or one faulty item.
-use Rattle.std.specs.Prelude.{◌≡◌, ℕ, ◌<◌, ◌≤◌, Bool, false, List, [], ◌∷◌, ◌++◌, length, map, Result, Ok, Err}
-use Rattle.std.specs.Prelude.{MatchBool}
+use Rattle.std.specs.Prelude.{◌≡◌, ℕ, ◌<◌, ◌≤◌, Bool, false, List, [], ◌∷◌, ◌++◌, length, map, Result, Ok, Err, MatchBool}
 use Rattle.httparse.specs.Grammar.{LineEnd, print_blank, RequestHead, print_request, ReadsRequest}
 use Rattle.httparse.specs.Spans.{name_and_value}
-use Rattle.kcr_desk.specs.declared.head.Framing.{Framing}
-use Rattle.kcr_base.specs.declared.refusal.Refusal.{Refusal}
-use Rattle.kcr_base.specs.declared.refusal.Refusal.TheVariants.{Head}
-use Rattle.kcr_desk.specs.Framing.{planned, is_head}
-use Rattle.kcr_desk.specs.declared.head.TheConstants.{MAX_HEAD}
+use Rattle.kcr_desk.specs.{declared.head.Framing.Framing, declared.head.TheConstants.MAX_HEAD, Framing.planned, Framing.is_head}
+use Rattle.kcr_base.specs.declared.refusal.Refusal.{Refusal, TheVariants.Head}
 
 -- what the fields of a head ask for, or the refusal of its first test that fails
 abbrev pub framing_of : RequestHead → Result Framing Refusal

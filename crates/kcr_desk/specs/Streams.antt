@@ -1,10 +1,8 @@
 -- What a call reads and writes.
 use Rattle.std.specs.Prelude.{◌≡◌, ◌+◌, ◌<◌, ◌⊎◌, ℕ, List, Option}
 use Rattle.std.specs.Io.KnownBytes.{Appends}
-use Rattle.kcr_base.specs.Counted.{inner_of, failures_of, nonempty_reads_of}
-use Rattle.kcr_base.specs.declared.counted.Counted.{Counted}
-use Rattle.kcr_desk.specs.declared.fault.DeskFault.{DeskFault}
-use Rattle.kcr_desk.specs.declared.fault.DeskFault.TheVariants.{Read, Write, Memory}
+use Rattle.kcr_base.specs.{Counted.inner_of, Counted.failures_of, Counted.nonempty_reads_of, declared.counted.Counted.Counted}
+use Rattle.kcr_desk.specs.declared.fault.DeskFault.{DeskFault, TheVariants.Read, TheVariants.Write, TheVariants.Memory}
 use Rattle.kcr_print.specs.Written.{WritesPrefix}
 
 -- a writer before a call and after it, and the bytes that it holds, if it tells them

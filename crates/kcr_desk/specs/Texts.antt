@@ -2,15 +2,11 @@
 use Rattle.std.specs.Prelude.{ℕ, Bool, List, [], ◌∷◌, ◌++◌, length, codes, if◌then◌else◌, Option, Some, None, unwrap_or}
 use Rattle.std.specs.Fmt.{decimal}
 use Rattle.http.specs.StatusCode.{reason_phrase}
-use Rattle.kcr_base.specs.Refusal.{status_of}
-use Rattle.kcr_base.specs.declared.refusal.Refusal.{Refusal}
+use Rattle.kcr_base.specs.{Refusal.status_of, declared.refusal.Refusal.Refusal}
 use Rattle.kcr_history.specs.Refusals.{refusal_text}
-use Rattle.kcr_desk.specs.declared.head.Framing.{Framing}
-use Rattle.kcr_desk.specs.declared.response.Heading.{Heading}
-use Rattle.kcr_desk.specs.declared.response.MediaType.{MediaType}
-use Rattle.kcr_desk.specs.declared.response.MediaType.TheVariants.{Json, Text, Csv}
-use Rattle.kcr_wire.specs.Endpoints.{allow_text as methods_text}
-use Rattle.kcr_wire.specs.declared.allow.Allow.{Allow}
+use Rattle.kcr_desk.specs.declared.{head.Framing.Framing, response.Heading.Heading}
+use Rattle.kcr_desk.specs.declared.response.MediaType.{MediaType, TheVariants.Json, TheVariants.Text, TheVariants.Csv}
+use Rattle.kcr_wire.specs.{Endpoints.allow_text as methods_text, declared.allow.Allow.Allow}
 
 -- a reply without where it lies in memory
 pub record ResponseValue : Type 0 where

@@ -1,21 +1,18 @@
 //! What the register is asked by a message, and what the message is told.
 ghost use Rattle.std.specs.Prelude.{◌≡◌, ◌⊎◌, ◌<◌, ◌≤◌, false, None, Err, IfSome, IsTrue};
-ghost use Rattle.kcr_desk.specs.declared.answer.TheConstants.{MAX_FEED_COMMANDS};
+ghost use Rattle.kcr_desk.specs.{declared.answer.TheConstants.MAX_FEED_COMMANDS, Responses.response_value};
 ghost use Rattle.kcr_forms.specs.Acts.{IsAct};
-ghost use Rattle.kcr_store.specs.Commands.{IsQuestionResult};
-ghost use Rattle.kcr_store.specs.ShownBy.{IsQuestionResultBy};
+ghost use Rattle.kcr_store.specs.{Commands.IsQuestionResult, ShownBy.IsQuestionResultBy};
 ghost use Rattle.kcr_wire.specs.declared.method.Method.TheVariants.{Ask, Post};
 ghost use Rattle.kcr_history.specs.Refusals.{carries};
 ghost use Rattle.kcr_base.specs.declared.refusal.Refusal.TheVariants as Refusals;
 ghost use Rattle.kcr_desk.specs.Answers.{Answers, AnswersAs, AnswersCommand, AnswersReading, AnswersInquiry};
 ghost use Rattle.kcr_desk.specs.Answers.{IsReported, json_response, refusal_response, shown_response, report_response};
-ghost use Rattle.kcr_desk.specs.Answers.{RespondsOrMemory, refusal_of};
+ghost use Rattle.kcr_desk.specs.Answers.{RespondsOrMemory, refusal_of, IsFeed, IsFeedByRows, IsReportedByRows, MayBeFed};
 ghost use Rattle.kcr_desk.specs.Answers.{outcome_of, MayBeReported, MayBeShown, MayBeText, IsText};
-ghost use Rattle.kcr_desk.specs.Answers.{IsFeed, IsFeedByRows, IsReportedByRows, MayBeFed};
 ghost use Rattle.kcr_print.specs.ByRows.{annotated_by, attendance_by, custody_by};
 ghost use Rattle.kcr_desk.specs.declared.response.MediaType.TheVariants as kinds;
 ghost use Rattle.kcr_history.specs.Prints as prints;
-ghost use Rattle.kcr_desk.specs.Responses.{response_value};
 
 use crate::page::Page;
 use crate::responder::{Request, Responder};

@@ -1,11 +1,9 @@
 //! One connection.
 ghost use Rattle.std.specs.Prelude.{◌≡◌, ◌+◌, ◌≤◌, IfErr};
-ghost use Rattle.kcr_store.specs.Calls.{Leads as Moves, RowsLead};
+ghost use Rattle.kcr_store.specs.{Calls.Leads as Moves, Calls.RowsLead, Register.IsConsistent};
 ghost use Rattle.kcr_base.specs.Counted.{nonempty_reads_of};
-ghost use Rattle.kcr_store.specs.Register.{IsConsistent};
 ghost use Rattle.kcr_desk.specs.Answers.{IsAnswer, IsAnswerByRows, IsReply};
-ghost use Rattle.kcr_desk.specs.Connections.{Connects, Ends};
-ghost use Rattle.kcr_desk.specs.Streams.{BreaksStream, streams};
+ghost use Rattle.kcr_desk.specs.{Connections.Connects, Connections.Ends, Streams.BreaksStream, Streams.streams};
 
 use crate::desk::serve;
 use crate::fault::DeskFault;

@@ -1,13 +1,9 @@
 //! The desk over a register.
 ghost use Rattle.std.specs.Prelude.{◌+◌, ◌≤◌, IfErr};
-ghost use Rattle.kcr_store.specs.Calls.{Leads, RowsLead};
-ghost use Rattle.sqlite.specs.Held.{state};
-ghost use Rattle.sqlite.specs.State.{HasCleanDisk};
+ghost use Rattle.kcr_store.specs.{Calls.Leads, Calls.RowsLead, Register.IsConsistent};
+ghost use Rattle.sqlite.specs.{Held.state, State.HasCleanDisk};
 ghost use Rattle.kcr_base.specs.Counted.{nonempty_reads_of};
-ghost use Rattle.kcr_store.specs.Register.{IsConsistent};
-ghost use Rattle.kcr_desk.specs.Answers.{IsAnswer, IsAnswerByRows, IsReply};
-ghost use Rattle.kcr_desk.specs.Connections.{Ends};
-ghost use Rattle.kcr_desk.specs.Streams.{BreaksStream, streams};
+ghost use Rattle.kcr_desk.specs.{Answers.IsAnswer, Answers.IsAnswerByRows, Answers.IsReply, Connections.Ends, Streams.BreaksStream, Streams.streams};
 
 use crate::fault::DeskFault;
 use crate::stream::{Served, serve_stream};

@@ -1,16 +1,11 @@
 //! Heads: whether bytes begin with one, and what its fields ask for (RFC 9112 and RFC 9110, in the part that
 //! `specs/Stream` and `specs/Plans` state).
-ghost use Rattle.std.specs.Prelude.{◌≡◌, ◌≤◌, ◌↔◌, true, false, length, take, map, All, IfErr, IfOk, IsTrue, codes, not, min};
-ghost use Rattle.std.specs.Prelude.{if◌then◌else◌};
+ghost use Rattle.std.specs.Prelude.{◌≡◌, ◌≤◌, ◌↔◌, true, false, length, take, map, All, IfErr, IfOk, IsTrue, codes, not, min, if◌then◌else◌};
 ghost use Rattle.httparse.specs.Spans.{header_bytes, IsHeaderWithin};
 ghost use Rattle.std.specs.Str.Parse.{digits_value};
 ghost use Rattle.kcr_history.specs.Refusals.{carries};
-ghost use Rattle.kcr_desk.specs.Members.{some_has_member};
-ghost use Rattle.kcr_desk.specs.Framing.{planned, is_head, is_named, is_number, values_of, IsNamed, is_hosted, length_in};
-ghost use Rattle.kcr_desk.specs.Framing.{bounded_length, is_empty};
-ghost use Rattle.kcr_desk.specs.Stream.{IsBlankRest};
-ghost use Rattle.kcr_desk.specs.Heads.{IsHeadParse};
-ghost use Rattle.kcr_desk.specs.BlankRest.{blank_from};
+ghost use Rattle.kcr_desk.specs.{Members.some_has_member, BlankRest.blank_from, Stream.IsBlankRest, Heads.IsHeadParse};
+ghost use Rattle.kcr_desk.specs.Framing.{planned, is_head, is_named, is_number, values_of, IsNamed, is_hosted, length_in, bounded_length, is_empty};
 
 use crate::members::has_member;
 use httparse::Status;

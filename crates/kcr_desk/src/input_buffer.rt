@@ -1,11 +1,8 @@
 //! The bytes of a stream that were read and are no whole message yet.
-ghost use Rattle.std.specs.Prelude.{◌≡◌, ℕ, ◌+◌, drop, ◌<◌, ◌≤◌, ◌++◌, List, [], true, false};
-ghost use Rattle.std.specs.Prelude.{length, vec_len, OnOk, IfOk};
+ghost use Rattle.std.specs.Prelude.{◌≡◌, ℕ, ◌+◌, drop, ◌<◌, ◌≤◌, ◌++◌, List, [], true, false, length, vec_len, OnOk, IfOk};
 ghost use Rattle.std.specs.Io.KnownBytes.{IsAtEnd};
 ghost use Rattle.kcr_base.specs.Counted.{inner_of};
-ghost use Rattle.kcr_desk.specs.Output.{Enqueues};
-ghost use Rattle.kcr_desk.specs.Streams.{streams, writing};
-ghost use Rattle.kcr_desk.specs.declared.input_buffer.TheConstants.{MAX_READS};
+ghost use Rattle.kcr_desk.specs.{Output.Enqueues, Streams.streams, Streams.writing, declared.input_buffer.TheConstants.MAX_READS};
 
 use crate::fault::DeskFault;
 use crate::head::{Framing, HeadParse, is_blank_rest, is_head_method, parse_head};
@@ -41,8 +38,7 @@ pub(crate) struct InputBuffer {
 }
 
 impl InputBuffer {
-    ghost use Rattle.kcr_desk.specs.NextHead.{IsNextHead};
-    ghost use Rattle.kcr_desk.specs.Input.{TakesIn, unread};
+    ghost use Rattle.kcr_desk.specs.{NextHead.IsNextHead, Input.TakesIn, Input.unread};
 
     /// Nothing yet.
     pub fn new(alloc: Global) -> InputBuffer

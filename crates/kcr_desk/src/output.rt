@@ -1,8 +1,7 @@
 //! Answers wait in a page and go out together: before more is read, at the end, and if the page is full.
 ghost use Rattle.std.specs.Prelude.{◌≡◌, ◌≤◌, ◌+◌, ◌++◌, [], OnOk};
 ghost use Rattle.arrayvec.specs.ArrayVec.{array_vec_len};
-ghost use Rattle.kcr_desk.specs.Output.{Puts, Queues};
-ghost use Rattle.kcr_desk.specs.Streams.{writing};
+ghost use Rattle.kcr_desk.specs.{Output.Puts, Output.Queues, Streams.writing};
 
 use crate::fault::DeskFault;
 use crate::output_buffer::{OUTPUT_BUFFER_SIZE, OutputBuffer, add};

@@ -22,9 +22,7 @@ impl<'a> Model for Request<'a> {
 
 /// What answers messages.
 pub(crate) trait Responder {
-    ghost use Rattle.kcr_desk.specs.Run.{Request};
-    ghost use Rattle.kcr_desk.specs.Texts.{ResponseValue};
-    ghost use Rattle.kcr_desk.specs.Responses.{response_value};
+    ghost use Rattle.kcr_desk.specs.{Run.Request, Texts.ResponseValue, Responses.response_value};
 
     /// What a message may be told, and what it leaves.
     ghost step: { Self → Request → ResponseValue → Self → Type 0 };

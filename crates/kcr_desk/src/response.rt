@@ -7,9 +7,7 @@ ghost use Rattle.kcr_history.specs.Refusals.{carries};
 ghost use Rattle.kcr_desk.specs.Texts.{phrase_of, kind_text, line, field, allow_line, close_text, head_text};
 ghost use Rattle.kcr_desk.specs.Texts.{shown_text, answer, continue_text, fault_response};
 ghost use Rattle.kcr_desk.specs.Responses.{body_bytes, response_value};
-ghost use Rattle.kcr_desk.specs.Output.{Queues};
-ghost use Rattle.kcr_desk.specs.Streams.{writing};
-ghost use Rattle.kcr_desk.specs.declared.response.MediaType.TheVariants.{Json};
+ghost use Rattle.kcr_desk.specs.{Output.Queues, Streams.writing, declared.response.MediaType.TheVariants.Json};
 
 use crate::fault::DeskFault;
 use crate::head::Framing;

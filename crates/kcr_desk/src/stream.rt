@@ -1,15 +1,10 @@
 //! Streams of messages.
 ghost use Rattle.std.specs.Prelude.{◌≡◌, ◌++◌, ◌+◌, ◌<◌, ◌≤◌, ◌⊎◌, OnErr, IsErrOf, MatchResult};
 ghost use Rattle.kcr_base.specs.Counted.{failures_of, nonempty_reads_of};
-ghost use Rattle.kcr_desk.specs.Connections.{Ends};
-ghost use Rattle.kcr_desk.specs.Framing.{is_head};
-ghost use Rattle.kcr_desk.specs.Input.{TakesIn, unread};
-ghost use Rattle.kcr_desk.specs.NextHead.{IsReady, HasFraming};
-ghost use Rattle.kcr_desk.specs.NextItem.{EndsItem, request_of_buffer};
-ghost use Rattle.kcr_desk.specs.Output.{Queues};
-ghost use Rattle.kcr_desk.specs.Stream.{Message};
+ghost use Rattle.kcr_desk.specs.{Connections.Ends, Framing.is_head, Texts.ResponseValue, Texts.answer};
+ghost use Rattle.kcr_desk.specs.{Input.TakesIn, Input.unread, Output.Queues, Stream.Message};
+ghost use Rattle.kcr_desk.specs.{NextHead.IsReady, NextHead.HasFraming, NextItem.EndsItem, NextItem.request_of_buffer};
 ghost use Rattle.kcr_desk.specs.Streams.{WritesPart, WritesText, streams, writing};
-ghost use Rattle.kcr_desk.specs.Texts.{ResponseValue, answer};
 
 use crate::fault::DeskFault;
 use crate::head::{Framing, is_head_method};

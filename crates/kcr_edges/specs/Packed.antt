@@ -1,9 +1,7 @@
 -- One file with everything.
 use Rattle.std.specs.Prelude.{◌≡◌, ℕ, List, []}
-use Rattle.sqlite.specs.Files.{HoldsDatabase}
-use Rattle.sqlite_disk.specs.declared.Disk.{Ghosts}
-use Rattle.sqlite_disk.specs.declared.Files.{Files}
-use Rattle.sqlite.specs.Tree.{Trees}
+use Rattle.sqlite.specs.{Files.HoldsDatabase, Tree.Trees}
+use Rattle.sqlite_disk.specs.declared.{Disk.Ghosts, Files.Files}
 use Rattle.sqlite_wal.specs.Recovery.{Image}
 use Rattle.kcr_edges.specs.Image.{image}
 

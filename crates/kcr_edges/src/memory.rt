@@ -1,12 +1,8 @@
 //! A database over the bytes of a file and its log.
 ghost use Rattle.std.specs.Prelude.{◌≡◌, ◌⊎◌, false, IsTrue, IfOk, IfErr};
-ghost use Rattle.sqlite.specs.Files.{file_state, IsOpened};
-ghost use Rattle.sqlite.specs.Start.{FindsIn};
-ghost use Rattle.sqlite.specs.State.{HasCleanDisk};
+ghost use Rattle.sqlite.specs.{Files.file_state, Files.IsOpened, Start.FindsIn, State.HasCleanDisk};
 ghost use Rattle.sqlite_disk.specs.Memory.{memory_bytes, memory_is_usable};
-ghost use Rattle.kcr_edges.specs.Image.{image};
-ghost use Rattle.kcr_edges.specs.Noted.{file_of};
-ghost use Rattle.kcr_edges.specs.Unread.{IsCause};
+ghost use Rattle.kcr_edges.specs.{Image.image, Noted.file_of, Unread.IsCause};
 
 use crate::{Copied, CopyFile, Unread};
 use sqlite::{Connection, Error, ErrorCode, FileStore, Files, Options};

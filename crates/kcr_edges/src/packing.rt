@@ -1,11 +1,9 @@
 //! One file with everything that a register's file and its log hold.
 ghost use Rattle.std.specs.Prelude.{◌≡◌, ◌⊎◌, [], IsTrue, IfOk, IfErr, OnOk};
-ghost use Rattle.sqlite_wal.specs.Files.{outcomes};
-ghost use Rattle.sqlite_wal.specs.Reads.{AreClean};
+ghost use Rattle.sqlite_wal.specs.{Files.outcomes, Reads.AreClean};
 ghost use Rattle.sqlite_disk.specs.Memory.{memory_bytes};
-ghost use Rattle.kcr_edges.specs.Image.{image};
+ghost use Rattle.kcr_edges.specs.{Image.image, Unread.IsCause};
 ghost use Rattle.kcr_edges.specs.Packed.{IsPacked, IsEmptied, LeavesOnly, Stays};
-ghost use Rattle.kcr_edges.specs.Unread.{IsCause};
 
 use crate::memory::{connect, unread};
 use crate::{Copied, Unread};

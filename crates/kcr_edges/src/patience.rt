@@ -1,7 +1,6 @@
 //! A reader and a writer of a socket that share one patience.
 ghost use Rattle.std.specs.Prelude.{◌≡◌, ◌*◌, ℕ, Bool, None, true, false, if◌then◌else◌};
-ghost use Rattle.std.specs.Io.{ReadsAtMost, WritesAtMost};
-ghost use Rattle.std.specs.Io.KnownBytes.{ReadConsumes, WriteAppends};
+ghost use Rattle.std.specs.Io.{ReadsAtMost, WritesAtMost, KnownBytes.ReadConsumes, KnownBytes.WriteAppends};
 ghost use Rattle.kcr_edges.specs.Waits.{AwaitsByte, OffersBytes};
 
 use crate::socket::Socket;

@@ -1,7 +1,6 @@
 //! A writer that passes answers on only while the files of the register are there.
 ghost use Rattle.std.specs.Prelude.{◌≡◌, Bool, List, Option, None, true, false, IsErr};
-ghost use Rattle.std.specs.Io.{WritesAtMost};
-ghost use Rattle.std.specs.Io.KnownBytes.{WriteAppends};
+ghost use Rattle.std.specs.Io.{WritesAtMost, KnownBytes.WriteAppends};
 ghost use Rattle.kcr_edges.specs.Looks.{HasLooked, LooksOnce};
 
 use std::io::{self, ErrorKind, Write};

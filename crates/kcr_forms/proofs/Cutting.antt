@@ -1,13 +1,10 @@
 -- A text is cut at its first such byte in one way.
 use Rattle.std.proofs.Common.{◌≡◌, ℕ, ◌+◌, ◌<◌, false, eqb, List, ◌∷◌, ◌++◌, length, take, drop, Some}
 use Rattle.std.proofs.Common.{None, refl, ap, subst, ◌∙◌, arith, All, length-append}
-use Rattle.std.specs.List.{position, position_or_len}
-use Rattle.std.specs.Option.{option_map}
-use Rattle.std.proofs.Math.Seq.{drop-append-add, take-append_seam, get_or-append_seam}
-use Rattle.std.proofs.Math.ListN.{get_or-append}
+use Rattle.std.specs.{List.position, List.position_or_len, Option.option_map}
+use Rattle.std.proofs.Math.{Seq.drop-append-add, Seq.take-append_seam, Seq.get_or-append_seam, ListN.get_or-append}
 use Rattle.std.proofs.lemmas.Bool.{eq-eqb, ne_eqb, lt-ltb, le-ltb}
-use Rattle.std.proofs.lemmas.List.Elements.{All-get_or, All-weaker}
-use Rattle.std.proofs.lemmas.List.Sums.{position_or_len_is}
+use Rattle.std.proofs.lemmas.List.{Elements.All-get_or, Elements.All-weaker, Sums.position_or_len_is}
 use Rattle.kcr_forms.specs.Split.{split_at_byte}
 
 -- the byte is not in the text

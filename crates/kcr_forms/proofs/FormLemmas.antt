@@ -2,8 +2,7 @@
 use Rattle.std.proofs.Common.{◌≡◌, ◌≤◌, ℕ, ◌&&◌, List, length, Option, None, refl}
 use Rattle.std.specs.Prelude.{SomeIff}
 use Rattle.std.proofs.lemmas.Bool.{and_parts, false_from_ne_true}
-use Rattle.kcr_base.specs.Lists.{IsListed, are_apart}
-use Rattle.kcr_base.specs.Number.{IsNumber}
+use Rattle.kcr_base.specs.{Lists.IsListed, Lists.are_apart, Number.IsNumber}
 use Rattle.kcr_base.proofs.FormLemmas.{if_form-is, within-from, within-to}
 use Rattle.kcr_forms.specs.Forms.{is_between, number_to, listed_of}
 

@@ -2,51 +2,30 @@
 use Rattle.std.proofs.Common.{◌≡◌, ℕ, ◌+◌, ◌-◌, ◌*◌, ◌≤◌, ◌<◌, ◌⊎◌, Bool, true, false, ◌&&◌, eqb, nat_le, List, [], ◌∷◌}
 use Rattle.std.proofs.Common.{length, codes, Option, Some, IfSome, refl, sym, ap, ◌∙◌, arith, All}
 use Rattle.std.specs.Bool.{⊤}
-use Rattle.std.specs.Fmt.{decimal}
-use Rattle.std.specs.Int.Digits.{digits_of}
+use Rattle.std.specs.{Fmt.decimal, Int.Digits.digits_of, Str.IsUtf8, Str.is_utf8, Cmp.Lexicographic.same_text as equal_texts}
 use Rattle.std.specs.List.{AllByRecursion, find, list_all, range_with_len}
-use Rattle.std.specs.Str.{IsUtf8, is_utf8}
-use Rattle.std.specs.Cmp.Lexicographic.{same_text as equal_texts}
-use Rattle.std.proofs.lemmas.Bool.{cond_both, false_from_ne_true}
+use Rattle.std.proofs.lemmas.{Bool.cond_both, Bool.false_from_ne_true, Bool.Decides.nat_tests, Str.IsUtf8-from_ascii, Str.IsUtf8-from_is_utf8}
 use Rattle.std.proofs.lemmas.Fmt.{decimal_injective, decimal-digits_of, IsAscii-decimal}
 use Rattle.std.proofs.lemmas.List.Elements.{All-nil, All-weaker, All-map, All-append, All-head, All-tail, All-from_recursion, recursion_from_All}
-use Rattle.std.proofs.lemmas.List.Sums.{AllPass-from_list_all}
-use Rattle.std.proofs.lemmas.Str.{IsUtf8-from_ascii, IsUtf8-from_is_utf8}
-use Rattle.std.proofs.lemmas.List.Splits.{slice_split_none, slice_split_at}
-use Rattle.std.proofs.lemmas.Bool.Decides.{nat_tests}
-use Rattle.kcr_base.specs.Same.{same_text}
-use Rattle.kcr_base.specs.Day.{IsDay, day_text}
-use Rattle.kcr_base.specs.Facility.{facility_text}
-use Rattle.kcr_base.specs.Initials.{IsCapital, IsInitials}
-use Rattle.kcr_base.specs.Line.{IsPrinting, IsLine}
-use Rattle.kcr_base.specs.Moment.{IsMoment, moment_text}
-use Rattle.kcr_base.specs.Number.{IsNumber}
-use Rattle.kcr_base.specs.Reads.{HasText, ReadsText}
-use Rattle.kcr_base.specs.Place.{IsPlace, place_text}
-use Rattle.kcr_base.specs.Role.{role_text}
-use Rattle.kcr_base.specs.Serial.{IsDigit, IsSerial}
-use Rattle.kcr_base.specs.declared.place.Facility.TheVariants.{East, West}
-use Rattle.kcr_base.specs.declared.place.Place.{Place}
+use Rattle.std.proofs.lemmas.List.{Sums.AllPass-from_list_all, Splits.slice_split_none, Splits.slice_split_at}
+use Rattle.kcr_base.specs.{Same.same_text, Role.role_text, Reads.HasText, Reads.ReadsText}
+use Rattle.kcr_base.specs.{Day.IsDay, Day.day_text, Line.IsPrinting, Line.IsLine, Initials.IsCapital, Initials.IsInitials}
+use Rattle.kcr_base.specs.{Facility.facility_text, Number.IsNumber, Moment.IsMoment, Moment.moment_text}
+use Rattle.kcr_base.specs.{Place.IsPlace, Place.place_text, Serial.IsDigit, Serial.IsSerial}
+use Rattle.kcr_base.specs.declared.{place.Facility.TheVariants.East, place.Facility.TheVariants.West, place.Place.Place, limits.TheConstants.MAX_BOX}
 use Rattle.kcr_base.specs.declared.place.Role.TheVariants.{Ca, Iw, Sa, Ssc1, Ssc2, Rkos, Sw}
-use Rattle.kcr_base.specs.Forms.{by_text, number_by_text, initials_of, serial_of, line_of, day_of}
-use Rattle.kcr_base.specs.Forms.{is_initials, is_serial, is_line}
+use Rattle.kcr_base.specs.Forms.{by_text, number_by_text, initials_of, serial_of, line_of, day_of, is_initials, is_serial, is_line}
 use Rattle.kcr_base.specs.Forms.{moment_of, ceremony_of, box_of, step_of, role_of, facility_of, places, place_of, script_of}
-use Rattle.kcr_base.proofs.DayLemmas.{day_ascii, moment_ascii}
-use Rattle.kcr_base.specs.declared.limits.TheConstants.{MAX_BOX}
+use Rattle.kcr_base.proofs.{DayLemmas.day_ascii, DayLemmas.moment_ascii, TextLemmas.number-read, TextLemmas.each-range}
 use Rattle.kcr_base.proofs.FormLemmas.{initials-read, serial-read, line-read, script-read, initials-from, serial-from, line-from}
-use Rattle.kcr_base.proofs.TextLemmas.{number-read, each-range}
 use Rattle.kcr_base.proofs.ValueLemmas.{day-read, moment-read, place-read, each-place, one_place}
 use Rattle.kcr_custody.specs.declared.SafeNumber.TheVariants.{One, Two}
-use Rattle.kcr_custody.specs.declared.Destination.{Destination}
-use Rattle.kcr_custody.specs.declared.Destination.TheVariants.{SafeOne, DepositBox}
+use Rattle.kcr_custody.specs.declared.Destination.{Destination, TheVariants.SafeOne, TheVariants.DepositBox}
 use Rattle.kcr_custody.specs.Destinations.{IsDestination, destination_text, destination_of}
 use Rattle.kcr_custody.proofs.DestinationLemmas.{number-no_word}
-use Rattle.kcr_room.specs.declared.Way.TheVariants.{Enter, Leave}
-use Rattle.kcr_room.specs.Room.{way_text}
-use Rattle.kcr_room.specs.Forms.{way_of}
+use Rattle.kcr_room.specs.{declared.Way.TheVariants.Enter, declared.Way.TheVariants.Leave, Room.way_text, Forms.way_of}
 use Rattle.kcr_history.specs.Texts.{safe_text, truth_text, listed}
-use Rattle.kcr_forms.specs.Forms.{safe_of, truth_of}
-use Rattle.kcr_forms.specs.Lines.{each_of, between_commas}
+use Rattle.kcr_forms.specs.{Forms.safe_of, Forms.truth_of, Lines.each_of, Lines.between_commas}
 use Rattle.kcr_forms.proofs.Cutting.{Lacks}
 use Rattle.kcr_forms.proofs.Dates.{day-same, moment-same, day-printing, moment-printing}
 use Rattle.kcr_forms.proofs.Readers.{Reads, Value, AtLeast, ascii-utf8, lacks-below, at_least-less, tested, mapped}

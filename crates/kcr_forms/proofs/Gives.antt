@@ -1,26 +1,17 @@
 -- A source that gives the members of an act gives the act. A source that reads each member by its form gives acts of values.
 use Rattle.std.proofs.Common.{◌≡◌, ℕ, List, [], ◌∷◌, ◌++◌, Option, Some, None, option_and_then, Result, Ok, IfSome, IfOk, refl, sym, ap, ◌∙◌}
-use Rattle.kcr_base.specs.Number.{IsNumber}
-use Rattle.kcr_base.specs.declared.refusal.Member.{Member}
-use Rattle.kcr_base.specs.declared.refusal.Refusal.{Refusal}
+use Rattle.kcr_base.specs.{Number.IsNumber, declared.refusal.Member.Member, declared.refusal.Refusal.Refusal}
 use Rattle.kcr_history.specs.Texts.{MemberValue, Whole, members_of, value_text}
 use Rattle.kcr_history.specs.declared.commands.Act.{Act}
-use Rattle.kcr_forms.specs.Acts.{IsAct}
-use Rattle.kcr_forms.specs.Forms.{ceremony_of, number_of, listed_of}
-use Rattle.kcr_forms.specs.Lines.{each_of, lines}
-use Rattle.kcr_forms.specs.OrMemory.{and_then}
+use Rattle.kcr_forms.specs.{Acts.IsAct, OrMemory.and_then, Lines.each_of, Lines.lines, Forms.ceremony_of, Forms.number_of, Forms.listed_of}
 use Rattle.kcr_forms.specs.Posts.{next, last, act_by, act_of_shape, posted_act}
-use Rattle.kcr_forms.specs.Reading.{Reading, formed}
+use Rattle.kcr_forms.specs.{Reading.Reading, Reading.formed, Split.split_at_byte, declared.post.Post.Post}
 use Rattle.kcr_forms.specs.Shapes.{Form, Makes, Shape, row, shape}
 use Rattle.kcr_forms.specs.Shapes as shapes
-use Rattle.kcr_forms.specs.Split.{split_at_byte}
-use Rattle.kcr_forms.specs.declared.post.Post.{Post}
-use Rattle.kcr_forms.proofs.Cutting.{Lacks, cut-again}
-use Rattle.kcr_forms.proofs.FormLemmas.{listed_new}
+use Rattle.kcr_forms.proofs.{Cutting.Lacks, Cutting.cut-again, FormLemmas.listed_new, Readers.no-feed}
 use Rattle.kcr_forms.proofs.Formed.{ceremonies, truths, each-again, pieces}
 use Rattle.kcr_forms.proofs.Posts.{IsPost, IsRead, EachMade, EachOf, parts-made}
 use Rattle.kcr_forms.proofs.Posts.{post_of, IsAgain, Given, AllGiven, told_as, told, made, members_in, made_by, shaped}
-use Rattle.kcr_forms.proofs.Readers.{no-feed}
 
 -- a source gives these values, one member after the other
 abbrev pub Gives : {S : Type 0} → Reading S → (members : List (Member × Form)) → AllGiven members → S → Type 0

@@ -1,7 +1,6 @@
 -- The values of a list, read one after another.
 use Rattle.std.proofs.Common.{◌≡◌, ◌<◌, ◌≤◌, ◌+◌, ℕ, List, [], ◌∷◌, ◌++◌, map, Option, Some, None, option_map, drop, length, get_or, refl}
-use Rattle.std.proofs.Common.{append_assoc, ap, Bor}
-use Rattle.std.proofs.lemmas.List.{append-nil, drop_all, drop_more}
+use Rattle.std.proofs.{Common.append_assoc, Common.ap, Common.Bor, lemmas.List.append-nil, lemmas.List.drop_all, lemmas.List.drop_more}
 use Rattle.kcr_forms.specs.Lines.{each_of}
 
 -- the bytes of each text

@@ -3,33 +3,23 @@ use Rattle.std.proofs.Common.{arith, ◌≡◌, ℕ, Bool, true, false, List, []
 use Rattle.std.specs.Bool.{⊤}
 use Rattle.std.specs.Str.{IsUtf8}
 use Rattle.std.proofs.lemmas.List.Elements.{All-weaker}
-use Rattle.kcr_base.specs.Initials.{IsInitials}
-use Rattle.kcr_base.specs.Lists.{IsListed, is_among, are_apart}
-use Rattle.kcr_base.specs.Number.{IsNumber}
-use Rattle.kcr_base.specs.Place.{IsPlace}
-use Rattle.kcr_base.specs.Refusal.{member_text}
-use Rattle.kcr_base.specs.Serial.{IsSerial}
-use Rattle.kcr_base.specs.declared.limits.TheConstants.{MAX_CEREMONY, MAX_STEPS}
-use Rattle.kcr_base.specs.declared.refusal.Member.{Member}
+use Rattle.kcr_base.specs.{Initials.IsInitials, Serial.IsSerial, Lists.IsListed, Lists.is_among, Lists.are_apart}
+use Rattle.kcr_base.specs.{Number.IsNumber, Place.IsPlace, Refusal.member_text}
+use Rattle.kcr_base.specs.declared.{limits.TheConstants.MAX_CEREMONY, limits.TheConstants.MAX_STEPS, refusal.Member.Member}
 use Rattle.kcr_history.specs.Texts.{MemberValue, Word, Whole, Truth, Several, listed, members_of}
 use Rattle.kcr_history.specs.declared.commands.Act.{Act}
 use Rattle.kcr_history.specs.declared.commands.Act.TheVariants as act
 use Rattle.kcr_history.specs.declared.commands.Deed.TheVariants as deed
-use Rattle.kcr_forms.specs.Acts.{IsAct}
-use Rattle.kcr_forms.specs.Forms.{script_of}
+use Rattle.kcr_forms.specs.{Acts.IsAct, Forms.script_of, declared.post.PlacePath.TheVariants.Replacement, declared.post.PlacePath.TheVariants.Release}
 use Rattle.kcr_forms.specs.Shapes.{Form, ValueOf, Makes, Shape, row, shape}
 use Rattle.kcr_forms.specs.Shapes as shapes
-use Rattle.kcr_forms.specs.declared.post.Post.{Post}
+use Rattle.kcr_forms.specs.declared.post.{Post.Post, PersonPath.TheVariants.Roles, PersonPath.TheVariants.Withdrawals}
 use Rattle.kcr_forms.specs.declared.post.Post.TheVariants as post
 use Rattle.kcr_forms.specs.declared.post.CollectionPath.TheVariants.{People, Custodians, Boxes, Items, Ceremonies}
-use Rattle.kcr_forms.specs.declared.post.PersonPath.TheVariants.{Roles, Withdrawals}
-use Rattle.kcr_forms.specs.declared.post.PlacePath.TheVariants.{Replacement, Release}
 use Rattle.kcr_forms.specs.declared.post.CeremonyPath.TheVariants.{Opening, Closing, Sheet, Exceptions}
 use Rattle.kcr_forms.specs.declared.post.BagPath.TheVariants.{Seal, Take, Put, Cut}
-use Rattle.kcr_forms.proofs.Cutting.{Lacks}
+use Rattle.kcr_forms.proofs.{Cutting.Lacks, Readers.Value, Readers.no-feed, Formed.codes-feed, Formed.initials-lack, Formed.items-lack}
 use Rattle.kcr_forms.proofs.Formed.{days, moments, roles, facilities, ways, places-read, initials, serials, lines-read, scripts, script-found, destinations}
-use Rattle.kcr_forms.proofs.Formed.{codes-feed, initials-lack, items-lack}
-use Rattle.kcr_forms.proofs.Readers.{Value, no-feed}
 
 -- the path to which an act's command is posted
 abbrev pub post_of : Act → Post

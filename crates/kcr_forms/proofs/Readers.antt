@@ -3,9 +3,7 @@ use Rattle.std.proofs.Common.{◌≡◌, ℕ, ◌≤◌, ◌<◌, true, false, B
 use Rattle.std.proofs.Common.{arith, All, refl, IfSome}
 use Rattle.std.specs.Bool.{⊤}
 use Rattle.std.specs.Str.{IsUtf8}
-use Rattle.std.proofs.lemmas.List.Elements.{All-weaker}
-use Rattle.std.proofs.lemmas.Str.{IsUtf8-from_ascii}
-use Rattle.std.proofs.lemmas.Str.Ascii.{IsAscii-from_all}
+use Rattle.std.proofs.lemmas.{List.Elements.All-weaker, Str.IsUtf8-from_ascii, Str.Ascii.IsAscii-from_all}
 use Rattle.kcr_forms.proofs.Cutting.{Lacks, lacks-by}
 
 -- a reader reads each value again from its text

@@ -1,18 +1,11 @@
 -- Acts whose parts are values of their types.
 use Rattle.std.specs.Prelude.{⊤, ℕ, List, All, IsUtf8}
-use Rattle.kcr_base.specs.Day.{IsDay}
-use Rattle.kcr_base.specs.Initials.{IsInitials}
-use Rattle.kcr_base.specs.Line.{IsLine}
-use Rattle.kcr_base.specs.Lists.{IsListed}
-use Rattle.kcr_base.specs.Moment.{IsMoment}
-use Rattle.kcr_base.specs.Number.{IsNumber}
-use Rattle.kcr_base.specs.Place.{IsPlace}
-use Rattle.kcr_base.specs.Serial.{IsSerial}
+use Rattle.kcr_base.specs.{Day.IsDay, Line.IsLine, Lists.IsListed, Place.IsPlace}
+use Rattle.kcr_base.specs.{Initials.IsInitials, Serial.IsSerial, Moment.IsMoment, Number.IsNumber}
 use Rattle.kcr_base.specs.declared.limits.TheConstants.{MAX_CEREMONY, MAX_REMARK, MAX_STEPS}
 use Rattle.kcr_custody.specs.Destinations.{IsDestination}
-use Rattle.kcr_history.specs.declared.commands.Act.{Act}
+use Rattle.kcr_history.specs.declared.commands.{Act.Act, Deed.Deed}
 use Rattle.kcr_history.specs.declared.commands.Act.TheVariants.{Enter, Train, Withdraw, Appoint, Replace, Release, AddBox, Plan, Ceremony}
-use Rattle.kcr_history.specs.declared.commands.Deed.{Deed}
 use Rattle.kcr_history.specs.declared.commands.Deed.TheVariants.{Open, Close, RecordSheet, Sign, RecordException, AddItem, SetSafe}
 use Rattle.kcr_history.specs.declared.commands.Deed.TheVariants.{Seal, Take, Put, Cut}
 

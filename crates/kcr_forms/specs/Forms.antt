@@ -6,8 +6,7 @@ unfoldable pub use Rattle.kcr_base.specs.Forms.{initials_of, key_of, serial_of, 
 unfoldable pub use Rattle.kcr_base.specs.Forms.{ceremony_of, box_of, step_of, number_of, role_of, facility_of, place_of}
 unfoldable pub use Rattle.kcr_room.specs.Forms.{way_of}
 unfoldable pub use Rattle.kcr_custody.specs.Destinations.{destination_of}
-use Rattle.kcr_custody.specs.declared.SafeNumber.{SafeNumber}
-use Rattle.kcr_custody.specs.declared.SafeNumber.TheVariants.{One, Two}
+use Rattle.kcr_custody.specs.declared.SafeNumber.{SafeNumber, TheVariants.One, TheVariants.Two}
 use Rattle.kcr_history.specs.Texts.{safe_text, truth_text}
 
 -- `true` or `false`

@@ -1,10 +1,7 @@
 -- The lines of a stored text as members.
 use Rattle.std.specs.Prelude.{ℕ, ◌==◌, List, [], ◌∷◌, Option, Some, option_map, option_and_then}
-use Rattle.std.specs.List.{slice_split}
-use Rattle.std.specs.Option.{option_map_or}
-use Rattle.kcr_forms.specs.Forms.{number_of, truth_of}
-use Rattle.kcr_forms.specs.Reading.{Reading}
-use Rattle.kcr_forms.specs.Split.{Reader, split_at_byte}
+use Rattle.std.specs.{List.slice_split, Option.option_map_or}
+use Rattle.kcr_forms.specs.{Forms.number_of, Forms.truth_of, Reading.Reading, Split.Reader, Split.split_at_byte}
 
 -- the values that texts give, if each gives one
 abbrev pub each_of : {V : Type 0} → Reader V → List (List ℕ) → Option (List V)

@@ -1,7 +1,6 @@
 -- Answers that may be out of memory, and one reading after another.
 use Rattle.std.specs.Prelude.{◌≡◌, ◌≢◌, Result, Ok, Err, MatchResult}
-use Rattle.kcr_base.specs.declared.refusal.Refusal.{Refusal}
-use Rattle.kcr_base.specs.declared.refusal.Refusal.TheVariants.{Memory}
+use Rattle.kcr_base.specs.declared.refusal.Refusal.{Refusal, TheVariants.Memory}
 
 -- the answer that is expected, or out of memory
 abbrev pub OrMemory : {T : Type 0} → Result T Refusal → Result T Refusal → Type 0

@@ -1,14 +1,9 @@
 -- The act of a path and its members.
 use Rattle.std.specs.Prelude.{List, [], ◌∷◌, Option, Result, Ok}
-use Rattle.kcr_base.specs.declared.limits.TheConstants.{MAX_CEREMONY}
-use Rattle.kcr_base.specs.declared.refusal.Member.{Member}
-use Rattle.kcr_base.specs.declared.refusal.Refusal.{Refusal}
+use Rattle.kcr_base.specs.declared.{limits.TheConstants.MAX_CEREMONY, refusal.Member.Member, refusal.Refusal.Refusal}
 use Rattle.kcr_history.specs.declared.commands.Act.{Act}
-use Rattle.kcr_forms.specs.Forms.{listed_of}
-use Rattle.kcr_forms.specs.OrMemory.{and_then}
-use Rattle.kcr_forms.specs.Reading.{Reading, formed}
+use Rattle.kcr_forms.specs.{Forms.listed_of, OrMemory.and_then, Reading.Reading, Reading.formed, declared.post.Post.Post}
 use Rattle.kcr_forms.specs.Shapes.{Form, Text, Number, Truth, Codes, ValueOf, Makes, Shape, row, shape}
-use Rattle.kcr_forms.specs.declared.post.Post.{Post}
 
 -- the value of a member that is not the last one
 abbrev pub next : {S : Type 0} → Reading S → Member → (form : Form) → S → Option (ValueOf form)

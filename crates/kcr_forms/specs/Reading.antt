@@ -1,8 +1,7 @@
 -- What a source of members gives.
 use Rattle.std.specs.Prelude.{ℕ, List, Bool, Option, Result}
 use Rattle.std.specs.Option.{ok_or}
-use Rattle.kcr_base.specs.declared.refusal.Member.{Member}
-use Rattle.kcr_base.specs.declared.refusal.Refusal.{Refusal}
+use Rattle.kcr_base.specs.declared.refusal.{Member.Member, Refusal.Refusal}
 use Rattle.kcr_base.specs.declared.refusal.Refusal.TheVariants as refusal
 
 -- a member by its name, for each kind of value, and what is left after it

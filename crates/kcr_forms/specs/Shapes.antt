@@ -1,26 +1,17 @@
 -- The shape of each command: the members behind its path, with the forms of their values.
 use Rattle.std.specs.Prelude.{ℕ, List, [], ◌∷◌, Bool, Option}
-use Rattle.kcr_base.specs.Day.{day_text}
-use Rattle.kcr_base.specs.Facility.{facility_text}
-use Rattle.kcr_base.specs.Forms.{serial_of, line_of}
-use Rattle.kcr_base.specs.Moment.{moment_text}
-use Rattle.kcr_base.specs.Place.{place_text}
-use Rattle.kcr_base.specs.Role.{role_text}
-use Rattle.kcr_base.specs.declared.limits.TheConstants.{MAX_REMARK}
-use Rattle.kcr_base.specs.declared.refusal.Member.{Member}
+use Rattle.kcr_base.specs.{Day.day_text, Role.role_text, Facility.facility_text, Forms.serial_of, Forms.line_of, Moment.moment_text, Place.place_text}
+use Rattle.kcr_base.specs.declared.{limits.TheConstants.MAX_REMARK, refusal.Member.Member}
 use Rattle.kcr_base.specs.declared.refusal.Member.TheVariants as member
 use Rattle.kcr_custody.specs.Destinations.{destination_text}
 use Rattle.kcr_room.specs.Room.{way_text}
-use Rattle.kcr_history.specs.declared.commands.Act.{Act}
+use Rattle.kcr_history.specs.declared.commands.{Act.Act, Deed.Deed}
 use Rattle.kcr_history.specs.declared.commands.Act.TheVariants as act
-use Rattle.kcr_history.specs.declared.commands.Deed.{Deed}
 use Rattle.kcr_history.specs.declared.commands.Deed.TheVariants as deed
-use Rattle.kcr_forms.specs.Forms.{initials_of, day_of, moment_of, place_of, facility_of}
-use Rattle.kcr_forms.specs.Forms.{role_of, way_of, destination_of, script_of}
-use Rattle.kcr_forms.specs.declared.post.Post.{Post}
+use Rattle.kcr_forms.specs.Forms.{initials_of, day_of, moment_of, place_of, facility_of, role_of, way_of, destination_of, script_of}
+use Rattle.kcr_forms.specs.declared.post.{Post.Post, PersonPath.TheVariants.Roles, PersonPath.TheVariants.Withdrawals}
 use Rattle.kcr_forms.specs.declared.post.Post.TheVariants as post
 use Rattle.kcr_forms.specs.declared.post.CollectionPath.TheVariants.{People, Custodians, Boxes, Items, Ceremonies}
-use Rattle.kcr_forms.specs.declared.post.PersonPath.TheVariants.{Roles, Withdrawals}
 use Rattle.kcr_forms.specs.declared.post.PlacePath.TheVariants.{Replacement, Release}
 use Rattle.kcr_forms.specs.declared.post.CeremonyPath.TheVariants.{Opening, Closing, Sheet, Exceptions}
 use Rattle.kcr_forms.specs.declared.post.BagPath.TheVariants.{Seal, Take, Put, Cut}

@@ -1,8 +1,6 @@
 //! The act that a path and its members are.
 ghost use Rattle.std.specs.Prelude.{◌∷◌, []};
-ghost use Rattle.kcr_forms.specs.OrMemory.{OrMemory};
-ghost use Rattle.kcr_forms.specs.Posts.{posted_act, act_by};
-ghost use Rattle.kcr_forms.specs.Shapes.{at, done};
+ghost use Rattle.kcr_forms.specs.{OrMemory.OrMemory, Shapes.at, Shapes.done, Posts.posted_act, Posts.act_by};
 ghost use Rattle.kcr_forms.specs.declared.post.CollectionPath.TheVariants.{Custodians, Boxes, Ceremonies};
 ghost use Rattle.kcr_forms.specs.declared.post.Post.TheVariants as Posts;
 

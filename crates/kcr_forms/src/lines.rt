@@ -2,10 +2,7 @@
 #![tactic(auto, using(kcr_base::proofs::ValueLemmas::value_readings))]
 
 ghost use Rattle.std.specs.Prelude.{◌≡◌};
-ghost use Rattle.kcr_forms.specs.Forms.{number_of, truth_of};
-ghost use Rattle.kcr_forms.specs.Lines.{lines};
-ghost use Rattle.kcr_forms.specs.OrMemory.{OrMemory};
-ghost use Rattle.kcr_forms.specs.Posts.{posted_act};
+ghost use Rattle.kcr_forms.specs.{Forms.number_of, Forms.truth_of, Lines.lines, Posts.posted_act, OrMemory.OrMemory};
 
 use crate::act::act_at;
 use crate::lists::read_list;

@@ -1,8 +1,6 @@
 //! Where the members of a command come from: the body of a request, or the lines of a stored text.
 ghost use Rattle.std.specs.Prelude.{◌≡◌, OnOk};
-ghost use Rattle.kcr_forms.specs.Forms.{listed_of};
-ghost use Rattle.kcr_forms.specs.OrMemory.{OrMemory};
-ghost use Rattle.kcr_forms.specs.Reading.{Reading, formed};
+ghost use Rattle.kcr_forms.specs.{Forms.listed_of, OrMemory.OrMemory, Reading.Reading, Reading.formed};
 
 use kcr_base::lists::{DistinctList, ListElement};
 use kcr_base::number::{Number, Numbered};

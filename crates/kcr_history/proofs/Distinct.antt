@@ -1,8 +1,7 @@
 -- No training is entered twice.
 use Rattle.kcr_history.proofs.Common.{◌≡◌, [], ◌∷◌, None, ◌∙◌, arith, false, cons_option, Apart, Training, same_training, Act, Train, History}
 use Rattle.kcr_history.proofs.Common.{has_command, is_training, trainings, training_row, fault, IsRegister}
-use Rattle.kcr_history.proofs.Steps.{took}
-use Rattle.kcr_history.proofs.Words.{is_training-trainings}
+use Rattle.kcr_history.proofs.{Steps.took, Words.is_training-trainings}
 
 apart_after : (A : History) (act : Act) → fault A act ≡ None → Apart same_training (trainings A)
     → Apart same_training (cons_option (training_row act) (trainings A))

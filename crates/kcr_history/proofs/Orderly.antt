@@ -4,9 +4,8 @@ use Rattle.kcr_history.proofs.Common.{◌≡◌, ℕ, ◌<◌, true, false, ◌&
 use Rattle.kcr_history.proofs.Common.{unwrap_or, list_all, true≢false, leb-true, leb-false, and_parts, option_or, same_place, Place, find-none}
 use Rattle.kcr_history.proofs.Common.{place-same, Appointment, lasts, open_row_by, begins_too_late, place_held_from_by, holder_by, holds, Act}
 use Rattle.kcr_history.proofs.Common.{Appoint, Replace, Release, History, last_value_of_acts, holder, holder_effect, appointments, appointments_after}
-use Rattle.kcr_history.proofs.Common.{ended, fault, IsRegister}
+use Rattle.kcr_history.proofs.{Common.ended, Common.fault, Common.IsRegister, Steps.took}
 use Rattle.kcr_history.proofs.Stacked.{stacked, in_turn, closing, stacked-ended, in_turn-ended, free-ended, lasts-ended, find-ended, free-none}
-use Rattle.kcr_history.proofs.Steps.{took}
 
 -- a place that is not vacant has an open row, which began before the day
 pub standing : (o : Option Appointment) (day : ℕ) → begins_too_late o day ≡ false → is_none o ≡ false → (r : Appointment) × (o ≡ Some r) × (r.since < day)

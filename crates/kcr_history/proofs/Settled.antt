@@ -4,8 +4,7 @@ use Rattle.kcr_history.proofs.Common.{◌∙◌, arith, list_any, list_all, filt
 use Rattle.kcr_history.proofs.Common.{or_right, eq-eqb, Shuffled, nothing, under, flipped, after, shuffled, all-more, Act, Ceremony, History}
 use Rattle.kcr_history.proofs.Common.{values_of_acts, greatest, max_with, marked_moment, mark, opened_number, settled, marks, mark_row}
 use Rattle.kcr_base.specs.Days.{day_of}
-use Rattle.kcr_history.specs.declared.commands.Deed.TheVariants.{Open}
-use Rattle.kcr_history.specs.declared.row_types.MarkRow.{MarkRow}
+use Rattle.kcr_history.specs.declared.{commands.Deed.TheVariants.Open, row_types.MarkRow.MarkRow}
 
 -- THE GREATEST OF A LIST IN ANY ORDER
 

@@ -2,9 +2,8 @@
 use Rattle.kcr_history.proofs.Common.{◌≡◌, ℕ, ◌<◌, ◌≤◌, Bool, true, false, cond, not, ◌&&◌, nat_le, eqb, List, [], ◌∷◌, map, Option, Some, None}
 use Rattle.kcr_history.proofs.Common.{is_none, refl, sym, ap, ◌∙◌, arith, subst, inl, inr, list_any, list_all, AllByRecursion, both_ways, eq-eqb}
 use Rattle.kcr_history.proofs.Common.{not-true, and_left, and_parts, and_from, or_left, or_right, false_from_ne_true, or_parts, nat_tests, same_place}
-use Rattle.kcr_history.proofs.Common.{same_text, Place, Appointment, put, any-map, find-cases, place-same, place-itself, lasts, lasts_beyond}
+use Rattle.kcr_history.proofs.Common.{same_text, Place, Appointment, put, any-map, find-cases, place-same, place-itself, lasts, lasts_beyond, end_at}
 use Rattle.kcr_history.proofs.Common.{ends_after, place_held_from_by, person_holds_from_by, open_row_by, is_open_ended, holds, holder_by, ended}
-use Rattle.kcr_history.proofs.Common.{end_at}
 use Rattle.kcr_history.specs.Changes.{same_appointment}
 
 -- LISTS OF WHICH NO ROW PASSES A TEST

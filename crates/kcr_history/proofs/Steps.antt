@@ -3,14 +3,10 @@ use Rattle.kcr_history.proofs.Common.{◌≡◌, ℕ, ◌+◌, List, [], ◌∷�
 use Rattle.kcr_history.proofs.Common.{History, entry_of, mark, fault, is_full, by_history, status, no_ceremony_refusal, not_open_refusal, keys}
 use Rattle.kcr_history.proofs.Common.{greatest_number, Accepts, SeatRequest, seat_request, reply_to, with_command, DecidesNew, DecidesRepeat, seats}
 use Rattle.kcr_history.proofs.Common.{IsAcceptedWith, machine, IsOfMachine, IsReplyTo, CanFollow, IsRegister}
-use Rattle.kcr_base.specs.Refuse.{when, before_mark_refusal, not_after_mark_refusal}
-use Rattle.kcr_base.specs.declared.refusal.Refusal.TheVariants.{Full}
+use Rattle.kcr_base.specs.{Refuse.when, Refuse.before_mark_refusal, Refuse.not_after_mark_refusal, declared.refusal.Refusal.TheVariants.Full}
 use Rattle.kcr_base.proofs.RefuseLemmas.{NoneHolds, none_holds}
-use Rattle.kcr_custody.specs.Custody.{not_ready_refusal}
-use Rattle.kcr_custody.specs.declared.CeremonyStatus.{CeremonyStatus}
-use Rattle.kcr_history.specs.declared.commands.ReplyData.{ReplyData}
-use Rattle.kcr_history.specs.declared.commands.Command.{Command}
-use Rattle.kcr_history.specs.declared.commands.Entry.{Entry}
+use Rattle.kcr_custody.specs.{Custody.not_ready_refusal, declared.CeremonyStatus.CeremonyStatus}
+use Rattle.kcr_history.specs.declared.commands.{ReplyData.ReplyData, Command.Command, Entry.Entry}
 
 -- CONDITIONS OF A HISTORY that several kinds of acts have
 

@@ -6,13 +6,10 @@ use Rattle.kcr_history.proofs.Common.{same_training, ends_from, withdrawal_of, w
 use Rattle.kcr_history.proofs.Common.{last_value_of_acts, trained, training_effect, is_training, trainings, training_row, withdrawals}
 use Rattle.kcr_history.proofs.Common.{withdrawals_after, fault, IsRegister}
 use Rattle.kcr_base.specs.declared.place.Role.{Role}
-use Rattle.kcr_people.specs.declared.Withdrawal.{Withdrawal}
-use Rattle.kcr_people.specs.Laws.{same_withdrawn}
+use Rattle.kcr_people.specs.{declared.Withdrawal.Withdrawal, Laws.same_withdrawn}
 use Rattle.kcr_custody.proofs.Puts.{all_put_all}
 use Rattle.kcr_people.proofs.Withdrawn.{trained-after, is_of-true, is_of-own}
-use Rattle.kcr_history.proofs.Stacked.{none-weaker}
-use Rattle.kcr_history.proofs.Steps.{took}
-use Rattle.kcr_history.proofs.Words.{is_training-trainings}
+use Rattle.kcr_history.proofs.{Stacked.none-weaker, Steps.took, Words.is_training-trainings}
 
 -- EACH WITHDRAWAL IS OF A TRAINING THAT IS THERE
 

@@ -1,21 +1,15 @@
 -- Which rows each kind of command asks for.
 use Rattle.std.specs.Prelude.{ℕ, true, false, List, [], ◌∷◌, Option, Some, None}
-use Rattle.kcr_base.specs.Days.{day_of}
-use Rattle.kcr_base.specs.declared.place.Place.{Place}
+use Rattle.kcr_base.specs.{Days.day_of, declared.place.Place.Place}
 use Rattle.kcr_room.specs.declared.Way.{Way}
 use Rattle.kcr_room.specs.declared.Way.TheVariants as Ways
-use Rattle.kcr_history.specs.declared.commands.Act.{Act}
-use Rattle.kcr_history.specs.declared.commands.Deed.{Deed}
+use Rattle.kcr_history.specs.declared.{commands.Act.Act, commands.Command.Command, views.Asks.Asks, views.ItemFilter.ItemFilter}
+use Rattle.kcr_history.specs.declared.commands.Deed.{Deed, TheVariants.Take, TheVariants.Put, TheVariants.Cut}
 use Rattle.kcr_history.specs.declared.commands.Act.TheVariants.{Enter, Train, Withdraw, Appoint, Replace, Release, AddBox, Plan, Ceremony}
 use Rattle.kcr_history.specs.declared.commands.Deed.TheVariants.{AddItem, Open, Close, RecordSheet, Sign, RecordException, SetSafe, Seal}
-use Rattle.kcr_history.specs.declared.commands.Deed.TheVariants.{Take, Put, Cut}
-use Rattle.kcr_history.specs.declared.commands.Command.{Command}
 use Rattle.kcr_history.specs.declared.views.AppointmentFilter.TheVariants as Appointments
-use Rattle.kcr_history.specs.declared.views.Asks.{Asks}
 use Rattle.kcr_history.specs.declared.views.ItemFilter.TheVariants as Items
-use Rattle.kcr_history.specs.declared.views.ItemFilter.{ItemFilter}
-use Rattle.kcr_history.specs.declared.views.Selection.{Selection}
-use Rattle.kcr_history.specs.declared.views.Selection.TheVariants.{Nothing, Matching, All}
+use Rattle.kcr_history.specs.declared.views.Selection.{Selection, TheVariants.Nothing, TheVariants.Matching, TheVariants.All}
 use Rattle.kcr_history.specs.declared.views.TrainingFilter.TheVariants as Trainings
 
 -- no rows

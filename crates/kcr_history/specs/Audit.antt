@@ -1,28 +1,16 @@
 -- What an audit may find in rows, whether a register has stored them or not.
-use Rattle.std.specs.Prelude.{◌≡◌, ℕ, suc, ◌<◌, ◌==◌, Bool, true, false, not, ◌&&◌, ◌||◌, nat_lt, List, [], ◌∷◌, find}
-use Rattle.std.specs.Prelude.{Option, Some, None, IsTrue}
+use Rattle.std.specs.Prelude.{◌≡◌, ℕ, suc, ◌<◌, ◌==◌, Bool, true, false, not, ◌&&◌, ◌||◌, nat_lt, List, [], ◌∷◌, find, Option, Some, None, IsTrue}
 use Rattle.std.specs.List.{list_any, count_by}
-use Rattle.kcr_base.specs.Days.{day_of}
-use Rattle.kcr_base.specs.Same.{same_text}
-use Rattle.kcr_base.specs.declared.limits.TheConstants.{MAX_PRESENT}
+use Rattle.kcr_base.specs.{Days.day_of, Same.same_text, declared.limits.TheConstants.MAX_PRESENT}
 use Rattle.kcr_room.specs.Room.{in_by, headcount_by}
-use Rattle.kcr_custody.specs.Balance.{holds_items}
-use Rattle.kcr_custody.specs.Custody.{is_box}
-use Rattle.kcr_custody.specs.declared.Rest.{Rest}
-use Rattle.kcr_custody.specs.declared.Rest.TheVariants.{Loose, Within}
-use Rattle.kcr_custody.specs.declared.Spot.{Spot}
-use Rattle.kcr_custody.specs.declared.Spot.TheVariants.{InBox}
+use Rattle.kcr_custody.specs.{Balance.holds_items, Custody.is_box}
+use Rattle.kcr_custody.specs.declared.{Rest.Rest, Rest.TheVariants.Loose, Rest.TheVariants.Within, Spot.Spot, Spot.TheVariants.InBox}
 use Rattle.kcr_script.specs.declared.seat.Seat.{Seat}
-use Rattle.kcr_history.specs.declared.row_types.CeremonyRow.{CeremonyRow}
-use Rattle.kcr_history.specs.declared.row_types.SeatingRow.{SeatingRow}
-use Rattle.kcr_history.specs.declared.row_types.StepRow.{StepRow}
-use Rattle.kcr_history.specs.declared.row_types.StepState.{StepState}
-use Rattle.kcr_history.specs.declared.row_types.StepState.TheVariants.{Undone}
-use Rattle.kcr_history.specs.declared.views.Finding.{Finding}
+use Rattle.kcr_history.specs.declared.row_types.{CeremonyRow.CeremonyRow, SeatingRow.SeatingRow, StepRow.StepRow}
+use Rattle.kcr_history.specs.declared.row_types.StepState.{StepState, TheVariants.Undone}
+use Rattle.kcr_history.specs.declared.views.{Finding.Finding, FullView.FullView}
 use Rattle.kcr_history.specs.declared.views.Finding.TheVariants as Findings
-use Rattle.kcr_history.specs.declared.views.FullView.{FullView}
-use Rattle.kcr_history.specs.Prints.{seatings_at, seated_at, seats_filled}
-use Rattle.kcr_history.specs.Fitting.{fits_by}
+use Rattle.kcr_history.specs.{Prints.seatings_at, Prints.seated_at, Prints.seats_filled, Fitting.fits_by}
 
 -- SEATINGS, BY THE ROWS
 

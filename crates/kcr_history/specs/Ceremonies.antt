@@ -1,15 +1,10 @@
 -- What the history says of ceremonies: their plans, steps, states and marks.
 use Rattle.std.specs.Prelude.{ℕ, zero, suc, ◌==◌, Bool, true, false, ◌&&◌, nat_le, List, [], map, filter}
 use Rattle.std.specs.Prelude.{slice_get, Option, Some, None, option_map, is_some, is_none, unwrap_or, if◌then◌else◌}
-use Rattle.std.specs.List.{filter_map}
-use Rattle.std.specs.Result.{result_unwrap_or}
-use Rattle.kcr_base.specs.Days.{day_of}
-use Rattle.kcr_base.specs.declared.place.Facility.{Facility}
-use Rattle.kcr_base.specs.declared.place.Facility.TheVariants.{East}
-use Rattle.kcr_script.specs.declared.script.Step.{Step}
-use Rattle.kcr_script.specs.Reading.{script_of}
-use Rattle.kcr_history.specs.declared.commands.Act.{Act}
-use Rattle.kcr_history.specs.declared.commands.Act.TheVariants.{Plan, Ceremony}
+use Rattle.std.specs.{List.filter_map, Result.result_unwrap_or}
+use Rattle.kcr_base.specs.{Days.day_of, declared.place.Facility.Facility, declared.place.Facility.TheVariants.East}
+use Rattle.kcr_script.specs.{declared.script.Step.Step, Reading.script_of}
+use Rattle.kcr_history.specs.declared.commands.Act.{Act, TheVariants.Plan, TheVariants.Ceremony}
 use Rattle.kcr_history.specs.declared.commands.Deed.TheVariants.{Open, Close, RecordSheet, Sign, RecordException}
 use Rattle.kcr_history.specs.History.{History, command_count, values_of_acts, last_value_of_acts, greatest}
 

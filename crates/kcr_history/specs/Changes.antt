@@ -1,27 +1,14 @@
 -- What a change makes of the tables: one whole row is put under its key.
 use Rattle.std.specs.Prelude.{◌==◌, Bool, ◌&&◌, List, [], ◌∷◌}
-use Rattle.kcr_base.specs.Rows.{put}
-use Rattle.kcr_base.specs.Same.{same_text, same_place, same_facility}
-use Rattle.kcr_people.specs.declared.Person.{Person}
-use Rattle.kcr_people.specs.declared.Appointment.{Appointment}
-use Rattle.kcr_people.specs.People.{same_training}
-use Rattle.kcr_people.specs.Laws.{same_withdrawn}
-use Rattle.kcr_custody.specs.declared.SafeRow.{SafeRow}
-use Rattle.kcr_custody.specs.Custody.{same_safe}
-use Rattle.kcr_custody.specs.Balance.{same_box, same_bag, same_item}
-use Rattle.kcr_room.specs.declared.SheetRow.{SheetRow}
-use Rattle.kcr_room.specs.declared.Stay.{Stay}
-use Rattle.kcr_history.specs.declared.row_types.CeremonyRow.{CeremonyRow}
-use Rattle.kcr_history.specs.declared.row_types.MarkRow.{MarkRow}
-use Rattle.kcr_history.specs.declared.row_types.StepRow.{StepRow}
-use Rattle.kcr_history.specs.declared.row_types.SeatingRow.{SeatingRow}
-use Rattle.kcr_history.specs.declared.row_types.ExceptionRow.{ExceptionRow}
-use Rattle.kcr_history.specs.declared.row_types.KeyRow.{KeyRow}
-use Rattle.kcr_history.specs.declared.views.Change.{Change}
+use Rattle.kcr_base.specs.{Rows.put, Same.same_text, Same.same_place, Same.same_facility}
+use Rattle.kcr_people.specs.{declared.Person.Person, declared.Appointment.Appointment, People.same_training, Laws.same_withdrawn}
+use Rattle.kcr_custody.specs.{declared.SafeRow.SafeRow, Custody.same_safe, Balance.same_box, Balance.same_bag, Balance.same_item}
+use Rattle.kcr_room.specs.declared.{SheetRow.SheetRow, Stay.Stay}
+use Rattle.kcr_history.specs.declared.{row_types.CeremonyRow.CeremonyRow, row_types.ExceptionRow.ExceptionRow, views.Change.Change}
+use Rattle.kcr_history.specs.declared.row_types.{MarkRow.MarkRow, KeyRow.KeyRow, StepRow.StepRow, SeatingRow.SeatingRow}
 use Rattle.kcr_history.specs.declared.views.Change.TheVariants.{PutPerson, PutTraining, PutWithdrawal, PutAppointment}
 use Rattle.kcr_history.specs.declared.views.Change.TheVariants.{PutBox, PutSafe, PutBag, PutItem, PutCeremony, PutMark}
-use Rattle.kcr_history.specs.declared.views.Change.TheVariants.{PutStep, PutSeating, PutSheet, PutStay, PutException}
-use Rattle.kcr_history.specs.declared.views.Change.TheVariants.{PutKey}
+use Rattle.kcr_history.specs.declared.views.Change.TheVariants.{PutStep, PutSeating, PutSheet, PutStay, PutException, PutKey}
 use Rattle.kcr_history.specs.Tables.{Tables}
 
 -- ROWS OF ONE KEY: a new row, and one that was there

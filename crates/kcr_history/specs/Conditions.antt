@@ -1,51 +1,33 @@
 -- When a command is refused: the conditions of each kind in the order of the refusals' numbers, said once over what they
 -- ask of the register. A history answers that (`by_history`), and so do the rows of a view (`by_rows` of kcr_rules).
-use Rattle.std.specs.Prelude.{ℕ, ◌==◌, Bool, true, false, not, ◌&&◌, ◌||◌, nat_lt, nat_le, List, [], ◌∷◌, ◌++◌, length}
+use Rattle.std.specs.Prelude.{ℕ, ◌==◌, Bool, true, false, not, ◌&&◌, ◌||◌, nat_lt, nat_le, List, [], ◌∷◌, ◌++◌, length, Err, if◌then◌else◌}
 use Rattle.std.specs.Prelude.{find, Option, Some, None, option_map, option_and_then, is_some, is_none, unwrap_or, Result, Ok}
-use Rattle.std.specs.Prelude.{Err, if◌then◌else◌}
 use Rattle.std.specs.List.{list_any}
-use Rattle.kcr_base.specs.Days.{day_of}
-use Rattle.kcr_base.specs.Refuse.{when, first_of, unknown_people_refusal, unknown_ceremony_refusal, before_mark_refusal}
-use Rattle.kcr_base.specs.Refuse.{not_after_mark_refusal}
-use Rattle.kcr_base.specs.Same.{same_facility, same_text}
+use Rattle.kcr_base.specs.{Days.day_of, Same.same_facility, Same.same_text}
+use Rattle.kcr_base.specs.Refuse.{when, first_of, unknown_people_refusal, unknown_ceremony_refusal, before_mark_refusal, not_after_mark_refusal}
 use Rattle.kcr_base.specs.declared.limits.TheConstants.{MAX_COMMANDS, MAX_ENTRIES, MAX_EXCEPTIONS}
-use Rattle.kcr_base.specs.declared.place.Facility.{Facility}
-use Rattle.kcr_base.specs.declared.place.Place.{Place}
-use Rattle.kcr_base.specs.declared.place.Role.{Role}
-use Rattle.kcr_base.specs.declared.place.Role.TheVariants.{Ca, Ssc1, Ssc2}
+use Rattle.kcr_base.specs.declared.{place.Facility.Facility, place.Place.Place, refusal.Refusal.Refusal}
+use Rattle.kcr_base.specs.declared.place.Role.{Role, TheVariants.Ca, TheVariants.Ssc1, TheVariants.Ssc2}
 use Rattle.kcr_base.specs.declared.refusal.Part.TheVariants as Parts
-use Rattle.kcr_base.specs.declared.refusal.Refusal.{Refusal}
 use Rattle.kcr_base.specs.declared.refusal.Refusal.TheVariants as Refusals
-use Rattle.kcr_base.specs.declared.refusal.Refusal.TheVariants.{Unknown, Taken, Range, Script, Busy, Order, Crowd}
-use Rattle.kcr_base.specs.declared.refusal.Refusal.TheVariants.{Full, Unfinished}
+use Rattle.kcr_base.specs.declared.refusal.Refusal.TheVariants.{Unknown, Taken, Range, Script, Busy, Order, Crowd, Full, Unfinished}
 use Rattle.kcr_base.specs.declared.refusal.Thing.TheVariants as Things
-use Rattle.kcr_people.specs.declared.Appointment.{Appointment}
-use Rattle.kcr_people.specs.declared.Training.{Training}
+use Rattle.kcr_people.specs.declared.{Appointment.Appointment, Training.Training}
 use Rattle.kcr_people.specs.People.{trained_from_by, enter_conditions, train_conditions, withdraw_conditions}
 use Rattle.kcr_people.specs.People.{appoint_conditions, replace_conditions, release_conditions}
-use Rattle.kcr_custody.specs.declared.CeremonyStatus.{CeremonyStatus}
-use Rattle.kcr_custody.specs.declared.Rest.{Rest}
-use Rattle.kcr_custody.specs.declared.SafeOperator.{SafeOperator}
-use Rattle.kcr_custody.specs.declared.SafeNumber.{SafeNumber}
-use Rattle.kcr_custody.specs.declared.SafeNumber.TheVariants.{One, Two}
-use Rattle.kcr_custody.specs.declared.Spot.{Spot}
+use Rattle.kcr_custody.specs.declared.{CeremonyStatus.CeremonyStatus, Rest.Rest, Spot.Spot, SafeOperator.SafeOperator}
+use Rattle.kcr_custody.specs.declared.SafeNumber.{SafeNumber, TheVariants.One, TheVariants.Two}
 use Rattle.kcr_custody.specs.Custody.{is_on_table, box_of, box_of_destination, add_box_conditions, add_item_early, safe_early}
-use Rattle.kcr_custody.specs.Custody.{seal_early, take_early, put_early, cut_early, no_ca_refusal, no_operator_refusal}
-use Rattle.kcr_custody.specs.Custody.{keepers_conditions}
-use Rattle.kcr_room.specs.declared.SheetRow.{SheetRow}
-use Rattle.kcr_room.specs.declared.Way.{Way}
+use Rattle.kcr_custody.specs.Custody.{seal_early, take_early, put_early, cut_early, no_ca_refusal, no_operator_refusal, keepers_conditions}
+use Rattle.kcr_room.specs.{declared.SheetRow.SheetRow, declared.Way.Way, Room.in_row_count_by}
 use Rattle.kcr_room.specs.declared.Way.TheVariants as Ways
 use Rattle.kcr_room.specs.Requests.{is_out_of_turn_by, turn_refusal, lone_refusal}
-use Rattle.kcr_room.specs.Room.{in_row_count_by}
 use Rattle.kcr_room.specs.Stays.{stays_by, is_crowded_in_by, first_lone_in_by}
-use Rattle.kcr_script.specs.declared.script.Step.{Step}
-use Rattle.kcr_script.specs.Reading.{script_of}
-use Rattle.kcr_history.specs.declared.commands.Act.{Act}
-use Rattle.kcr_history.specs.declared.commands.Deed.{Deed}
+use Rattle.kcr_script.specs.{declared.script.Step.Step, Reading.script_of}
+use Rattle.kcr_history.specs.{declared.commands.Act.Act, History.History, History.has_command, History.values_of_acts}
+use Rattle.kcr_history.specs.declared.commands.Deed.{Deed, TheVariants.Take, TheVariants.Put, TheVariants.Cut}
 use Rattle.kcr_history.specs.declared.commands.Act.TheVariants.{Enter, Train, Withdraw, Appoint, Replace, Release, AddBox, Plan, Ceremony}
 use Rattle.kcr_history.specs.declared.commands.Deed.TheVariants.{AddItem, Open, Close, RecordSheet, Sign, RecordException, SetSafe, Seal}
-use Rattle.kcr_history.specs.declared.commands.Deed.TheVariants.{Take, Put, Cut}
-use Rattle.kcr_history.specs.History.{History, has_command, values_of_acts}
 use Rattle.kcr_history.specs.Training.{is_person, trained, ever_trained, is_training, was_custodian, holder}
 use Rattle.kcr_history.specs.Ceremonies.{is_ceremony, facility_of, day_planned, steps_of, step_at, opened_at, is_ceremony_open}
 use Rattle.kcr_history.specs.Ceremonies.{mark, settled, steps_done, next_step, exceptions_of}

@@ -1,23 +1,14 @@
 -- What the history says of safes, boxes, bags and items: of each what the last command that bears on it says.
-use Rattle.std.specs.Prelude.{ℕ, ◌==◌, Bool, true, false, ◌&&◌, List, Option, Some, None, option_map, unwrap_or}
-use Rattle.std.specs.Prelude.{if◌then◌else◌}
+use Rattle.std.specs.Prelude.{ℕ, ◌==◌, Bool, true, false, ◌&&◌, List, Option, Some, None, option_map, unwrap_or, if◌then◌else◌}
 use Rattle.std.specs.List.{list_any}
-use Rattle.kcr_base.specs.Rows.{option_or}
-use Rattle.kcr_base.specs.Same.{same_text, same_place, same_facility}
-use Rattle.kcr_base.specs.declared.place.Facility.{Facility}
-use Rattle.kcr_base.specs.declared.place.Facility.TheVariants.{East}
-use Rattle.kcr_base.specs.declared.place.Place.{Place}
-use Rattle.kcr_custody.specs.declared.SafeNumber.{SafeNumber}
-use Rattle.kcr_custody.specs.declared.Spot.{Spot}
-use Rattle.kcr_custody.specs.declared.Spot.TheVariants.{Table, Spent}
-use Rattle.kcr_custody.specs.declared.Rest.{Rest}
-use Rattle.kcr_custody.specs.declared.Rest.TheVariants.{Loose, Within}
+use Rattle.kcr_base.specs.{Rows.option_or, Same.same_text, Same.same_place, Same.same_facility}
+use Rattle.kcr_base.specs.declared.place.{Facility.Facility, Facility.TheVariants.East, Place.Place}
+use Rattle.kcr_custody.specs.declared.{SafeNumber.SafeNumber, Spot.Spot, Spot.TheVariants.Table, Spot.TheVariants.Spent}
+use Rattle.kcr_custody.specs.declared.Rest.{Rest, TheVariants.Loose, TheVariants.Within}
 use Rattle.kcr_custody.specs.Custody.{same_safe, spot_of_destination}
-use Rattle.kcr_history.specs.declared.commands.Act.{Act}
-use Rattle.kcr_history.specs.declared.commands.Act.TheVariants.{AddBox, Ceremony}
+use Rattle.kcr_history.specs.declared.commands.Act.{Act, TheVariants.AddBox, TheVariants.Ceremony}
 use Rattle.kcr_history.specs.declared.commands.Deed.TheVariants.{AddItem, SetSafe, Seal, Take, Put, Cut}
-use Rattle.kcr_history.specs.History.{History, last_value_of_acts, last_value_with_history}
-use Rattle.kcr_history.specs.Ceremonies.{facility_of}
+use Rattle.kcr_history.specs.{History.History, History.last_value_of_acts, History.last_value_with_history, Ceremonies.facility_of}
 
 -- BAGS
 

@@ -1,9 +1,7 @@
 -- The part of what a command asks for that is read first, since it tells whether the command is refused whoever is in
 -- the room.
 use Rattle.std.specs.Prelude.{◌≡◌, None}
-use Rattle.kcr_history.specs.declared.views.Asks.{Asks}
-use Rattle.kcr_history.specs.declared.views.Selection.TheVariants.{Nothing}
-use Rattle.kcr_history.specs.declared.views.View.{View}
+use Rattle.kcr_history.specs.declared.views.{Asks.Asks, View.View, Selection.TheVariants.Nothing}
 
 -- the rows asked for, but for trainings, withdrawals, appointments and stays
 abbrev pub early_asks : Asks → Asks

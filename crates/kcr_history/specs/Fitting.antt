@@ -1,14 +1,9 @@
 -- Who fits a seat, by the rows of trainings, withdrawals and appointments.
-use Rattle.std.specs.Prelude.{ℕ, Bool, List}
-use Rattle.std.specs.List.{list_any}
-use Rattle.kcr_base.specs.Same.{is_this}
-use Rattle.kcr_base.specs.declared.place.Facility.{Facility}
-use Rattle.kcr_base.specs.declared.place.Place.{Place}
+use Rattle.std.specs.{Prelude.ℕ, Prelude.Bool, Prelude.List, List.list_any}
+use Rattle.kcr_base.specs.{Same.is_this, declared.place.Facility.Facility, declared.place.Place.Place}
 use Rattle.kcr_base.specs.declared.place.Place.TheVariants as Places
 use Rattle.kcr_people.specs.People.{trained_by, holder_by}
-use Rattle.kcr_people.specs.declared.Appointment.{Appointment}
-use Rattle.kcr_people.specs.declared.Training.{Training}
-use Rattle.kcr_people.specs.declared.Withdrawal.{Withdrawal}
+use Rattle.kcr_people.specs.declared.{Appointment.Appointment, Training.Training, Withdrawal.Withdrawal}
 use Rattle.kcr_script.specs.declared.seat.Seat.{Seat}
 use Rattle.kcr_script.specs.declared.seat.Seat.TheVariants.{Staff, AnyCo, AnyRksh, Co, Rksh}
 use Rattle.kcr_history.specs.Seating.{one_to_seven}

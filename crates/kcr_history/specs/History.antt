@@ -1,12 +1,9 @@
 -- The register as its history: the accepted commands, the last one first. `entry ∷ A` is A with the entry accepted
 -- after it.
-use Rattle.std.specs.Prelude.{ℕ, Bool, nat_le, List, [], ◌∷◌, length, filter, Option, Some, None, find, max}
-use Rattle.std.specs.Prelude.{if◌then◌else◌}
+use Rattle.std.specs.Prelude.{ℕ, Bool, nat_le, List, [], ◌∷◌, length, filter, Option, Some, None, find, max, if◌then◌else◌}
 use Rattle.std.specs.List.{list_any, filter_map}
-use Rattle.kcr_base.specs.Rows.{option_or}
-use Rattle.kcr_base.specs.Same.{same_text}
-use Rattle.kcr_history.specs.declared.commands.Act.{Act}
-use Rattle.kcr_history.specs.declared.commands.Entry.{Entry}
+use Rattle.kcr_base.specs.{Rows.option_or, Same.same_text}
+use Rattle.kcr_history.specs.declared.commands.{Act.Act, Entry.Entry}
 
 abbrev pub History : Type 0
 History = List Entry

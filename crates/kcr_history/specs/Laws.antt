@@ -2,24 +2,13 @@
 use Rattle.std.specs.Prelude.{ℕ, Bool, true, false, ◌&&◌, List, [], ◌∷◌, map, Option, Some, None, is_some, ◌↔◌, IsTrue}
 use Rattle.std.specs.List.{list_any, list_all}
 use Rattle.kcr_base.specs.Same.{same_text}
-use Rattle.kcr_custody.specs.Balance.{all_differ, holds_items}
-use Rattle.kcr_custody.specs.Custody.{is_on_table, is_loose_at}
-use Rattle.kcr_custody.specs.declared.Rest.{Rest}
-use Rattle.kcr_custody.specs.declared.Rest.TheVariants.{Loose, Within}
-use Rattle.kcr_custody.specs.declared.Spot.{Spot}
-use Rattle.kcr_custody.specs.declared.Spot.TheVariants.{InBox}
-use Rattle.kcr_room.specs.Laws.{IsAllowed}
-use Rattle.kcr_room.specs.Room.{headcount_by}
-use Rattle.kcr_history.specs.declared.commands.Act.{Act}
-use Rattle.kcr_history.specs.declared.commands.Act.TheVariants.{Ceremony}
-use Rattle.kcr_history.specs.declared.commands.Deed.TheVariants.{Seal, Cut}
-use Rattle.kcr_history.specs.History.{History, values_of_acts}
-use Rattle.kcr_history.specs.Ceremonies.{facility_of}
-use Rattle.kcr_history.specs.Room.{sheet}
-use Rattle.kcr_history.specs.Custody.{spot, rest, place_of_box}
-use Rattle.kcr_history.specs.Seating.{is_seating, IsFirst}
-use Rattle.kcr_history.specs.Tables.{sealed_serial, added_item}
-use Rattle.kcr_history.specs.Machine.{SeatRequest, seat_request}
+use Rattle.kcr_custody.specs.{Balance.all_differ, Balance.holds_items, Custody.is_on_table, Custody.is_loose_at}
+use Rattle.kcr_custody.specs.declared.{Rest.Rest, Rest.TheVariants.Loose, Rest.TheVariants.Within, Spot.Spot, Spot.TheVariants.InBox}
+use Rattle.kcr_room.specs.{Laws.IsAllowed, Room.headcount_by}
+use Rattle.kcr_history.specs.declared.commands.{Act.Act, Act.TheVariants.Ceremony, Deed.TheVariants.Seal, Deed.TheVariants.Cut}
+use Rattle.kcr_history.specs.{History.History, History.values_of_acts, Tables.sealed_serial, Tables.added_item}
+use Rattle.kcr_history.specs.{Ceremonies.facility_of, Room.sheet, Seating.is_seating, Seating.IsFirst}
+use Rattle.kcr_history.specs.{Custody.spot, Custody.rest, Custody.place_of_box, Machine.SeatRequest, Machine.seat_request}
 
 -- ONCE
 

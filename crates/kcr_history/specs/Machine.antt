@@ -2,24 +2,14 @@
 use Rattle.std.specs.Prelude.{◌≡◌, ◌≢◌, ℕ, suc, ◌+◌, true, false, List, [], ◌∷◌, map, length, Option, Some, None}
 use Rattle.std.specs.Prelude.{MatchOption, MatchResult, Result, ◌⊎◌, if◌then◌else◌, IsTrue}
 use Rattle.kcr_base.specs.declared.place.Role.TheVariants.{Ca, Iw}
-use Rattle.kcr_base.specs.declared.refusal.Refusal.{Refusal}
-use Rattle.kcr_base.specs.declared.refusal.Refusal.TheVariants.{Key, Short, Memory}
-use Rattle.kcr_script.specs.declared.seat.Seat.{Seat}
-use Rattle.kcr_script.specs.declared.seat.Seat.TheVariants.{Staff}
-use Rattle.kcr_history.specs.declared.commands.Act.{Act}
-use Rattle.kcr_history.specs.declared.commands.Act.TheVariants.{Ceremony}
-use Rattle.kcr_history.specs.declared.commands.Deed.TheVariants.{Sign, RecordException}
-use Rattle.kcr_history.specs.declared.commands.ReplyData.{ReplyData}
-use Rattle.kcr_history.specs.declared.commands.Command.{Command}
-use Rattle.kcr_history.specs.declared.commands.Entry.{Entry}
-use Rattle.kcr_history.specs.declared.views.Verdict.{Verdict}
-use Rattle.kcr_history.specs.History.{History, entry_of}
+use Rattle.kcr_base.specs.declared.refusal.Refusal.{Refusal, TheVariants.Key, TheVariants.Short, TheVariants.Memory}
+use Rattle.kcr_script.specs.declared.seat.Seat.{Seat, TheVariants.Staff}
+use Rattle.kcr_history.specs.declared.commands.{Act.Act, Act.TheVariants.Ceremony, ReplyData.ReplyData, Command.Command, Entry.Entry}
+use Rattle.kcr_history.specs.declared.{commands.Deed.TheVariants.Sign, commands.Deed.TheVariants.RecordException, views.Verdict.Verdict}
+use Rattle.kcr_history.specs.{History.History, History.entry_of, Texts.same_command, Texts.reply_text}
 use Rattle.kcr_history.specs.Ceremonies.{steps_of, next_step, exceptions_of}
 use Rattle.kcr_history.specs.Seating.{is_seating, IsFirst, IsLeast}
-use Rattle.kcr_history.specs.Texts.{same_command, reply_text}
-use Rattle.kcr_history.specs.Tables.{tables, seats_at, SameTables}
-use Rattle.kcr_history.specs.Changes.{all_changed}
-use Rattle.kcr_history.specs.Conditions.{fault}
+use Rattle.kcr_history.specs.{Tables.tables, Tables.seats_at, Tables.SameTables, Changes.all_changed, Conditions.fault}
 
 -- what is answered
 pub data Outcome : Type 0 where

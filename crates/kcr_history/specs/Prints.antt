@@ -1,39 +1,20 @@
 -- The three reports, byte by byte: the annotated script of a ceremony, its attendance, and custody.
 use Rattle.std.specs.Prelude.{ℕ, ◌==◌, Bool, true, false, ◌&&◌, ◌||◌, nat_lt, List, [], ◌∷◌, ◌++◌, map, filter, find}
 use Rattle.std.specs.Prelude.{codes, Option, Some, None, option_map, unwrap_or, if◌then◌else◌}
-use Rattle.std.specs.Fmt.{decimal}
-use Rattle.std.specs.List.{list_any, flat_map, join_with_byte}
-use Rattle.kcr_base.specs.Same.{same_text, is_before}
-use Rattle.kcr_base.specs.Day.{day_text}
-use Rattle.kcr_base.specs.Facility.{facility_text}
-use Rattle.kcr_base.specs.Moment.{moment_text}
+use Rattle.std.specs.{Fmt.decimal, List.list_any, List.flat_map, List.join_with_byte}
+use Rattle.kcr_base.specs.{Same.same_text, Same.is_before, Facility.facility_text, Day.day_text, Moment.moment_text}
 use Rattle.kcr_base.specs.declared.place.Role.TheVariants.{Ca, Iw}
 use Rattle.kcr_people.specs.declared.Person.{Person}
-use Rattle.kcr_custody.specs.Custody.{lies_in}
-use Rattle.kcr_custody.specs.Spots.{spot_text}
-use Rattle.kcr_custody.specs.declared.Bag.{Bag}
-use Rattle.kcr_custody.specs.declared.Item.{Item}
-use Rattle.kcr_custody.specs.declared.Rest.{Rest}
-use Rattle.kcr_custody.specs.declared.Rest.TheVariants.{Loose, Within}
-use Rattle.kcr_custody.specs.declared.SafeRow.{SafeRow}
-use Rattle.kcr_room.specs.Stays.{stays_by, attendance_in_by}
-use Rattle.kcr_room.specs.declared.Stay.{Stay}
-use Rattle.kcr_script.specs.Seat.{seat_text}
-use Rattle.kcr_script.specs.Seats.{written}
-use Rattle.kcr_script.specs.declared.seat.Seat.{Seat}
-use Rattle.kcr_script.specs.declared.seat.Seat.TheVariants.{Staff}
-use Rattle.kcr_history.specs.declared.row_types.CeremonyRow.{CeremonyRow}
-use Rattle.kcr_history.specs.declared.row_types.CeremonyState.{CeremonyState}
+use Rattle.kcr_custody.specs.{Custody.lies_in, Spots.spot_text}
+use Rattle.kcr_custody.specs.declared.{Bag.Bag, Item.Item, SafeRow.SafeRow, Rest.Rest, Rest.TheVariants.Loose, Rest.TheVariants.Within}
+use Rattle.kcr_room.specs.{Stays.stays_by, Stays.attendance_in_by, declared.Stay.Stay}
+use Rattle.kcr_script.specs.{Seat.seat_text, Seats.written, declared.seat.Seat.Seat, declared.seat.Seat.TheVariants.Staff}
+use Rattle.kcr_history.specs.declared.row_types.{CeremonyRow.CeremonyRow, ExceptionRow.ExceptionRow}
+use Rattle.kcr_history.specs.declared.row_types.{CeremonyState.CeremonyState, SeatingRow.SeatingRow, StepRow.StepRow}
 use Rattle.kcr_history.specs.declared.row_types.CeremonyState.TheVariants as States
-use Rattle.kcr_history.specs.declared.row_types.ExceptionRow.{ExceptionRow}
-use Rattle.kcr_history.specs.declared.row_types.SeatingRow.{SeatingRow}
-use Rattle.kcr_history.specs.declared.row_types.StepRow.{StepRow}
-use Rattle.kcr_history.specs.declared.row_types.StepState.{StepState}
-use Rattle.kcr_history.specs.declared.row_types.StepState.TheVariants.{Undone, Signed, Passed}
-use Rattle.kcr_history.specs.History.{History}
-use Rattle.kcr_history.specs.Room.{sheet}
+use Rattle.kcr_history.specs.declared.row_types.StepState.{StepState, TheVariants.Undone, TheVariants.Signed, TheVariants.Passed}
+use Rattle.kcr_history.specs.{History.History, Room.sheet, Texts.safe_text}
 use Rattle.kcr_history.specs.Tables.{people, safes, bags, items, ceremony_row, steps, seatings, exceptions}
-use Rattle.kcr_history.specs.Texts.{safe_text}
 
 -- ORDER
 

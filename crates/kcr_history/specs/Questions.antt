@@ -2,51 +2,25 @@
 use Rattle.std.specs.Prelude.{◌≡◌, ℕ, ◌==◌, Bool, true, false, ◌&&◌, ◌||◌, nat_lt, List, ◌++◌, map, filter, find, All}
 use Rattle.std.specs.Prelude.{AllPairs, IsPermutation, IsTrue, Option, Some, None, option_map}
 use Rattle.std.specs.List.{filter_map}
-use Rattle.kcr_base.specs.Same.{is_before, role_number}
-use Rattle.kcr_base.specs.declared.place.Facility.TheVariants.{East, West}
-use Rattle.kcr_base.specs.declared.place.Place.{Place}
+use Rattle.kcr_base.specs.{Same.is_before, Same.role_number, declared.refusal.Refusal.Refusal, declared.refusal.Refusal.TheVariants.Unknown}
+use Rattle.kcr_base.specs.declared.place.{Facility.TheVariants.East, Facility.TheVariants.West, Place.Place}
 use Rattle.kcr_base.specs.declared.place.Place.TheVariants as Places
-use Rattle.kcr_base.specs.declared.refusal.Refusal.{Refusal}
-use Rattle.kcr_base.specs.declared.refusal.Refusal.TheVariants.{Unknown}
 use Rattle.kcr_base.specs.declared.refusal.Thing.TheVariants as Things
-use Rattle.kcr_people.specs.People.{is_of}
-use Rattle.kcr_people.specs.declared.Person.{Person}
-use Rattle.kcr_people.specs.declared.Training.{Training}
-use Rattle.kcr_people.specs.declared.Withdrawal.{Withdrawal}
+use Rattle.kcr_people.specs.{People.is_of, declared.Person.Person, declared.Training.Training, declared.Withdrawal.Withdrawal}
 use Rattle.kcr_custody.specs.Custody.{lies_in}
-use Rattle.kcr_custody.specs.declared.Bag.{Bag}
-use Rattle.kcr_custody.specs.declared.Item.{Item}
-use Rattle.kcr_custody.specs.declared.Rest.{Rest}
-use Rattle.kcr_custody.specs.declared.Rest.TheVariants.{Loose, Within}
-use Rattle.kcr_room.specs.Stays.{stays_by, attendance_in_by}
-use Rattle.kcr_room.specs.declared.Stay.{Stay}
-use Rattle.kcr_history.specs.History.{History}
-use Rattle.kcr_history.specs.Training.{holder}
-use Rattle.kcr_history.specs.Ceremonies.{is_ceremony}
-use Rattle.kcr_history.specs.Room.{sheet, present}
-use Rattle.kcr_history.specs.Custody.{spot}
-use Rattle.kcr_history.specs.Seating.{one_to_seven}
-use Rattle.kcr_history.specs.Prints.{steps_in_order, exceptions_in_order, seated_at, name_of, bags_in_order}
-use Rattle.kcr_history.specs.Prints.{items_in_order}
+use Rattle.kcr_custody.specs.declared.{Bag.Bag, Item.Item, Rest.Rest, Rest.TheVariants.Loose, Rest.TheVariants.Within}
+use Rattle.kcr_room.specs.{Stays.stays_by, Stays.attendance_in_by, declared.Stay.Stay}
+use Rattle.kcr_history.specs.{History.History, Custody.spot, Room.sheet, Room.present}
+use Rattle.kcr_history.specs.{Training.holder, Seating.one_to_seven, Ceremonies.is_ceremony, Views.is_training_of}
+use Rattle.kcr_history.specs.Prints.{steps_in_order, exceptions_in_order, seated_at, name_of, bags_in_order, items_in_order}
 use Rattle.kcr_history.specs.Tables.{people, trainings, withdrawals, safes, items, ceremony_row, seatings}
-use Rattle.kcr_history.specs.Views.{is_training_of}
-use Rattle.kcr_history.specs.declared.questions.Question.{Question}
+use Rattle.kcr_history.specs.declared.questions.{Question.Question, Shown.Shown, CustodyShown.CustodyShown}
 use Rattle.kcr_history.specs.declared.questions.Question.TheVariants as asked
-use Rattle.kcr_history.specs.declared.questions.Shown.{Shown}
 use Rattle.kcr_history.specs.declared.questions.Shown.TheVariants as shown
-use Rattle.kcr_history.specs.declared.questions.RoleShown.{RoleShown}
-use Rattle.kcr_history.specs.declared.questions.PersonShown.{PersonShown}
-use Rattle.kcr_history.specs.declared.questions.HolderShown.{HolderShown}
-use Rattle.kcr_history.specs.declared.questions.CustodiansShown.{CustodiansShown}
-use Rattle.kcr_history.specs.declared.questions.BagShown.{BagShown}
-use Rattle.kcr_history.specs.declared.questions.RoomShown.{RoomShown}
-use Rattle.kcr_history.specs.declared.questions.StepsShown.{StepsShown}
-use Rattle.kcr_history.specs.declared.questions.CustodyShown.{CustodyShown}
-use Rattle.kcr_history.specs.declared.report_rows.BagWithItems.{BagWithItems}
-use Rattle.kcr_history.specs.declared.report_rows.SeatedStep.{SeatedStep}
-use Rattle.kcr_history.specs.declared.report_rows.StayWithName.{StayWithName}
-use Rattle.kcr_history.specs.declared.row_types.SeatingRow.{SeatingRow}
-use Rattle.kcr_history.specs.declared.row_types.StepRow.{StepRow}
+use Rattle.kcr_history.specs.declared.questions.{RoleShown.RoleShown, BagShown.BagShown, CustodiansShown.CustodiansShown}
+use Rattle.kcr_history.specs.declared.questions.{PersonShown.PersonShown, HolderShown.HolderShown, RoomShown.RoomShown, StepsShown.StepsShown}
+use Rattle.kcr_history.specs.declared.report_rows.{BagWithItems.BagWithItems, SeatedStep.SeatedStep, StayWithName.StayWithName}
+use Rattle.kcr_history.specs.declared.row_types.{SeatingRow.SeatingRow, StepRow.StepRow}
 
 -- PEOPLE
 

@@ -1,12 +1,9 @@
 -- The JSON texts of refusals.
 use Rattle.std.specs.Prelude.{ℕ, Bool, true, false, List, [], ◌∷◌, ◌++◌, map, codes}
 use Rattle.std.specs.Fmt.{decimal}
-use Rattle.kcr_base.specs.Day.{day_text}
-use Rattle.kcr_base.specs.Moment.{moment_text}
+use Rattle.kcr_base.specs.{Day.day_text, Moment.moment_text, declared.refusal.Refusal.Refusal}
 use Rattle.kcr_base.specs.Refusal.{number_of, word_of, member_text, thing_text, absentee_text, part_text}
-use Rattle.kcr_base.specs.declared.refusal.Refusal.{Refusal}
-use Rattle.kcr_base.specs.declared.refusal.Refusal.TheVariants.{Form, Unknown, Settled, Script, Late, Order, Turn, Lone}
-use Rattle.kcr_base.specs.declared.refusal.Refusal.TheVariants.{Absent, Unfinished, Short}
+use Rattle.kcr_base.specs.declared.refusal.Refusal.TheVariants.{Form, Unknown, Settled, Script, Late, Order, Turn, Lone, Absent, Unfinished, Short}
 use Rattle.kcr_history.specs.Json.{quoted, member, object, array}
 
 -- the refusal carries something beside its number and its word

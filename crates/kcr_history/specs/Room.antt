@@ -1,16 +1,10 @@
 -- What the history says of rooms.
 use Rattle.std.specs.Prelude.{ℕ, Bool, List, [], ◌∷◌, ◌++◌, map}
 use Rattle.std.specs.List.{list_any}
-use Rattle.kcr_base.specs.Days.{day_of}
-use Rattle.kcr_base.specs.declared.place.Role.{Role}
-use Rattle.kcr_room.specs.declared.SheetRow.{SheetRow}
-use Rattle.kcr_room.specs.Room.{in_by, present_by}
-use Rattle.kcr_room.specs.Requests.{new_row}
-use Rattle.kcr_history.specs.declared.commands.Act.{Act}
-use Rattle.kcr_history.specs.declared.commands.Act.TheVariants.{Ceremony}
-use Rattle.kcr_history.specs.declared.commands.Deed.TheVariants.{RecordSheet}
-use Rattle.kcr_history.specs.History.{History}
-use Rattle.kcr_history.specs.Training.{trained}
+use Rattle.kcr_base.specs.{Days.day_of, declared.place.Role.Role}
+use Rattle.kcr_room.specs.{declared.SheetRow.SheetRow, Requests.new_row, Room.in_by, Room.present_by}
+use Rattle.kcr_history.specs.declared.commands.{Act.Act, Act.TheVariants.Ceremony, Deed.TheVariants.RecordSheet}
+use Rattle.kcr_history.specs.{History.History, Training.trained}
 
 -- the sheet with the rows that a command adds: one for each of its people
 abbrev pub sheet_after : Act → List SheetRow → List SheetRow

@@ -1,18 +1,12 @@
 -- Who is eligible for a seat, what a seating is, and what a shortage is.
 use Rattle.std.specs.Prelude.{◌≡◌, ◌≢◌, ℕ, suc, ◌==◌, Bool, true, false, not, ◌&&◌, nat_lt, nat_le, List, [], ◌∷◌}
-use Rattle.std.specs.Prelude.{filter, length, Option, Some, None, slice_get, if◌then◌else◌}
-use Rattle.std.specs.Prelude.{IsTrue}
+use Rattle.std.specs.Prelude.{filter, length, Option, Some, None, slice_get, if◌then◌else◌, IsTrue}
 use Rattle.std.specs.List.{list_any, list_all}
-use Rattle.kcr_base.specs.Same.{same_text, is_before}
-use Rattle.kcr_base.specs.Days.{day_of}
-use Rattle.kcr_base.specs.declared.place.Facility.{Facility}
+use Rattle.kcr_base.specs.{Same.same_text, Same.is_before, Days.day_of, declared.place.Facility.Facility}
 use Rattle.kcr_base.specs.declared.place.Place.TheVariants as Places
 use Rattle.kcr_script.specs.declared.seat.Seat.{Seat}
 use Rattle.kcr_script.specs.declared.seat.Seat.TheVariants.{Staff, AnyCo, AnyRksh, Co, Rksh}
-use Rattle.kcr_history.specs.History.{History}
-use Rattle.kcr_history.specs.Training.{trained, is_holder}
-use Rattle.kcr_history.specs.Ceremonies.{facility_of}
-use Rattle.kcr_history.specs.Room.{is_in, present}
+use Rattle.kcr_history.specs.{History.History, Ceremonies.facility_of, Training.trained, Training.is_holder, Room.is_in, Room.present}
 
 -- ELIGIBLE
 

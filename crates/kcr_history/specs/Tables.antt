@@ -1,54 +1,25 @@
 -- The tables of a history: for each table its rows, the one that was put first last.
 use Rattle.std.specs.Prelude.{ℕ, suc, ◌==◌, Bool, true, ◌&&◌, List, [], ◌∷◌, map, reverse, Option, Some, None}
 use Rattle.std.specs.Prelude.{option_map, is_some, unwrap_or, if◌then◌else◌}
-use Rattle.std.specs.List.{filter_map}
-use Rattle.std.specs.List.Sorted.{IsPermutation}
-use Rattle.std.specs.Result.{result_unwrap_or}
-use Rattle.kcr_base.specs.Rows.{put_all}
-use Rattle.kcr_base.specs.Same.{same_place}
-use Rattle.kcr_base.specs.declared.place.Facility.{Facility}
-use Rattle.kcr_base.specs.declared.place.Facility.TheVariants.{East, West}
-use Rattle.kcr_base.specs.declared.place.Place.{Place}
-use Rattle.kcr_people.specs.declared.Person.{Person}
-use Rattle.kcr_people.specs.declared.Training.{Training}
-use Rattle.kcr_people.specs.declared.Withdrawal.{Withdrawal}
-use Rattle.kcr_people.specs.declared.Appointment.{Appointment}
-use Rattle.kcr_people.specs.People.{withdrawn_rows}
-use Rattle.kcr_people.specs.Laws.{same_withdrawn}
-use Rattle.kcr_custody.specs.declared.SafeNumber.{SafeNumber}
-use Rattle.kcr_custody.specs.declared.SafeNumber.TheVariants.{One, Two}
-use Rattle.kcr_custody.specs.declared.SafeRow.{SafeRow}
-use Rattle.kcr_custody.specs.declared.BoxRow.{BoxRow}
-use Rattle.kcr_custody.specs.declared.Spot.TheVariants.{Spent}
-use Rattle.kcr_custody.specs.declared.Rest.TheVariants.{Loose}
-use Rattle.kcr_custody.specs.declared.Bag.{Bag}
-use Rattle.kcr_custody.specs.declared.Item.{Item}
-use Rattle.kcr_room.specs.declared.SheetRow.{SheetRow}
-use Rattle.kcr_room.specs.declared.Stay.{Stay}
-use Rattle.kcr_room.specs.Stays.{stays_by}
-use Rattle.kcr_script.specs.declared.seat.Seat.{Seat}
-use Rattle.kcr_script.specs.declared.script.Step.{Step}
-use Rattle.kcr_script.specs.Reading.{script_of}
-use Rattle.kcr_history.specs.declared.commands.Act.{Act}
+use Rattle.std.specs.{List.filter_map, List.Sorted.IsPermutation, Result.result_unwrap_or}
+use Rattle.kcr_base.specs.{Rows.put_all, Same.same_place}
+use Rattle.kcr_base.specs.declared.place.{Facility.Facility, Facility.TheVariants.East, Facility.TheVariants.West, Place.Place}
+use Rattle.kcr_people.specs.declared.{Person.Person, Training.Training, Withdrawal.Withdrawal, Appointment.Appointment}
+use Rattle.kcr_people.specs.{People.withdrawn_rows, Laws.same_withdrawn}
+use Rattle.kcr_custody.specs.declared.SafeNumber.{SafeNumber, TheVariants.One, TheVariants.Two}
+use Rattle.kcr_custody.specs.declared.{SafeRow.SafeRow, BoxRow.BoxRow, Rest.TheVariants.Loose, Spot.TheVariants.Spent, Bag.Bag, Item.Item}
+use Rattle.kcr_room.specs.{declared.SheetRow.SheetRow, declared.Stay.Stay, Stays.stays_by}
+use Rattle.kcr_script.specs.{declared.seat.Seat.Seat, declared.script.Step.Step, Reading.script_of}
+use Rattle.kcr_history.specs.declared.commands.{Act.Act, Entry.Entry}
 use Rattle.kcr_history.specs.declared.commands.Act.TheVariants.{Enter, Train, Withdraw, Appoint, Replace, Release, AddBox, Plan, Ceremony}
 use Rattle.kcr_history.specs.declared.commands.Deed.TheVariants.{AddItem, Sign, RecordException, Seal}
-use Rattle.kcr_history.specs.declared.commands.Entry.{Entry}
-use Rattle.kcr_history.specs.declared.row_types.CeremonyState.{CeremonyState}
+use Rattle.kcr_history.specs.declared.row_types.{CeremonyState.CeremonyState, MarkRow.MarkRow, KeyRow.KeyRow}
 use Rattle.kcr_history.specs.declared.row_types.CeremonyState.TheVariants as States
-use Rattle.kcr_history.specs.declared.row_types.CeremonyRow.{CeremonyRow}
-use Rattle.kcr_history.specs.declared.row_types.MarkRow.{MarkRow}
-use Rattle.kcr_history.specs.declared.row_types.StepState.{StepState}
-use Rattle.kcr_history.specs.declared.row_types.StepState.TheVariants.{Undone, Signed, Passed}
-use Rattle.kcr_history.specs.declared.row_types.StepRow.{StepRow}
-use Rattle.kcr_history.specs.declared.row_types.SeatingRow.{SeatingRow}
-use Rattle.kcr_history.specs.declared.row_types.ExceptionRow.{ExceptionRow}
-use Rattle.kcr_history.specs.declared.row_types.KeyRow.{KeyRow}
+use Rattle.kcr_history.specs.declared.row_types.{CeremonyRow.CeremonyRow, ExceptionRow.ExceptionRow, StepRow.StepRow, SeatingRow.SeatingRow}
+use Rattle.kcr_history.specs.declared.row_types.StepState.{StepState, TheVariants.Undone, TheVariants.Signed, TheVariants.Passed}
 use Rattle.kcr_history.specs.History.{History, values_of_acts, last_value_of_entries, pushed_onto}
-use Rattle.kcr_history.specs.Ceremonies.{opened_number, facility_of, day_planned, steps_of, step_at, opened_at, closed_at}
-use Rattle.kcr_history.specs.Ceremonies.{mark}
-use Rattle.kcr_history.specs.Room.{sheet}
-use Rattle.kcr_history.specs.Custody.{spot, rest, is_open}
-use Rattle.kcr_history.specs.Texts.{command_text, reply_text}
+use Rattle.kcr_history.specs.Ceremonies.{opened_number, facility_of, day_planned, steps_of, step_at, opened_at, closed_at, mark}
+use Rattle.kcr_history.specs.{Room.sheet, Texts.command_text, Texts.reply_text, Custody.spot, Custody.rest, Custody.is_open}
 
 -- PEOPLE, TRAININGS, BOXES: A ROW FOR EACH COMMAND THAT ENTERS ONE
 

@@ -1,25 +1,16 @@
 -- The texts of commands and of replies to accepted ones.
 use Rattle.std.specs.Prelude.{ℕ, Bool, true, false, List, [], ◌∷◌, ◌++◌, map, codes, Option, Some, None, option_map}
-use Rattle.std.specs.Fmt.{decimal}
-use Rattle.std.specs.List.{join_with_byte, fold}
-use Rattle.kcr_base.specs.Same.{same_text}
-use Rattle.kcr_base.specs.Day.{day_text}
-use Rattle.kcr_base.specs.Facility.{facility_text}
-use Rattle.kcr_base.specs.Moment.{moment_text}
-use Rattle.kcr_base.specs.Place.{place_text}
-use Rattle.kcr_base.specs.Role.{role_text}
-use Rattle.kcr_base.specs.declared.refusal.Member.{Member}
+use Rattle.std.specs.{Fmt.decimal, List.join_with_byte, List.fold}
+use Rattle.kcr_base.specs.{Same.same_text, Day.day_text, declared.refusal.Member.Member}
+use Rattle.kcr_base.specs.{Facility.facility_text, Moment.moment_text, Place.place_text, Role.role_text}
 use Rattle.kcr_base.specs.declared.refusal.Member.TheVariants as Members
-use Rattle.kcr_custody.specs.declared.SafeNumber.{SafeNumber}
-use Rattle.kcr_custody.specs.declared.SafeNumber.TheVariants.{One, Two}
+use Rattle.kcr_custody.specs.declared.SafeNumber.{SafeNumber, TheVariants.One, TheVariants.Two}
 use Rattle.kcr_custody.specs.Destinations.{destination_text}
 use Rattle.kcr_room.specs.Room.{way_text}
-use Rattle.kcr_history.specs.declared.commands.Act.{Act}
-use Rattle.kcr_history.specs.declared.commands.Deed.{Deed}
+use Rattle.kcr_history.specs.declared.commands.{Act.Act, ReplyData.ReplyData}
+use Rattle.kcr_history.specs.declared.commands.Deed.{Deed, TheVariants.Take, TheVariants.Put, TheVariants.Cut}
 use Rattle.kcr_history.specs.declared.commands.Act.TheVariants.{Enter, Train, Withdraw, Appoint, Replace, Release, AddBox, Plan, Ceremony}
 use Rattle.kcr_history.specs.declared.commands.Deed.TheVariants.{AddItem, Open, Close, RecordSheet, Sign, RecordException, SetSafe, Seal}
-use Rattle.kcr_history.specs.declared.commands.Deed.TheVariants.{Take, Put, Cut}
-use Rattle.kcr_history.specs.declared.commands.ReplyData.{ReplyData}
 use Rattle.kcr_history.specs.Json.{quoted, member, object, array}
 
 -- VALUES

@@ -1,12 +1,9 @@
 -- What the history says of people, their training and the holders of places.
-use Rattle.std.specs.Prelude.{ℕ, ◌==◌, Bool, true, false, ◌&&◌, nat_le, List, Option, Some, None, unwrap_or}
-use Rattle.std.specs.Prelude.{if◌then◌else◌}
+use Rattle.std.specs.Prelude.{ℕ, ◌==◌, Bool, true, false, ◌&&◌, nat_le, List, Option, Some, None, unwrap_or, if◌then◌else◌}
 use Rattle.kcr_base.specs.Same.{same_text, is_this, same_role, same_place}
-use Rattle.kcr_base.specs.declared.place.Place.{Place}
-use Rattle.kcr_base.specs.declared.place.Role.{Role}
-use Rattle.kcr_history.specs.declared.commands.Act.{Act}
+use Rattle.kcr_base.specs.declared.place.{Place.Place, Role.Role}
+use Rattle.kcr_history.specs.{declared.commands.Act.Act, History.History, History.has_command, History.last_value_of_acts}
 use Rattle.kcr_history.specs.declared.commands.Act.TheVariants.{Enter, Train, Withdraw, Appoint, Replace, Release}
-use Rattle.kcr_history.specs.History.{History, has_command, last_value_of_acts}
 
 -- PEOPLE
 

@@ -1,41 +1,20 @@
 -- Which rows a command asks for, and when a view holds them.
 use Rattle.std.specs.Prelude.{◌≡◌, ℕ, suc, ◌==◌, ◌&&◌, Bool, true, false, nat_le, List, [], ◌∷◌, map, filter}
 use Rattle.std.specs.Prelude.{find, fold, Option, Some, None, max, unwrap_or, if◌then◌else◌, All as EachOf}
-use Rattle.std.specs.List.{list_any}
-use Rattle.std.specs.List.Sorted.{IsPermutation}
-use Rattle.kcr_base.specs.Same.{same_text, same_place}
-use Rattle.kcr_base.specs.declared.place.Place.{Place}
-use Rattle.kcr_base.specs.Rows.{IsIn}
-use Rattle.kcr_people.specs.declared.Person.{Person}
-use Rattle.kcr_people.specs.declared.Training.{Training}
-use Rattle.kcr_people.specs.declared.Withdrawal.{Withdrawal}
-use Rattle.kcr_people.specs.declared.Appointment.{Appointment}
+use Rattle.std.specs.List.{list_any, Sorted.IsPermutation}
+use Rattle.kcr_base.specs.{Same.same_text, Same.same_place, declared.place.Place.Place, Rows.IsIn}
+use Rattle.kcr_people.specs.declared.{Person.Person, Training.Training, Withdrawal.Withdrawal, Appointment.Appointment}
 use Rattle.kcr_people.specs.People.{lasts_beyond}
-use Rattle.kcr_custody.specs.declared.Bag.{Bag}
-use Rattle.kcr_custody.specs.declared.Item.{Item}
-use Rattle.kcr_custody.specs.Custody.{lies_in}
-use Rattle.kcr_room.specs.declared.Stay.{Stay}
-use Rattle.kcr_room.specs.Stays.{stay_reaches}
-use Rattle.kcr_room.specs.Requests.{stay_count}
-use Rattle.kcr_history.specs.declared.row_types.CeremonyRow.{CeremonyRow}
-use Rattle.kcr_history.specs.declared.row_types.MarkRow.{MarkRow}
-use Rattle.kcr_history.specs.declared.row_types.StepRow.{StepRow}
-use Rattle.kcr_history.specs.declared.row_types.SeatingRow.{SeatingRow}
-use Rattle.kcr_history.specs.declared.row_types.ExceptionRow.{ExceptionRow}
-use Rattle.kcr_history.specs.declared.row_types.KeyRow.{KeyRow}
-use Rattle.kcr_history.specs.declared.views.AppointmentFilter.{AppointmentFilter}
+use Rattle.kcr_custody.specs.{declared.Bag.Bag, declared.Item.Item, Custody.lies_in}
+use Rattle.kcr_room.specs.{declared.Stay.Stay, Stays.stay_reaches, Requests.stay_count}
+use Rattle.kcr_history.specs.{declared.row_types.CeremonyRow.CeremonyRow, declared.row_types.ExceptionRow.ExceptionRow, Tables.Tables}
+use Rattle.kcr_history.specs.declared.row_types.{MarkRow.MarkRow, KeyRow.KeyRow, StepRow.StepRow, SeatingRow.SeatingRow}
+use Rattle.kcr_history.specs.declared.views.{AppointmentFilter.AppointmentFilter, TrainingFilter.TrainingFilter}
 use Rattle.kcr_history.specs.declared.views.AppointmentFilter.TheVariants as Appointments
-use Rattle.kcr_history.specs.declared.views.Asks.{Asks}
-use Rattle.kcr_history.specs.declared.views.ItemFilter.{ItemFilter}
+use Rattle.kcr_history.specs.declared.views.{Asks.Asks, View.View, ItemFilter.ItemFilter, StayFilter.StayFilter, StepFilter.StepFilter}
 use Rattle.kcr_history.specs.declared.views.ItemFilter.TheVariants as Items
-use Rattle.kcr_history.specs.declared.views.Selection.{Selection}
-use Rattle.kcr_history.specs.declared.views.Selection.TheVariants.{Nothing, Matching, All}
-use Rattle.kcr_history.specs.declared.views.StayFilter.{StayFilter}
-use Rattle.kcr_history.specs.declared.views.StepFilter.{StepFilter}
-use Rattle.kcr_history.specs.declared.views.TrainingFilter.{TrainingFilter}
+use Rattle.kcr_history.specs.declared.views.Selection.{Selection, TheVariants.Nothing, TheVariants.Matching, TheVariants.All}
 use Rattle.kcr_history.specs.declared.views.TrainingFilter.TheVariants as Trainings
-use Rattle.kcr_history.specs.declared.views.View.{View}
-use Rattle.kcr_history.specs.Tables.{Tables}
 
 -- WHETHER A ROW IS ONE OF THOSE ASKED FOR
 

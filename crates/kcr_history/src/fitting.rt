@@ -5,8 +5,7 @@ ghost use Rattle.kcr_base.specs.Same;
 ghost use Rattle.kcr_base.specs.Same.{same_place};
 ghost use Rattle.kcr_base.specs.declared.place.Place.TheVariants as Places;
 ghost use Rattle.kcr_people.specs.People.{lasts_beyond, holder_by};
-ghost use Rattle.kcr_history.specs.Fitting.{is_holder_by, fits_by};
-ghost use Rattle.kcr_history.specs.Seating.{one_to_seven};
+ghost use Rattle.kcr_history.specs.{Fitting.is_holder_by, Fitting.fits_by, Seating.one_to_seven};
 
 use kcr_base::{Day, Facility, Initials, Place};
 use kcr_people::{Appointment, Training, Withdrawal, trained};

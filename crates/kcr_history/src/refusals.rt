@@ -1,7 +1,6 @@
 //! The texts of refusals.
 ghost use Rattle.std.specs.Prelude.{◌≡◌, [], ◌∷◌, ◌++◌, codes, IfOk, OnOk, MatchOption, IsTrue, false, map, string_bytes};
-ghost use Rattle.std.specs.Fmt.{decimal};
-ghost use Rattle.std.specs.List.{join_with_byte};
+ghost use Rattle.std.specs.{Fmt.decimal, List.join_with_byte};
 ghost use Rattle.kcr_base.specs.Refusal.{number_of, word_of};
 ghost use Rattle.kcr_history.specs.Json as json;
 ghost use Rattle.kcr_history.specs.Refusals;

@@ -1,8 +1,6 @@
 //! The texts of replies to accepted commands.
 ghost use Rattle.std.specs.Prelude.{◌≡◌, ◌++◌, IfOk, codes, string_bytes};
-ghost use Rattle.std.specs.Fmt.{decimal};
-ghost use Rattle.std.specs.List.{flat_map};
-ghost use Rattle.std.specs.Option.{option_map};
+ghost use Rattle.std.specs.{Fmt.decimal, List.flat_map, Option.option_map};
 ghost use Rattle.kcr_history.specs.Json;
 ghost use Rattle.kcr_history.specs.Texts;
 

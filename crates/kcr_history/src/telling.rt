@@ -1,9 +1,7 @@
 //! The members of a command's body, given to a writer one after the other.
 ghost use Rattle.std.specs.Prelude.{◌≡◌, OnOk};
 ghost use Rattle.std.specs.List.{fold};
-ghost use Rattle.kcr_base.specs.Day.{day_text};
-ghost use Rattle.kcr_base.specs.Moment.{moment_text};
-ghost use Rattle.kcr_base.specs.Place.{place_text};
+ghost use Rattle.kcr_base.specs.{Day.day_text, Place.place_text, Moment.moment_text};
 ghost use Rattle.kcr_base.specs.declared.refusal.Member.TheVariants as Members;
 ghost use Rattle.kcr_custody.specs.Destinations.{destination_text};
 ghost use Rattle.kcr_history.specs.Texts.{Word, deed_members, members_of};

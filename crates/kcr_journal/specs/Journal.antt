@@ -1,21 +1,14 @@
 -- The journal of a register: the lines of its accepted commands, all of them or those of one ceremony.
 use Rattle.std.specs.Prelude.{ℕ, ◌==◌, Bool, true, false, List, [], ◌∷◌, map, filter, take, reverse, Option, Some, None}
 use Rattle.std.specs.Prelude.{unwrap_or, option_map, if◌then◌else◌}
-use Rattle.std.specs.Fmt.{decimal}
-use Rattle.std.specs.List.{flat_map}
-use Rattle.std.specs.Option.{option_map_or}
+use Rattle.std.specs.{Fmt.decimal, List.flat_map, Option.option_map_or}
 use Rattle.kcr_people.specs.declared.Person.{Person}
 use Rattle.kcr_wire.specs.ActTexts.{act_of}
-use Rattle.kcr_history.specs.History.{History}
-use Rattle.kcr_history.specs.Prints.{name_of}
-use Rattle.kcr_history.specs.Tables.{people}
-use Rattle.kcr_history.specs.declared.commands.Entry.{Entry}
-use Rattle.kcr_history.specs.declared.row_types.KeyRow.{KeyRow}
-use Rattle.kcr_history.specs.declared.commands.Act.{Act}
+use Rattle.kcr_history.specs.{History.History, Prints.name_of, Tables.people}
+use Rattle.kcr_history.specs.declared.{commands.Entry.Entry, commands.Act.Act, row_types.KeyRow.KeyRow}
 use Rattle.kcr_history.specs.declared.commands.Act.TheVariants.{Enter, Train, Withdraw, Appoint, Replace, Plan, Ceremony}
 use Rattle.kcr_history.specs.declared.commands.Deed.TheVariants.{RecordSheet, Sign, RecordException, SetSafe}
-use Rattle.kcr_journal.specs.Lines.{line}
-use Rattle.kcr_journal.specs.Replies.{exception_in, passed_in, seated_in}
+use Rattle.kcr_journal.specs.{Lines.line, Replies.exception_in, Replies.passed_in, Replies.seated_in}
 
 -- the ceremony that a command names
 abbrev pub ceremony_of : Act → Option ℕ

@@ -1,8 +1,7 @@
 -- A line of the journal: the command's number, its moment or day, and what happened.
 use Rattle.std.specs.Prelude.{ℕ, ◌-◌, List, ◌++◌, length, take, codes}
 use Rattle.std.specs.Fmt.{decimal}
-use Rattle.kcr_base.specs.Day.{day_text}
-use Rattle.kcr_base.specs.Moment.{moment_text}
+use Rattle.kcr_base.specs.{Day.day_text, Moment.moment_text}
 use Rattle.kcr_people.specs.declared.Person.{Person}
 use Rattle.kcr_history.specs.declared.commands.Act.{Act}
 use Rattle.kcr_history.specs.declared.commands.Act.TheVariants.{Enter, Train, Withdraw, Appoint, Replace, Release, AddBox, Plan, Ceremony}

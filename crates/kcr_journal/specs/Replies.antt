@@ -1,7 +1,6 @@
 -- What the text of a reply tells beside the command's number.
 use Rattle.std.specs.Prelude.{ℕ, ◌+◌, ◌==◌, ◌||◌, List, [], take, drop}
-use Rattle.std.specs.List.{position, filter_map, slice_split}
-use Rattle.std.specs.Option.{option_map_or}
+use Rattle.std.specs.{List.position, List.filter_map, List.slice_split, Option.option_map_or}
 use Rattle.kcr_forms.specs.Forms.{initials_of}
 
 -- what comes after the first such byte, nothing if there is none

@@ -1,26 +1,17 @@
 -- What happened, as a sentence: one for each kind of act.
 use Rattle.std.specs.Prelude.{ℕ, Bool, true, false, List, [], ◌∷◌, ◌++◌, map, codes}
-use Rattle.std.specs.Fmt.{decimal}
-use Rattle.std.specs.List.{flat_map}
-use Rattle.kcr_base.specs.Day.{day_text}
-use Rattle.kcr_base.specs.Facility.{facility_text}
-use Rattle.kcr_base.specs.Place.{place_text}
-use Rattle.kcr_base.specs.Role.{role_text}
-use Rattle.kcr_base.specs.declared.place.Facility.{Facility}
-use Rattle.kcr_base.specs.declared.place.Place.{Place}
-use Rattle.kcr_base.specs.declared.place.Role.{Role}
+use Rattle.std.specs.{Fmt.decimal, List.flat_map}
+use Rattle.kcr_base.specs.{Day.day_text, Role.role_text, Facility.facility_text, Place.place_text}
+use Rattle.kcr_base.specs.declared.place.{Facility.Facility, Place.Place, Role.Role}
 use Rattle.kcr_custody.specs.declared.SafeNumber.{SafeNumber}
-use Rattle.kcr_custody.specs.declared.Destination.{Destination}
-use Rattle.kcr_custody.specs.declared.Destination.TheVariants.{SafeOne, DepositBox}
+use Rattle.kcr_custody.specs.declared.Destination.{Destination, TheVariants.SafeOne, TheVariants.DepositBox}
 use Rattle.kcr_people.specs.declared.Person.{Person}
 use Rattle.kcr_room.specs.declared.Way.{Way}
 use Rattle.kcr_room.specs.declared.Way.TheVariants as way
-use Rattle.kcr_history.specs.Texts.{safe_text}
-use Rattle.kcr_history.specs.declared.commands.Act.{Act}
-use Rattle.kcr_history.specs.declared.commands.Deed.{Deed}
+use Rattle.kcr_history.specs.{Texts.safe_text, declared.commands.Act.Act}
+use Rattle.kcr_history.specs.declared.commands.Deed.{Deed, TheVariants.Take, TheVariants.Put, TheVariants.Cut}
 use Rattle.kcr_history.specs.declared.commands.Act.TheVariants.{Enter, Train, Withdraw, Appoint, Replace, Release, AddBox, Plan, Ceremony}
 use Rattle.kcr_history.specs.declared.commands.Deed.TheVariants.{AddItem, Open, Close, RecordSheet, Sign, RecordException, SetSafe, Seal}
-use Rattle.kcr_history.specs.declared.commands.Deed.TheVariants.{Take, Put, Cut}
 
 -- texts, one behind the other
 abbrev pub joined : List (List ℕ) → List ℕ

@@ -2,8 +2,7 @@
 ghost use Rattle.std.specs.Prelude.{◌≡◌, map, IfOk, IfErr};
 ghost use Rattle.kcr_history.specs.Tables as machine;
 ghost use Rattle.kcr_reading.specs.Commands.{commands_within};
-ghost use Rattle.kcr_tables.specs.Frame.{OfMachineTables, Reads};
-ghost use Rattle.kcr_tables.specs.Refusals.{IsFault};
+ghost use Rattle.kcr_tables.specs.{Frame.OfMachineTables, Frame.Reads, Refusals.IsFault};
 ghost use Rattle.kcr_wire.specs.ActTexts.{act_of};
 ghost use Rattle.kcr_journal.specs.Journal as said;
 

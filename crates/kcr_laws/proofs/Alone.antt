@@ -3,9 +3,8 @@ use Rattle.kcr_laws.proofs.Common.{◌≡◌, ℕ, ◌<◌, ◌==◌, List, ◌�
 use Rattle.kcr_laws.proofs.Common.{Way, headcount_by, is_out_of_turn_by, new_row, IsAllowed, Act, Ceremony, RecordSheet, ReplyData, History, sheet}
 use Rattle.kcr_laws.proofs.Common.{fault, out_of_turn_refusal, crowd_refusal, lone_room_refusal, IsRegister}
 use Rattle.kcr_base.proofs.Members.{none-in, listed-in}
-use Rattle.kcr_laws.proofs.Accepted.{entry_from, each_register}
+use Rattle.kcr_laws.proofs.{Accepted.entry_from, Accepted.each_register, Crowding.crowd_holds, Crowding.never_told}
 use Rattle.kcr_laws.proofs.Rooms.{HaveTurns, in_other, same_room}
-use Rattle.kcr_laws.proofs.Crowding.{crowd_holds, never_told}
 
 -- of people of whom none is refused each has the turn
 pub turns : (A : History) (c : ℕ) (way : Way) (at : ℕ) (people : List (List ℕ)) → out_of_turn_refusal A c way at people ≡ None

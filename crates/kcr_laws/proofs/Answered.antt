@@ -2,8 +2,7 @@
 use Rattle.kcr_laws.proofs.Common.{suc, map, Option, Some, None, MatchOption, inl, inr, refl, if◌then◌else◌, Refusal, Key, Short, ReplyData, Command}
 use Rattle.kcr_laws.proofs.Common.{Entry, History, entry_of, same_command, fault, Outcome, Accepts, Refuses, SeatRequest, seat_request, reply_to}
 use Rattle.kcr_laws.proofs.Common.{with_command, IsAcceptedWith, seats, DecidesNew, DecidesRepeat, machine}
-use Rattle.kcr_laws.proofs.Firsts.{first_or_none}
-use Rattle.kcr_laws.proofs.Shortages.{seating_or_least}
+use Rattle.kcr_laws.proofs.{Firsts.first_or_none, Shortages.seating_or_least}
 
 module _ (A : History) (x : Command) where
   -- the first seating, or a least shortage

@@ -4,11 +4,9 @@ use Rattle.kcr_laws.proofs.Common.{false≢true, or_right, same-itself, same-tur
 use Rattle.kcr_laws.proofs.Common.{Spot, unknown_item_refusal, Act, Ceremony, AddItem, Seal, Take, Put, Cut, Entry, History, values_of_acts}
 use Rattle.kcr_laws.proofs.Common.{last_value_of_acts, last_value_with_history, facility_of, spot_after, spot, sealed_in, added_at, rest_in, rest}
 use Rattle.kcr_laws.proofs.Common.{sealed_serial, added_item, fault, IsRegister, is_added, is_kept, has_its_box, is_in_place, were_in_place}
-use Rattle.kcr_laws.proofs.Common.{IsBalanced}
+use Rattle.kcr_laws.proofs.{Common.IsBalanced, Accepted.each_register, Stored.sealed_somewhere, Stored.items_known}
 use Rattle.std.specs.Prelude.{is_some}
 use Rattle.kcr_custody.specs.Balance.{all_differ}
-use Rattle.kcr_laws.proofs.Accepted.{each_register}
-use Rattle.kcr_laws.proofs.Stored.{sealed_somewhere, items_known}
 
 -- BAGS
 

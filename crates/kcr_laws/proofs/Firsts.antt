@@ -2,8 +2,7 @@
 use Rattle.kcr_laws.proofs.Common.{◌≡◌, ◌≢◌, ℕ, Bool, true, false, not, ◌&&◌, List, [], ◌∷◌, ◌⊎◌, inl, inr, refl, sym, arith, list_any, list_all}
 use Rattle.kcr_laws.proofs.Common.{false≢true, and_parts, and_from, not-true, cases_Bool, false_from_ne_true, same_text, is_before, same-is}
 use Rattle.kcr_laws.proofs.Common.{same-turned, are_rising, present_are_in, present_are_rising, Seat, History, sheet, present, eligible, is_seating}
-use Rattle.kcr_laws.proofs.Common.{comes_first, IsFirst}
-use Rattle.kcr_laws.proofs.Trials.{one_of}
+use Rattle.kcr_laws.proofs.{Common.comes_first, Common.IsFirst, Trials.one_of}
 
 -- nobody of some people is among those taken
 abbrev are_free : List (List ℕ) → List (List ℕ) → Bool

@@ -3,9 +3,7 @@ use Rattle.kcr_laws.proofs.Common.{◌≡◌, ◌≢◌, ℕ, suc, true, List, [
 use Rattle.kcr_laws.proofs.Common.{false≢true, both_ways, cases_Bool, lists_equiv, nat_list_eq_equiv, Refusal, Short, same-turned, before-turned}
 use Rattle.kcr_laws.proofs.Common.{Seat, ReplyData, Command, Entry, History, entry_of, comes_first, IsFirst, fault, Outcome, Accepts, Refuses}
 use Rattle.kcr_laws.proofs.Common.{SeatRequest, seat_request, reply_to, IsAcceptedWith, seats, DecidesNew, DecidesRepeat, machine, same_reply}
-use Rattle.kcr_laws.proofs.Trials.{same_people, people-are}
-use Rattle.kcr_laws.proofs.Accepted.{same_refusal, other_outcome}
-use Rattle.kcr_laws.proofs.Halves.{one_half}
+use Rattle.kcr_laws.proofs.{Trials.same_people, Trials.people-are, Halves.one_half, Accepted.same_refusal, Accepted.other_outcome}
 
 -- of two lists at most one comes first
 not_both : (a b : List (List ℕ)) → comes_first a b ≡ true → comes_first b a ≡ true → ⊥

@@ -2,10 +2,8 @@
 use Rattle.kcr_laws.proofs.Common.{◌≡◌, ℕ, zero, suc, ◌<◌, ◌≤◌, Bool, true, false, not, ◌&&◌, ◌==◌, nat_le, nat_lt, List, [], ◌∷◌, filter, length}
 use Rattle.kcr_laws.proofs.Common.{get_or, arith, list_any, false≢true, both_ways, and_parts, or_right, ltb-true, false_from_ne_true, nat_tests}
 use Rattle.kcr_laws.proofs.Common.{same_text, same-is, present_are_in, Seat, History, sheet, present, is_seating, is_eligible_at, who_fit, rise}
-use Rattle.kcr_laws.proofs.Common.{is_short}
+use Rattle.kcr_laws.proofs.{Common.is_short, Hall.is_one, Hall.some_from, Trials.seated_inside, Trials.rest_seated}
 use Rattle.std.proofs.lemmas.List.Folds.{list_any_at}
-use Rattle.kcr_laws.proofs.Hall.{is_one, some_from}
-use Rattle.kcr_laws.proofs.Trials.{seated_inside, rest_seated}
 
 -- AS MANY PEOPLE AS POSITIONS
 

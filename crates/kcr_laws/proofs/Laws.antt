@@ -11,19 +11,13 @@ use Rattle.kcr_laws.proofs.Common.{IsTrainedOnOrAfter, BeginsFrom, held_since, A
 use Rattle.std.specs.Prelude.{◌≡◌, ◌∷◌, ◌==◌, map, option_map, ℕ, suc, ◌<◌, ◌≤◌, nat_lt, true, List, length, Some, None, ◌⊎◌}
 use Rattle.kcr_base.specs.declared.limits.TheConstants.{MAX_COMMANDS, MAX_PRESENT}
 use Rattle.kcr_people.proofs.Days.{trained_on_some_day, trained_on_no_other, held_on_some_day, held_on_no_other, place_on_some_day, place_on_no_other}
-use Rattle.kcr_laws.proofs.Alone.{rooms}
-use Rattle.kcr_laws.proofs.Seated.{seated}
+use Rattle.kcr_laws.proofs.{Alone.rooms, Once.once, Seated.seated, Answered.always, Seatings.machine_first, Seatings.first_machine}
 use Rattle.kcr_laws.proofs.Crowding.{first, ever, lone_told, lone_holds, never_told, never_holds, lone_fault, crowd_told, crowd_holds, crowd_fault}
 use Rattle.kcr_laws.proofs.Signing.{next_known, signed_next, next_signed, first_recorded, short_next, next_short, short_named}
-use Rattle.kcr_laws.proofs.Stays.{trained_stays, holder_stays}
+use Rattle.kcr_laws.proofs.{Stays.trained_stays, Stays.holder_stays, Places.trained_told, Balance.balanced}
 use Rattle.kcr_laws.proofs.Places.{since_said, early_told, early_holds, vacant_told, vacant_holds, place_told, place_holds, person_told, person_holds}
-use Rattle.kcr_laws.proofs.Places.{trained_told}
 use Rattle.kcr_laws.proofs.Fixed.{accepted_fixed, never_both, refused_fixed}
 use Rattle.kcr_laws.proofs.Accepted.{repeated, step_keeps, answers_keep}
-use Rattle.kcr_laws.proofs.Balance.{balanced}
-use Rattle.kcr_laws.proofs.Answered.{always}
-use Rattle.kcr_laws.proofs.Seatings.{machine_first, first_machine}
-use Rattle.kcr_laws.proofs.Once.{once}
 
 -- WHAT THE MACHINE DOES
 

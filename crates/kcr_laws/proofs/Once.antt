@@ -1,7 +1,6 @@
 -- No key stands twice in a register.
 use Rattle.kcr_laws.proofs.Common.{◌≡◌, ℕ, false, List, [], ◌∷◌, map, None, refl, arith, list_any, nat_list_eq_equiv, same_text, History, entry_of}
-use Rattle.kcr_laws.proofs.Common.{IsRegister, IsOnce}
-use Rattle.kcr_laws.proofs.Accepted.{each_register}
+use Rattle.kcr_laws.proofs.{Common.IsRegister, Common.IsOnce, Accepted.each_register}
 
 absent : (A : History) (key : List ℕ) → entry_of A key ≡ None → list_any (same_text key) (map (λ entry. entry.command.key) A) ≡ false
 absent [] key h = refl

@@ -3,10 +3,9 @@ use Rattle.kcr_laws.proofs.Common.{◌≡◌, ℕ, ◌<◌, ◌≤◌, Bool, tru
 use Rattle.kcr_laws.proofs.Common.{sym, ap, ◌∙◌, arith, list_any, list_all, or_parts, and_right, lt-leb, nat_tests, same_text, is_before, same-is}
 use Rattle.kcr_laws.proofs.Common.{same-itself, same-turned, SheetRow, Way, is_enter, enters, later_row, last_onto, last_row, is_of, last_enters}
 use Rattle.kcr_laws.proofs.Common.{in_by, last_row_of, present_by, is_out_of_turn, is_out_of_turn_by, new_row, are_rising, present_are_in}
-use Rattle.kcr_laws.proofs.Common.{present_are_rising, before-turned}
+use Rattle.kcr_laws.proofs.{Common.present_are_rising, Common.before-turned, Trials.one_of}
 use Rattle.std.proofs.lemmas.List.Elements.{filter-append}
 use Rattle.kcr_room.proofs.Agreement.{listed, last-above}
-use Rattle.kcr_laws.proofs.Trials.{one_of}
 
 -- none of the rows is an `in` of the ceremony, so the last of them is none
 none_enters : (other : ℕ) (last : Option SheetRow) (rows : List SheetRow) → last_enters other last ≡ false → list_any (enters other) rows ≡ false

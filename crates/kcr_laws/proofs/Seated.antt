@@ -9,13 +9,9 @@ use Rattle.kcr_laws.proofs.Common.{steps_of, opened_at, marked_moment, mark, ope
 use Rattle.kcr_laws.proofs.Common.{eligible, is_seating, one_to_seven, seats_at, fault, seat_request, IsReplyTo, IsRegister, is_seated, are_seated}
 use Rattle.std.specs.Prelude.{is_some}
 use Rattle.kcr_base.specs.Days.{day_of}
-use Rattle.kcr_base.specs.declared.place.Facility.TheVariants.{East}
-use Rattle.kcr_base.specs.declared.place.Role.TheVariants.{Ca, Iw}
+use Rattle.kcr_base.specs.declared.place.{Facility.TheVariants.East, Role.TheVariants.Ca, Role.TheVariants.Iw}
 use Rattle.kcr_base.specs.declared.place.Place.TheVariants as Places
-use Rattle.kcr_laws.proofs.Accepted.{entry_from}
-use Rattle.kcr_laws.proofs.Stays.{trained_stays, holder_stays}
-use Rattle.kcr_laws.proofs.Rooms.{in_before, in_other}
-use Rattle.kcr_laws.proofs.Alone.{turns}
+use Rattle.kcr_laws.proofs.{Accepted.entry_from, Alone.turns, Rooms.in_before, Rooms.in_other, Stays.trained_stays, Stays.holder_stays}
 
 -- MOMENTS OF THE PAST
 

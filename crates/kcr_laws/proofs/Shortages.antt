@@ -4,8 +4,7 @@ use Rattle.kcr_laws.proofs.Common.{arith, list_any, list_all, true≢false, and_
 use Rattle.kcr_laws.proofs.Common.{are_rising, present_are_rising, Seat, History, sheet, present, is_seating, is_eligible_at, rise, is_short, IsLeast}
 use Rattle.kcr_room.proofs.Lists.{any-filter}
 use Rattle.kcr_laws.proofs.Hall.{is_one, count, takers, IsAssigned, IsScarce, stand_once, hall}
-use Rattle.kcr_laws.proofs.Rooms.{not_itself}
-use Rattle.kcr_laws.proofs.Trials.{every, every_shorter, least_by_trial}
+use Rattle.kcr_laws.proofs.{Rooms.not_itself, Trials.every, Trials.every_shorter, Trials.least_by_trial}
 
 -- LEAST SHORTAGES
 

@@ -5,10 +5,7 @@ use Rattle.kcr_laws.proofs.Common.{entry_of, Planned, plan_of, is_ceremony, step
 use Rattle.kcr_laws.proofs.Common.{fault, is_full, Outcome, Accepts, Refuses, SeatRequest, reply_to, with_command, seats, DecidesNew, machine}
 use Rattle.kcr_laws.proofs.Common.{signature, IsAccepted, CanFill, IsShortOf, same_reply}
 use Rattle.std.specs.Prelude.{option_map}
-use Rattle.kcr_laws.proofs.Accepted.{other_outcome}
-use Rattle.kcr_laws.proofs.Firsts.{first_or_none}
-use Rattle.kcr_laws.proofs.Shortages.{seating_or_least}
-use Rattle.kcr_laws.proofs.Halves.{one_half}
+use Rattle.kcr_laws.proofs.{Accepted.other_outcome, Shortages.seating_or_least, Firsts.first_or_none, Halves.one_half}
 
 -- NEXT
 

@@ -4,8 +4,7 @@ use Rattle.kcr_laws.proofs.Common.{holder_by, holds, Seat, Staff, AnyCo, AnyRksh
 use Rattle.kcr_laws.proofs.Common.{trainings, withdrawals, appointments, IsRegister, orderly, holder-appointments, trained-rows}
 use Rattle.std.specs.List.Sorted.{IsPermutation}
 use Rattle.kcr_base.specs.declared.place.Place.TheVariants as Places
-use Rattle.kcr_people.specs.declared.Training.{Training}
-use Rattle.kcr_people.specs.declared.Withdrawal.{Withdrawal}
+use Rattle.kcr_people.specs.declared.{Training.Training, Withdrawal.Withdrawal}
 use Rattle.kcr_people.proofs.Orders.{trained-order}
 use Rattle.kcr_history.specs.Fitting.{is_holder_by, fits_by}
 use Rattle.kcr_laws.proofs.Finds.{only-holder}

@@ -1,23 +1,12 @@
 -- When commands are accepted and refused, in the words of the subject.
-use Rattle.std.specs.Prelude.{◌≡◌, ◌≢◌, ℕ, suc, ◌<◌, ◌≤◌, List, map, Option, Some, None, is_some, unwrap_or}
-use Rattle.std.specs.Prelude.{if◌then◌else◌, IsTrue}
+use Rattle.std.specs.Prelude.{◌≡◌, ◌≢◌, ℕ, suc, ◌<◌, ◌≤◌, List, map, Option, Some, None, is_some, unwrap_or, if◌then◌else◌, IsTrue}
 use Rattle.kcr_base.specs.Same.{same_place}
-use Rattle.kcr_base.specs.declared.limits.TheConstants.{MAX_PRESENT}
-use Rattle.kcr_base.specs.declared.place.Place.{Place}
-use Rattle.kcr_base.specs.declared.place.Role.{Role}
-use Rattle.kcr_base.specs.declared.refusal.Refusal.TheVariants.{Short}
-use Rattle.kcr_room.specs.declared.SheetRow.{SheetRow}
-use Rattle.kcr_room.specs.Room.{headcount_by}
-use Rattle.kcr_history.specs.declared.commands.Act.{Act}
+use Rattle.kcr_base.specs.declared.{limits.TheConstants.MAX_PRESENT, refusal.Refusal.TheVariants.Short, place.Place.Place, place.Role.Role}
+use Rattle.kcr_room.specs.{declared.SheetRow.SheetRow, Room.headcount_by}
+use Rattle.kcr_history.specs.declared.commands.{Act.Act, Command.Command, Deed.TheVariants.Sign, ReplyData.ReplyData}
 use Rattle.kcr_history.specs.declared.commands.Act.TheVariants.{Appoint, Replace, Release, Ceremony}
-use Rattle.kcr_history.specs.declared.commands.Deed.TheVariants.{Sign}
-use Rattle.kcr_history.specs.declared.commands.ReplyData.{ReplyData}
-use Rattle.kcr_history.specs.declared.commands.Command.{Command}
-use Rattle.kcr_history.specs.History.{History, last_value_of_acts}
-use Rattle.kcr_history.specs.Training.{trained, holder, is_holder}
-use Rattle.kcr_history.specs.Ceremonies.{steps_of}
-use Rattle.kcr_history.specs.Seating.{is_seating, IsLeast}
-use Rattle.kcr_history.specs.Tables.{seats_at}
+use Rattle.kcr_history.specs.{History.History, History.last_value_of_acts, Training.trained, Training.holder, Training.is_holder}
+use Rattle.kcr_history.specs.{Ceremonies.steps_of, Tables.seats_at, Seating.is_seating, Seating.IsLeast}
 use Rattle.kcr_history.specs.Machine.{Accepts, Refuses, with_command, machine}
 
 -- SIGNATURES

@@ -1,11 +1,7 @@
 -- Commands one after the other, and what each is answered.
 use Rattle.std.specs.Prelude.{◌≡◌, ℕ, suc, List, [], ◌∷◌, ◌++◌, length, codes}
 use Rattle.std.specs.Fmt.{decimal}
-use Rattle.kcr_history.specs.declared.commands.Act.{Act}
-use Rattle.kcr_history.specs.declared.commands.Command.{Command}
-use Rattle.kcr_history.specs.History.{History}
-use Rattle.kcr_history.specs.Refusals.{refusal_text}
-use Rattle.kcr_history.specs.Texts.{reply_text}
+use Rattle.kcr_history.specs.{declared.commands.Act.Act, declared.commands.Command.Command, History.History, Texts.reply_text, Refusals.refusal_text}
 use Rattle.kcr_history.specs.Machine.{Outcome, Accepts, Refuses, machine}
 
 -- the act under a key that no command has yet, if the nth command's key is `kn`

@@ -1,7 +1,6 @@
 -- A search for a later count, step by step.
 use Rattle.std.proofs.Common.{◌≡◌, ◌+◌, ◌-◌, ◌<◌, ◌||◌, ℕ, suc, arith}
-use Rattle.kcr_log.specs.BegunAnew.{is_later, next, same}
-use Rattle.kcr_log.specs.declared.begun_anew.Count.{Count}
+use Rattle.kcr_log.specs.{BegunAnew.is_later, BegunAnew.next, BegunAnew.same, declared.begun_anew.Count.Count}
 
 -- one step, of the `most - at` that are left
 pub step : (most at : ℕ) (c d after : Count) → at < most → after ≡ next c

@@ -1,7 +1,6 @@
 -- Which frames there are, and how many of them end a transaction.
 use Rattle.std.proofs.Common.{◌≡◌, ℕ, zero, suc, ◌+◌, ◌<◌, ◌≤◌, true, false, List, refl, ap, arith}
-use Rattle.std.proofs.lemmas.Bool.{or_from, cases_lt}
-use Rattle.std.proofs.lemmas.Bool.Decides.{nat_tests}
+use Rattle.std.proofs.lemmas.Bool.{or_from, cases_lt, Decides.nat_tests}
 use Rattle.kcr_log.specs.declared.frames.Header.{Header}
 use Rattle.kcr_log.specs.Frames.{frame_count, frame_of, carries, checks, commits, commits_from, ends_in, begins, begins_in}
 

@@ -1,12 +1,9 @@
 -- Why a log is one that is being emptied, whenever that stops.
 use Rattle.std.proofs.Common.{◌≡◌, ℕ, ◌+◌, ◌-◌, ◌*◌, ◌<◌, ◌≤◌, true, false, List, slice_index, refl, ◌∙◌, arith}
-use Rattle.std.proofs.lemmas.Bool.Decides.{nat_tests}
-use Rattle.std.proofs.Math.Nat.{mul-le-mul_right}
+use Rattle.std.proofs.{lemmas.Bool.Decides.nat_tests, Math.Nat.mul-le-mul_right}
 use Rattle.sqlite_wal.specs.Format.{be32}
-use Rattle.kcr_log.specs.declared.frames.Header.{Header}
+use Rattle.kcr_log.specs.{declared.frames.Header.Header, Written.StopsEmptied, Pages.page_size_of, Pages.told_header, Pages.second_header}
 use Rattle.kcr_log.specs.Frames.{header_of, frame_at, frame_of, carries}
-use Rattle.kcr_log.specs.Pages.{page_size_of, told_header, second_header}
-use Rattle.kcr_log.specs.Written.{StopsEmptied}
 use Rattle.kcr_log.proofs.Writing.{same-number}
 
 -- the second frame and those behind it lie past the bytes that are written anew

@@ -1,11 +1,8 @@
 -- How many transactions end behind the first wrong frame of a log that a stop cut short.
 use Rattle.std.proofs.Common.{◌≡◌, ℕ, ◌+◌, ◌-◌, ◌<◌, ◌≤◌, true, false, List, refl, sym, ap, ◌∙◌, inl, inr, arith}
-use Rattle.std.proofs.lemmas.Bool.{false≢true, cases_lt, cases_order}
-use Rattle.std.proofs.lemmas.Bool.Decides.{nat_tests}
-use Rattle.kcr_log.specs.declared.frames.Header.{Header}
+use Rattle.std.proofs.lemmas.Bool.{false≢true, cases_lt, cases_order, Decides.nat_tests}
+use Rattle.kcr_log.specs.{declared.frames.Header.Header, Stop.IsCutShort, Damage.is_shut, Damage.commits_behind}
 use Rattle.kcr_log.specs.Frames.{frame_count, carries, checks, commits_from}
-use Rattle.kcr_log.specs.Damage.{is_shut, commits_behind}
-use Rattle.kcr_log.specs.Stop.{IsCutShort}
 use Rattle.kcr_log.proofs.Counting.{carried, checked, none-more, not-carried, at-most-one}
 
 -- a frame past the last is not there

@@ -1,16 +1,12 @@
 -- Why no other damage is there.
 use Rattle.std.proofs.Common.{◌≡◌, ℕ, ◌+◌, ◌-◌, ◌/◌, ◌<◌, ◌||◌, true, false, List, length, sym, ◌∙◌, inl, inr, arith}
-use Rattle.std.proofs.lemmas.Bool.{false≢true, true≢false}
-use Rattle.std.proofs.lemmas.Bool.Decides.{nat_tests}
+use Rattle.std.proofs.lemmas.Bool.{false≢true, true≢false, Decides.nat_tests}
 use Rattle.std.proofs.Math.Nat.{div-mul-le_self, mul-le-mul_right}
-use Rattle.kcr_log.specs.declared.frames.Header.{Header}
-use Rattle.kcr_log.specs.declared.judgement.Log.{Log}
+use Rattle.kcr_log.specs.{declared.frames.Header.Header, declared.judgement.Log.Log, Damage.IsWrongHead, Damage.IsDamage}
 use Rattle.kcr_log.specs.declared.judgement.Log.TheVariants.{Sound, WrongHead, WrongFrame, NoFile}
 use Rattle.kcr_log.specs.Frames.{header_of, is_signed, frame_count, checks}
-use Rattle.kcr_log.specs.Damage.{IsWrongHead, IsDamage}
 use Rattle.kcr_log.specs.Pages.{told_header, second_header, turned, page_size_of, HasLost}
-use Rattle.kcr_log.proofs.Counting.{carried, checked}
-use Rattle.kcr_log.proofs.Safe.{none-safe}
+use Rattle.kcr_log.proofs.{Counting.carried, Counting.checked, Safe.none-safe}
 
 -- nor has one with a head that does not check, if neither its head nor a page is known to be lost
 pub sound-head : (file log : List ℕ) → is_signed log ≡ false → ((ended : ℕ) → ¬ IsWrongHead file log ended)

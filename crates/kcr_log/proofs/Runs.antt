@@ -1,9 +1,7 @@
 -- Which transactions behind the first frame are not all in the file.
 use Rattle.std.proofs.Common.{◌≡◌, ℕ, ◌<◌, ◌||◌, true, List, arith}
 use Rattle.std.proofs.lemmas.Bool.Decides.{nat_tests}
-use Rattle.kcr_log.specs.declared.frames.Header.{Header}
-use Rattle.kcr_log.specs.Frames.{frame_count, frame_of, checks}
-use Rattle.kcr_log.specs.Pages.{turned, HasLost}
+use Rattle.kcr_log.specs.{declared.frames.Header.Header, Pages.turned, Pages.HasLost, Frames.frame_count, Frames.frame_of, Frames.checks}
 use Rattle.kcr_log.proofs.Counting.{carried, checked, numbered}
 
 -- of two orders of bytes, a frame that checks by one of them has the number of a page

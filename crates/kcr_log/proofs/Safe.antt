@@ -1,11 +1,9 @@
 -- Why the first wrong frame of a log that a stop cut short was not safe.
 use Rattle.std.proofs.Common.{◌≡◌, ℕ, zero, suc, ◌+◌, ◌-◌, ◌<◌, ◌≤◌, ◌⊎◌, ◌&&◌, nat_lt, true, false, List, inl, inr, arith}
-use Rattle.std.proofs.lemmas.Bool.Decides.{nat_tests}
-use Rattle.std.proofs.lemmas.Bool.{le-ltb, and_left, and_right, or_from}
-use Rattle.kcr_log.specs.declared.frames.Header.{Header}
+use Rattle.std.proofs.lemmas.Bool.{Decides.nat_tests, le-ltb, and_left, and_right, or_from}
+use Rattle.kcr_log.specs.{declared.frames.Header.Header, Stop.IsCutShort, Stop.MayCount}
 use Rattle.kcr_log.specs.Frames.{frame_count, checks, commits, ends_in, start_of, begins_in}
 use Rattle.kcr_log.specs.Damage.{is_shut, is_followed, is_passed, is_opened, was_safe}
-use Rattle.kcr_log.specs.Stop.{IsCutShort, MayCount}
 use Rattle.kcr_log.proofs.Counting.{checked, not-carried, one-end, none-begin}
 use Rattle.kcr_log.proofs.Judging.{none-behind, shut-lacks, cut-short}
 

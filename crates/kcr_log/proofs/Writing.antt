@@ -1,15 +1,11 @@
 -- Why a stop cuts a log short, whichever way a transaction is written.
 use Rattle.std.proofs.Common.{◌≡◌, suc, ◌≢◌, ℕ, ◌+◌, ◌*◌, ◌<◌, ◌≤◌, ◌⊎◌, true, false, List, slice_index, refl, ◌∙◌, inl, inr, arith}
-use Rattle.std.proofs.lemmas.Bool.{cases_lt, cases_order}
-use Rattle.std.proofs.lemmas.Bool.Decides.{nat_tests}
-use Rattle.std.proofs.Math.Nat.{mul-le-mul_right}
+use Rattle.std.proofs.{lemmas.Bool.cases_lt, lemmas.Bool.cases_order, lemmas.Bool.Decides.nat_tests, Math.Nat.mul-le-mul_right}
 use Rattle.sqlite_wal.specs.Format.{be32, count_page}
-use Rattle.kcr_log.specs.declared.frames.Header.{Header}
+use Rattle.kcr_log.specs.{declared.frames.Header.Header, Stop.IsCutShort, Stop.MayCount}
 use Rattle.kcr_log.specs.Frames.{frame_at, frame_of, carries, commits, begins}
-use Rattle.kcr_log.specs.Stop.{IsCutShort, MayCount}
 use Rattle.kcr_log.specs.Written.{IsBehindShut, IsOverZeros, IsOverOlder}
-use Rattle.kcr_log.proofs.Counting.{not-carried}
-use Rattle.kcr_log.proofs.Judging.{shut-lacks}
+use Rattle.kcr_log.proofs.{Counting.not-carried, Judging.shut-lacks}
 
 -- a number of four bytes that are the same
 pub same-number : (a b : List ℕ) (at : ℕ) → ((k : ℕ) → k < 4 → slice_index a (at + k) ≡ slice_index b (at + k))

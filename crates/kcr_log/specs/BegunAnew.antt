@@ -1,8 +1,7 @@
 -- The head of a log: which one follows another when a register begins the log anew.
 use Rattle.std.specs.Prelude.{◌+◌, ◌%◌, ◌==◌, ◌&&◌, ◌||◌, ℕ, Bool, zero, suc, false, List, max}
 use Rattle.sqlite_wal.specs.Format.{be32}
-use Rattle.kcr_log.specs.declared.begun_anew.Count.{Count}
-use Rattle.kcr_log.specs.declared.begun_anew.TheConstants.{MAX_CHECKPOINTS}
+use Rattle.kcr_log.specs.declared.begun_anew.{Count.Count, TheConstants.MAX_CHECKPOINTS}
 
 -- what a checkpoint changes of a head: the number of checkpoints, and the first salt
 abbrev pub count_of : List ℕ → Count

@@ -1,8 +1,7 @@
 -- When a log was damaged after it was safe.
 use Rattle.std.specs.Prelude.{◌≡◌, ℕ, ◌+◌, ◌-◌, ◌/◌, ◌<◌, ◌≤◌, ◌⊎◌, ◌==◌, ◌&&◌, ◌||◌, not, nat_lt, Bool, true, false, if◌then◌else◌, List, length}
 use Rattle.sqlite_wal.specs.Format.{be32, count_page}
-use Rattle.kcr_log.specs.declared.frames.Header.{Header}
-use Rattle.kcr_log.specs.declared.judgement.Log.{Log}
+use Rattle.kcr_log.specs.declared.{frames.Header.Header, judgement.Log.Log}
 use Rattle.kcr_log.specs.declared.judgement.Log.TheVariants.{Sound, WrongHead, WrongFrame, NoFile}
 use Rattle.kcr_log.specs.Frames.{header_of, is_signed, frame_count, frame_of, checks, commits, commits_from, ends_in, start_of, begins_in}
 use Rattle.kcr_log.specs.Pages.{page_size_of, told_header, second_header, HasLost}

@@ -1,8 +1,7 @@
 -- A write-ahead log as bytes: a head of 32 bytes, and then frames, each of 24 bytes and a page.
 use Rattle.std.specs.Prelude.{ℕ, zero, suc, ◌+◌, ◌-◌, ◌*◌, ◌/◌, ◌==◌, ◌&&◌, ◌||◌, not, nat_lt, Bool, false, if◌then◌else◌, List, length, slice_range}
 use Rattle.sqlite_wal.specs.Format.{be32, checksum, count_page}
-use Rattle.kcr_log.specs.declared.frames.Header.{Header}
-use Rattle.kcr_log.specs.declared.frames.Frame.{Frame}
+use Rattle.kcr_log.specs.declared.frames.{Header.Header, Frame.Frame}
 
 -- what the head says
 abbrev pub header_of : List ℕ → Header

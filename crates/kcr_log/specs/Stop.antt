@@ -1,9 +1,8 @@
 -- What a stop can leave of a log.
 use Rattle.std.specs.Prelude.{◌≡◌, ℕ, ◌+◌, ◌-◌, ◌<◌, ◌≤◌, ◌⊎◌, true, false, List, length}
 use Rattle.sqlite_wal.specs.Format.{be32, count_page}
-use Rattle.kcr_log.specs.declared.frames.Header.{Header}
+use Rattle.kcr_log.specs.{declared.frames.Header.Header, Damage.is_shut}
 use Rattle.kcr_log.specs.Frames.{header_of, is_signed, frame_of, carries, checks, commits, start_of, begins}
-use Rattle.kcr_log.specs.Damage.{is_shut}
 use Rattle.kcr_log.specs.Pages.{second_header, IsRun, IsNewest, HasPage}
 
 -- frame i has the page number of a count, or has lost it

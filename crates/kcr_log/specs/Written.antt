@@ -1,11 +1,9 @@
 -- How a transaction is written behind those that are there, and how a log is emptied, byte by byte.
 use Rattle.std.specs.Prelude.{◌≡◌, ◌≢◌, ℕ, ◌+◌, ◌-◌, ◌<◌, ◌≤◌, ◌⊎◌, true, false, List, length, slice_index}
 use Rattle.sqlite_wal.specs.Format.{count_page}
-use Rattle.kcr_log.specs.declared.frames.Header.{Header}
+use Rattle.kcr_log.specs.{declared.frames.Header.Header, Damage.is_shut, Stop.IsCutShort, Stop.IsEmptied}
 use Rattle.kcr_log.specs.Frames.{header_of, frame_at, frame_of, carries, checks, start_of, begins}
-use Rattle.kcr_log.specs.Damage.{is_shut}
 use Rattle.kcr_log.specs.Pages.{page_size_of, IsNewest, HasPage}
-use Rattle.kcr_log.specs.Stop.{IsCutShort, IsEmptied}
 
 -- The frames from `done` to `end` of the log `new` are one transaction, which its last frame ends, and of which only
 -- the first may count; those before it check in the log that was left, and the last of them ends a transaction.

@@ -1,9 +1,7 @@
 //! Whether a log is one that a stop can leave.
 ghost use Rattle.std.specs.Prelude.{◌≡◌, ◌<◌, ◌≤◌, ◌||◌, ℕ, true, false, length};
 ghost use Rattle.kcr_log.specs.Frames.{header_of, is_signed, frame_count, checks};
-ghost use Rattle.kcr_log.specs.Damage.{IsJudged};
-ghost use Rattle.kcr_log.specs.Pages.{told_header};
-ghost use Rattle.kcr_log.specs.Stop.{IsCutShort, IsEmptied, IsLeftByStop};
+ghost use Rattle.kcr_log.specs.{Damage.IsJudged, Pages.told_header, Stop.IsCutShort, Stop.IsEmptied, Stop.IsLeftByStop};
 
 use crate::frames::{Header, is_signed, number_at, read_header};
 use crate::later::was_safe;

@@ -1,14 +1,8 @@
 -- A decision of a command whose key is new, by the rows of a view.
 use Rattle.std.specs.Prelude.{◌≡◌, ◌≢◌, ◌+◌, ℕ, List, [], ◌∷◌, ◌++◌, Option, None, Result, MatchOption, MatchResult}
-use Rattle.kcr_base.specs.declared.refusal.Refusal.{Refusal}
-use Rattle.kcr_base.specs.declared.refusal.Refusal.TheVariants.{Memory}
-use Rattle.kcr_history.specs.declared.commands.Act.{Act}
-use Rattle.kcr_history.specs.declared.commands.ReplyData.{ReplyData}
-use Rattle.kcr_history.specs.declared.commands.Command.{Command}
-use Rattle.kcr_history.specs.declared.row_types.KeyRow.{KeyRow}
-use Rattle.kcr_history.specs.declared.views.Change.TheVariants.{PutKey}
-use Rattle.kcr_history.specs.declared.views.Verdict.{Verdict}
-use Rattle.kcr_history.specs.declared.views.View.{View}
+use Rattle.kcr_base.specs.declared.refusal.Refusal.{Refusal, TheVariants.Memory}
+use Rattle.kcr_history.specs.declared.commands.{Act.Act, Command.Command, ReplyData.ReplyData}
+use Rattle.kcr_history.specs.declared.{row_types.KeyRow.KeyRow, views.Change.TheVariants.PutKey, views.Verdict.Verdict, views.View.View}
 use Rattle.kcr_history.specs.Texts.{command_text, reply_text}
 use Rattle.kcr_rules.specs.ByRows.{late_refusal_by, seat_request_by, IsSeatedFor, all_changes_by, exception_by, reply_step_by, IsRefusalOf}
 use Rattle.kcr_machine.specs.RowDecision.{is_full_by}

@@ -1,18 +1,10 @@
 -- What a decision says, by the row of its key or whatever the rows are.
-use Rattle.std.specs.Prelude.{◌≡◌, ◌≢◌, ℕ, Bool, true, false, nat_le, List, [], None}
-use Rattle.std.specs.Prelude.{◌⊎◌, Some, MatchResult, Result, IsSome, IsTrue}
-use Rattle.kcr_base.specs.Same.{same_text}
-use Rattle.kcr_base.specs.declared.limits.TheConstants.{MAX_COMMANDS}
-use Rattle.kcr_base.specs.declared.refusal.Refusal.{Refusal}
-use Rattle.kcr_base.specs.declared.refusal.Refusal.TheVariants.{Key, Memory}
-use Rattle.kcr_history.specs.declared.commands.Act.{Act}
-use Rattle.kcr_history.specs.declared.commands.Act.TheVariants.{Ceremony}
+use Rattle.std.specs.Prelude.{◌≡◌, ◌≢◌, ℕ, Bool, true, false, nat_le, List, [], None, ◌⊎◌, Some, MatchResult, Result, IsSome, IsTrue}
+use Rattle.kcr_base.specs.{Same.same_text, declared.limits.TheConstants.MAX_COMMANDS}
+use Rattle.kcr_base.specs.declared.refusal.Refusal.{Refusal, TheVariants.Key, TheVariants.Memory}
+use Rattle.kcr_history.specs.declared.commands.{Act.Act, Act.TheVariants.Ceremony, ReplyData.ReplyData, Command.Command}
 use Rattle.kcr_history.specs.declared.commands.Deed.TheVariants.{Sign, RecordException}
-use Rattle.kcr_history.specs.declared.commands.ReplyData.{ReplyData}
-use Rattle.kcr_history.specs.declared.commands.Command.{Command}
-use Rattle.kcr_history.specs.declared.row_types.KeyRow.{KeyRow}
-use Rattle.kcr_history.specs.declared.views.Verdict.{Verdict}
-use Rattle.kcr_history.specs.Texts.{command_text, reply_text}
+use Rattle.kcr_history.specs.{declared.row_types.KeyRow.KeyRow, declared.views.Verdict.Verdict, Texts.command_text, Texts.reply_text}
 use Rattle.kcr_rules.specs.Refusals.{may_refuse}
 
 -- a register whose last command has this number is full

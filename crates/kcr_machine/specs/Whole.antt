@@ -1,15 +1,8 @@
 -- When a view has all rows that a command asks for, and when two decisions agree.
 use Rattle.std.specs.Prelude.{◌≡◌, ◌≢◌, ℕ, List, MatchResult, Result, ◌⊎◌}
-use Rattle.kcr_base.specs.declared.refusal.Refusal.{Refusal}
-use Rattle.kcr_base.specs.declared.refusal.Refusal.TheVariants.{Memory, Short}
-use Rattle.kcr_history.specs.declared.commands.Command.{Command}
-use Rattle.kcr_history.specs.declared.row_types.KeyRow.{KeyRow}
-use Rattle.kcr_history.specs.declared.views.Verdict.{Verdict}
-use Rattle.kcr_history.specs.declared.views.FullView.{FullView}
-use Rattle.kcr_history.specs.History.{History}
-use Rattle.kcr_history.specs.AsksByKind.{asks_of}
-use Rattle.kcr_history.specs.Changes.{all_changed}
-use Rattle.kcr_history.specs.Tables.{tables, SameTables}
+use Rattle.kcr_base.specs.declared.refusal.Refusal.{Refusal, TheVariants.Memory, TheVariants.Short}
+use Rattle.kcr_history.specs.declared.{commands.Command.Command, row_types.KeyRow.KeyRow, views.Verdict.Verdict, views.FullView.FullView}
+use Rattle.kcr_history.specs.{History.History, AsksByKind.asks_of, Changes.all_changed, Tables.tables, Tables.SameTables}
 use Rattle.kcr_history.specs.Views.{IsViewOf, row_of_key, greatest_number}
 
 -- the rows have the row of the key if the table has one, none else, and the table's greatest number

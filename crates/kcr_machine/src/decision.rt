@@ -1,14 +1,9 @@
 //! How a command is decided: one whose key has a row, and one whose key is new.
 ghost use Rattle.std.specs.Prelude.{◌≡◌, Some, None, Err, IfErr, IfOk};
-ghost use Rattle.kcr_history.specs.History.{History};
-ghost use Rattle.kcr_history.specs.AsksByKind.{asks_of};
-ghost use Rattle.kcr_history.specs.Early.{early_asks};
-ghost use Rattle.kcr_history.specs.Tables.{tables};
-ghost use Rattle.kcr_history.specs.Views.{IsViewOf, greatest_number, row_of_key};
-ghost use Rattle.kcr_history.specs.Machine.{IsRegister, IsDecision};
+ghost use Rattle.kcr_history.specs.{History.History, Tables.tables, AsksByKind.asks_of, Early.early_asks};
+ghost use Rattle.kcr_history.specs.{Views.IsViewOf, Views.greatest_number, Views.row_of_key, Machine.IsRegister, Machine.IsDecision};
 ghost use Rattle.kcr_rules.specs.ByRows.{IsCheckResult, IsCleared};
-ghost use Rattle.kcr_machine.specs.RowDecision.{IsRowRepeat, is_full_by};
-ghost use Rattle.kcr_machine.specs.RowDecision.{IsOfKind, IsOwnRefusal};
+ghost use Rattle.kcr_machine.specs.RowDecision.{IsRowRepeat, is_full_by, IsOfKind, IsOwnRefusal};
 ghost use Rattle.kcr_machine.specs.NewDecision;
 ghost use Rattle.kcr_machine.specs.NewDecision.{IsRowDecision};
 

@@ -1,10 +1,8 @@
 //! A command decided in one call, over a view that has all rows that it asks for, those of keys among them.
 ghost use Rattle.std.specs.Prelude.{◌≡◌, IfErr};
-ghost use Rattle.kcr_history.specs.History.{History};
-ghost use Rattle.kcr_history.specs.Machine.{IsRegister, IsDecision};
+ghost use Rattle.kcr_history.specs.{History.History, Machine.IsRegister, Machine.IsDecision};
 ghost use Rattle.kcr_history.specs.Views as Views;
-ghost use Rattle.kcr_machine.specs.RowDecision.{MayBeRefused};
-ghost use Rattle.kcr_machine.specs.Whole.{IsAsked};
+ghost use Rattle.kcr_machine.specs.{RowDecision.MayBeRefused, Whole.IsAsked};
 
 use crate::decision::{check_early, decide_new, decide_repeat};
 use kcr_base::{Key, Refusal};

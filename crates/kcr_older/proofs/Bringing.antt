@@ -1,15 +1,13 @@
 -- What an older file holds, before and after it is migrated to this version.
 use Rattle.kcr_older.proofs.Common.{rules, ◌≡◌, List, [], map, refl, arith, IsPermutation, IsPermutation-refl, Database, Stay, stays_by, PutStay}
 use Rattle.kcr_older.proofs.Common.{History, tables, StoredTables, Holds, with_bare_tables, with_own_stays, migrated_tables, HoldsHistoryAs, numbered}
-use Rattle.kcr_older.proofs.Common.{number_of}
+use Rattle.kcr_older.proofs.{Common.number_of, Filling.filled}
 use Rattle.kcr_history.specs.Tables as machine
 use Rattle.kcr_tables.specs.MachineTables.{SameRows, HoldsTables}
 use Rattle.kcr_tables.proofs.HoldLemmas.{tables_of}
 use Rattle.kcr_tables.proofs.JointLemmas.{Rises, kept_rises, all_stand, same_stands}
 use Rattle.kcr_older.specs.Backfilled.{with_stays}
-use Rattle.kcr_older.specs.declared.migration.OldVersion.{OldVersion}
-use Rattle.kcr_older.specs.declared.migration.OldVersion.TheVariants.{V1, V2}
-use Rattle.kcr_older.proofs.Filling.{filled}
+use Rattle.kcr_older.specs.declared.migration.OldVersion.{OldVersion, TheVariants.V1, TheVariants.V2}
 
 -- ---- what is put leaves the number of the version
 

@@ -3,21 +3,13 @@ use Rattle.kcr_older.proofs.Common.{rules, ◌≡◌, ℕ, ◌+◌, ◌≤◌, �
 use Rattle.kcr_older.proofs.Common.{append-nil, eq-eqb, reverse, list_any, count_by, IsPermutation, IsPermutation-refl, IsPermutation-sym}
 use Rattle.kcr_older.proofs.Common.{IsPermutation-trans, IsPermutation-reverse, Stay, stay_from, next_of, stays_of, stays_by, cases_Bool, PutStay}
 use Rattle.kcr_older.proofs.Common.{History, Tables, SameTables, tables}
-use Rattle.std.proofs.lemmas.List.Elements.{All-from_recursion}
-use Rattle.std.proofs.lemmas.List.Folds.{list_any_none}
-use Rattle.kcr_base.specs.Rows.{put_all}
-use Rattle.kcr_base.specs.Same.{same_text}
+use Rattle.std.proofs.lemmas.List.{Elements.All-from_recursion, Folds.list_any_none}
+use Rattle.kcr_base.specs.{Rows.put_all, Same.same_text}
 use Rattle.kcr_base.proofs.SameLemmas.{same-itself}
-use Rattle.kcr_room.specs.declared.SheetRow.{SheetRow}
-use Rattle.kcr_room.specs.Room.{is_enter, following, followed_rows_behind}
-use Rattle.kcr_room.specs.Laws.{ShareNoMoment}
-use Rattle.kcr_room.proofs.Lists.{count-cons, none-counted}
-use Rattle.kcr_history.specs.Changes.{same_stay, all_changed}
-use Rattle.kcr_history.specs.Machine.{IsRegister}
-use Rattle.kcr_machine.proofs.SheetLeads.{IsFresh, put-fresh, all_changed-stays}
-use Rattle.kcr_room.proofs.AnyOrder.{stays-order, sheet-shares, share-order}
-use Rattle.kcr_history.specs.Room.{sheet}
-use Rattle.kcr_machine.proofs.SheetFaults.{sheet-made}
+use Rattle.kcr_room.specs.{declared.SheetRow.SheetRow, Laws.ShareNoMoment, Room.is_enter, Room.following, Room.followed_rows_behind}
+use Rattle.kcr_room.proofs.{Lists.count-cons, Lists.none-counted, AnyOrder.stays-order, AnyOrder.sheet-shares, AnyOrder.share-order}
+use Rattle.kcr_history.specs.{Changes.same_stay, Changes.all_changed, Machine.IsRegister, Room.sheet}
+use Rattle.kcr_machine.proofs.{SheetLeads.IsFresh, SheetLeads.put-fresh, SheetLeads.all_changed-stays, SheetFaults.sheet-made}
 
 -- ---- the stays of a register's sheet, in whatever order its rows come
 

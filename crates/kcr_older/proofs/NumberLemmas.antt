@@ -4,10 +4,7 @@ use Rattle.kcr_older.proofs.Common.{Option, Some, None, refl, true, false, map, 
 use Rattle.kcr_older.proofs.Common.{length_permutation, Row, Output, output, IsAnswer, overlay, Schema, State, Shown, IsUnchanged, Table, Term, col}
 use Rattle.kcr_older.proofs.Common.{Trees, Value, one_permutation, IsSound, IsTableRow, table_named, place_of, Column, map-map, is_number, if_number}
 use Rattle.kcr_older.proofs.Common.{numbered_table, numbers_in, only_number, version_in, shown_same, reading, kept_from, filter_every}
-use Rattle.std.proofs.lemmas.List.{map-id}
-use Rattle.std.proofs.lemmas.Slice.Eq.{bytes_eq-Decides}
-use Rattle.std.proofs.lemmas.Bool.Decides.{nat_tests}
-use Rattle.std.proofs.lemmas.Slice.Zip.{AllZip-right}
+use Rattle.std.proofs.lemmas.{List.map-id, Bool.Decides.nat_tests, Slice.Eq.bytes_eq-Decides, Slice.Zip.AllZip-right}
 use Rattle.sqlite.specs.Order.{column}
 use Rattle.kcr_base.proofs.ListLemmas.{map-same}
 use Rattle.kcr_older.proofs.NumberText.{Stands, text, read_it, answered}

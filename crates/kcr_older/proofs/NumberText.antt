@@ -2,42 +2,29 @@
 use Rattle.kcr_older.proofs.Common.{slice_get, Bool, ◌≡◌, ℕ, List, [], ◌∷◌, codes, Some, None, Ok, Err, inl, inr, refl, true, false, cases_Bool}
 use Rattle.kcr_older.proofs.Common.{Schema, Table, inner, end, lit, col, Int, table_named, place_of, Column, State as SqlState, Row}
 use Rattle.kcr_older.proofs.Common.{overlay, IsAnswer, Null, reads_as, reads_listing, Command, if◌then◌else◌}
-use Rattle.sqlite.specs.State.{Shown as Shown'}
+use Rattle.sqlite.specs.{State.Shown as Shown', Given.IsPlain, Listing.understood}
 use Rattle.std.specs.Prelude.{negsuc}
 use Rattle.sqlite_catalog.proofs.StepLemmas.{same_itself}
 use Rattle.sqlite_tied.specs.Compute.{everything}
-use Rattle.sqlite.specs.Given.{IsPlain}
 use Rattle.sqlite_resolve.specs.Compile.{compiled, first, read, command, meaning, returning, planned, timed, with_command}
-use Rattle.sqlite.specs.Listing.{understood}
 use Rattle.sqlite_syntax.specs.declared.statement.Parsed.{Parsed}
 use Rattle.sqlite_ast.specs.declared.Statement.TheVariants as written
-use Rattle.sqlite_ast.specs.declared.Select.{Select, out-Select}
-use Rattle.sqlite_ast.specs.declared.Core.{Core, out-Core}
-use Rattle.sqlite_ast.specs.declared.Source.{Source, out-Source}
-use Rattle.sqlite_ast.specs.declared.Shown.{Shown, out-Shown}
-use Rattle.sqlite_ast.specs.declared.Expr.{Expr, out-Expr}
+use Rattle.sqlite_ast.specs.declared.{Select.Select, Select.out-Select, Source.Source, Source.out-Source}
+use Rattle.sqlite_ast.specs.declared.{Core.Core, Core.out-Core, Shown.Shown, Shown.out-Shown}
+use Rattle.sqlite_ast.specs.declared.Expr.{Expr, out-Expr, TheOpen.Expr-F, TheOpen.Shown-F}
 use Rattle.sqlite_ast.specs.declared.Origin.TheVariants as origin
-use Rattle.sqlite_ast.specs.declared.Expr.TheOpen.{Expr-F, Shown-F}
-use Rattle.sqlite_resolve.specs.declared.state.State.{State}
-use Rattle.sqlite_resolve.specs.declared.state.Carried.{Carried}
-use Rattle.sqlite_resolve.specs.declared.scope.Bound.{Bound}
+use Rattle.sqlite_resolve.specs.declared.{state.State.State, state.Carried.Carried, body.Body.Body, error.CompileError.TheVariants.Mismatch}
+use Rattle.sqlite_resolve.specs.declared.scope.{Bound.Bound, Level.Level, Output.Output}
 use Rattle.sqlite_resolve.specs.declared.scope.Found.TheVariants as found
-use Rattle.sqlite_resolve.specs.declared.scope.Level.{Level}
 use Rattle.sqlite_resolve.specs.Lowering.{fresh, max_budget, take_slot, spend, begin, finish}
 use Rattle.sqlite_resolve.specs.Scope.{Context, Name, column_in, find, in_level, only, hit, is_among, column_at, column, term_of, declared}
 use Rattle.sqlite_resolve.specs.Body.{table_in, bound, bounds, heading, is_column, within, result, outputs, shown, matching, joins, join, shared, inner_join, tests, body}
-use Rattle.sqlite_resolve.specs.declared.scope.Output.{Output}
-use Rattle.sqlite_resolve.specs.declared.body.Body.{Body}
-use Rattle.sqlite_draft.specs.declared.join.Step.TheVariants.{Inner}
+use Rattle.sqlite_draft.specs.{declared.join.Step.TheVariants.Inner, declared.query.Draft.Draft, Query.query_of}
 use Rattle.sqlite_resolve.specs.Select.{outermost, parts, having, named, assembled, ungrouped, paging, constant_or}
-use Rattle.sqlite_resolve.specs.Order.{keys, sorts}
-use Rattle.sqlite_resolve.specs.Terms.{number}
+use Rattle.sqlite_resolve.specs.{Order.keys, Order.sorts, Terms.number}
 use Rattle.sqlite_resolve.specs.Program.{query, query_to, level, with, whole, alone, single, sources, source, viewing, program}
-use Rattle.sqlite_draft.specs.declared.query.Draft.{Draft}
-use Rattle.sqlite_draft.specs.Query.{query_of}
 use Rattle.sqlite_typing.specs.Types.{accepts_program}
 use Rattle.sqlite.specs.Command.TheVariants as sql
-use Rattle.sqlite_resolve.specs.declared.error.CompileError.TheVariants.{Mismatch}
 use Rattle.sqlite_resolve.specs.Expr.{lower, lower_to, node, opened, passes}
 
 -- the text of the query for the number of the version

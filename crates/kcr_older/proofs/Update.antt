@@ -5,21 +5,15 @@ use Rattle.kcr_older.proofs.Common.{Executes, mode_of, Null, Int, IsPlain, comma
 use Rattle.kcr_older.proofs.Common.{IsSound, cells, TreeHolds, TableLayout, reading, keeps_still, version_row, Version, register_schema, versions}
 use Rattle.kcr_older.proofs.Common.{StoredTables, Holds, versions_place, numbered}
 use Rattle.std.proofs.lemmas.Cmp.{tied_itself}
-use Rattle.sqlite.specs.Command.TheVariants.{Update}
-use Rattle.sqlite.specs.Order.{column}
+use Rattle.sqlite.specs.{Command.TheVariants.Update, Order.column, Rows.Written}
 use Rattle.sqlite_trees.specs.Tree.{without_rowid}
-use Rattle.sqlite.specs.Cast.{cast_row}
-use Rattle.sqlite.specs.Rows.{Written}
-use Rattle.sqlite.specs.Does.{Tally, Does}
+use Rattle.sqlite.specs.{Cast.cast_row, Listing.understood, Does.Tally, Does.Does, Rowids.TheVariants.Given}
 use Rattle.sqlite.specs.Edit.{Edit, edit_of, edited, id_in}
-use Rattle.sqlite.specs.Rowids.TheVariants.{Given}
-use Rattle.sqlite.specs.Listing.{understood}
 use Rattle.sqlite_tied.specs.Compute.{everything}
 use Rattle.sqlite_trees.specs.declared.store.Shape.TheVariants as shape
 use Rattle.sqlite_value.proofs.OrderLemmas.{value_cmp_total}
 use Rattle.sqlite_schema.specs.declared.schema.Keys.TheVariants.{Enforced}
-use Rattle.sqlite_rules.specs.Edit.{Applies}
-use Rattle.sqlite_rules.specs.Calls.{ids_of}
+use Rattle.sqlite_rules.specs.{Edit.Applies, Calls.ids_of}
 use Rattle.sqlite_rules.proofs.TableLemmas.{int_is}
 use Rattle.kcr_rows.proofs.WriteLemmas.{went, same_value, cast_int}
 use Rattle.kcr_older.proofs.NumberLemmas.{every_row}

@@ -2,8 +2,7 @@
 use Rattle.std.specs.Prelude.{map}
 use Rattle.kcr_history.specs.declared.views.Change.TheVariants.{PutStay}
 use Rattle.kcr_room.specs.Stays.{stays_by}
-use Rattle.kcr_tables.specs.Changed.{changed_all}
-use Rattle.kcr_tables.specs.StoredTables.{StoredTables}
+use Rattle.kcr_tables.specs.{Changed.changed_all, StoredTables.StoredTables}
 
 -- each stay of the sheet is put into its table, under its key
 abbrev pub with_stays : StoredTables → StoredTables

@@ -2,15 +2,9 @@
 use Rattle.std.specs.Prelude.{◌≡◌, ◌≢◌, ◌⊎◌, List, ℕ, ◌+◌, ℤ, pos, Bool, false, [], ◌∷◌, map, codes}
 use Rattle.std.specs.Prelude.{if◌then◌else◌, Option, Some, None, is_some, option_and_then, slice_get, IsTrue}
 use Rattle.std.specs.Str.{bytes_eq}
-use Rattle.sqlite.specs.Effect.{Database}
-use Rattle.sqlite.specs.Order.{column}
-use Rattle.sqlite.specs.Schema.{Schema}
-use Rattle.sqlite.specs.Table.{Table}
-use Rattle.sqlite.specs.Tree.{Trees}
-use Rattle.sqlite.specs.declared.types.Value.{Value}
-use Rattle.sqlite.specs.declared.types.Value.TheVariants.{Int}
-use Rattle.sqlite_schema.specs.Names.{table_named, place_of}
-use Rattle.sqlite_schema.specs.declared.schema.Column.{Column}
+use Rattle.sqlite.specs.{Effect.Database, Table.Table, Tree.Trees, Order.column, Schema.Schema}
+use Rattle.sqlite.specs.declared.types.Value.{Value, TheVariants.Int}
+use Rattle.sqlite_schema.specs.{Names.table_named, Names.place_of, declared.schema.Column.Column}
 use Rattle.kcr_tables.specs.Creation.{schema_prefix}
 use Rattle.kcr_older.specs.declared.kind.DatabaseKind.{DatabaseKind}
 use Rattle.kcr_older.specs.declared.kind.DatabaseKind.TheVariants.{Empty, Current, Version2, Version1, Versioned, Foreign}

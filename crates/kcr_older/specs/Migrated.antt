@@ -1,10 +1,8 @@
 -- What the rows of an older version become.
 use Rattle.std.specs.Prelude.{[]}
 use Rattle.kcr_tables.specs.StoredTables.{StoredTables}
-use Rattle.kcr_older.specs.Backfilled.{with_stays}
-use Rattle.kcr_older.specs.OldFiles.{numbered}
-use Rattle.kcr_older.specs.declared.migration.OldVersion.{OldVersion}
-use Rattle.kcr_older.specs.declared.migration.OldVersion.TheVariants.{V1, V2}
+use Rattle.kcr_older.specs.{Backfilled.with_stays, OldFiles.numbered}
+use Rattle.kcr_older.specs.declared.migration.OldVersion.{OldVersion, TheVariants.V1, TheVariants.V2}
 
 -- the tables that a version lacks have no rows
 abbrev pub with_bare_tables : OldVersion → StoredTables → StoredTables

@@ -1,11 +1,8 @@
 -- What making one more table does to a file.
 use Rattle.std.specs.Prelude.{◌≡◌, ℕ, ◌+◌, [], take}
-use Rattle.sqlite.specs.Change.{KeepsRows}
-use Rattle.sqlite.specs.Effect.{Database}
-use Rattle.sqlite.specs.Table.{Table}
+use Rattle.sqlite.specs.{Change.KeepsRows, Effect.Database, Table.Table}
 use Rattle.sqlite_catalog.specs.Listing.{IsSound}
-use Rattle.kcr_tables.specs.Creation.{schema_prefix}
-use Rattle.kcr_tables.specs.Schema.{all_tables}
+use Rattle.kcr_tables.specs.{Creation.schema_prefix, Schema.all_tables}
 
 -- after the first N tables this one was made: it has no rows, and those of the others stay
 pub record Gains (count : ℕ) (table : Table) (old new : Database) : Type 0 where

@@ -1,18 +1,11 @@
 -- Files of older versions. Their tables are a front of today's: version 1 has the first 15, version 2 the stays too,
 -- version 3 the withdrawals too.
 use Rattle.std.specs.Prelude.{◌≡◌, ℕ, ◌+◌, ◌<◌, [], ◌∷◌, List, take}
-use Rattle.sqlite.specs.Effect.{Database}
-use Rattle.sqlite.specs.Tree.{Trees}
-use Rattle.sqlite.specs.Change.{KeepsRows}
+use Rattle.sqlite.specs.{Effect.Database, Tree.Trees, Change.KeepsRows}
 use Rattle.sqlite_catalog.specs.Listing.{IsSound}
-use Rattle.kcr_history.specs.History.{History}
-use Rattle.kcr_history.specs.Machine.{IsRegister}
-use Rattle.kcr_history.specs.Tables.{tables, withdrawals}
+use Rattle.kcr_history.specs.{History.History, Machine.IsRegister, Tables.tables, Tables.withdrawals}
 use Rattle.kcr_rows.specs.declared.row_impls.Version.{Version}
-use Rattle.kcr_tables.specs.Schema.{all_tables}
-use Rattle.kcr_tables.specs.Creation.{schema_prefix}
-use Rattle.kcr_tables.specs.MachineTables.{SameRows}
-use Rattle.kcr_tables.specs.StoredTables.{StoredTables, TreesHold}
+use Rattle.kcr_tables.specs.{Schema.all_tables, Creation.schema_prefix, MachineTables.SameRows, StoredTables.StoredTables, StoredTables.TreesHold}
 
 -- trees with the first N tables hold these rows in them: they share those tables with trees that hold all
 pub record TreesHoldFirst (count : ℕ) (db : Trees) (t : StoredTables) : Type 0 where

@@ -1,9 +1,8 @@
 -- Tables that have nothing but columns and keys.
 use Rattle.std.specs.Prelude.{◌≡◌, []}
 use Rattle.std.specs.List.{AllByRecursion}
-use Rattle.sqlite.specs.Table.{Table}
+use Rattle.sqlite.specs.{Table.Table, declared.types.Value.TheVariants.Null}
 use Rattle.sqlite_schema.specs.declared.schema.Column.{Column}
-use Rattle.sqlite.specs.declared.types.Value.TheVariants.{Null}
 
 -- a column with no default but NULL
 abbrev pub IsPlainColumn : Column → Type 0

@@ -1,7 +1,6 @@
 -- The number of a version before this one.
 use Rattle.std.specs.Prelude.{ℕ}
-use Rattle.kcr_older.specs.declared.migration.OldVersion.{OldVersion}
-use Rattle.kcr_older.specs.declared.migration.OldVersion.TheVariants.{V1, V2}
+use Rattle.kcr_older.specs.declared.migration.OldVersion.{OldVersion, TheVariants.V1, TheVariants.V2}
 
 abbrev pub number_of : OldVersion → ℕ
 number_of V1 = 1

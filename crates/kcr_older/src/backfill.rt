@@ -3,11 +3,9 @@
 ghost use Rattle.std.specs.Prelude.{◌≡◌, map, IfOk};
 ghost use Rattle.kcr_history.specs.declared.views.Change.TheVariants.{PutStay};
 ghost use Rattle.kcr_room.specs.Stays.{stays_by};
-ghost use Rattle.kcr_rows.specs.Refusals.{IsFault};
-ghost use Rattle.kcr_rows.specs.Frame.{StaysInTransaction};
+ghost use Rattle.kcr_rows.specs.{Refusals.IsFault, Frame.StaysInTransaction};
 ghost use Rattle.kcr_tables.specs.Frame.{ChangesTables};
-ghost use Rattle.kcr_older.specs.Migrated.{with_own_stays};
-ghost use Rattle.kcr_older.specs.Backfilled.{with_stays};
+ghost use Rattle.kcr_older.specs.{Migrated.with_own_stays, Backfilled.with_stays};
 
 use crate::migration::OldVersion;
 use kcr_base::Refusal;

@@ -1,9 +1,7 @@
 //! What a database is, told by its schema.
 
 ghost use Rattle.std.specs.Prelude.{◌≡◌, false, IfOk, IfErr, OnOk, is_some};
-ghost use Rattle.sqlite.specs.Held.{state};
-ghost use Rattle.sqlite.specs.State.{HasCleanDisk};
-ghost use Rattle.sqlite.specs.Steps.{over_memory};
+ghost use Rattle.sqlite.specs.{Held.state, Steps.over_memory, State.HasCleanDisk};
 ghost use Rattle.kcr_rows.specs.Refusals.{IsFault};
 ghost use Rattle.kcr_tables.specs.Schema.{register_schema};
 ghost use Rattle.kcr_older.specs.Kind as spec;

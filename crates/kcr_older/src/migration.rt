@@ -1,15 +1,10 @@
 //! Registers of older versions, migrated to this version.
 
 ghost use Rattle.std.specs.Prelude.{◌≡◌, ◌+◌, OnOk};
-ghost use Rattle.kcr_history.specs.History.{History};
-ghost use Rattle.kcr_history.specs.Tables.{tables};
-ghost use Rattle.kcr_rows.specs.Refusals.{IsFault};
-ghost use Rattle.kcr_rows.specs.Frame.{IfClean, StaysInTransaction};
-ghost use Rattle.kcr_tables.specs.StoredTables.{StoredTables, Holds};
-ghost use Rattle.kcr_tables.specs.MachineTables.{HoldsTables};
-ghost use Rattle.kcr_older.specs.Migrated.{migrated_tables};
-ghost use Rattle.kcr_older.specs.OldFiles.{HoldsHistoryAs, HoldsFirst, numbered};
-ghost use Rattle.kcr_older.specs.Versions.{number_of};
+ghost use Rattle.kcr_history.specs.{History.History, Tables.tables};
+ghost use Rattle.kcr_rows.specs.{Refusals.IsFault, Frame.IfClean, Frame.StaysInTransaction};
+ghost use Rattle.kcr_tables.specs.{StoredTables.StoredTables, StoredTables.Holds, MachineTables.HoldsTables};
+ghost use Rattle.kcr_older.specs.{Migrated.migrated_tables, Versions.number_of, OldFiles.HoldsHistoryAs, OldFiles.HoldsFirst, OldFiles.numbered};
 
 use crate::backfill::backfill;
 use crate::missing_tables::{create_missing_tables, set_version};

@@ -1,15 +1,9 @@
 //! The tables that an older file lacks, made over those that it has, and the number of its version.
 
 ghost use Rattle.std.specs.Prelude.{◌≡◌, ℕ, ◌+◌, OnOk};
-ghost use Rattle.kcr_rows.specs.Refusals.{IsFault};
-ghost use Rattle.kcr_rows.specs.Frame.{IfClean, StaysInTransaction};
-ghost use Rattle.kcr_tables.specs.StoredTables.{StoredTables, Holds};
-ghost use Rattle.kcr_tables.specs.Creation.{schema_prefix};
-ghost use Rattle.kcr_tables.specs.Schema.{stays, withdrawals};
-ghost use Rattle.kcr_older.specs.Migrated.{with_bare_tables};
-ghost use Rattle.kcr_older.specs.NewTable.{Gains};
-ghost use Rattle.kcr_older.specs.OldFiles.{HoldsFirst, numbered};
-ghost use Rattle.kcr_older.specs.Versions.{number_of};
+ghost use Rattle.kcr_rows.specs.{Refusals.IsFault, Frame.IfClean, Frame.StaysInTransaction};
+ghost use Rattle.kcr_tables.specs.{StoredTables.StoredTables, StoredTables.Holds, Creation.schema_prefix, Schema.stays, Schema.withdrawals};
+ghost use Rattle.kcr_older.specs.{Migrated.with_bare_tables, NewTable.Gains, Versions.number_of, OldFiles.HoldsFirst, OldFiles.numbered};
 
 use crate::migration::OldVersion;
 use kcr_base::Refusal;

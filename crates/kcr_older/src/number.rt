@@ -2,8 +2,7 @@
 
 ghost use Rattle.std.specs.Prelude.{◌≡◌, [], ◌∷◌, ⊤, IsTrue, is_some, map, IfOk, OnOk};
 ghost use Rattle.sqlite.specs.State.{IsLive, IsUnchanged};
-ghost use Rattle.kcr_rows.specs.Refusals.{IsFault};
-ghost use Rattle.kcr_rows.specs.Frame.{IfClean, ImpliesOpen, StaysInTransaction};
+ghost use Rattle.kcr_rows.specs.{Refusals.IsFault, Frame.IfClean, Frame.ImpliesOpen, Frame.StaysInTransaction};
 ghost use Rattle.kcr_older.specs.Kind as spec;
 ghost use Rattle.kcr_older.specs.Kind.{numbered_table};
 

@@ -2,16 +2,10 @@
 use Rattle.std.specs.Prelude.{ℕ, ◌==◌, Bool, true, false, not, ◌&&◌, ◌||◌, nat_lt, nat_le, min, max, List, [], ◌∷◌, map}
 use Rattle.std.specs.Prelude.{filter, fold, Option, Some, None, option_map, find, is_none}
 use Rattle.std.specs.List.{list_any}
-use Rattle.kcr_base.specs.Same.{same_text, same_role, same_place}
-use Rattle.kcr_base.specs.Refuse.{when, first_of, unknown_person_refusal}
-use Rattle.kcr_base.specs.declared.place.Role.{Role}
-use Rattle.kcr_base.specs.declared.place.Place.{Place}
-use Rattle.kcr_base.specs.declared.refusal.Refusal.{Refusal}
+use Rattle.kcr_base.specs.{Same.same_text, Same.same_role, Same.same_place, Refuse.when, Refuse.first_of, Refuse.unknown_person_refusal}
+use Rattle.kcr_base.specs.declared.{place.Role.Role, place.Place.Place, refusal.Refusal.Refusal}
 use Rattle.kcr_base.specs.declared.refusal.Refusal.TheVariants.{Taken, Range, Apart, Held, Vacant, Settled, Full}
-use Rattle.kcr_people.specs.declared.Person.{Person}
-use Rattle.kcr_people.specs.declared.Training.{Training}
-use Rattle.kcr_people.specs.declared.Withdrawal.{Withdrawal}
-use Rattle.kcr_people.specs.declared.Appointment.{Appointment}
+use Rattle.kcr_people.specs.declared.{Person.Person, Training.Training, Withdrawal.Withdrawal, Appointment.Appointment}
 
 -- PEOPLE
 

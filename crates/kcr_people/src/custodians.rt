@@ -2,8 +2,7 @@
 ghost use Rattle.std.specs.Prelude.{◌≡◌, Some, None};
 ghost use Rattle.kcr_base.specs.Refuse.{unless};
 ghost use Rattle.kcr_people.specs.People;
-ghost use Rattle.kcr_people.specs.declared.Appointment.{Appointment};
-ghost use Rattle.kcr_people.specs.declared.Roster.{Roster};
+ghost use Rattle.kcr_people.specs.declared.{Appointment.Appointment, Roster.Roster};
 
 use crate::checks::{check_day, check_person};
 use crate::{Appointment, Roster, queries};

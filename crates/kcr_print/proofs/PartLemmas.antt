@@ -9,8 +9,7 @@ use Rattle.std.specs.Prelude.{Bool, true, false}
 use Rattle.std.proofs.lemmas.Result.{IfErr-weaker, IfOk-from_err, MatchResult-weaker, on_ok_weaker}
 use Rattle.kcr_base.specs.declared.refusal.Refusal.TheVariants as Refusals
 use Rattle.kcr_history.specs.Tables as machine
-use Rattle.kcr_store.specs.Rows.{MayHaveNoRow, IsNotPlanned, NamesCeremony}
-use Rattle.kcr_store.specs.ShownBy.{HasNoRowBy, IsNotPlannedBy, IsRowBy}
+use Rattle.kcr_store.specs.{Rows.MayHaveNoRow, Rows.IsNotPlanned, Rows.NamesCeremony, ShownBy.HasNoRowBy, ShownBy.IsNotPlannedBy, ShownBy.IsRowBy}
 use Rattle.kcr_print.proofs.WrittenLemmas.{appends_both, appends_nothing, front_both, front_longer}
 
 -- WHY IT STOPS

@@ -7,15 +7,10 @@ use Rattle.kcr_print.proofs.Common.{stay_line, bag_lines, items_in_order, bags_i
 use Rattle.kcr_print.proofs.Common.{exception_line, safe_line, exceptions_of, named_stays, loose_items, RegisterState, StandsAt, whole, planned_row}
 use Rattle.kcr_print.proofs.Common.{annotated_by, attendance_by, custody_by, script_by, head_lines, foot_lines, header_line, seated_lines, named_line}
 use Rattle.kcr_print.proofs.Common.{packed_lines, code_line}
-use Rattle.kcr_custody.specs.Custody.{lies_in}
-use Rattle.kcr_custody.specs.Spots.{spot_text}
-use Rattle.kcr_custody.specs.declared.Bag.{Bag}
-use Rattle.kcr_custody.specs.declared.Item.{Item}
-use Rattle.kcr_custody.specs.declared.Rest.TheVariants.{Loose, Within}
+use Rattle.kcr_custody.specs.{Custody.lies_in, Spots.spot_text}
+use Rattle.kcr_custody.specs.declared.{Bag.Bag, Item.Item, Rest.TheVariants.Loose, Rest.TheVariants.Within}
 use Rattle.kcr_room.specs.Stays.{stays_by, attendance_in_by}
-use Rattle.kcr_history.specs.Room.{sheet}
-use Rattle.kcr_history.specs.declared.row_types.SeatingRow.{SeatingRow}
-use Rattle.kcr_history.specs.declared.row_types.StepRow.{StepRow}
+use Rattle.kcr_history.specs.{Room.sheet, declared.row_types.SeatingRow.SeatingRow, declared.row_types.StepRow.StepRow}
 use Rattle.kcr_history.specs.declared.row_types.StepState.TheVariants.{Undone, Signed, Passed}
 use Rattle.kcr_history.specs.Questions.{with_seated, with_name, with_items, is_loose}
 use Rattle.kcr_tables.specs.MachineTables.{TreesHoldTables}

@@ -7,13 +7,10 @@ use Rattle.kcr_print.proofs.Common.{reverse-append, flat_map-append, IsPermutati
 use Rattle.kcr_print.proofs.Common.{all-permutation, filter_none, inner_of, Counted, AreValues, History, IsRegister, key_row, tables, KeyRow, only}
 use Rattle.kcr_print.proofs.Common.{numbered, commands_within, OfRows, stands_rows, RegisterState, StandsAt, whole, IsPrinted, Prints, PrintsRows}
 use Rattle.kcr_print.proofs.Common.{RefusesBetweenRows, PrintFault, Exports, requests_between, row_request, row_requests}
-use Rattle.std.proofs.Common.{Option, Some, None}
-use Rattle.std.proofs.lemmas.Bool.Decides.{nat_tests}
+use Rattle.std.proofs.{Common.Option, Common.Some, Common.None, lemmas.Bool.Decides.nat_tests}
 use Rattle.kcr_wire.specs.Requests.{request_text}
 use Rattle.kcr_forms.specs.Acts.{IsAct}
-use Rattle.kcr_history.specs.declared.commands.Act.{Act}
-use Rattle.kcr_history.specs.declared.commands.Command.{Command}
-use Rattle.kcr_history.specs.declared.commands.Entry.{Entry}
+use Rattle.kcr_history.specs.declared.commands.{Act.Act, Entry.Entry, Command.Command}
 use Rattle.kcr_history.proofs.Steps.{numbers}
 use Rattle.kcr_reading.specs.Commands.{commands_past}
 use Rattle.kcr_wire.proofs.Again.{act-again}

@@ -3,9 +3,8 @@ use Rattle.kcr_print.proofs.Common.{◌≡◌, ℕ, List, [], ◌∷◌, ◌++�
 use Rattle.kcr_print.proofs.Common.{Some, None, Result, Ok, Err, IsErrAnd, Appends, flat_map, take-append_seam, flat_map-append, Held, Ghosts}
 use Rattle.kcr_print.proofs.Common.{inner_of, failures_of, Counted, Refusal, IsNextOf, IsFault, OfRowsOver, OfRowsShown, OnlyReads, reads_nothing}
 use Rattle.kcr_print.proofs.Common.{reads_then, CountsWriteFaults, PrintsPart, RefusesBetweenRows, RefusesUnwritten, Stops, WritesPrefix, PrintFault}
-use Rattle.kcr_print.proofs.Common.{Refused}
+use Rattle.kcr_print.proofs.{Common.Refused, PartLemmas.err_is, PartLemmas.told_then}
 use Rattle.kcr_history.specs.Tables as machine
-use Rattle.kcr_print.proofs.PartLemmas.{err_is, told_then}
 use Rattle.kcr_print.proofs.WrittenLemmas.{appends_both, appends_nothing, front_both, front_longer}
 
 -- these rows were written whole of those that were to come, and those are left

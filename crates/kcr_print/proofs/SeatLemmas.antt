@@ -1,8 +1,7 @@
 -- The lines of seats, one seat after the other.
 use Rattle.kcr_print.proofs.Common.{◌≡◌, ℕ, zero, suc, ◌+◌, ◌<◌, List, [], ◌∷◌, ◌++◌, take, length, get_or, min, codes, refl, sym, ap, ◌∙◌}
 use Rattle.kcr_print.proofs.Common.{append_assoc, append-nil, arith, ends_line, words, seat_lines}
-use Rattle.kcr_script.specs.Seat.{seat_text}
-use Rattle.kcr_script.specs.declared.seat.Seat.{Seat}
+use Rattle.kcr_script.specs.{Seat.seat_text, declared.seat.Seat.Seat}
 
 -- the line of a seat: its text, then the initials of the person in it
 abbrev pub seat_line : Seat → List ℕ → List ℕ

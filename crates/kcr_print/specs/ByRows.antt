@@ -1,11 +1,8 @@
 -- The texts that are printed of whatever rows the tables hold, by what the readings give.
 use Rattle.std.specs.Prelude.{ℕ, List, [], ◌++◌, Option, find}
-use Rattle.std.specs.List.{flat_map}
-use Rattle.std.specs.Option.{option_map_or}
+use Rattle.std.specs.{List.flat_map, Option.option_map_or}
 use Rattle.kcr_history.specs.Prints.{exception_line, loose_line, safe_line}
-use Rattle.kcr_history.specs.Tables.{Tables}
-use Rattle.kcr_history.specs.Views.{is_of_number}
-use Rattle.kcr_history.specs.declared.row_types.CeremonyRow.{CeremonyRow}
+use Rattle.kcr_history.specs.{Tables.Tables, Views.is_of_number, declared.row_types.CeremonyRow.CeremonyRow}
 use Rattle.kcr_reading.specs.Remaining.{exceptions_of, loose_items, named_stays, packed_bags, safes_in_order, seated_steps}
 use Rattle.kcr_print.specs.Lines.{foot_lines, head_lines, header_line, named_line, packed_lines, seated_lines}
 

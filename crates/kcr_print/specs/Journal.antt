@@ -2,16 +2,13 @@
 use Rattle.std.specs.Prelude.{ℕ, List, map, Option, Result, ⊤}
 use Rattle.std.specs.List.{flat_map}
 use Rattle.sqlite.specs.Store.{Ghosts}
-use Rattle.kcr_base.specs.Counted.{inner_of}
-use Rattle.kcr_base.specs.declared.counted.Counted.{Counted}
+use Rattle.kcr_base.specs.{Counted.inner_of, declared.counted.Counted.Counted}
 use Rattle.kcr_forms.specs.Values.{AreValues}
 use Rattle.kcr_history.specs.Tables.{Tables, tables}
 use Rattle.kcr_journal.specs.Journal.{journal, row_line}
 use Rattle.kcr_reading.specs.Commands.{commands_within}
-use Rattle.kcr_store.specs.Calls.{OfHistory}
-use Rattle.kcr_store.specs.Register.{RegisterState}
-use Rattle.kcr_print.specs.Reports.{IsPrinted, Prints, PrintsRows}
-use Rattle.kcr_print.specs.declared.fault.PrintFault.{PrintFault}
+use Rattle.kcr_store.specs.{Calls.OfHistory, Register.RegisterState}
+use Rattle.kcr_print.specs.{Reports.IsPrinted, Reports.Prints, Reports.PrintsRows, declared.fault.PrintFault.PrintFault}
 
 -- the lines of the rows, whatever rows these are
 abbrev pub row_journal : Option ℕ → Tables → List ℕ

@@ -1,19 +1,13 @@
 -- The lines of the rows that a report reads.
 use Rattle.std.specs.Prelude.{ℕ, List, [], ◌∷◌, ◌++◌, codes, option_map, unwrap_or}
-use Rattle.std.specs.Fmt.{decimal}
-use Rattle.std.specs.List.{flat_map}
+use Rattle.std.specs.{Fmt.decimal, List.flat_map}
 use Rattle.kcr_base.specs.Moment.{moment_text}
 use Rattle.kcr_custody.specs.Spots.{spot_text}
 use Rattle.kcr_script.specs.declared.seat.Seat.{Seat}
-use Rattle.kcr_history.specs.declared.row_types.CeremonyRow.{CeremonyRow}
-use Rattle.kcr_history.specs.declared.row_types.StepRow.{StepRow}
-use Rattle.kcr_history.specs.declared.row_types.StepState.{StepState}
-use Rattle.kcr_history.specs.declared.row_types.StepState.TheVariants.{Undone, Signed, Passed}
-use Rattle.kcr_history.specs.Prints.{ends_line, line_of, head_line, moment_line, seat_lines, seats_filled, open_lines}
-use Rattle.kcr_history.specs.Prints.{csv_line}
-use Rattle.kcr_history.specs.declared.report_rows.BagWithItems.{BagWithItems}
-use Rattle.kcr_history.specs.declared.report_rows.StayWithName.{StayWithName}
-use Rattle.kcr_history.specs.declared.report_rows.SeatedStep.{SeatedStep}
+use Rattle.kcr_history.specs.declared.row_types.{CeremonyRow.CeremonyRow, StepRow.StepRow}
+use Rattle.kcr_history.specs.declared.row_types.StepState.{StepState, TheVariants.Undone, TheVariants.Signed, TheVariants.Passed}
+use Rattle.kcr_history.specs.Prints.{ends_line, line_of, head_line, moment_line, seat_lines, seats_filled, open_lines, csv_line}
+use Rattle.kcr_history.specs.declared.report_rows.{BagWithItems.BagWithItems, SeatedStep.SeatedStep, StayWithName.StayWithName}
 
 -- what stands above the steps
 abbrev pub head_lines : CeremonyRow → List ℕ

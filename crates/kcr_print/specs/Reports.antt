@@ -1,28 +1,16 @@
 -- What a call that writes a report leaves.
-use Rattle.std.specs.Prelude.{◌≡◌, ◌≢◌, ◌<◌, ◌⊎◌, ◌↔◌, ⊤, ℕ, false, List, Option, Result, Err, IfErr, MatchResult}
-use Rattle.std.specs.Prelude.{IsSome, IsTrue, OnOk, take}
-use Rattle.std.specs.List.{flat_map}
-use Rattle.std.specs.Io.KnownBytes.{Appends}
-use Rattle.sqlite.specs.Store.{Ghosts}
-use Rattle.sqlite.specs.Held.{Held, state}
-use Rattle.sqlite.specs.State.{HasCleanDisk}
-use Rattle.kcr_base.specs.Counted.{inner_of, failures_of}
-use Rattle.kcr_base.specs.declared.counted.Counted.{Counted}
-use Rattle.kcr_base.specs.declared.refusal.Refusal.{Refusal}
+use Rattle.std.specs.Prelude.{◌≡◌, ◌≢◌, ◌<◌, ◌⊎◌, ◌↔◌, ⊤, ℕ, false, List, Option, Result, Err, IfErr, MatchResult, IsSome, IsTrue, OnOk, take}
+use Rattle.std.specs.{List.flat_map, Io.KnownBytes.Appends}
+use Rattle.sqlite.specs.{Store.Ghosts, State.HasCleanDisk, Held.Held, Held.state}
+use Rattle.kcr_base.specs.{Counted.inner_of, Counted.failures_of, declared.counted.Counted.Counted, declared.refusal.Refusal.Refusal}
 use Rattle.kcr_base.specs.declared.refusal.Refusal.TheVariants as Refusals
-use Rattle.kcr_history.specs.Ceremonies.{is_ceremony}
-use Rattle.kcr_history.specs.History.{History}
-use Rattle.kcr_history.specs.Tables.{Tables}
+use Rattle.kcr_history.specs.{Ceremonies.is_ceremony, History.History, Tables.Tables}
 use Rattle.kcr_tables.specs.Refusals.{IsFault}
 use Rattle.kcr_store.specs.Register.{RegisterState, RegisterHistory, IsConsistent, StandsAt}
 use Rattle.kcr_store.specs.Calls.{CommitsNothing, OfHistory, OfRows, left_at}
-use Rattle.kcr_store.specs.Frame.{OfRowsShown, OnlyReads}
-use Rattle.kcr_store.specs.Rows.{IsNotPlanned, NamesCeremony}
-use Rattle.kcr_store.specs.ShownBy.{IsNotPlannedBy}
-use Rattle.kcr_print.specs.ByRows.{row_of_ceremony}
-use Rattle.kcr_print.specs.Written.{WritesPrefix}
-use Rattle.kcr_print.specs.declared.fault.PrintFault.{PrintFault}
-use Rattle.kcr_print.specs.declared.fault.PrintFault.TheVariants.{Refused, Write}
+use Rattle.kcr_store.specs.{Frame.OfRowsShown, Frame.OnlyReads, ShownBy.IsNotPlannedBy, Rows.IsNotPlanned, Rows.NamesCeremony}
+use Rattle.kcr_print.specs.{ByRows.row_of_ceremony, Written.WritesPrefix}
+use Rattle.kcr_print.specs.declared.fault.PrintFault.{PrintFault, TheVariants.Refused, TheVariants.Write}
 
 -- memory ran out, the device failed, or the report is refused for what it is asked for; or a write failed
 abbrev pub Stops : (Refusal → Type 0) → PrintFault → Type 0

@@ -1,20 +1,13 @@
 -- The accepted commands as requests, in the order of their numbers.
 use Rattle.std.specs.Prelude.{ℕ, ◌-◌, List, [], map, take, drop, reverse, Option, Result, ⊤}
-use Rattle.std.specs.List.{flat_map}
-use Rattle.std.specs.Option.{option_map_or}
+use Rattle.std.specs.{List.flat_map, Option.option_map_or}
 use Rattle.sqlite.specs.Store.{Ghosts}
-use Rattle.kcr_base.specs.Counted.{inner_of}
-use Rattle.kcr_base.specs.declared.counted.Counted.{Counted}
-use Rattle.kcr_wire.specs.Requests.{request_text}
-use Rattle.kcr_wire.specs.ActTexts.{act_of}
+use Rattle.kcr_base.specs.{Counted.inner_of, declared.counted.Counted.Counted}
+use Rattle.kcr_wire.specs.{Requests.request_text, ActTexts.act_of}
 use Rattle.kcr_forms.specs.Values.{AreValues}
-use Rattle.kcr_history.specs.History.{History}
-use Rattle.kcr_history.specs.Tables.{Tables, tables}
-use Rattle.kcr_history.specs.declared.commands.Command.{Command}
-use Rattle.kcr_history.specs.declared.row_types.KeyRow.{KeyRow}
+use Rattle.kcr_history.specs.{History.History, Tables.Tables, Tables.tables, declared.commands.Command.Command, declared.row_types.KeyRow.KeyRow}
 use Rattle.kcr_reading.specs.Commands.{commands_within}
-use Rattle.kcr_store.specs.Calls.{OfHistory, OfRows}
-use Rattle.kcr_store.specs.Register.{RegisterState}
+use Rattle.kcr_store.specs.{Calls.OfHistory, Calls.OfRows, Register.RegisterState}
 use Rattle.kcr_print.specs.Reports.{IsPrinted, Prints, PrintsRows, RefusesBetweenRows}
 use Rattle.kcr_print.specs.declared.fault.PrintFault.{PrintFault}
 

@@ -5,8 +5,7 @@ ghost use Rattle.kcr_reading.specs.Commands.{commands_within};
 ghost use Rattle.kcr_store.specs.Frame.{OfRowsShown};
 ghost use Rattle.kcr_print.specs.ByRows.{annotated_by, attendance_by, custody_by};
 ghost use Rattle.kcr_print.specs.Reports.{PrintsPart, PrintsCeremonyPart, RefusesBetweenRows};
-ghost use Rattle.kcr_print.specs.Journal.{row_journal};
-ghost use Rattle.kcr_print.specs.Requests.{row_request, row_requests};
+ghost use Rattle.kcr_print.specs.{Journal.row_journal, Requests.row_request, Requests.row_requests};
 
 use crate::attendance_lines::Header;
 use crate::fault::PrintFault;

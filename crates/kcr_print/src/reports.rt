@@ -4,9 +4,7 @@ ghost use Rattle.std.specs.Prelude.{◌≡◌};
 ghost use Rattle.kcr_history.specs.Prints as prints;
 ghost use Rattle.kcr_store.specs.Calls.{BreaksIf};
 ghost use Rattle.kcr_print.specs.ByRows.{annotated_by, attendance_by, custody_by};
-ghost use Rattle.kcr_print.specs.Reports.{Prints, PrintsPlanned, PrintsRows};
-ghost use Rattle.kcr_print.specs.Journal.{PrintsJournal};
-ghost use Rattle.kcr_print.specs.Requests.{Exports};
+ghost use Rattle.kcr_print.specs.{Reports.Prints, Reports.PrintsPlanned, Reports.PrintsRows, Journal.PrintsJournal, Requests.Exports};
 
 use crate::fault::PrintFault;
 use crate::parts::{print_attendance, print_custody, print_journal, print_requests, print_script};

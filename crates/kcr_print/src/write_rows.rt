@@ -1,7 +1,6 @@
 //! Rows of a register, written one at a time.
 
-ghost use Rattle.std.specs.Prelude.{IfErr};
-ghost use Rattle.std.specs.List.{flat_map};
+ghost use Rattle.std.specs.{Prelude.IfErr, List.flat_map};
 ghost use Rattle.kcr_base.specs.Counted.{inner_of};
 ghost use Rattle.kcr_store.specs.Frame.{OfRowsShown};
 ghost use Rattle.kcr_print.specs.Reports.{Stops, CountsWriteFaults, PrintsPart, RefusesUnwritten, RefusesBetweenRows};

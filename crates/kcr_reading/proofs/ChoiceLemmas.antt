@@ -9,8 +9,7 @@ use Rattle.sqlite.specs.Effect.{Database}
 use Rattle.kcr_base.specs.declared.refusal.Refusal.{Refusal}
 use Rattle.kcr_rows.proofs.GreatestLemmas.{none_from}
 use Rattle.kcr_history.specs.Tables as machine
-use Rattle.kcr_reading.proofs.FirstLemmas.{all_take, ascending_take}
-use Rattle.kcr_reading.proofs.NumberLemmas.{passing, rises_among}
+use Rattle.kcr_reading.proofs.{FirstLemmas.all_take, FirstLemmas.ascending_take, NumberLemmas.passing, NumberLemmas.rises_among}
 use Rattle.kcr_reading.proofs.OrderLemmas.{later, moved, moved_on, gives_first, gives_several, none_past}
 
 -- ---- texts

@@ -6,18 +6,12 @@ use Rattle.kcr_reading.proofs.Common.{Binary, Trees, IsAscending, Compare, Is, G
 use Rattle.kcr_reading.proofs.Common.{value_cmp_total, by_key, filter-and, bag_row, item_row, safe_row, Item, SafeRow, in_order, bags_place}
 use Rattle.kcr_reading.proofs.Common.{items_place, TreesHoldTables, Choice, shows, ShowsFirst, IsFirstRow, is_loose, IsNextOf, is_past, is_behind}
 use Rattle.kcr_reading.proofs.Common.{loose_past, items_by_code, serials_past, safe_place, safes_in_order, safes_past}
-use Rattle.sqlite.specs.Order.{value_cmp}
-use Rattle.sqlite.specs.Ops.{binary}
+use Rattle.sqlite.specs.{Order.value_cmp, Ops.binary}
 use Rattle.sqlite_tied.specs.Compute.{everything}
-use Rattle.kcr_base.specs.declared.place.Facility.{Facility}
-use Rattle.kcr_base.specs.Facility.{facility_text}
-use Rattle.kcr_base.specs.Same.{facility_number, is_before}
+use Rattle.kcr_base.specs.{declared.place.Facility.Facility, Facility.facility_text, Same.facility_number, Same.is_before}
 use Rattle.kcr_rows.specs.States.{safe_digit}
 use Rattle.kcr_custody.specs.Custody.{lies_in}
-use Rattle.kcr_custody.specs.declared.Bag.{Bag}
-use Rattle.kcr_custody.specs.declared.Rest.{Rest}
-use Rattle.kcr_custody.specs.declared.Rest.TheVariants.{Loose, Within}
-use Rattle.kcr_custody.specs.declared.SafeNumber.{SafeNumber}
+use Rattle.kcr_custody.specs.declared.{Bag.Bag, SafeNumber.SafeNumber, Rest.Rest, Rest.TheVariants.Loose, Rest.TheVariants.Within}
 use Rattle.kcr_history.specs.Tables as machine
 use Rattle.kcr_tables.specs.Schema as schema
 use Rattle.kcr_reading.proofs.ChoiceLemmas.{by_test, chosen_come, next_come}

@@ -15,8 +15,7 @@ use Rattle.kcr_room.proofs.Listed.{attendance-moves, attendance-listed}
 use Rattle.kcr_room.specs.Stays.{is_listed_before, are_listed, attendance_in_by}
 use Rattle.kcr_history.specs.Tables as machine
 use Rattle.kcr_tables.specs.Schema as schema
-use Rattle.kcr_reading.proofs.ChoiceLemmas.{by_test}
-use Rattle.kcr_reading.proofs.FirstLemmas.{begin_take}
+use Rattle.kcr_reading.proofs.{ChoiceLemmas.by_test, FirstLemmas.begin_take}
 use Rattle.kcr_reading.proofs.NumberLemmas.{number_cmp, behind_number, behind_text, equal_number, one_test, with_tests, rises_among}
 use Rattle.kcr_reading.proofs.OrderLemmas.{later, moved, moved_to, apart_on, sorted, gives_several}
 

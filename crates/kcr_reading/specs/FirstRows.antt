@@ -1,8 +1,7 @@
 -- The first of the rows of a table that pass, in an order, one or several.
 use Rattle.std.specs.Prelude.{◌≡◌, ℕ, ℤ, pos, negsuc, List, slice_get, take, filter, Option, Some, None, IsPermutation}
 use Rattle.std.specs.declared.cmp.Ordering.TheVariants.{Less}
-use Rattle.sqlite.specs.Order.{Row}
-use Rattle.sqlite.specs.Tree.{IsAscending}
+use Rattle.sqlite.specs.{Order.Row, Tree.IsAscending}
 use Rattle.kcr_rows.specs.Keyed.{TableLayout}
 use Rattle.kcr_tables.specs.Statements.{Choice, Selects}
 

@@ -1,7 +1,6 @@
 -- What a step of a reading says of the tables.
 use Rattle.std.specs.Prelude.{Result, IfOk, IsTrue}
-use Rattle.sqlite.specs.Store.{Ghosts}
-use Rattle.sqlite.specs.declared.transaction.Transaction.{Transaction}
+use Rattle.sqlite.specs.{Store.Ghosts, declared.transaction.Transaction.Transaction}
 use Rattle.kcr_base.specs.declared.refusal.Refusal.{Refusal}
 use Rattle.kcr_history.specs.Tables.{Tables}
 use Rattle.kcr_rows.specs.Frame.{IfClean}

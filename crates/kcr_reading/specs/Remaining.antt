@@ -1,27 +1,16 @@
 -- What of the rows that are read one at a time is still to come, by the tables of the machine.
-use Rattle.std.specs.Prelude.{◌≡◌, ℕ, ◌+◌, ◌*◌, ◌==◌, Bool, true, ◌&&◌, not, nat_lt, List, [], ◌∷◌, ◌++◌}
-use Rattle.std.specs.Prelude.{map, filter, Option, Some, None}
-use Rattle.std.specs.Global.{Global}
-use Rattle.std.specs.Vec.Iter.{into_iter_items}
-use Rattle.std.specs.declared.vec.IntoIter.{IntoIter}
+use Rattle.std.specs.Prelude.{◌≡◌, ℕ, ◌+◌, ◌*◌, ◌==◌, Bool, true, ◌&&◌, not, nat_lt, List, [], ◌∷◌, ◌++◌, map, filter, Option, Some, None}
+use Rattle.std.specs.{Global.Global, Vec.Iter.into_iter_items, declared.vec.IntoIter.IntoIter}
 use Rattle.kcr_base.specs.Same.{is_before, facility_number}
 use Rattle.kcr_rows.specs.States.{safe_digit}
-use Rattle.kcr_custody.specs.declared.Bag.{Bag}
-use Rattle.kcr_custody.specs.declared.Item.{Item}
-use Rattle.kcr_custody.specs.declared.SafeRow.{SafeRow}
-use Rattle.kcr_room.specs.Stays.{is_listed_before, attendance_in_by}
-use Rattle.kcr_room.specs.declared.Stay.{Stay}
+use Rattle.kcr_custody.specs.declared.{Bag.Bag, Item.Item, SafeRow.SafeRow}
+use Rattle.kcr_room.specs.{Stays.is_listed_before, Stays.attendance_in_by, declared.Stay.Stay}
 use Rattle.kcr_history.specs.Prints.{in_order, item_before, bag_before}
 use Rattle.kcr_history.specs.Questions.{with_seated, with_name, with_items, is_loose}
 use Rattle.kcr_history.specs.Tables as machine
-use Rattle.kcr_history.specs.declared.row_types.ExceptionRow.{ExceptionRow}
-use Rattle.kcr_history.specs.declared.row_types.SeatingRow.{SeatingRow}
-use Rattle.kcr_history.specs.declared.row_types.StepRow.{StepRow}
-use Rattle.kcr_history.specs.declared.report_rows.BagWithItems.{BagWithItems}
-use Rattle.kcr_history.specs.declared.report_rows.SeatedStep.{SeatedStep}
-use Rattle.kcr_history.specs.declared.report_rows.StayWithName.{StayWithName}
-use Rattle.kcr_reading.specs.declared.stays.StayRange.{StayRange}
-use Rattle.kcr_reading.specs.declared.stays.StayRange.TheVariants.{SameStart, LaterStart}
+use Rattle.kcr_history.specs.declared.row_types.{ExceptionRow.ExceptionRow, SeatingRow.SeatingRow, StepRow.StepRow}
+use Rattle.kcr_history.specs.declared.report_rows.{BagWithItems.BagWithItems, SeatedStep.SeatedStep, StayWithName.StayWithName}
+use Rattle.kcr_reading.specs.declared.stays.StayRange.{StayRange, TheVariants.SameStart, TheVariants.LaterStart}
 
 -- the row is the next of those to come, and without one none comes
 abbrev pub IsNextOf : {X : Type 0} → List X → Option X → List X → Type 0

@@ -3,8 +3,7 @@
 ghost use Rattle.std.specs.Prelude.{◌≡◌, ◌++◌, []};
 ghost use Rattle.kcr_history.specs.Tables as machine;
 ghost use Rattle.kcr_tables.specs.Frame.{Reads};
-ghost use Rattle.kcr_reading.specs.Frame.{OfOpenTables};
-ghost use Rattle.kcr_reading.specs.Remaining.{IsNextOf, IsNextBatchOf, read_ahead};
+ghost use Rattle.kcr_reading.specs.{Frame.OfOpenTables, Remaining.IsNextOf, Remaining.IsNextBatchOf, Remaining.read_ahead};
 
 use crate::cursor::Cursor;
 use kcr_base::Refusal;

@@ -4,9 +4,7 @@ ghost use Rattle.std.specs.Prelude.{◌≡◌, ◌==◌, filter, IfOk, IfSome, I
 ghost use Rattle.kcr_history.specs.Tables as machine;
 ghost use Rattle.kcr_rows.specs.Frame.{IfClean, ImpliesOpen};
 ghost use Rattle.kcr_tables.specs.Frame.{OfMachineTables, Reads};
-ghost use Rattle.kcr_reading.specs.Commands.{commands_within, numbered};
-ghost use Rattle.kcr_reading.specs.Frame.{OfOpenTables};
-ghost use Rattle.kcr_reading.specs.Remaining.{IsNextOf};
+ghost use Rattle.kcr_reading.specs.{Commands.commands_within, Commands.numbered, Frame.OfOpenTables, Remaining.IsNextOf};
 
 use crate::cursor::Cursor;
 use kcr_base::Refusal;

@@ -2,8 +2,7 @@
 
 ghost use Rattle.kcr_history.specs.Tables as machine;
 ghost use Rattle.kcr_tables.specs.Frame.{Reads};
-ghost use Rattle.kcr_reading.specs.Frame.{OfOpenTables};
-ghost use Rattle.kcr_reading.specs.Remaining.{IsNextOf};
+ghost use Rattle.kcr_reading.specs.{Frame.OfOpenTables, Remaining.IsNextOf};
 
 use kcr_base::Refusal;
 use sqlite::{Alter, Transaction};

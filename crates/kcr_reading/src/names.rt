@@ -1,8 +1,7 @@
 //! The names of people, as the register has them.
 
 ghost use Rattle.std.specs.Prelude.{◌≡◌, map};
-ghost use Rattle.kcr_history.specs.Prints.{name_of};
-ghost use Rattle.kcr_history.specs.Questions.{with_name};
+ghost use Rattle.kcr_history.specs.{Prints.name_of, Questions.with_name};
 ghost use Rattle.kcr_rows.specs.Frame.{ImpliesOpen};
 ghost use Rattle.kcr_tables.specs.Frame.{OfMachineTables, Reads};
 

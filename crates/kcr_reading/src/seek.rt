@@ -1,12 +1,9 @@
 //! The first rows of a table that pass a test, or the first one.
 
 ghost use Rattle.std.specs.Prelude.{◌≡◌, ℕ, Option};
-ghost use Rattle.sqlite.specs.Values.{bound, bound_value};
-ghost use Rattle.sqlite.specs.Value.{owned};
-ghost use Rattle.sqlite.specs.declared.types.Value.TheVariants.{Int};
+ghost use Rattle.sqlite.specs.{Values.bound, Values.bound_value, Value.owned, declared.types.Value.TheVariants.Int};
 ghost use Rattle.kcr_rows.specs.Frame.{ImpliesOpen};
-ghost use Rattle.kcr_tables.specs.Frame.{OfTables, Reads};
-ghost use Rattle.kcr_tables.specs.Statements.{Choice};
+ghost use Rattle.kcr_tables.specs.{Frame.OfTables, Frame.Reads, Statements.Choice};
 ghost use Rattle.kcr_reading.specs.FirstRows.{ShowsSome, AreFirst, ShowsFirst, IsFirstRow, bound_of};
 
 use kcr_base::Refusal;

@@ -1,16 +1,13 @@
 //! The stays in the room of a ceremony, each with the name of the person.
 
 ghost use Rattle.std.specs.Prelude.{◌≡◌, ◌++◌, None, filter};
-ghost use Rattle.sqlite.specs.Value.{owned};
-ghost use Rattle.sqlite.specs.Values.{bound_value};
-ghost use Rattle.sqlite.specs.declared.types.Value.TheVariants.{Int};
+ghost use Rattle.sqlite.specs.{Value.owned, Values.bound_value, declared.types.Value.TheVariants.Int};
 ghost use Rattle.kcr_room.specs.Stays.{attendance_in_by};
 ghost use Rattle.kcr_history.specs.Tables as machine;
 ghost use Rattle.kcr_rows.specs.Frame.{ImpliesOpen};
 ghost use Rattle.kcr_tables.specs.Frame.{OfMachineTables, Reads};
 ghost use Rattle.kcr_reading.specs.FirstRows.{bound_of};
-ghost use Rattle.kcr_reading.specs.Remaining.{Begin, IsNextBatchOf, is_stay_in_range, since_of, listed_past, named_stays};
-ghost use Rattle.kcr_reading.specs.Remaining.{read_ahead, stays_past};
+ghost use Rattle.kcr_reading.specs.Remaining.{Begin, IsNextBatchOf, is_stay_in_range, since_of, listed_past, named_stays, read_ahead, stays_past};
 
 use crate::batched::{BatchSource, Batched};
 use crate::names::with_names;

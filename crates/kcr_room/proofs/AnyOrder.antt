@@ -6,13 +6,9 @@ use Rattle.kcr_room.proofs.Common.{ap, ◌∙◌, arith, append_assoc, list_any,
 use Rattle.kcr_room.proofs.Common.{sum_by-append, IsPermutation-map, sum_by-IsPermutation, list_any-IsPermutation, filter-order, is_enter, is_ahead}
 use Rattle.kcr_room.proofs.Common.{is_as_late, following, Followed, followed_rows_behind, later_row, last_onto, present_by, next_of, stays_of}
 use Rattle.kcr_room.proofs.Common.{stays_by, IsSheet, ShareNoMoment, same-itself, same-is}
-use Rattle.kcr_room.proofs.Words.{nat_tests, same_text, SheetRow}
-use Rattle.kcr_room.proofs.Lists.{any-filter, count-cons, none-behind}
-use Rattle.kcr_room.proofs.Firsts.{end-unique}
-use Rattle.kcr_room.proofs.Followed.{lasts-next}
-use Rattle.kcr_room.proofs.Agreement.{of_person, same-present}
-use Rattle.kcr_room.proofs.Orders.{present-order}
-use Rattle.kcr_room.proofs.Sheets.{made-in-turn, InTurn, last_reaches}
+use Rattle.kcr_room.proofs.{Words.nat_tests, Words.same_text, Words.SheetRow, Agreement.of_person, Agreement.same-present}
+use Rattle.kcr_room.proofs.{Lists.any-filter, Lists.count-cons, Lists.none-behind, Sheets.made-in-turn, Sheets.InTurn, Sheets.last_reaches}
+use Rattle.kcr_room.proofs.{Firsts.end-unique, Followed.lasts-next, Orders.present-order}
 
 -- the row is this person's and has this moment
 abbrev is_at : List ℕ → ℕ → SheetRow → Bool

@@ -3,14 +3,11 @@ use Rattle.kcr_room.proofs.Common.{◌≡◌, ℕ, zero, suc, ◌≤◌, Bool, t
 use Rattle.kcr_room.proofs.Common.{refl, sym, ap, ◌∙◌, arith, count_by, AllByRecursion, list_any, filter, IsPartitionPoint, IsNonDecreasing}
 use Rattle.kcr_room.proofs.Common.{recursion_from_All, list_any-append, sum_by-IsPermutation, list_any-IsPermutation, IsPermutation-append}
 use Rattle.kcr_room.proofs.Common.{min_moment, least, ends_after, headcount_in_by, is_lone_in_by, is_crowd_in_by, comings_by, first_lone_in_by}
-use Rattle.kcr_room.proofs.Common.{is_crowded_in_by, any-same}
+use Rattle.kcr_room.proofs.{Common.is_crowded_in_by, Common.any-same, Firsts.end-unique, Firsts.lasts-sooner, Firsts.lasts-passing}
 use Rattle.std.proofs.Common.{find}
 use Rattle.kcr_room.specs.declared.occupancy.Occupancy.{Occupancy}
 use Rattle.kcr_room.specs.Occupancy.{headcount_of, is_crowd_of, is_lone_of, HasMomentsOf}
-use Rattle.kcr_room.proofs.Words.{nat_tests, Stay}
-use Rattle.kcr_room.proofs.Lists.{count-cons}
-use Rattle.kcr_room.proofs.Firsts.{end-unique, lasts-sooner, lasts-passing}
-use Rattle.kcr_room.proofs.Moments.{balance}
+use Rattle.kcr_room.proofs.{Words.nat_tests, Words.Stay, Lists.count-cons, Moments.balance}
 
 -- of moments in order the point up to which they are not later is their number
 pub parted-count : (test : ℕ → Bool) (moments : List ℕ) (i : ℕ) → i ≤ length moments → IsPartitionPoint (λ m. test m ≡ true) (λ m. test m ≡ false) moments i

@@ -3,9 +3,7 @@ use Rattle.kcr_room.proofs.Common.{◌≡◌, ℕ, ◌+◌, true, cond, ◌==◌
 use Rattle.kcr_room.proofs.Common.{stay_covers, headcount_in_by, new_stay, with_end, of_ceremony, stays_after_request, clipped_to_moment}
 use Rattle.kcr_room.proofs.Common.{stays_from_moment, stay_count, is_overfull, is_overfull_by}
 use Rattle.kcr_room.proofs.Words.{nat_tests, Way, Enter, Leave, Stay}
-use Rattle.kcr_room.proofs.Lists.{count-filter, count-cons}
-use Rattle.kcr_room.proofs.Moments.{crowd-cons}
-use Rattle.kcr_room.proofs.Sheets.{added, after-added}
+use Rattle.kcr_room.proofs.{Lists.count-filter, Lists.count-cons, Moments.crowd-cons, Sheets.added, Sheets.after-added}
 
 -- the ceremony's stays alone tell how many people are in its room
 crowd-filter : (stays : List Stay) (c t : ℕ) → headcount_in_by (filter (of_ceremony c) stays) c t ≡ headcount_in_by stays c t

@@ -3,10 +3,7 @@ use Rattle.kcr_room.proofs.Common.{◌≡◌, ℕ, suc, ◌+◌, ◌≤◌, ◌<
 use Rattle.kcr_room.proofs.Common.{drop, Option, None, refl, sym, ap, ◌∙◌, arith, append_assoc, drop-cons, length-append, list_any, AllByRecursion}
 use Rattle.kcr_room.proofs.Common.{drop_all, list_any-append, SheetEvent, is_ahead, is_as_late, following, Followed, followed_rows_behind, ends_after}
 use Rattle.kcr_room.proofs.Common.{next_of, stays_of, sheet_events_from, sheet_events_by, stays_with}
-use Rattle.kcr_room.proofs.Words.{nat_tests, same_text, SheetRow}
-use Rattle.kcr_room.proofs.Lists.{any-filter}
-use Rattle.kcr_room.proofs.Firsts.{end-unique}
-use Rattle.kcr_room.proofs.Followed.{lasts-next}
+use Rattle.kcr_room.proofs.{Words.nat_tests, Words.same_text, Words.SheetRow, Lists.any-filter, Firsts.end-unique, Followed.lasts-next}
 
 -- a row at a place
 abbrev step_at : ℕ → SheetRow → SheetEvent

@@ -2,9 +2,8 @@
 use Rattle.kcr_room.proofs.Common.{◌≡◌, ℕ, cond, not, ◌&&◌, nat_le, List, [], ◌∷◌, ◌++◌, map, Option, Some, refl, ap, ◌∙◌, arith, append-nil}
 use Rattle.kcr_room.proofs.Common.{append_assoc, list_any, filter, map-append, filter-append, min_moment, least, is_enter, is_ahead, is_as_late}
 use Rattle.kcr_room.proofs.Common.{following, Followed, followed_rows_behind, ends_after, stay_from, next_of, stays_of, stays_by, any-map}
-use Rattle.kcr_room.proofs.Common.{same-turned}
+use Rattle.kcr_room.proofs.{Common.same-turned, Firsts.lasts-least}
 use Rattle.kcr_room.proofs.Words.{nat_tests, same_text, SheetRow, Stay}
-use Rattle.kcr_room.proofs.Firsts.{lasts-least}
 
 -- without the rows that follow them, the rows are as they were
 pub followed-same : (before rows : List SheetRow) → map (λ followed. followed.row) (followed_rows_behind before rows) ≡ rows

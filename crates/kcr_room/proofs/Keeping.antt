@@ -4,12 +4,10 @@ use Rattle.kcr_room.proofs.Common.{◌≡◌, ℕ, Bool, true, false, ◌||◌, 
 use Rattle.kcr_room.proofs.Common.{append-nil, append_assoc, list_any, filter, find, filter-append, enters, last_row, last_enters, last_row_of, is_of}
 use Rattle.kcr_room.proofs.Common.{in_force, ascending, put_person, stays_by, turn_refusal, sheet_refusal, is_out_of_turn_by, new_row, rows_refusal}
 use Rattle.kcr_room.proofs.Common.{are_apart, in_turn_onto, TurnsKeep, PresentAreIn, any-map, any-same, same-turned}
-use Rattle.kcr_base.specs.Refuse.{when}
-use Rattle.kcr_base.specs.declared.refusal.Refusal.TheVariants.{Late}
+use Rattle.kcr_base.specs.{Refuse.when, declared.refusal.Refusal.TheVariants.Late}
 use Rattle.kcr_base.proofs.RefuseLemmas.{none_holds}
 use Rattle.kcr_room.proofs.Words.{nat_tests, same_text, SheetRow, Way}
-use Rattle.kcr_room.proofs.Lists.{any-filter}
-use Rattle.kcr_room.proofs.Agreement.{listed, of_person, force-last}
+use Rattle.kcr_room.proofs.{Lists.any-filter, Agreement.listed, Agreement.of_person, Agreement.force-last}
 
 -- rows that are not refused: everybody has the turn, and nothing is against the sheet that they make
 pub taken : (rows : List SheetRow) (c mark : ℕ) (full : Bool) (way : Way) (people : List (List ℕ)) (at : ℕ) → rows_refusal rows c mark full way people at ≡ None

@@ -2,12 +2,8 @@
 use Rattle.kcr_room.proofs.Common.{◌≡◌, ℕ, Bool, true, nat_le, List, [], ◌∷◌, map, refl, sym, ◌∙◌, arith, filter, IsPermutation, stay_reaches}
 use Rattle.kcr_room.proofs.Common.{stay_covers, headcount_in_by, with_end, stays_from_moment, occupancy_refusal}
 use Rattle.kcr_room.proofs.Words.{nat_tests, Way, Enter, Leave, Stay}
-use Rattle.kcr_room.proofs.Lists.{count-filter}
-use Rattle.kcr_room.proofs.Moments.{crowd-cons}
-use Rattle.kcr_room.proofs.Sheets.{added}
-use Rattle.kcr_room.proofs.Crowds.{crowd-enter, crowd-later}
-use Rattle.kcr_room.proofs.Refusals.{refused-same}
-use Rattle.kcr_room.proofs.Orders.{later-order}
+use Rattle.kcr_room.proofs.{Lists.count-filter, Sheets.added, Refusals.refused-same}
+use Rattle.kcr_room.proofs.{Moments.crowd-cons, Orders.later-order, Crowds.crowd-enter, Crowds.crowd-later}
 
 -- a stay by which somebody is there at the moment or later, whether or not it is to end there, lasts to it
 holds-lasting : (c at t : ℕ) (people : List (List ℕ)) (stay : Stay) → nat_le at t ≡ true → stay_covers c t (with_end people at stay) ≡ true

@@ -2,8 +2,7 @@
 use Rattle.kcr_room.proofs.Common.{◌≡◌, ℕ, Bool, true, false, cond, not, ◌==◌, List, [], ◌∷◌, ◌++◌, refl, arith, list_all, filter, IsPermutation}
 use Rattle.kcr_room.proofs.Common.{IsPermutation-refl, IsPermutation-cons, IsPermutation-trans, IsPermutation-middle, all-more, is_listed_before}
 use Rattle.kcr_room.proofs.Common.{put_stay, in_order, attendance_in_by, are_listed}
-use Rattle.kcr_room.proofs.Words.{nat_tests, Stay}
-use Rattle.kcr_room.proofs.Orders.{before-turned, behind}
+use Rattle.kcr_room.proofs.{Words.nat_tests, Words.Stay, Orders.before-turned, Orders.behind}
 
 put-moves : (stay : Stay) (stays : List Stay) → IsPermutation (stay ∷ stays) (put_stay stay stays)
 put-moves stay [] = IsPermutation-refl (stay ∷ [])

@@ -3,10 +3,8 @@ use Rattle.kcr_room.proofs.Common.{◌≡◌, ℕ, zero, suc, ◌+◌, ◌≤◌
 use Rattle.kcr_room.proofs.Common.{None, refl, sym, ap, ◌∙◌, arith, subst, list_any, or_parts, list_any-append, sum_by-cons, headcount_by}
 use Rattle.kcr_room.proofs.Common.{IsFirstMoment, IsEver, count_until, stay_covers, headcount_in_by, is_lone_in_by, is_crowd_in_by, comings_by}
 use Rattle.kcr_room.proofs.Common.{goings_by, first_lone_in_by, is_crowded_in_by, stays_by}
-use Rattle.kcr_room.proofs.Words.{nat_tests, SheetRow, Stay}
+use Rattle.kcr_room.proofs.{Words.nat_tests, Words.SheetRow, Words.Stay, Agreement.same-crowd, Lists.count-cons}
 use Rattle.kcr_room.proofs.Firsts.{RisesAt, is_first, is_first-same, is_ever}
-use Rattle.kcr_room.proofs.Agreement.{same-crowd}
-use Rattle.kcr_room.proofs.Lists.{count-cons}
 
 -- HOW MANY MOMENTS HAVE PASSED
 

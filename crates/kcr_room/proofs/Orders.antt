@@ -4,10 +4,8 @@ use Rattle.kcr_room.proofs.Common.{sym, ap, ◌∙◌, arith, filter, take_more,
 use Rattle.kcr_room.proofs.Common.{IsPermutation-map, IsPermutation-append_left, sum_by-IsPermutation, list_any-IsPermutation, ascending, put_person}
 use Rattle.kcr_room.proofs.Common.{stay_covers, headcount_in_by, present_in_by, reaches, is_inside, is_inside_of, is_out_of_turn_in, new_stay}
 use Rattle.kcr_room.proofs.Common.{with_end, of_ceremony, stays_after_request, clipped_to_moment, stays_from_moment, is_overfull, stays_refusal}
-use Rattle.kcr_room.proofs.Common.{same-is}
+use Rattle.kcr_room.proofs.{Common.same-is, Rising.ranked, Rising.other-before, Refusals.refused-same, Refusals.find-same}
 use Rattle.kcr_room.proofs.Words.{nat_tests, is_before, Way, Enter, Leave, Stay}
-use Rattle.kcr_room.proofs.Refusals.{refused-same, find-same}
-use Rattle.kcr_room.proofs.Rising.{ranked, other-before}
 
 -- the headcount is the same for the stays in any order
 pub crowd-order : (xs ys : List Stay) → IsPermutation xs ys → (c t : ℕ) → headcount_in_by ys c t ≡ headcount_in_by xs c t

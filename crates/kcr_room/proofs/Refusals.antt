@@ -4,9 +4,7 @@ use Rattle.kcr_room.proofs.Common.{◌≡◌, ℕ, Bool, true, false, ◌||◌, 
 use Rattle.kcr_room.proofs.Common.{find, IsFirstMoment, IsEver, headcount_in_by, is_lone_in_by, is_crowd_in_by, stays_by, stays_from_moment}
 use Rattle.kcr_room.proofs.Common.{occupancy_refusal, sheet_refusal, is_overfull, stay_count, is_out_of_turn_in, is_out_of_turn_by}
 use Rattle.kcr_room.proofs.Common.{IsNeverLoneOrCrowded, SameRefusal, SameStays}
-use Rattle.kcr_room.proofs.Words.{nat_tests, Way, Stay}
-use Rattle.kcr_room.proofs.Moments.{first_lone-is_first, crowded-is_ever}
-use Rattle.kcr_room.proofs.Keeping.{taken}
+use Rattle.kcr_room.proofs.{Words.nat_tests, Words.Way, Words.Stay, Keeping.taken, Moments.first_lone-is_first, Moments.crowded-is_ever}
 use Rattle.kcr_room.proofs.Sheets.{added, same-turns, rows-added, same-added}
 use Rattle.kcr_room.proofs.Crowds.{crowd-before, crowd-later, overfull-added}
 

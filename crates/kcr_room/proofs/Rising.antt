@@ -2,10 +2,8 @@
 use Rattle.kcr_room.proofs.Common.{◌≡◌, ℕ, ◌≤◌, Bool, true, false, nat_eq, List, [], ◌∷◌, map, length, refl, arith, list_any, list_all, filter}
 use Rattle.kcr_room.proofs.Common.{Ordering, nat_cmp, is_eq, slice_cmp, pointwise, IsStrictWeakOrder, ranks_by, nat_list_cmp_total}
 use Rattle.kcr_room.proofs.Common.{same_from_slice_cmp, enters, in_force, ascending, put_person, are_apart, are_rising, PresentAreRising, all-more}
-use Rattle.kcr_room.proofs.Common.{same-itself, same-turned}
+use Rattle.kcr_room.proofs.{Common.same-itself, Common.same-turned, Keeping.any-ascending, Agreement.of_person, Agreement.force-last}
 use Rattle.kcr_room.proofs.Words.{nat_tests, same_text, is_before, SheetRow}
-use Rattle.kcr_room.proofs.Agreement.{of_person, force-last}
-use Rattle.kcr_room.proofs.Keeping.{any-ascending}
 
 tied-same : (a b : List ℕ) (o : Ordering) → o ≡ slice_cmp nat_cmp a b → is_eq o ≡ same_text a b
 tied-same = same_from_slice_cmp nat_cmp is_eq (pointwise nat_eq) refl (λ _ _. refl) (λ _ _. refl) (λ x y xs ys o h. grind (arith, nat_tests))

@@ -4,11 +4,9 @@ use Rattle.kcr_room.proofs.Common.{ap, ◌∙◌, arith, subst, append-nil, appe
 use Rattle.kcr_room.proofs.Common.{last_enters, last_row_of, is_ahead, stays_by, reaches, is_inside, is_inside_of, is_out_of_turn_in, new_stay}
 use Rattle.kcr_room.proofs.Common.{with_end, of_ceremony, stays_after_request, turn_refusal, is_out_of_turn, is_out_of_turn_by, new_row, are_apart}
 use Rattle.kcr_room.proofs.Common.{in_turn_onto, IsSheet, same-turned, same-is}
-use Rattle.kcr_room.proofs.Followed.{cut, stays_next, stays-snoc}
+use Rattle.kcr_room.proofs.{Followed.cut, Followed.stays_next, Followed.stays-snoc, Lists.any-filter, Keeping.in_turn-append, Keeping.turn-others}
 use Rattle.kcr_room.proofs.Words.{nat_tests, same_text, SheetRow, Way, Enter, Leave, Stay}
-use Rattle.kcr_room.proofs.Lists.{any-filter}
 use Rattle.kcr_room.proofs.Agreement.{of_person, last-above, last-snoc}
-use Rattle.kcr_room.proofs.Keeping.{in_turn-append, turn-others}
 
 -- an `in` in its turn cuts nothing
 cut-enter : (row : SheetRow) (stays : List Stay) → list_any (reaches row.who row.at) stays ≡ false → list_any (is_inside row.who) stays ≡ false

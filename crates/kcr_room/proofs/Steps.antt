@@ -4,13 +4,11 @@ use Rattle.kcr_room.proofs.Common.{get_or, map, set, drop, Option, Some, None, r
 use Rattle.kcr_room.proofs.Common.{count_by, AllByRecursion, IsPermutation, IsSortedBy, Ordering, nat_cmp, is_lt, ordering_then, IsStrictWeakOrder}
 use Rattle.kcr_room.proofs.Common.{on_total, slice_cmp, eq-eqb, eqb-false, then_total, nat_cmp_total, nat_list_cmp_total, length-set, drop_at}
 use Rattle.kcr_room.proofs.Common.{drop_all, get_or-set_same, get_or-set_other, get_or-append-add, get_or_append_left, All-from_recursion}
-use Rattle.kcr_room.proofs.Common.{recursion_from_All, list_any-append, ranks_by, sorted_far, All-permutation, IsPermutation-sym}
+use Rattle.kcr_room.proofs.Common.{recursion_from_All, list_any-append, ranks_by, sorted_far, All-permutation, IsPermutation-sym, sheet_events_by}
 use Rattle.kcr_room.proofs.Common.{sum_by-IsPermutation, list_any-IsPermutation, SheetEvent, ends_after, next_of, followed_rows, sheet_events_from}
-use Rattle.kcr_room.proofs.Common.{sheet_events_by}
 use Rattle.std.proofs.lemmas.List.{length-append}
 use Rattle.kcr_room.proofs.Words.{nat_tests, same_text, SheetRow}
-use Rattle.kcr_room.proofs.Lists.{count-cons, none-behind}
-use Rattle.kcr_room.proofs.Ends.{follows, IsEnd, ends-next}
+use Rattle.kcr_room.proofs.{Lists.count-cons, Lists.none-behind, Ends.follows, Ends.IsEnd, Ends.ends-next}
 
 -- THE ORDER OF STEPS
 

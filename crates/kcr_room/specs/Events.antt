@@ -1,11 +1,6 @@
 -- The rows of a sheet with their places, and their stays with given ends.
-use Rattle.std.specs.Prelude.{ℕ, suc, List, [], ◌∷◌, Option}
-use Rattle.std.specs.Prelude.{if◌then◌else◌}
-use Rattle.kcr_room.specs.declared.SheetRow.{SheetRow}
-use Rattle.kcr_room.specs.declared.Stay.{Stay}
-use Rattle.kcr_room.specs.declared.stays.SheetEvent.{SheetEvent}
-use Rattle.kcr_room.specs.Room.{is_enter}
-use Rattle.kcr_room.specs.Stays.{stay_from}
+use Rattle.std.specs.Prelude.{ℕ, suc, List, [], ◌∷◌, Option, if◌then◌else◌}
+use Rattle.kcr_room.specs.{declared.SheetRow.SheetRow, declared.Stay.Stay, declared.stays.SheetEvent.SheetEvent, Room.is_enter, Stays.stay_from}
 
 -- the steps of rows of which the first has this place
 abbrev pub sheet_events_from : ℕ → List SheetRow → List SheetEvent

@@ -2,10 +2,7 @@
 use Rattle.std.specs.Prelude.{ℕ, ◌-◌, ◌==◌, Bool, nat_lt, List}
 use Rattle.std.specs.List.Sorted.{IsPermutation}
 use Rattle.kcr_base.specs.declared.limits.TheConstants.{MAX_PRESENT}
-use Rattle.kcr_room.specs.declared.Stay.{Stay}
-use Rattle.kcr_room.specs.declared.occupancy.Occupancy.{Occupancy}
-use Rattle.kcr_room.specs.Moments.{count_until}
-use Rattle.kcr_room.specs.Stays.{comings_by, goings_by}
+use Rattle.kcr_room.specs.{declared.Stay.Stay, declared.occupancy.Occupancy.Occupancy, Moments.count_until, Stays.comings_by, Stays.goings_by}
 
 -- how many people are in the room at t: those who have come, without those who have gone
 abbrev pub headcount_of : Occupancy → ℕ → ℕ

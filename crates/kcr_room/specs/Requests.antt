@@ -2,18 +2,11 @@
 use Rattle.std.specs.Prelude.{ℕ, ◌==◌, ◌+◌, Bool, true, false, not, ◌&&◌, ◌||◌, nat_lt, nat_le, List, [], ◌∷◌, ◌++◌, map}
 use Rattle.std.specs.Prelude.{filter, length, Option, Some, None, option_map, if◌then◌else◌}
 use Rattle.std.specs.List.{list_any, count_by, find}
-use Rattle.kcr_base.specs.Lists.{is_among}
-use Rattle.kcr_base.specs.Same.{same_text}
-use Rattle.kcr_base.specs.Refuse.{when, first_of, not_after_mark_refusal}
-use Rattle.kcr_base.specs.declared.limits.TheConstants.{MAX_ENTRIES}
-use Rattle.kcr_base.specs.declared.refusal.Refusal.{Refusal}
+use Rattle.kcr_base.specs.{Lists.is_among, Same.same_text, Refuse.when, Refuse.first_of, Refuse.not_after_mark_refusal}
+use Rattle.kcr_base.specs.declared.{limits.TheConstants.MAX_ENTRIES, refusal.Refusal.Refusal}
 use Rattle.kcr_base.specs.declared.refusal.Refusal.TheVariants.{Turn, Crowd, Lone, Full}
-use Rattle.kcr_room.specs.declared.Way.{Way}
-use Rattle.kcr_room.specs.declared.Way.TheVariants.{Enter, Leave}
-use Rattle.kcr_room.specs.declared.Stay.{Stay}
-use Rattle.kcr_room.specs.declared.SheetRow.{SheetRow}
-use Rattle.kcr_room.specs.Room.{is_enter, last_row_of}
-use Rattle.kcr_room.specs.Stays.{first_lone_in_by, is_crowded_in_by, stays_by}
+use Rattle.kcr_room.specs.declared.{Way.Way, Way.TheVariants.Enter, Way.TheVariants.Leave, Stay.Stay, SheetRow.SheetRow}
+use Rattle.kcr_room.specs.{Room.is_enter, Room.last_row_of, Stays.first_lone_in_by, Stays.is_crowded_in_by, Stays.stays_by}
 
 -- the stay has no end
 abbrev pub has_no_end : Option ℕ → Bool

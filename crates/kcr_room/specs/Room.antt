@@ -3,9 +3,7 @@ use Rattle.std.specs.Prelude.{ℕ, ◌==◌, Bool, true, false, not, ◌&&◌, n
 use Rattle.std.specs.Prelude.{length, Option, Some, None, if◌then◌else◌, codes}
 use Rattle.std.specs.List.{list_any, count_by}
 use Rattle.kcr_base.specs.Same.{same_text, is_before}
-use Rattle.kcr_room.specs.declared.Way.{Way}
-use Rattle.kcr_room.specs.declared.Way.TheVariants.{Enter, Leave}
-use Rattle.kcr_room.specs.declared.SheetRow.{SheetRow}
+use Rattle.kcr_room.specs.declared.{Way.Way, Way.TheVariants.Enter, Way.TheVariants.Leave, SheetRow.SheetRow}
 
 abbrev pub is_enter : Way → Bool
 is_enter Enter = true

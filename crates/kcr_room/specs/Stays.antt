@@ -2,12 +2,9 @@
 use Rattle.std.specs.Prelude.{ℕ, ◌==◌, Bool, true, not, ◌&&◌, ◌||◌, nat_lt, nat_le, List, [], ◌∷◌, ◌++◌, map}
 use Rattle.std.specs.Prelude.{filter, Option, Some, None, if◌then◌else◌}
 use Rattle.std.specs.List.{list_any, list_all, count_by, filter_map}
-use Rattle.kcr_base.specs.Same.{is_before}
-use Rattle.kcr_base.specs.declared.limits.TheConstants.{MAX_PRESENT}
-use Rattle.kcr_room.specs.declared.SheetRow.{SheetRow}
-use Rattle.kcr_room.specs.declared.Stay.{Stay}
+use Rattle.kcr_base.specs.{Same.is_before, declared.limits.TheConstants.MAX_PRESENT}
+use Rattle.kcr_room.specs.{declared.SheetRow.SheetRow, declared.Stay.Stay, Moments.least}
 use Rattle.kcr_room.specs.Room.{is_enter, Followed, followed_rows, ascending}
-use Rattle.kcr_room.specs.Moments.{least}
 
 -- the end is none or later than t
 abbrev pub ends_after : ℕ → Option ℕ → Bool

@@ -12,8 +12,7 @@ pub mod stays;
 
 ghost use Rattle.std.specs.Prelude.{⊤, ◌≡◌, false};
 ghost use Rattle.kcr_base.specs.Reads.{HasText, ReadsText};
-ghost use Rattle.kcr_room.specs.Forms.{way_of};
-ghost use Rattle.kcr_room.specs.Room.{way_text};
+ghost use Rattle.kcr_room.specs.{Forms.way_of, Room.way_text};
 
 use kcr_base::{Initials, Moment, Written};
 pub use presence::{ends_after, first_lone, is_crowded, present_in, stay_covers, stay_reaches};

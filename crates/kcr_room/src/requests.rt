@@ -3,8 +3,7 @@ ghost use Rattle.std.specs.Prelude.{MatchResult, Some, ◌≢◌, ◌≡◌, IfO
 ghost use Rattle.std.specs.List.{find, filter, list_any};
 ghost use Rattle.kcr_base.specs.declared.refusal.Refusal.TheVariants.{Memory};
 ghost use Rattle.kcr_room.specs.Requests;
-ghost use Rattle.kcr_room.specs.declared.SheetRequest.{SheetRequest};
-ghost use Rattle.kcr_room.specs.declared.Way.TheVariants.{Enter, Leave};
+ghost use Rattle.kcr_room.specs.declared.{SheetRequest.SheetRequest, Way.TheVariants.Enter, Way.TheVariants.Leave};
 
 use crate::occupancy::check_occupancy;
 use crate::{SheetRequest, Stay, Way};

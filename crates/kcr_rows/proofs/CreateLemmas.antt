@@ -2,14 +2,9 @@
 use Rattle.kcr_rows.proofs.Common.{◌≡◌, Err, ℕ, List, [], ◌∷◌, false, Option, None, Ok, refl, ap, subst, ◌∙◌, rules, Trees, Schema, Table, Command}
 use Rattle.kcr_rows.proofs.Common.{CreateTable, first, planned, with_command, table_in, lacks_sequence, State, Executes, text_of, IsPlain, command_of}
 use Rattle.kcr_rows.proofs.Common.{statement_of, runs_as, IsSound, Writes, IsPermutation-same, AreEmpty, TableLayout, TreeHolds}
-use Rattle.sqlite.specs.Compile.{table_defined_by}
-use Rattle.sqlite_resolve.specs.Compile.{compiled}
-use Rattle.sqlite_resolve.specs.declared.compiled.Compiled.{Compiled}
-use Rattle.sqlite_resolve.specs.Lowering.{Checked, and_then}
+use Rattle.sqlite.specs.{Compile.table_defined_by, Listing.understood, Change.created, Change.next_tree, Change.KeepsRows}
+use Rattle.sqlite_resolve.specs.{Compile.compiled, declared.compiled.Compiled.Compiled, Lowering.Checked, Lowering.and_then}
 use Rattle.sqlite_schema.specs.declared.command.Returning.{Returning}
-use Rattle.sqlite.specs.Change.{created, next_tree}
-use Rattle.sqlite.specs.Listing.{understood}
-use Rattle.sqlite.specs.Change.{KeepsRows}
 use Rattle.kcr_rows.proofs.WriteLemmas.{went, same_value}
 
 -- rows that are kept are none if there were none

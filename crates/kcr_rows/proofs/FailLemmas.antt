@@ -2,9 +2,7 @@
 use Rattle.kcr_rows.proofs.Common.{arith, ◌≡◌, ◌⊎◌, inl, inr, ℕ, List, Result, OnOk, IfOk, IsTrue, sym, subst, rules, Row, State, IsUnchanged}
 use Rattle.kcr_rows.proofs.Common.{KeepsCommit, Fails, IsTooLate, IsPlain, Schema}
 use Rattle.std.proofs.lemmas.Result.{IfOk-weaker}
-use Rattle.sqlite.specs.declared.error.Error.{Error}
-use Rattle.sqlite.specs.Listing.{understood}
-use Rattle.sqlite.specs.State.{IsNotRun, FailsToQuery, Shown}
+use Rattle.sqlite.specs.{declared.error.Error.Error, Listing.understood, State.IsNotRun, State.FailsToQuery, State.Shown}
 
 unchanged_keeps : (old new : State) → IsUnchanged old new → KeepsCommit old new
 unchanged_keeps old new u = record { was_open = λ _. u.0.was_open; committed = λ _. u.0.committed_is }

@@ -1,9 +1,7 @@
 -- The tests of WHERE on values.
 use Rattle.kcr_rows.proofs.Common.{◌≡◌, ℕ, ◌&&◌, Bool, true, false, List, filter, refl, sym, ◌∙◌, arith, Value, Null, is_null, Row, column, equal}
-use Rattle.kcr_rows.proofs.Common.{Binary}
+use Rattle.kcr_rows.proofs.{Common.Binary, KeyLemmas.equal_is, SameLemmas.ties, SameLemmas.ties_is}
 use Rattle.sqlite.specs.Ops.{binary}
-use Rattle.kcr_rows.proofs.KeyLemmas.{equal_is}
-use Rattle.kcr_rows.proofs.SameLemmas.{ties, ties_is}
 
 -- two tests that answer alike keep the same elements
 pub filter_as : {X : Type 0} (p q : X → Bool) → ((x : X) → p x ≡ q x) → (xs : List X) → filter p xs ≡ filter q xs

@@ -1,9 +1,7 @@
 -- One call after the other in a transaction, by what each leaves.
 use Rattle.kcr_rows.proofs.Common.{◌≡◌, Result, Ok, Err, IfErr, IsErrAnd, rules, HasCleanDisk}
-use Rattle.sqlite.specs.Store.{Ghosts}
-use Rattle.sqlite.specs.declared.transaction.Transaction.{Transaction}
-use Rattle.kcr_rows.proofs.FailLemmas.{on_ok}
-use Rattle.kcr_rows.proofs.InsideLemmas.{was_clean, survives_on, keeps_then}
+use Rattle.sqlite.specs.{Store.Ghosts, declared.transaction.Transaction.Transaction}
+use Rattle.kcr_rows.proofs.{FailLemmas.on_ok, InsideLemmas.was_clean, InsideLemmas.survives_on, InsideLemmas.keeps_then}
 use Rattle.kcr_rows.specs.Frame.{StaysInTransaction, state_in}
 
 -- if the disk is clean after a call, it was before

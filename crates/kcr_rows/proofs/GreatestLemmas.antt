@@ -9,10 +9,8 @@ use Rattle.kcr_rows.proofs.Common.{cells, TableLayout, TreeHolds, Means}
 use Rattle.sqlite.specs.State.{Shown}
 use Rattle.kcr_rows.specs.Greatest.{IsGreatest}
 use Rattle.sqlite_resolve.specs.Compile.{compiled}
-use Rattle.kcr_rows.proofs.TextLemmas.{reads_shown}
-use Rattle.kcr_rows.proofs.ReadLemmas.{asking, kept_cells}
-use Rattle.kcr_rows.proofs.TableLemmas.{same_values, each_is}
-use Rattle.kcr_rows.proofs.PutLemmas.{mapped_from, has_same}
+use Rattle.kcr_rows.proofs.{TextLemmas.reads_shown, ReadLemmas.asking, ReadLemmas.kept_cells}
+use Rattle.kcr_rows.proofs.{TableLemmas.same_values, TableLemmas.each_is, PutLemmas.mapped_from, PutLemmas.has_same}
 
 -- the query on one table that shows the row with the greatest number in a column, counted from 0
 abbrev pub greatest : TableLayout → List Term → List Term → ℕ → Query

@@ -4,12 +4,9 @@ use Rattle.kcr_rows.proofs.Common.{Greater, rules, list_any, All, AllByRecursion
 use Rattle.kcr_rows.proofs.Common.{IsPermutation-map, IsPermutation-refl, IsPermutation-sym, IsPermutation-trans, IsPermutation-middle}
 use Rattle.kcr_rows.proofs.Common.{list_any-IsPermutation, Row, IsAscending, all_weaker, ascending_from_map, by_key, put_in}
 use Rattle.std.proofs.Common.{IsPermutation}
-use Rattle.std.proofs.lemmas.List.Elements.{All-from_recursion, All-weaker}
-use Rattle.std.proofs.lemmas.List.Folds.{list_any_none, map_fixed}
+use Rattle.std.proofs.lemmas.List.{Elements.All-from_recursion, Elements.All-weaker, Folds.list_any_none, Folds.map_fixed}
 use Rattle.kcr_base.specs.Rows.{put}
-use Rattle.kcr_rows.proofs.PutLemmas.{put_rising}
-use Rattle.kcr_rows.proofs.SameLemmas.{key_total}
-use Rattle.kcr_rows.proofs.TableLemmas.{put_in_rows}
+use Rattle.kcr_rows.proofs.{PutLemmas.put_rising, SameLemmas.key_total, TableLemmas.put_in_rows}
 
 -- values whose images ascend do so themselves, by their images
 pub from_map : {X : Type 0} (R : Row → Row → Type 0) (f : X → Row) (xs : List X) → IsAscending R (map f xs) → IsAscending (λ a b. R (f a) (f b)) xs

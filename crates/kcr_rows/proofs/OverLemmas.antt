@@ -8,11 +8,8 @@ use Rattle.kcr_rows.proofs.Common.{without_rowid, one_permutation, all_has, all_
 use Rattle.kcr_rows.proofs.Common.{IsPermutation-filter, value_cmp_total, simple_as, cells, by_key, is_full, TableLayout, TreeHolds}
 use Rattle.sqlite_rules.proofs.PlaceLemmas.{tied_same}
 use Rattle.sqlite_rules.specs.Calls.{ids_of}
-use Rattle.kcr_rows.proofs.PutLemmas.{put, keeps_put}
-use Rattle.kcr_rows.proofs.ReadLemmas.{reading, kept_from}
-use Rattle.kcr_rows.proofs.SameLemmas.{key_total}
-use Rattle.kcr_rows.proofs.TableLemmas.{own_id}
-use Rattle.kcr_rows.proofs.WriteLemmas.{cast_int}
+use Rattle.kcr_rows.proofs.{PutLemmas.put, PutLemmas.keeps_put, WriteLemmas.cast_int}
+use Rattle.kcr_rows.proofs.{ReadLemmas.reading, ReadLemmas.kept_from, SameLemmas.key_total, TableLemmas.own_id}
 
 -- the row of the table that an update finds, with the new values
 abbrev pub finding : ℕ → List Term → List Term → Query

@@ -4,11 +4,8 @@ use Rattle.kcr_rows.proofs.Common.{ordering_reverse, IsTotalOrder, nat_tests, on
 use Rattle.kcr_rows.proofs.Common.{value_cmp-Int, key_cmp_total, facility_text, Facility, by_key, int_or_null}
 use Rattle.std.proofs.lemmas.Map.Text.{is_eq-slice_cmp}
 pub use Rattle.kcr_base.proofs.ValueLemmas.{one_place}
-use Rattle.kcr_base.specs.Role.{role_text}
-use Rattle.kcr_base.specs.Place.{place_text}
+use Rattle.kcr_base.specs.{Role.role_text, Place.place_text, declared.place.Role.Role, declared.place.Place.Place}
 use Rattle.kcr_base.specs.Same.{same_text, same_facility, same_role, same_place}
-use Rattle.kcr_base.specs.declared.place.Role.{Role}
-use Rattle.kcr_base.specs.declared.place.Place.{Place}
 
 -- keys are in a total order
 pub key_total : (keys : ℕ) → IsTotalOrder (by_key keys)

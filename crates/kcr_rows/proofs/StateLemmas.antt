@@ -4,21 +4,14 @@ use Rattle.kcr_rows.proofs.Common.{Text, cast, Binary, equal, facility_text, Fac
 use Rattle.std.proofs.lemmas.Fmt.{decimal_injective}
 use Rattle.kcr_custody.proofs.BoxTexts.{box_parts}
 use Rattle.sqlite.specs.Kind.TheVariants as kind
-use Rattle.kcr_custody.specs.Custody.{same_safe, is_within}
-use Rattle.kcr_custody.specs.Spots.{spot_text}
-use Rattle.kcr_custody.specs.declared.SafeNumber.{SafeNumber}
-use Rattle.kcr_custody.specs.declared.Spot.{Spot}
+use Rattle.kcr_custody.specs.{Custody.same_safe, Custody.is_within, Spots.spot_text}
+use Rattle.kcr_custody.specs.declared.{SafeNumber.SafeNumber, Spot.Spot, Rest.Rest, Rest.TheVariants.Loose, Rest.TheVariants.Within}
 use Rattle.kcr_custody.specs.declared.Spot.TheVariants.{Table, Equipment, InBox, Spent}
-use Rattle.kcr_custody.specs.declared.Rest.{Rest}
-use Rattle.kcr_custody.specs.declared.Rest.TheVariants.{Loose, Within}
 use Rattle.kcr_room.specs.declared.Way.{Way}
-use Rattle.kcr_script.specs.declared.seat.Seat.{Seat}
-use Rattle.kcr_script.specs.Seats.{StandsFor, written}
-use Rattle.kcr_history.specs.declared.row_types.CeremonyState.{CeremonyState}
-use Rattle.kcr_history.specs.declared.row_types.StepState.{StepState}
-use Rattle.kcr_rows.proofs.WriteLemmas.{cast_null, cast_int}
+use Rattle.kcr_script.specs.{declared.seat.Seat.Seat, Seats.StandsFor, Seats.written}
+use Rattle.kcr_history.specs.declared.row_types.{CeremonyState.CeremonyState, StepState.StepState}
+use Rattle.kcr_rows.proofs.{WriteLemmas.cast_null, WriteLemmas.cast_int, FilterLemmas.value_is, FilterLemmas.null_is}
 use Rattle.kcr_rows.proofs.SameLemmas.{ties, text_ties, number_ties, one_facility}
-use Rattle.kcr_rows.proofs.FilterLemmas.{value_is, null_is}
 use Rattle.kcr_rows.specs.States.{safe_digit, way_number, ceremony_number, step_number, loose_value, within_value, IsNumbered}
 
 -- ---- numbers

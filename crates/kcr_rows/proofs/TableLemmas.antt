@@ -6,19 +6,15 @@ use Rattle.kcr_rows.proofs.Common.{cast_row, Trees, rowid, put_row, Table, Schem
 use Rattle.kcr_rows.proofs.Common.{Does, State, mode_of, Executes, statement_of, runs_as, is_int, all_of, all-filter, all-permutation, all-slice_get}
 use Rattle.kcr_rows.proofs.Common.{all_from_map, filter_all, filter-map, IsSound, Enforced, agree, clashes, differ, guards, passes, Keeps as Obeyed}
 use Rattle.kcr_rows.proofs.Common.{Key, plain, rising, Has, works, all_has, all_from, simple_as, cells, by_key, is_full, TableLayout, TreeHolds}
-use Rattle.kcr_rows.proofs.Common.{put_in, Means}
-use Rattle.sqlite.specs.State.{Shown}
-use Rattle.sqlite.specs.Listing.{understood}
-use Rattle.sqlite_schema.specs.declared.schema.Index.{Index}
-use Rattle.sqlite_schema.specs.declared.schema.Constraint.{Constraint}
-use Rattle.sqlite_schema.specs.declared.schema.Constraint.TheVariants.{Unique}
+use Rattle.kcr_rows.proofs.{Common.put_in, Common.Means, WriteLemmas.IsInserted, WriteLemmas.entered, WriteLemmas.inserts}
+use Rattle.sqlite.specs.{State.Shown, Listing.understood}
+use Rattle.sqlite_schema.specs.declared.schema.{Index.Index, Constraint.Constraint, Constraint.TheVariants.Unique}
 use Rattle.sqlite_rules.proofs.TableLemmas.{int_is}
 use Rattle.sqlite_resolve.specs.Compile.{compiled}
 use Rattle.kcr_rows.proofs.TextLemmas.{command_is, is_plain, reads_shown}
 use Rattle.kcr_rows.proofs.ReadLemmas.{reading, with_key, reads_rows, reads_exact}
 use Rattle.kcr_rows.proofs.PutLemmas.{put, keeps_put, put_row_same, has_same}
 use Rattle.kcr_rows.proofs.KeyLemmas.{places_from, full, fresh_key, not_any}
-use Rattle.kcr_rows.proofs.WriteLemmas.{IsInserted, entered, inserts}
 
 -- one row was put, and what lies in other trees is as it was
 pub record Changes (place : TableLayout) (schema : Schema) (values : Row) (old new : Trees) : Type 0 where

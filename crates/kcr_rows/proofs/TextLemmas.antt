@@ -1,8 +1,7 @@
 -- What the calls of the database do with a text, from what it means.
 use Rattle.kcr_rows.proofs.Common.{◌≡◌, ℕ, List, false, rules, Command, Reads, reads_listing, Row, Schema, State, IsPlain, command_of, reads_as}
 use Rattle.kcr_rows.proofs.Common.{Means}
-use Rattle.sqlite.specs.Listing.{understood}
-use Rattle.sqlite.specs.State.{Shown}
+use Rattle.sqlite.specs.{Listing.understood, State.Shown}
 use Rattle.sqlite_resolve.specs.Compile.{compiled}
 
 module _ (schema : Schema) (sql : List ℕ) (command : Command) (means : Means command (compiled schema sql)) where

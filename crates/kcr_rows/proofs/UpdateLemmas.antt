@@ -5,16 +5,12 @@ use Rattle.kcr_rows.proofs.Common.{Int, cast_all, Command, Update, Tally, Does, 
 use Rattle.kcr_rows.proofs.Common.{overlay, IsAnswer, key_cmp, Schema, State, mode_of, Executes, Table, Term, eval_all, holds, Trees, rowid}
 use Rattle.kcr_rows.proofs.Common.{statement_of, runs_as, one_step, IsSound, has_filtered, works, Has, Enforced, rising, simple_as, cells, by_key}
 use Rattle.kcr_rows.proofs.Common.{is_full, TableLayout, TreeHolds, Means}
-use Rattle.sqlite.specs.Listing.{understood}
-use Rattle.sqlite.specs.Rows.{Written}
+use Rattle.sqlite.specs.{Listing.understood, Rows.Written}
 use Rattle.sqlite_resolve.specs.Compile.{compiled}
-use Rattle.kcr_rows.proofs.TextLemmas.{command_is, is_plain}
-use Rattle.kcr_rows.proofs.PutLemmas.{put}
+use Rattle.kcr_rows.proofs.{TextLemmas.command_is, TextLemmas.is_plain, TableLemmas.Changes, TableLemmas.keeps_on, TableLemmas.whole}
+use Rattle.kcr_rows.proofs.{PutLemmas.put, ReadLemmas.kept_from, WriteLemmas.went, WriteLemmas.same_value}
 use Rattle.kcr_rows.proofs.KeyLemmas.{full, agrees, same_from, same_is}
 use Rattle.kcr_rows.proofs.OverLemmas.{finding, rewriting, has_key, one_row, is_found, found_one, keeps_changed}
-use Rattle.kcr_rows.proofs.ReadLemmas.{kept_from}
-use Rattle.kcr_rows.proofs.TableLemmas.{Changes, keeps_on, whole}
-use Rattle.kcr_rows.proofs.WriteLemmas.{went, same_value}
 
 -- the tree is as it was, and what lies in other trees
 pub record Stays (place : TableLayout) (schema : Schema) (old new : Trees) : Type 0 where

@@ -1,6 +1,5 @@
 -- The value that a cell of a row stands for.
-use Rattle.sqlite.specs.declared.types.Value.{Value}
-use Rattle.sqlite.specs.declared.types.Value.TheVariants.{Null, Int, Text}
+use Rattle.sqlite.specs.declared.types.Value.{Value, TheVariants.Null, TheVariants.Int, TheVariants.Text}
 use Rattle.kcr_rows.specs.declared.to_row.Cell.{Cell}
 use Rattle.kcr_rows.specs.declared.to_row.Cell.TheVariants as Cells
 

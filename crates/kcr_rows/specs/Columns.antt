@@ -1,16 +1,10 @@
 -- Tables whose rows stand under a key, and their columns.
-use Rattle.sqlite.specs.Collation.TheVariants.{Binary}
+use Rattle.sqlite.specs.{Collation.TheVariants.Binary, declared.types.Value.TheVariants.Null}
 use Rattle.std.specs.Prelude.{◌≡◌, true, false, Bool, [], ◌∷◌, Option, None, Some, List, ℕ, ◌+◌, map, flat_map}
-use Rattle.sqlite.specs.declared.types.Value.TheVariants.{Null}
 use Rattle.std.specs.List.{AllByRecursion}
-use Rattle.sqlite.specs.Tree.{Trees}
-use Rattle.sqlite.specs.Table.{Table}
-use Rattle.sqlite.specs.Schema.{Schema}
-use Rattle.sqlite_schema.specs.declared.schema.Column.{Column}
-use Rattle.sqlite_schema.specs.declared.schema.Index.{Index}
+use Rattle.sqlite.specs.{Tree.Trees, Table.Table, Schema.Schema, Kind.Kind, Kind.TheVariants.Integer, Kind.TheVariants.Text}
+use Rattle.sqlite_schema.specs.declared.schema.{Column.Column, Index.Index}
 use Rattle.sqlite_catalog.specs.Listing.{automatic}
-use Rattle.sqlite.specs.Kind.{Kind}
-use Rattle.sqlite.specs.Kind.TheVariants.{Integer, Text}
 
 abbrev pub column_of : Kind → Bool → List ℕ → Column
 column_of kind not_null name =

@@ -1,9 +1,7 @@
 -- What a call inside a transaction says of the states of the database before and after it, and what it leaves.
 use Rattle.std.specs.Prelude.{◌≡◌, Result, OnOk, IfErr, IsTrue}
-use Rattle.sqlite.specs.Held.{state}
+use Rattle.sqlite.specs.{Held.state, Store.Ghosts, declared.transaction.Transaction.Transaction}
 use Rattle.sqlite.specs.State.{State, HasCleanDisk, KeepsCommit, Survives}
-use Rattle.sqlite.specs.Store.{Ghosts}
-use Rattle.sqlite.specs.declared.transaction.Transaction.{Transaction}
 
 -- the state of the database in a transaction
 abbrev pub state_in : {S : Type 0} → Ghosts S → Transaction S → State

@@ -2,11 +2,10 @@
 -- What the cells of each table's columns are.
 use Rattle.std.specs.Prelude.{List, [], ◌∷◌}
 use Rattle.kcr_rows.specs.declared.kinds.Kind.{Kind}
-use Rattle.kcr_rows.specs.declared.kinds.Kind.TheVariants.{Activity, Box, Ceremony, CeremonyState, Command, Day}
+use Rattle.kcr_rows.specs.declared.kinds.Kind.TheVariants.{Activity, Box, Ceremony, CeremonyState, Command, Day, Truth, Version, Way, Within}
 use Rattle.kcr_rows.specs.declared.kinds.Kind.TheVariants.{DayOrNull, Exception, Facility, Initials, Key, Loose, Moment}
 use Rattle.kcr_rows.specs.declared.kinds.Kind.TheVariants.{MomentOrNull, Name, Officer, Place, Remark, Role, Safe, Seat}
 use Rattle.kcr_rows.specs.declared.kinds.Kind.TheVariants.{Seats, Serial, Spot, Step, StepOrNull, StepState, Text}
-use Rattle.kcr_rows.specs.declared.kinds.Kind.TheVariants.{Truth, Version, Way, Within}
 
 abbrev pub person_kinds : List Kind
 person_kinds = Initials ∷ Name ∷ []

@@ -1,7 +1,6 @@
 -- Which refusals a statement gives.
 use Rattle.std.specs.Prelude.{◌≡◌, ◌⊎◌}
-use Rattle.kcr_base.specs.declared.refusal.Refusal.{Refusal}
-use Rattle.kcr_base.specs.declared.refusal.Refusal.TheVariants.{Memory, Disk}
+use Rattle.kcr_base.specs.declared.refusal.Refusal.{Refusal, TheVariants.Memory, TheVariants.Disk}
 
 -- the database gave no answer
 abbrev pub IsFault : Refusal → Type 0

@@ -1,32 +1,17 @@
 -- Written by tools/tables.py from tools/table_list.py: do not edit.
 -- The row that stands for a value.
 use Rattle.std.specs.Prelude.{[], ◌∷◌, pos}
-use Rattle.sqlite.specs.declared.types.Value.TheVariants.{Int, Text}
-use Rattle.sqlite.specs.Order.{Row}
-use Rattle.kcr_base.specs.Role.{role_text}
-use Rattle.kcr_base.specs.Place.{place_text}
-use Rattle.kcr_rows.specs.Values.{int_or_null, truth_number}
-use Rattle.kcr_base.specs.Facility.{facility_text}
+use Rattle.sqlite.specs.{declared.types.Value.TheVariants.Int, declared.types.Value.TheVariants.Text, Order.Row}
+use Rattle.kcr_base.specs.{Role.role_text, Place.place_text, Facility.facility_text}
+use Rattle.kcr_rows.specs.{Values.int_or_null, Values.truth_number, declared.row_impls.Version.Version}
 use Rattle.kcr_rows.specs.States.{safe_digit, loose_value, within_value, ceremony_number, step_number, way_number}
 use Rattle.kcr_custody.specs.Spots.{spot_text}
 use Rattle.kcr_script.specs.Seats.{written}
-use Rattle.kcr_people.specs.declared.Person.{Person}
-use Rattle.kcr_people.specs.declared.Training.{Training}
-use Rattle.kcr_people.specs.declared.Appointment.{Appointment}
-use Rattle.kcr_custody.specs.declared.BoxRow.{BoxRow}
-use Rattle.kcr_custody.specs.declared.SafeRow.{SafeRow}
-use Rattle.kcr_custody.specs.declared.Bag.{Bag}
-use Rattle.kcr_custody.specs.declared.Item.{Item}
-use Rattle.kcr_history.specs.declared.row_types.CeremonyRow.{CeremonyRow}
-use Rattle.kcr_history.specs.declared.row_types.MarkRow.{MarkRow}
-use Rattle.kcr_history.specs.declared.row_types.StepRow.{StepRow}
-use Rattle.kcr_history.specs.declared.row_types.SeatingRow.{SeatingRow}
-use Rattle.kcr_room.specs.declared.SheetRow.{SheetRow}
-use Rattle.kcr_history.specs.declared.row_types.ExceptionRow.{ExceptionRow}
-use Rattle.kcr_rows.specs.declared.row_impls.Version.{Version}
-use Rattle.kcr_history.specs.declared.row_types.KeyRow.{KeyRow}
-use Rattle.kcr_room.specs.declared.Stay.{Stay}
-use Rattle.kcr_people.specs.declared.Withdrawal.{Withdrawal}
+use Rattle.kcr_people.specs.declared.{Person.Person, Training.Training, Appointment.Appointment, Withdrawal.Withdrawal}
+use Rattle.kcr_custody.specs.declared.{BoxRow.BoxRow, SafeRow.SafeRow, Bag.Bag, Item.Item}
+use Rattle.kcr_history.specs.declared.row_types.{CeremonyRow.CeremonyRow, ExceptionRow.ExceptionRow}
+use Rattle.kcr_history.specs.declared.row_types.{MarkRow.MarkRow, KeyRow.KeyRow, StepRow.StepRow, SeatingRow.SeatingRow}
+use Rattle.kcr_room.specs.declared.{SheetRow.SheetRow, Stay.Stay}
 
 abbrev pub person_row : Person → Row
 person_row x = Text x.who ∷ Text x.name ∷ []

@@ -1,23 +1,14 @@
 -- States as numbers, an item's place in two columns, and texts that do not stand for every value.
 use Rattle.std.specs.Prelude.{◌≡◌, ℕ, ◌<◌, ◌^◌, ⊤, List}
-use Rattle.sqlite.specs.declared.types.Value.{Value}
-use Rattle.sqlite.specs.declared.types.Value.TheVariants.{Null, Text}
+use Rattle.sqlite.specs.declared.types.Value.{Value, TheVariants.Null, TheVariants.Text}
 use Rattle.kcr_base.specs.Facility.{facility_text}
-use Rattle.kcr_custody.specs.declared.SafeNumber.{SafeNumber}
-use Rattle.kcr_custody.specs.declared.SafeNumber.TheVariants.{One, Two}
-use Rattle.kcr_custody.specs.declared.Spot.{Spot}
+use Rattle.kcr_custody.specs.declared.SafeNumber.{SafeNumber, TheVariants.One, TheVariants.Two}
+use Rattle.kcr_custody.specs.declared.{Spot.Spot, Bag.Bag, Rest.Rest, Rest.TheVariants.Loose, Rest.TheVariants.Within}
 use Rattle.kcr_custody.specs.declared.Spot.TheVariants.{Table, Equipment, InBox, Spent}
-use Rattle.kcr_custody.specs.declared.Rest.{Rest}
-use Rattle.kcr_custody.specs.declared.Rest.TheVariants.{Loose, Within}
-use Rattle.kcr_custody.specs.declared.Bag.{Bag}
-use Rattle.kcr_room.specs.declared.Way.{Way}
-use Rattle.kcr_room.specs.declared.Way.TheVariants.{Enter, Leave}
-use Rattle.kcr_script.specs.declared.seat.Seat.{Seat}
-use Rattle.kcr_script.specs.Seats.{StandsFor, written}
-use Rattle.kcr_history.specs.declared.row_types.CeremonyState.{CeremonyState}
-use Rattle.kcr_history.specs.declared.row_types.CeremonyState.TheVariants.{Planned, Open, Closed}
-use Rattle.kcr_history.specs.declared.row_types.StepState.{StepState}
-use Rattle.kcr_history.specs.declared.row_types.StepState.TheVariants.{Undone, Signed, Passed}
+use Rattle.kcr_room.specs.declared.Way.{Way, TheVariants.Enter, TheVariants.Leave}
+use Rattle.kcr_script.specs.{declared.seat.Seat.Seat, Seats.StandsFor, Seats.written}
+use Rattle.kcr_history.specs.declared.row_types.CeremonyState.{CeremonyState, TheVariants.Planned, TheVariants.Open, TheVariants.Closed}
+use Rattle.kcr_history.specs.declared.row_types.StepState.{StepState, TheVariants.Undone, TheVariants.Signed, TheVariants.Passed}
 use Rattle.kcr_history.specs.declared.row_types.StepRow.{StepRow}
 
 -- STATES AS NUMBERS

@@ -1,7 +1,6 @@
 -- Values of a row that may be NULL, and numbers that stand for a truth value.
 use Rattle.std.specs.Prelude.{ℕ, Bool, true, false, Option, Some, None, pos}
-use Rattle.sqlite.specs.declared.types.Value.{Value}
-use Rattle.sqlite.specs.declared.types.Value.TheVariants.{Null, Int}
+use Rattle.sqlite.specs.declared.types.Value.{Value, TheVariants.Null, TheVariants.Int}
 
 -- the number of a value, or NULL if there is none
 abbrev pub or_null : {V : Type 0} → (V → ℕ) → Option V → Value

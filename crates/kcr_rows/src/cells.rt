@@ -1,22 +1,13 @@
 //! One value of a row: read from a column, counted from 0, and made into a parameter of a statement. Each reader's error
 //! is `Disk` if the column has no such value; those that take an allocator answer `Memory` when out of memory.
 
-ghost use Rattle.std.specs.Prelude.{◌≡◌, ◌≢◌, ℕ, ◌+◌, ◌<◌, List, length, pos, Err, IfOk, IfErr, IfSome, OnErr};
-ghost use Rattle.std.specs.Prelude.{true, false, IsTrue};
+ghost use Rattle.std.specs.Prelude.{◌≡◌, ◌≢◌, ℕ, ◌+◌, ◌<◌, List, length, pos, Err, IfOk, IfErr, IfSome, OnErr, true, false, IsTrue};
 ghost use Rattle.sqlite.specs.declared.types.Value.TheVariants.{Null, Int, Text as Chars};
-ghost use Rattle.sqlite.specs.Order.{column};
-ghost use Rattle.sqlite.specs.Values.{bound_value};
-ghost use Rattle.sqlite.specs.Value.{owned};
-ghost use Rattle.kcr_base.specs.Number.{IsNumber};
-ghost use Rattle.kcr_base.specs.Place.{IsPlace, place_text};
-ghost use Rattle.kcr_base.specs.declared.place.Place.{Place as Custodian};
-ghost use Rattle.kcr_custody.specs.Custody.{is_co_place_of};
-ghost use Rattle.kcr_custody.specs.Spots.{spot_text};
-ghost use Rattle.kcr_script.specs.Seats.{StandsFor, written};
-ghost use Rattle.kcr_script.specs.declared.seat.Seat.{Seat};
-ghost use Rattle.kcr_rows.specs.Refusals.{IsFault};
-ghost use Rattle.kcr_rows.specs.Values.{or_null};
-ghost use Rattle.kcr_rows.specs.States.{loose_value, within_value, IsNumbered};
+ghost use Rattle.sqlite.specs.{Order.column, Value.owned, Values.bound_value};
+ghost use Rattle.kcr_base.specs.{Number.IsNumber, Place.IsPlace, Place.place_text, declared.place.Place.Place as Custodian};
+ghost use Rattle.kcr_custody.specs.{Custody.is_co_place_of, Spots.spot_text};
+ghost use Rattle.kcr_script.specs.{Seats.StandsFor, Seats.written, declared.seat.Seat.Seat};
+ghost use Rattle.kcr_rows.specs.{Refusals.IsFault, Values.or_null, States.loose_value, States.within_value, States.IsNumbered};
 
 use crate::numbers::AsNumber;
 use kcr_base::number::{Number, Numbered};

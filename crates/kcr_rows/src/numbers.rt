@@ -2,9 +2,7 @@
 
 ghost use Rattle.std.specs.Prelude.{⊤, ◌≡◌, ◌<◌, ◌^◌, ℕ, pos, IfSome, Some};
 ghost use Rattle.std.proofs.Common.{arith};
-ghost use Rattle.kcr_base.specs.Day.{IsDay};
-ghost use Rattle.kcr_base.specs.Moment.{IsMoment};
-ghost use Rattle.kcr_base.specs.declared.limits.TheConstants.{MAX_COMMANDS, MAX_EXCEPTIONS};
+ghost use Rattle.kcr_base.specs.{Day.IsDay, Moment.IsMoment, declared.limits.TheConstants.MAX_COMMANDS, declared.limits.TheConstants.MAX_EXCEPTIONS};
 ghost use Rattle.kcr_rows.specs.Values.{truth_number};
 ghost use Rattle.kcr_rows.specs.States.{safe_digit, way_number, ceremony_number, step_number};
 

@@ -1,15 +1,10 @@
 //! One statement, with what it gave as values: the one module that calls the database.
 
 ghost use Rattle.std.specs.Prelude.{◌≡◌, ◌≢◌, ℕ, map, Ok, IfOk, IfErr, OnOk};
-ghost use Rattle.sqlite.specs.declared.error.Error.TheVariants.{SqliteFailure};
-ghost use Rattle.sqlite.specs.declared.error.ErrorCode.TheVariants.{OutOfMemory};
-ghost use Rattle.sqlite.specs.Values.{bound};
-ghost use Rattle.sqlite.specs.Listing.{understood};
-ghost use Rattle.sqlite.specs.Given.{IsPlain};
-ghost use Rattle.sqlite.specs.State.{IsUnchanged, Executes, Shown};
+ghost use Rattle.sqlite.specs.declared.error.{Error.TheVariants.SqliteFailure, ErrorCode.TheVariants.OutOfMemory};
+ghost use Rattle.sqlite.specs.{Values.bound, Given.IsPlain, Listing.understood, State.IsUnchanged, State.Executes, State.Shown};
 ghost use Rattle.std.specs.List.{AllByRecursion};
-ghost use Rattle.kcr_rows.specs.Refusals.{IsFault};
-ghost use Rattle.kcr_rows.specs.Frame.{IfClean, ImpliesOpen, StaysInTransaction};
+ghost use Rattle.kcr_rows.specs.{Refusals.IsFault, Frame.IfClean, Frame.ImpliesOpen, Frame.StaysInTransaction};
 
 use crate::from_row::FromRow;
 use kcr_base::Refusal;

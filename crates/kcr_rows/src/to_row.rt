@@ -2,14 +2,10 @@
 
 ghost use Rattle.std.specs.Prelude.{◌≡◌, ◌≤◌, ⊤, length, map, pos, take, IfErr, IfOk, OnOk};
 ghost use Rattle.sqlite.specs.declared.types.Value.TheVariants.{Int, Text as Chars};
-ghost use Rattle.sqlite.specs.Values.{bound, bound_value};
-ghost use Rattle.sqlite.specs.Value.{owned};
+ghost use Rattle.sqlite.specs.{Values.bound, Values.bound_value, Value.owned};
 ghost use Rattle.kcr_custody.specs.Spots.{spot_text};
 ghost use Rattle.kcr_script.specs.Seats.{StandsFor, written};
-ghost use Rattle.kcr_rows.specs.Cells.{cell_value};
-ghost use Rattle.kcr_rows.specs.Refusals.{IsFault};
-ghost use Rattle.kcr_rows.specs.States.{loose_value, within_value, IsNumbered};
-ghost use Rattle.kcr_rows.specs.Values.{or_null};
+ghost use Rattle.kcr_rows.specs.{Cells.cell_value, Values.or_null, Refusals.IsFault, States.loose_value, States.within_value, States.IsNumbered};
 
 use crate::cells::text_cell;
 use crate::from_row::FromRow;

@@ -1,11 +1,9 @@
 -- Who fits a seat by a person's own trainings.
 use Rattle.kcr_rules.proofs.Common.{◌≡◌, ℕ, ◌<◌, Bool, true, List, [], map, filter, length, get_or, refl, ap, arith, get_or-map, get_or_default}
 use Rattle.kcr_rules.proofs.Common.{length-map, trains, Training, Staff, fits_by, trainings_by_person}
-use Rattle.std.proofs.lemmas.Option.{slice_get-get_or}
-use Rattle.std.proofs.lemmas.Map.Views.{any-filter_same}
+use Rattle.std.proofs.lemmas.{Option.slice_get-get_or, Map.Views.any-filter_same}
 use Rattle.kcr_base.specs.declared.place.Facility.{Facility}
-use Rattle.kcr_people.specs.declared.Appointment.{Appointment}
-use Rattle.kcr_people.specs.declared.Withdrawal.{Withdrawal}
+use Rattle.kcr_people.specs.declared.{Appointment.Appointment, Withdrawal.Withdrawal}
 use Rattle.kcr_script.specs.declared.seat.Seat.{Seat}
 use Rattle.kcr_history.specs.Views.{is_training_of}
 use Rattle.kcr_rules.specs.Signing.{fits_of}

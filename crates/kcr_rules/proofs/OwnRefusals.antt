@@ -11,10 +11,8 @@ use Rattle.kcr_base.specs.declared.refusal.Refusal.TheVariants as Refusals
 use Rattle.kcr_base.proofs.RefuseLemmas.{is_memory}
 use Rattle.kcr_custody.specs.declared.SafeNumber.{SafeNumber}
 use Rattle.kcr_script.specs.declared.script.Step.{Step}
-use Rattle.kcr_room.specs.declared.Stay.{Stay}
-use Rattle.kcr_room.specs.declared.Way.{Way}
-use Rattle.kcr_history.specs.declared.commands.Deed.{Deed}
-use Rattle.kcr_history.specs.Conditions.{Facts, early_of_deed, script_refusal}
+use Rattle.kcr_room.specs.declared.{Stay.Stay, Way.Way}
+use Rattle.kcr_history.specs.{declared.commands.Deed.Deed, Conditions.Facts, Conditions.early_of_deed, Conditions.script_refusal}
 use Rattle.kcr_rules.specs.Refusals.{may_refuse}
 
 -- a refusal, if one is told, is one that the act may get

@@ -1,43 +1,26 @@
 -- The decision of an act, by the rows of a view.
 use Rattle.std.specs.Prelude.{◌≡◌, ◌≢◌, suc, ℕ, Bool, true, false, nat_lt, List, [], ◌∷◌, ◌++◌, map, Option, Some}
 use Rattle.std.specs.Prelude.{None, option_map, is_some, is_none, MatchOption, MatchResult, Result, Ok, Err, Vec}
-use Rattle.std.specs.List.{list_any}
-use Rattle.std.specs.Global.{Global}
-use Rattle.kcr_base.specs.Days.{day_of}
-use Rattle.kcr_base.specs.Refuse.{first_of}
-use Rattle.kcr_base.specs.Same.{same_place}
-use Rattle.kcr_base.specs.declared.limits.TheConstants.{MAX_STEPS}
-use Rattle.kcr_base.specs.declared.place.Place.{Place}
-use Rattle.kcr_base.specs.declared.place.Role.TheVariants.{Ca}
-use Rattle.kcr_base.specs.declared.refusal.Refusal.{Refusal}
-use Rattle.kcr_base.specs.declared.refusal.Refusal.TheVariants.{Memory}
-use Rattle.kcr_people.specs.declared.Appointment.{Appointment}
-use Rattle.kcr_people.specs.declared.Roster.{Roster}
+use Rattle.std.specs.{List.list_any, Global.Global}
+use Rattle.kcr_base.specs.{Days.day_of, Refuse.first_of, Same.same_place}
+use Rattle.kcr_base.specs.declared.{limits.TheConstants.MAX_STEPS, place.Place.Place, place.Role.TheVariants.Ca}
+use Rattle.kcr_base.specs.declared.refusal.Refusal.{Refusal, TheVariants.Memory}
+use Rattle.kcr_people.specs.declared.{Appointment.Appointment, Roster.Roster}
 use Rattle.kcr_people.specs.People.{is_person_by, same_training, ever_trained_by, trained_from_by, ever_put_by}
 use Rattle.kcr_people.specs.People.{withdrawn_rows, open_row_by, end_of, nobody}
 use Rattle.kcr_custody.specs.declared.CeremonyStatus.{CeremonyStatus}
 use Rattle.kcr_custody.specs.Custody.{is_box, place_of_box_by, is_open_by, spot_by, rest_by}
-use Rattle.kcr_history.specs.declared.commands.Act.{Act}
-use Rattle.kcr_history.specs.declared.commands.Deed.{Deed}
+use Rattle.kcr_history.specs.declared.{commands.Act.Act, views.Change.Change, views.View.View}
+use Rattle.kcr_history.specs.declared.commands.Deed.{Deed, TheVariants.Take, TheVariants.Put, TheVariants.Cut}
 use Rattle.kcr_history.specs.declared.commands.Act.TheVariants.{Enter, Train, Withdraw, Appoint, Replace, Release, AddBox, Plan, Ceremony}
 use Rattle.kcr_history.specs.declared.commands.Deed.TheVariants.{AddItem, Open, Close, RecordSheet, SetSafe, Sign, RecordException, Seal}
-use Rattle.kcr_history.specs.declared.commands.Deed.TheVariants.{Take, Put, Cut}
-use Rattle.kcr_history.specs.declared.row_types.MarkRow.{MarkRow}
-use Rattle.kcr_history.specs.declared.row_types.StepState.TheVariants.{Signed, Passed}
-use Rattle.kcr_history.specs.declared.views.Change.{Change}
-use Rattle.kcr_history.specs.declared.views.Change.TheVariants.{PutPerson, PutTraining, PutWithdrawal, PutAppointment}
-use Rattle.kcr_history.specs.declared.views.Change.TheVariants.{PutBox}
-use Rattle.kcr_history.specs.declared.views.View.{View}
+use Rattle.kcr_history.specs.declared.row_types.{MarkRow.MarkRow, StepState.TheVariants.Signed, StepState.TheVariants.Passed}
+use Rattle.kcr_history.specs.declared.views.Change.TheVariants.{PutPerson, PutTraining, PutWithdrawal, PutAppointment, PutBox}
 use Rattle.kcr_history.specs.Conditions.{Facts, status, early_conditions, late_conditions}
-use Rattle.kcr_history.specs.History.{greatest}
-use Rattle.kcr_history.specs.Machine.{SeatRequest}
-use Rattle.kcr_history.specs.Views.{is_step_at, last_seated}
-use Rattle.kcr_rules.specs.declared.effects.Effect.{Effect}
-use Rattle.kcr_rules.specs.declared.context.DecisionContext.{DecisionContext}
-use Rattle.kcr_rules.specs.CeremonyStatus.{ceremony_by, facility_by, day_by, is_open_row, mark_by, has_trained_present_by}
-use Rattle.kcr_rules.specs.CeremonyStatus.{is_holder_present_by}
-use Rattle.kcr_rules.specs.CeremonyRows.{was_opened_by, is_busy_by, is_unended, lies_on_table, closing_changes, opening_changes}
-use Rattle.kcr_rules.specs.CeremonyRows.{plan_changes}
+use Rattle.kcr_history.specs.{History.greatest, Machine.SeatRequest, Views.is_step_at, Views.last_seated}
+use Rattle.kcr_rules.specs.declared.{effects.Effect.Effect, context.DecisionContext.DecisionContext}
+use Rattle.kcr_rules.specs.CeremonyStatus.{ceremony_by, facility_by, day_by, is_open_row, mark_by, has_trained_present_by, is_holder_present_by}
+use Rattle.kcr_rules.specs.CeremonyRows.{was_opened_by, is_busy_by, is_unended, lies_on_table, closing_changes, opening_changes, plan_changes}
 use Rattle.kcr_rules.specs.CustodyRows.{seal_changes_by, take_changes_by, put_changes_by, cut_changes_by}
 use Rattle.kcr_rules.specs.RoomRows.{safe_operator_by, turn_changes_by, add_item_changes_by}
 use Rattle.kcr_rules.specs.SheetRows.{room_refusal, sheet_changes_by}

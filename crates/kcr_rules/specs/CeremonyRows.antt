@@ -1,22 +1,13 @@
 -- What the acts on whole ceremonies ask of the rows of a view and put: planning, opening and closing.
-use Rattle.std.specs.Prelude.{ℕ, ◌+◌, ◌==◌, Bool, false, not, ◌&&◌, ◌||◌, nat_lt, List, [], ◌∷◌, map, Option}
-use Rattle.std.specs.Prelude.{Some, None, is_some}
-use Rattle.std.specs.List.{list_any}
-use Rattle.std.specs.Result.{result_unwrap_or}
-use Rattle.kcr_base.specs.Same.{same_facility}
-use Rattle.kcr_base.specs.declared.place.Facility.{Facility}
-use Rattle.kcr_custody.specs.declared.Bag.{Bag}
-use Rattle.kcr_custody.specs.Custody.{is_on_table}
-use Rattle.kcr_room.specs.declared.Stay.{Stay}
-use Rattle.kcr_room.specs.Stays.{ends_after}
-use Rattle.kcr_script.specs.declared.script.Step.{Step}
-use Rattle.kcr_script.specs.Reading.{script_of}
-use Rattle.kcr_history.specs.declared.row_types.CeremonyRow.{CeremonyRow}
+use Rattle.std.specs.Prelude.{ℕ, ◌+◌, ◌==◌, Bool, false, not, ◌&&◌, ◌||◌, nat_lt, List, [], ◌∷◌, map, Option, Some, None, is_some}
+use Rattle.std.specs.{List.list_any, Result.result_unwrap_or}
+use Rattle.kcr_base.specs.{Same.same_facility, declared.place.Facility.Facility}
+use Rattle.kcr_custody.specs.{declared.Bag.Bag, Custody.is_on_table}
+use Rattle.kcr_room.specs.{declared.Stay.Stay, Stays.ends_after}
+use Rattle.kcr_script.specs.{declared.script.Step.Step, Reading.script_of}
+use Rattle.kcr_history.specs.declared.row_types.{CeremonyRow.CeremonyRow, StepRow.StepRow, StepState.TheVariants.Undone}
 use Rattle.kcr_history.specs.declared.row_types.CeremonyState.TheVariants as States
-use Rattle.kcr_history.specs.declared.row_types.StepRow.{StepRow}
-use Rattle.kcr_history.specs.declared.row_types.StepState.TheVariants.{Undone}
-use Rattle.kcr_history.specs.declared.views.Change.{Change}
-use Rattle.kcr_history.specs.declared.views.Change.TheVariants.{PutCeremony, PutMark, PutStep}
+use Rattle.kcr_history.specs.declared.views.Change.{Change, TheVariants.PutCeremony, TheVariants.PutMark, TheVariants.PutStep}
 use Rattle.kcr_rules.specs.CeremonyStatus.{is_open_state}
 
 -- OPENING

@@ -1,25 +1,14 @@
 -- What the rows of a view say of a ceremony: its plan, its state, its mark, who is in its room.
-use Rattle.std.specs.Prelude.{ℕ, Bool, true, false, not, List, [], ◌∷◌, find, Option, Some, None, option_map}
-use Rattle.std.specs.Prelude.{unwrap_or}
+use Rattle.std.specs.Prelude.{ℕ, Bool, true, false, not, List, [], ◌∷◌, find, Option, Some, None, option_map, unwrap_or}
 use Rattle.std.specs.List.{list_any}
-use Rattle.kcr_base.specs.Days.{day_of}
-use Rattle.kcr_base.specs.Refuse.{when, first_of, before_mark_refusal}
-use Rattle.kcr_base.specs.Same.{same_text}
-use Rattle.kcr_base.specs.declared.place.Facility.{Facility}
-use Rattle.kcr_base.specs.declared.place.Facility.TheVariants.{East}
-use Rattle.kcr_base.specs.declared.place.Place.{Place}
-use Rattle.kcr_base.specs.declared.place.Role.{Role}
-use Rattle.kcr_base.specs.declared.refusal.Refusal.{Refusal}
+use Rattle.kcr_base.specs.{Days.day_of, Same.same_text, declared.refusal.Refusal.Refusal, Refuse.when, Refuse.first_of, Refuse.before_mark_refusal}
+use Rattle.kcr_base.specs.declared.place.{Facility.Facility, Facility.TheVariants.East, Place.Place, Role.Role}
 use Rattle.kcr_base.specs.declared.refusal.Refusal.TheVariants as Refusals
 use Rattle.kcr_people.specs.People.{trained_by, holder_by}
-use Rattle.kcr_room.specs.declared.Stay.{Stay}
-use Rattle.kcr_room.specs.Stays.{present_in_by}
-use Rattle.kcr_history.specs.declared.row_types.CeremonyRow.{CeremonyRow}
-use Rattle.kcr_history.specs.declared.row_types.CeremonyState.{CeremonyState}
+use Rattle.kcr_room.specs.{declared.Stay.Stay, Stays.present_in_by}
+use Rattle.kcr_history.specs.declared.row_types.{CeremonyRow.CeremonyRow, MarkRow.MarkRow, CeremonyState.CeremonyState}
 use Rattle.kcr_history.specs.declared.row_types.CeremonyState.TheVariants as States
-use Rattle.kcr_history.specs.declared.row_types.MarkRow.{MarkRow}
-use Rattle.kcr_history.specs.declared.views.View.{View}
-use Rattle.kcr_history.specs.Views.{is_of_number, is_mark_of}
+use Rattle.kcr_history.specs.{declared.views.View.View, Views.is_of_number, Views.is_mark_of}
 
 -- THE CEREMONY
 

@@ -1,11 +1,9 @@
 -- Bags sealed, taken, put away and cut, by the rows of a view.
 use Rattle.std.specs.Prelude.{ℕ, Bool, false, List, [], ◌∷◌, map, Option, Some, None}
 use Rattle.kcr_base.specs.declared.place.Place.{Place}
-use Rattle.kcr_custody.specs.declared.Spot.TheVariants.{Table, Spent}
-use Rattle.kcr_custody.specs.declared.Destination.{Destination}
+use Rattle.kcr_custody.specs.declared.{Spot.TheVariants.Table, Spot.TheVariants.Spent, Destination.Destination}
 use Rattle.kcr_custody.specs.Custody.{spot_of_destination, loose_items, sealed_items}
-use Rattle.kcr_history.specs.declared.views.Change.{Change}
-use Rattle.kcr_history.specs.declared.views.Change.TheVariants.{PutBag, PutItem, PutMark}
+use Rattle.kcr_history.specs.declared.views.Change.{Change, TheVariants.PutBag, TheVariants.PutItem, TheVariants.PutMark}
 use Rattle.kcr_history.specs.declared.views.View.{View}
 use Rattle.kcr_rules.specs.CeremonyStatus.{is_holder_present_by, facility_by}
 

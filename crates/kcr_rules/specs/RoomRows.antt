@@ -1,12 +1,8 @@
 -- What is decided of safes and of items, by the rows of a view.
 use Rattle.std.specs.Prelude.{ℕ, Bool, List, [], ◌∷◌}
-use Rattle.kcr_base.specs.Days.{day_of}
-use Rattle.kcr_base.specs.declared.place.Role.TheVariants.{Ssc1, Ssc2}
-use Rattle.kcr_custody.specs.declared.SafeOperator.{SafeOperator}
-use Rattle.kcr_custody.specs.declared.SafeNumber.{SafeNumber}
-use Rattle.kcr_custody.specs.declared.Rest.TheVariants.{Loose}
-use Rattle.kcr_history.specs.declared.views.Change.{Change}
-use Rattle.kcr_history.specs.declared.views.Change.TheVariants.{PutSafe, PutItem, PutMark}
+use Rattle.kcr_base.specs.{Days.day_of, declared.place.Role.TheVariants.Ssc1, declared.place.Role.TheVariants.Ssc2}
+use Rattle.kcr_custody.specs.declared.{SafeOperator.SafeOperator, SafeNumber.SafeNumber, Rest.TheVariants.Loose}
+use Rattle.kcr_history.specs.declared.views.Change.{Change, TheVariants.PutSafe, TheVariants.PutItem, TheVariants.PutMark}
 use Rattle.kcr_history.specs.declared.views.View.{View}
 use Rattle.kcr_rules.specs.CeremonyStatus.{is_in_by, is_trained_by, facility_by}
 

@@ -1,15 +1,9 @@
 -- What is decided of the sheet, by the rows of a view.
 use Rattle.std.specs.Prelude.{ℕ, Bool, not, List, ◌++◌, map, find, Option, Some, None}
-use Rattle.kcr_base.specs.declared.refusal.Refusal.{Refusal}
-use Rattle.kcr_base.specs.declared.refusal.Refusal.TheVariants.{State}
-use Rattle.kcr_people.specs.declared.Person.{Person}
-use Rattle.kcr_people.specs.People.{is_person_by}
-use Rattle.kcr_room.specs.declared.Stay.{Stay}
-use Rattle.kcr_room.specs.declared.Way.{Way}
-use Rattle.kcr_room.specs.Requests.{stays_refusal, changed_stays, new_row}
-use Rattle.kcr_history.specs.declared.views.Change.{Change}
-use Rattle.kcr_history.specs.declared.views.Change.TheVariants.{PutSheet, PutStay}
-use Rattle.kcr_history.specs.declared.views.View.{View}
+use Rattle.kcr_base.specs.declared.refusal.Refusal.{Refusal, TheVariants.State}
+use Rattle.kcr_people.specs.{declared.Person.Person, People.is_person_by}
+use Rattle.kcr_room.specs.{declared.Stay.Stay, declared.Way.Way, Requests.stays_refusal, Requests.changed_stays, Requests.new_row}
+use Rattle.kcr_history.specs.declared.views.{Change.Change, Change.TheVariants.PutSheet, Change.TheVariants.PutStay, View.View}
 pub use Rattle.kcr_history.specs.Conditions.{first_twice}
 
 -- the first of the people who is not in the register

@@ -2,24 +2,14 @@
 use Rattle.std.specs.Prelude.{◌≡◌, ℕ, suc, Bool, true, false, nat_lt, List, [], ◌∷◌, ◌++◌, map}
 use Rattle.std.specs.Prelude.{filter, length, find, get_or, slice_get, Option, Some, None, ◌⊎◌}
 use Rattle.kcr_base.specs.Days.{day_of}
-use Rattle.kcr_base.specs.declared.limits.TheConstants.{MAX_PRESENT}
-use Rattle.kcr_base.specs.declared.place.Role.TheVariants.{Ca, Iw}
-use Rattle.kcr_base.specs.declared.refusal.Refusal.{Refusal}
-use Rattle.kcr_base.specs.declared.refusal.Refusal.TheVariants.{Short, Disk}
+use Rattle.kcr_base.specs.declared.{limits.TheConstants.MAX_PRESENT, place.Role.TheVariants.Ca, place.Role.TheVariants.Iw}
+use Rattle.kcr_base.specs.declared.refusal.Refusal.{Refusal, TheVariants.Short, TheVariants.Disk}
 use Rattle.kcr_room.specs.Stays.{present_in_by}
-use Rattle.kcr_script.specs.declared.seat.Seat.{Seat}
-use Rattle.kcr_script.specs.declared.seat.Seat.TheVariants.{Staff}
+use Rattle.kcr_script.specs.declared.seat.Seat.{Seat, TheVariants.Staff}
 use Rattle.kcr_seats.specs.Seating.{IsFirst, IsLeast}
-use Rattle.kcr_history.specs.declared.row_types.StepRow.{StepRow}
-use Rattle.kcr_history.specs.declared.row_types.StepState.{StepState}
-use Rattle.kcr_history.specs.declared.row_types.SeatingRow.{SeatingRow}
-use Rattle.kcr_history.specs.declared.row_types.ExceptionRow.{ExceptionRow}
-use Rattle.kcr_history.specs.declared.views.Change.{Change}
+use Rattle.kcr_history.specs.declared.row_types.{StepRow.StepRow, StepState.StepState, SeatingRow.SeatingRow, ExceptionRow.ExceptionRow}
+use Rattle.kcr_history.specs.{declared.views.Change.Change, declared.views.View.View, Fitting.fits_by, Tables.seat_rows, Machine.SeatRequest}
 use Rattle.kcr_history.specs.declared.views.Change.TheVariants.{PutMark, PutStep, PutSeating, PutException}
-use Rattle.kcr_history.specs.declared.views.View.{View}
-use Rattle.kcr_history.specs.Fitting.{fits_by}
-use Rattle.kcr_history.specs.Machine.{SeatRequest}
-use Rattle.kcr_history.specs.Tables.{seat_rows}
 use Rattle.kcr_history.specs.Views.{is_step_at, is_exception_of, last_seated}
 use Rattle.kcr_rules.specs.CeremonyStatus.{ceremony_by, facility_of_row}
 

@@ -1,8 +1,7 @@
 //! What the rows of a view say of a ceremony: its state, its mark, and who is in its room.
 ghost use Rattle.std.specs.Prelude.{◌≡◌, IfOk, MatchResult, Some, None};
-ghost use Rattle.kcr_base.specs.declared.refusal.Refusal.TheVariants.{Unknown};
+ghost use Rattle.kcr_base.specs.{declared.refusal.Refusal.TheVariants.Unknown, Refuse.IsTestResult};
 ghost use Rattle.kcr_base.specs.declared.refusal.Thing.TheVariants as Things;
-ghost use Rattle.kcr_base.specs.Refuse.{IsTestResult};
 ghost use Rattle.kcr_room.specs.Stays.{present_in_by};
 ghost use Rattle.kcr_rules.specs.ByRows;
 ghost use Rattle.kcr_rules.specs.CeremonyStatus;

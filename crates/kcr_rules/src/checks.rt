@@ -2,8 +2,7 @@
 //! appointment is looked at.
 ghost use Rattle.std.specs.Prelude.{IfErr, IsTrue};
 ghost use Rattle.kcr_history.specs.declared.commands.Act.TheVariants.{Ceremony};
-ghost use Rattle.kcr_rules.specs.ByRows.{IsCheckResult};
-ghost use Rattle.kcr_rules.specs.Refusals.{may_refuse};
+ghost use Rattle.kcr_rules.specs.{ByRows.IsCheckResult, Refusals.may_refuse};
 
 use crate::context::DecisionContext;
 use kcr_base::{Moment, Refusal};

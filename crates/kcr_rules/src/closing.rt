@@ -5,10 +5,9 @@ ghost use Rattle.kcr_base.specs.Refuse.{IsTestResult};
 ghost use Rattle.kcr_history.specs.declared.commands.Act.TheVariants as Kinds;
 ghost use Rattle.kcr_history.specs.declared.commands.Deed.TheVariants as Deeds;
 ghost use Rattle.kcr_rules.specs.ByRows;
-ghost use Rattle.kcr_rules.specs.ByRows.{IsChangesResult, IsCheckResult};
+ghost use Rattle.kcr_rules.specs.{ByRows.IsChangesResult, ByRows.IsCheckResult, Signing.next_step_by};
 ghost use Rattle.kcr_history.specs.Views.{is_step_at};
 ghost use Rattle.kcr_rules.specs.CeremonyRows;
-ghost use Rattle.kcr_rules.specs.Signing.{next_step_by};
 
 use crate::ceremony_status::{ceremony_row, check_running};
 use crate::changes::only;

@@ -1,12 +1,10 @@
 //! Acts on bags, over the rows of a view.
 ghost use Rattle.std.specs.Prelude.{◌≡◌, ◌∷◌, IfOk, map};
-ghost use Rattle.kcr_base.specs.Refuse.{first_of};
-ghost use Rattle.kcr_base.specs.declared.place.Role.TheVariants.{Ca};
+ghost use Rattle.kcr_base.specs.{Refuse.first_of, declared.place.Role.TheVariants.Ca};
 ghost use Rattle.kcr_custody.specs.Custody;
 ghost use Rattle.kcr_history.specs.declared.commands.Act.TheVariants as Kinds;
 ghost use Rattle.kcr_history.specs.declared.commands.Deed.TheVariants as Deeds;
-ghost use Rattle.kcr_history.specs.declared.views.Change.TheVariants.{PutBag, PutItem, PutMark};
-ghost use Rattle.kcr_history.specs.declared.views.View.{View};
+ghost use Rattle.kcr_history.specs.declared.views.{Change.TheVariants.PutBag, Change.TheVariants.PutItem, Change.TheVariants.PutMark, View.View};
 ghost use Rattle.kcr_rules.specs.ByRows.{IsChangesResult, IsCheckResult, IsTested};
 ghost use Rattle.kcr_rules.specs.CeremonyStatus.{has_trained_present_by, is_holder_present_by};
 ghost use Rattle.kcr_rules.specs.CustodyRows;

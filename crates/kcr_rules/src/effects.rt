@@ -1,8 +1,7 @@
 //! Deciding an act by its premises: one method for each kind of act, and the choice among them.
 ghost use Rattle.std.specs.Prelude.{◌≡◌, false, IfErr, IsTrue, OnOk};
 ghost use Rattle.kcr_history.specs.declared.commands.Act.TheVariants.{Ceremony};
-ghost use Rattle.kcr_rules.specs.ByRows.{IsCleared, IsEffectResult, alone};
-ghost use Rattle.kcr_rules.specs.Refusals.{may_refuse};
+ghost use Rattle.kcr_rules.specs.{ByRows.IsCleared, ByRows.IsEffectResult, ByRows.alone, Refusals.may_refuse};
 
 use crate::context::DecisionContext;
 use kcr_base::{Moment, Refusal};

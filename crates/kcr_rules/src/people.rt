@@ -3,9 +3,8 @@
 
 ghost use Rattle.std.specs.Prelude.{◌≡◌, IfOk, map};
 ghost use Rattle.kcr_history.specs.declared.commands.Act.TheVariants as Kinds;
-ghost use Rattle.kcr_history.specs.declared.views.Change.TheVariants.{PutWithdrawal};
+ghost use Rattle.kcr_history.specs.{declared.views.Change.TheVariants.PutWithdrawal, History.greatest, History.max_option};
 ghost use Rattle.kcr_rules.specs.ByRows.{IsChangesResult, IsRoster};
-ghost use Rattle.kcr_history.specs.History.{greatest, max_option};
 
 use crate::changes::{both, only};
 use crate::context::DecisionContext;

@@ -1,13 +1,9 @@
 //! Who is seated: the people in the room, the seats that each of them fits, and the search over both.
-ghost use Rattle.std.specs.Prelude.{◌≡◌, ◌≢◌, [], ◌<◌, ◌≤◌, MatchResult, IfOk, EachIndex, slice_index};
-ghost use Rattle.std.specs.Prelude.{get_or, length, map, filter};
-ghost use Rattle.kcr_base.specs.declared.limits.TheConstants.{MAX_PRESENT};
-ghost use Rattle.kcr_base.specs.declared.refusal.Refusal.TheVariants.{Memory};
+ghost use Rattle.std.specs.Prelude.{◌≡◌, ◌≢◌, [], ◌<◌, ◌≤◌, MatchResult, IfOk, EachIndex, slice_index, get_or, length, map, filter};
+ghost use Rattle.kcr_base.specs.declared.{limits.TheConstants.MAX_PRESENT, refusal.Refusal.TheVariants.Memory};
 ghost use Rattle.kcr_room.specs.Stays.{present_in_by};
 ghost use Rattle.kcr_seats.specs.Answer.{IsAnswer};
-ghost use Rattle.kcr_history.specs.Fitting.{fits_by};
-ghost use Rattle.kcr_history.specs.Machine.{SeatRequest};
-ghost use Rattle.kcr_history.specs.Views.{is_training_of};
+ghost use Rattle.kcr_history.specs.{Fitting.fits_by, Machine.SeatRequest, Views.is_training_of};
 ghost use Rattle.kcr_rules.specs.TrainingsByPerson.{trainings_by_person};
 ghost use Rattle.kcr_rules.specs.Signing;
 

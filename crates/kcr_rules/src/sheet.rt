@@ -1,15 +1,12 @@
 //! Requests of the sheet, over the rows of a view: people come into a room or go out of it.
 ghost use Rattle.std.specs.Prelude.{◌≡◌, ◌≢◌, IfOk, MatchResult, Option, Some, None, map};
-ghost use Rattle.kcr_base.specs.declared.refusal.Refusal.{Refusal};
-ghost use Rattle.kcr_base.specs.declared.refusal.Refusal.TheVariants.{Memory};
+ghost use Rattle.kcr_base.specs.declared.refusal.Refusal.{Refusal, TheVariants.Memory};
 ghost use Rattle.kcr_room.specs.Requests;
 ghost use Rattle.kcr_room.specs.declared.SheetRequest.{SheetRequest};
-ghost use Rattle.kcr_history.specs.declared.views.View.{View};
+ghost use Rattle.kcr_history.specs.declared.views.{View.View, Change.TheVariants.PutSheet, Change.TheVariants.PutStay};
 ghost use Rattle.kcr_history.specs.declared.commands.Act.TheVariants as Kinds;
 ghost use Rattle.kcr_history.specs.declared.commands.Deed.TheVariants as Deeds;
-ghost use Rattle.kcr_history.specs.declared.views.Change.TheVariants.{PutSheet, PutStay};
-ghost use Rattle.kcr_rules.specs.ByRows.{IsChangesResult, IsCheckResult};
-ghost use Rattle.kcr_rules.specs.CeremonyStatus.{mark_by};
+ghost use Rattle.kcr_rules.specs.{ByRows.IsChangesResult, ByRows.IsCheckResult, CeremonyStatus.mark_by};
 ghost use Rattle.kcr_rules.specs.SheetRows;
 
 use crate::ceremony_status::{is_open_state, known_ceremony, mark};

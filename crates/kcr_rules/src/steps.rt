@@ -2,15 +2,13 @@
 //! exception not be stated, their seats aside, and the rows that both put.
 ghost use Rattle.std.specs.Prelude.{◌≡◌, ◌<◌, ◌≤◌, ℕ, ◌++◌, ◌∷◌, [], suc, length, map, option_copied, true, false};
 ghost use Rattle.std.specs.Prelude.{None, Some, nat_lt, MatchResult, IfErr, IfOk, IsTrue, List, OnOk};
-ghost use Rattle.kcr_base.specs.declared.limits.TheConstants.{MAX_EXCEPTIONS, MAX_STEPS};
-ghost use Rattle.kcr_base.specs.declared.refusal.Refusal.TheVariants.{Disk};
+ghost use Rattle.kcr_base.specs.declared.{limits.TheConstants.MAX_EXCEPTIONS, limits.TheConstants.MAX_STEPS, refusal.Refusal.TheVariants.Disk};
 ghost use Rattle.kcr_history.specs.declared.commands.Act.TheVariants as Kinds;
 ghost use Rattle.kcr_history.specs.declared.commands.Deed.TheVariants as Deeds;
 ghost use Rattle.kcr_history.specs.Tables.{seat_rows};
 ghost use Rattle.kcr_history.specs.Views;
 ghost use Rattle.kcr_history.specs.declared.views.Change.TheVariants as Changes;
-ghost use Rattle.kcr_rules.specs.ByRows.{early_refusal_by};
-ghost use Rattle.kcr_rules.specs.Refusals.{may_refuse};
+ghost use Rattle.kcr_rules.specs.{ByRows.early_refusal_by, Refusals.may_refuse};
 ghost use Rattle.kcr_rules.specs.Signing;
 
 use crate::ceremony_status::{check_running, known_ceremony};

@@ -2,8 +2,7 @@
 use Rattle.kcr_script.proofs.Common.{◌↔◌, Ok, Err, Seat, Step, StandsFor, IsSeats, IsScript, BreaksScript}
 use Rattle.std.specs.Prelude.{◌≡◌, ℕ, List, Some}
 use Rattle.kcr_script.specs.Reading.{seats_of, script_of}
-use Rattle.kcr_script.proofs.SeatLemmas.{stands_are_seats}
-use Rattle.kcr_script.proofs.SeatReading.{seats_read, seats_stand}
+use Rattle.kcr_script.proofs.{SeatLemmas.stands_are_seats, SeatReading.seats_read, SeatReading.seats_stand}
 use Rattle.kcr_script.proofs.ScriptReading.{script_read, break_read, read_is_script, read_breaks}
 -- a script has 1 to `MAX_STEPS` steps, each with an activity of 1 to 500 bytes and 1 to 16 seats whose numbers are 1 to 7
 pub use Rattle.kcr_script.proofs.ScriptReading.{script_has_steps, steps_have_form}

@@ -1,10 +1,7 @@
 -- What an answer unfolds to compute the readers of scripts and seats on a text that is written out.
 use Rattle.kcr_script.proofs.Common.{⊤}
-use Rattle.std.specs.Char.{encode_utf8}
-use Rattle.std.specs.Str.{chars, is_utf8}
-use Rattle.std.specs.Fmt.{digits}
-use Rattle.csv.specs.Machine.{next_record}
-use Rattle.csv.specs.Reading.{records_from, strip_bom}
+use Rattle.std.specs.{Char.encode_utf8, Fmt.digits, Str.chars, Str.is_utf8}
+use Rattle.csv.specs.{Machine.next_record, Reading.records_from, Reading.strip_bom}
 use Rattle.kcr_script.specs.Reading.{seats_of, script_of}
 
 -- unfolds the readers of scripts and seats, so that they compute

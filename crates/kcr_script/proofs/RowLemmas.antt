@@ -2,12 +2,9 @@
 use Rattle.kcr_script.proofs.Common.{◌≡◌, ℕ, zero, suc, ◌+◌, ◌-◌, ◌≤◌, ◌<◌, true, false, List, [], ◌∷◌, length, Option, Some, None, refl, subst}
 use Rattle.kcr_script.proofs.Common.{arith, nat_tests, Read, step, is_end, ends_at_end, fields_after, field_after, AreRecords, default_config}
 use Rattle.kcr_script.proofs.Common.{records_next, records, Fields, AreRows}
-use Rattle.csv.specs.Machine.{next_record}
-use Rattle.csv.specs.Reading.{Reached, strip_bom, records_from}
-use Rattle.csv.specs.declared.parser.State.{State}
+use Rattle.csv.specs.{Machine.next_record, Reading.Reached, Reading.strip_bom, Reading.records_from}
+use Rattle.csv.specs.declared.parser.{State.State, Action.Action, Config.Config}
 use Rattle.csv.specs.declared.parser.State.TheVariants as st
-use Rattle.csv.specs.declared.parser.Action.{Action}
-use Rattle.csv.specs.declared.parser.Config.{Config}
 
 -- ---- a text has one list of rows
 

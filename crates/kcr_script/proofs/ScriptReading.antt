@@ -5,23 +5,15 @@ use Rattle.kcr_script.proofs.Common.{bytes_decides, pointwise, le-leb, leb-true,
 use Rattle.kcr_script.proofs.Common.{false_from_ne_true, Decides-and, Decides-not, Decides-eqb, Decides-by_and, All-from_recursion, nat_tests}
 use Rattle.kcr_script.proofs.Common.{records, default_config, same_text, Seat, Step, IsSeats, HasSteps, Fields, AreRows, header, IsRow, AreSteps}
 use Rattle.kcr_script.proofs.Common.{IsScriptRows, BreaksFrom, BreaksAt, IsScript, BreaksScript, is_printing, is_activity, step_of, join_steps}
-use Rattle.kcr_script.proofs.Common.{steps_from, some_steps, steps_of_rows}
-use Rattle.std.proofs.Common.{Ok, Err}
-use Rattle.std.specs.Prelude.{nat_lt}
-use Rattle.std.specs.Bool.{Decides}
-use Rattle.std.proofs.lemmas.Result.{MatchResult-weaker, MatchResult-from_both}
-use Rattle.std.proofs.lemmas.Slice.Eq.{slice_eq-Decides}
-use Rattle.std.proofs.lemmas.Str.{IsUtf8-from_is_utf8, is_utf8-from_IsUtf8}
+use Rattle.kcr_script.proofs.{Common.steps_from, Common.some_steps, Common.steps_of_rows, SeatLemmas.stands_are_seats, StepLemmas.has_steps}
+use Rattle.std.proofs.{Common.Ok, Common.Err, lemmas.Result.MatchResult-weaker, lemmas.Result.MatchResult-from_both}
+use Rattle.std.specs.{Prelude.nat_lt, Bool.Decides}
+use Rattle.std.proofs.lemmas.{Slice.Eq.slice_eq-Decides, Str.IsUtf8-from_is_utf8, Str.is_utf8-from_IsUtf8}
 use Rattle.csv.specs.Reading.{strip_bom}
 use Rattle.kcr_base.specs.Line.{IsLine, IsPrinting}
-use Rattle.kcr_base.specs.declared.refusal.Refusal.{Refusal}
-use Rattle.kcr_base.specs.declared.refusal.Refusal.TheVariants.{Memory, Script}
-use Rattle.kcr_script.specs.Fault.{IfRow}
-use Rattle.kcr_script.specs.Reading.{seats_of, script_of}
-use Rattle.kcr_script.proofs.SeatLemmas.{stands_are_seats}
-use Rattle.kcr_script.proofs.SeatReading.{seats_read, seats_stand}
-use Rattle.kcr_script.proofs.StepLemmas.{has_steps}
-use Rattle.kcr_script.proofs.RowLemmas.{rows_there, rows_are}
+use Rattle.kcr_base.specs.declared.refusal.Refusal.{Refusal, TheVariants.Memory, TheVariants.Script}
+use Rattle.kcr_script.specs.{Fault.IfRow, Reading.seats_of, Reading.script_of}
+use Rattle.kcr_script.proofs.{SeatReading.seats_read, SeatReading.seats_stand, RowLemmas.rows_there, RowLemmas.rows_are}
 
 -- ---- one row
 

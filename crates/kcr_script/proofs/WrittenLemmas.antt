@@ -4,10 +4,9 @@ use Rattle.kcr_script.proofs.Common.{drop, get_or, refl, sym, ap, subst, ◌∙�
 use Rattle.kcr_script.proofs.Common.{nat_tests, cond_both, ne_eqb, false_from_ne_true, cases_Bool, Ca, Seat, Staff, kind, can_repeat, IsSeat}
 use Rattle.kcr_script.proofs.Common.{seat_text, Item, runs, before_runs, groups, pair_item, IsItem, item_seats, star_text, after_semicolon, appended}
 use Rattle.kcr_script.proofs.Common.{all_appended, items_text, Spells, StandsFor, IsSeats, flat_map, AllByRecursion, replicate-append-replicate}
-use Rattle.kcr_script.proofs.Common.{All-head, All-tail, each-append}
+use Rattle.kcr_script.proofs.{Common.All-head, Common.All-tail, Common.each-append, SeatLemmas.one_item, SeatLemmas.more_items}
 use Rattle.kcr_script.specs.Seats.{written}
 use Rattle.std.proofs.lemmas.List.Concat.{flat_map-append}
-use Rattle.kcr_script.proofs.SeatLemmas.{one_item, more_items}
 
 -- two seats of one kind, which have no number, are equal
 pub merged_same : (s t : Seat) → (nat_lt (kind s) 9 && eqb (kind s) (kind t)) ≡ true → s ≡ t

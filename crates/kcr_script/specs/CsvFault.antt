@@ -1,8 +1,7 @@
 -- What a fault of reading rows never says.
 use Rattle.std.specs.Prelude.{⊤}
 use Rattle.csv.specs.Reading.{NotLengths, error_kind}
-use Rattle.kcr_script.specs.declared.csv_rows.CsvFault.{CsvFault}
-use Rattle.kcr_script.specs.declared.csv_rows.CsvFault.TheVariants.{Memory, Csv}
+use Rattle.kcr_script.specs.declared.csv_rows.CsvFault.{CsvFault, TheVariants.Memory, TheVariants.Csv}
 
 -- not that a row has another length than the first
 abbrev pub IsNoLength : CsvFault → Type 0

@@ -1,8 +1,7 @@
 -- Texts of worked examples.
 use Rattle.std.specs.Prelude.{ℕ, List, [], ◌∷◌, codes}
 use Rattle.kcr_base.specs.declared.place.Role.TheVariants.{Ca, Iw}
-use Rattle.kcr_script.specs.declared.seat.Seat.TheVariants.{Staff, AnyCo}
-use Rattle.kcr_script.specs.declared.script.Step.{Step}
+use Rattle.kcr_script.specs.declared.{seat.Seat.TheVariants.Staff, seat.Seat.TheVariants.AnyCo, script.Step.Step}
 
 -- row 1 of a file, with its line feed
 abbrev pub first_row : List ℕ

@@ -2,19 +2,13 @@
 use Rattle.std.specs.Prelude.{ℕ, ◌+◌, ◌==◌, nat_lt, nat_le, Bool, not, ◌&&◌, if◌then◌else◌, List, [], ◌∷◌, ◌++◌, length}
 use Rattle.std.specs.Prelude.{map, Option, Some, None, option_map, Result, Ok, Err}
 use Rattle.std.specs.List.{flat_map, find, list_all, slice_split}
-use Rattle.std.specs.Option.{option_and_then}
-use Rattle.std.specs.Str.{is_utf8}
-use Rattle.std.specs.Fmt.{decimal}
-use Rattle.std.specs.Cmp.Lexicographic.{pointwise}
+use Rattle.std.specs.{Option.option_and_then, Str.is_utf8, Fmt.decimal, Cmp.Lexicographic.pointwise}
 use Rattle.csv.specs.Reading.{records, default_config, strip_bom}
-use Rattle.kcr_base.specs.Same.{same_text}
-use Rattle.kcr_base.specs.declared.limits.TheConstants.{MAX_STEPS}
+use Rattle.kcr_base.specs.{Same.same_text, declared.limits.TheConstants.MAX_STEPS}
 use Rattle.kcr_base.specs.declared.place.Role.TheVariants.{Ca, Iw, Sa, Ssc1, Ssc2, Rkos, Sw}
-use Rattle.kcr_script.specs.declared.seat.Seat.{Seat}
+use Rattle.kcr_script.specs.{declared.seat.Seat.Seat, declared.script.Step.Step, Script.Fields, Script.header}
 use Rattle.kcr_script.specs.declared.seat.Seat.TheVariants.{Staff, AnyCo, AnyRksh, Co, Rksh}
-use Rattle.kcr_script.specs.declared.script.Step.{Step}
 use Rattle.kcr_script.specs.Seats.{Item, item_text, item_seats, pair_item}
-use Rattle.kcr_script.specs.Script.{Fields, header}
 
 -- how many of a seat one item may stand for, and the numbers of places
 abbrev pub one_to_seven : List ℕ

@@ -3,10 +3,8 @@ use Rattle.std.specs.Prelude.{◌≡◌, ◌≢◌, ⊤, ℕ, ◌+◌, ◌≤◌
 use Rattle.std.specs.Fmt.{decimal}
 use Rattle.csv.specs.Reading.{AreRecords, default_config, strip_bom}
 use Rattle.csv.specs.declared.parser.State.TheVariants as st
-use Rattle.kcr_base.specs.Line.{IsLine}
-use Rattle.kcr_base.specs.declared.limits.TheConstants.{MAX_STEPS}
-use Rattle.kcr_script.specs.Seats.{StandsFor}
-use Rattle.kcr_script.specs.declared.script.Step.{Step}
+use Rattle.kcr_base.specs.{Line.IsLine, declared.limits.TheConstants.MAX_STEPS}
+use Rattle.kcr_script.specs.{Seats.StandsFor, declared.script.Step.Step}
 
 -- the fields of a row
 abbrev pub Fields : Type 0

@@ -3,8 +3,7 @@ use Rattle.std.specs.Prelude.{ℕ, ◌+◌, nat_lt, Bool, List, [], ◌∷◌, �
 use Rattle.kcr_base.specs.declared.place.Role.TheVariants.{Ca, Iw, Sa, Ssc1, Ssc2, Rkos, Sw}
 use Rattle.kcr_script.specs.declared.seat.Seat.{Seat}
 use Rattle.kcr_script.specs.declared.seat.Seat.TheVariants.{Staff, AnyCo, AnyRksh, Co, Rksh}
-use Rattle.kcr_base.specs.Place.{IsPlaceNumber}
-use Rattle.kcr_base.specs.Role.{role_text}
+use Rattle.kcr_base.specs.{Place.IsPlaceNumber, Role.role_text}
 
 -- the text of a seat
 abbrev pub seat_text : Seat → List ℕ

@@ -1,8 +1,7 @@
 //! The rows of a script file, as `csv` reads them.
 ghost use Rattle.std.specs.Prelude.{IfOk, IfErr, map};
 ghost use Rattle.csv.specs.Records.{fields_of};
-ghost use Rattle.kcr_script.specs.Script.{AreRows};
-ghost use Rattle.kcr_script.specs.CsvFault.{IsNoLength};
+ghost use Rattle.kcr_script.specs.{Script.AreRows, CsvFault.IsNoLength};
 
 use csv::{ByteRecord, Error, ReaderBuilder};
 use std::alloc::Global;

@@ -2,9 +2,7 @@
 ghost use Rattle.std.specs.Prelude.{◌≡◌, List, IfOk, IfErr, IfSome, Some, MatchResult, map};
 ghost use Rattle.csv.specs.Records.{fields_of};
 ghost use Rattle.kcr_script.specs.Script.{IsRow, AreSteps, BreaksFrom, IsScriptRows, BreaksAt, IsScript, BreaksScript};
-ghost use Rattle.kcr_script.specs.Reading.{script_of};
-ghost use Rattle.kcr_script.specs.Fault.{IfRow};
-ghost use Rattle.kcr_script.specs.declared.script.Step.{Step};
+ghost use Rattle.kcr_script.specs.{Reading.script_of, Fault.IfRow, declared.script.Step.Step};
 
 use crate::csv_rows::read_csv_rows;
 use crate::script::{Script, Step, is_header, is_number, three_fields};

@@ -1,6 +1,5 @@
 //! Scripts, and the fields of their rows.
-ghost use Rattle.std.specs.Prelude.{◌≡◌, ◌≢◌, ◌↔◌, ℕ, ◌<◌, List, [], ◌∷◌};
-ghost use Rattle.std.specs.Prelude.{IsTrue, MatchOption, Some};
+ghost use Rattle.std.specs.Prelude.{◌≡◌, ◌≢◌, ◌↔◌, ℕ, ◌<◌, List, [], ◌∷◌, IsTrue, MatchOption, Some};
 ghost use Rattle.std.specs.Fmt.{decimal};
 ghost use Rattle.csv.specs.Records.{fields_of};
 ghost use Rattle.kcr_script.specs.Script.{header};
@@ -27,8 +26,7 @@ pub struct Script {
 
 impl Model for Script {
     ghost use Rattle.std.specs.Prelude.{List};
-    ghost use Rattle.kcr_script.specs.declared.script.Step.{Step};
-    ghost use Rattle.kcr_script.specs.Steps.{HasSteps};
+    ghost use Rattle.kcr_script.specs.{declared.script.Step.Step, Steps.HasSteps};
 
     ghost Value = { List Step };
 

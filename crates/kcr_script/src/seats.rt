@@ -6,9 +6,7 @@ ghost use Rattle.std.specs.Prelude.{◌≡◌, ◌≢◌, ◌↔◌, IsTrue, ◌
 ghost use Rattle.std.specs.Prelude.{replicate, drop, string_bytes, Some, IfSome, IfOk, OnOk, MatchOption};
 ghost use Rattle.kcr_script.specs.Seats.{Item, IsItem, item_text, pair_item, Spells, StandsFor, IsLast, Leads, IsSeats};
 ghost use Rattle.kcr_script.specs.Seats.{runs, groups, appended, all_appended, written};
-ghost use Rattle.kcr_script.specs.Reading.{seats_of};
-ghost use Rattle.kcr_script.specs.Seat.{IsSeat};
-ghost use Rattle.kcr_script.specs.declared.seat.Seat.{Seat};
+ghost use Rattle.kcr_script.specs.{Reading.seats_of, Seat.IsSeat, declared.seat.Seat.Seat};
 
 use crate::seat::Seat;
 use std::alloc::{AllocError, Global};
@@ -22,8 +20,7 @@ pub struct Seats {
 
 impl Model for Seats {
     ghost use Rattle.std.specs.Prelude.{List};
-    ghost use Rattle.kcr_script.specs.declared.seat.Seat.{Seat};
-    ghost use Rattle.kcr_script.specs.Seats.{IsSeats};
+    ghost use Rattle.kcr_script.specs.{declared.seat.Seat.Seat, Seats.IsSeats};
 
     ghost Value = { List Seat };
 

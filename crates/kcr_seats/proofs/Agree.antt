@@ -1,13 +1,10 @@
 -- Relations that agree on the seats and people there are have the same answers.
 use Rattle.std.proofs.Common.{◌≡◌, ℕ, ◌<◌, ◌≤◌, Bool, List, get_or, arith, sym, ◌∙◌}
-use Rattle.kcr_seats.specs.declared.Answer.{Answer}
-use Rattle.kcr_seats.specs.declared.Answer.TheVariants.{Seated, Short}
-use Rattle.kcr_seats.specs.declared.matrix.FitsMatrix.{FitsMatrix}
+use Rattle.kcr_seats.specs.declared.{Answer.Answer, Answer.TheVariants.Seated, Answer.TheVariants.Short, matrix.FitsMatrix.FitsMatrix}
 use Rattle.kcr_seats.specs.Answer.{IsAnswer}
 use Rattle.kcr_seats.specs.Seating.{IsSeating, IsShort, can_take, count_below}
 use Rattle.kcr_seats.specs.Matrix.{IsMatrixOf, fits_of, people_of, seats_of}
-use Rattle.kcr_seats.proofs.Counting.{count_mono}
-use Rattle.kcr_seats.proofs.SearchLemmas.{can_take_at, can_take_some}
+use Rattle.kcr_seats.proofs.{Counting.count_mono, SearchLemmas.can_take_at, SearchLemmas.can_take_some}
 
 -- the relations say the same of each of these seats and people
 record Agree (fits other : ℕ → ℕ → Bool) (seats people : ℕ) : Type 0 where

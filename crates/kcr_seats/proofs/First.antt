@@ -1,16 +1,11 @@
 -- Which seatings a try rules out.
 use Rattle.std.proofs.Common.{◌≡◌, ℕ, ◌+◌, ◌<◌, ◌≤◌, inl, inr, Bool, ◌==◌, List, [], ◌∷◌, length, get_or, set, arith, ◌∙◌, ap, eq-eqb}
 use Rattle.std.specs.Prelude.{SomeIndex}
-use Rattle.std.proofs.lemmas.Bool.{eqb-true}
-use Rattle.std.proofs.lemmas.List.{length-set}
-use Rattle.kcr_seats.specs.Seating.{can_take, count_below, IsSeating}
+use Rattle.std.proofs.lemmas.{Bool.eqb-true, List.length-set}
+use Rattle.kcr_seats.specs.{Seating.can_take, Seating.count_below, Seating.IsSeating, Placement.IsHallViolator}
 use Rattle.kcr_seats.specs.Search.{IsReached, IsMarked, IsStuck, IsNotReassigned, IsLowered}
-use Rattle.kcr_seats.proofs.Between.{IsFirstBelow}
-use Rattle.kcr_seats.specs.Placement.{IsHallViolator}
+use Rattle.kcr_seats.proofs.{Between.IsFirstBelow, Moves.set_at, Least.below_or_not, SearchLemmas.can_take_some, SearchLemmas.can_take_at}
 use Rattle.kcr_seats.proofs.Counting.{later, length_under, length_over, same_or_not}
-use Rattle.kcr_seats.proofs.Moves.{set_at}
-use Rattle.kcr_seats.proofs.SearchLemmas.{can_take_some, can_take_at}
-use Rattle.kcr_seats.proofs.Least.{below_or_not}
 
 -- f takes the elements of s apart, each to what g makes of one of t: s is not the longer
 outnumbered : (s t : List ℕ) (f g : ℕ → ℕ) (n : ℕ)

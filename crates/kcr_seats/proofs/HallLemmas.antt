@@ -2,15 +2,11 @@
 -- both (`not_both`).
 use Rattle.std.proofs.Common.{◌≡◌, ◌≢◌, ℕ, zero, suc, ◌+◌, ◌<◌, ◌≤◌, ◌⊎◌, inl, inr, Bool, true, false, cond, ◌==◌, List, [], ◌∷◌, ◌++◌}
 use Rattle.std.proofs.Common.{length, get_or, set, replicate, refl, arith, sym, ◌∙◌, subst, eq-eqb, add-one, length-append, rules}
-use Rattle.std.proofs.lemmas.Bool.{eqb-true}
-use Rattle.std.proofs.lemmas.List.{length-set}
-use Rattle.std.proofs.Math.ListN.{get_or-append}
-use Rattle.kcr_seats.specs.Hall.{NotBoth, SeatingOrShort}
-use Rattle.kcr_seats.specs.Seating.{IsSeating, IsShort, can_take}
+use Rattle.std.proofs.{lemmas.Bool.eqb-true, lemmas.List.length-set, Math.ListN.get_or-append}
+use Rattle.kcr_seats.specs.{Hall.NotBoth, Hall.SeatingOrShort, Seating.IsSeating, Seating.IsShort, Seating.can_take}
 use Rattle.kcr_seats.specs.Search.{IsClosed, IsListed, IsMarked, IsReached, IsRootAlone, IsSeatedBut, IsStuck}
-use Rattle.kcr_seats.proofs.Between.{IsAlternatingPath}
+use Rattle.kcr_seats.proofs.{Between.IsAlternatingPath, Least.first_below, Least.rising_apart, Least.short}
 use Rattle.kcr_seats.proofs.Counting.{length_under, same_or_not, true_or_false}
-use Rattle.kcr_seats.proofs.Least.{first_below, rising_apart, short}
 use Rattle.kcr_seats.proofs.SearchLemmas.{can_take_at, can_take_some, listed_more, listed_same, marked_more, order_short, placed, reached_more}
 use Rattle.kcr_seats.proofs.SearchLemmas.{root_marked, root_reached, way_back}
 

@@ -1,8 +1,7 @@
 -- A seat is given to a person, and the others keep theirs.
 use Rattle.std.proofs.Common.{◌≡◌, ◌≢◌, ℕ, ◌+◌, ◌<◌, ◌≤◌, ◌⊎◌, Bool, true, List, length, get_or, set, refl, arith}
 use Rattle.std.proofs.lemmas.List.{length-set, get_or-set_same, get_or-set_other}
-use Rattle.kcr_seats.specs.Seating.{IsSeating}
-use Rattle.kcr_seats.specs.Search.{IsSeatedBut}
+use Rattle.kcr_seats.specs.{Seating.IsSeating, Search.IsSeatedBut}
 use Rattle.kcr_seats.proofs.Counting.{pigeonhole, same_or_not}
 
 -- a place of the list is the one that was set, or has what it had

@@ -3,16 +3,12 @@ use Rattle.std.proofs.Common.{◌≡◌, ◌≢◌, ℕ, ◌+◌, ◌<◌, ◌�
 use Rattle.std.proofs.Common.{set, replicate, refl, arith, sym, ◌∙◌, ap, length-append}
 use Rattle.std.specs.Prelude.{SomeIndex}
 use Rattle.std.proofs.lemmas.List.{get_or_read, length-set, length-replicate, get_or-replicate}
-use Rattle.std.proofs.lemmas.List.{set-set, set-get_or, get_or-set_same, get_or-set_other}
-use Rattle.std.proofs.lemmas.List.Elements.{All-from_get_or}
+use Rattle.std.proofs.lemmas.List.{set-set, set-get_or, get_or-set_same, get_or-set_other, Elements.All-from_get_or}
 use Rattle.std.proofs.lemmas.List.Folds.{list_any_at, list_any_none, Any-from_list_any}
-use Rattle.std.proofs.Math.ListN.{get_or-append}
-use Rattle.std.proofs.Math.Seq.{get_or-append_seam}
-use Rattle.kcr_seats.specs.Seating.{can_take}
+use Rattle.std.proofs.Math.{ListN.get_or-append, Seq.get_or-append_seam}
+use Rattle.kcr_seats.specs.{Seating.can_take, Placement.IsPlaced}
 use Rattle.kcr_seats.specs.Search.{IsRootAlone, IsReached, IsMarked, IsClosed, IsListed}
-use Rattle.kcr_seats.proofs.Between.{IsAlternatingPath, IsRow}
-use Rattle.kcr_seats.specs.Placement.{IsPlaced}
-use Rattle.kcr_seats.proofs.Counting.{pigeonhole, same_or_not}
+use Rattle.kcr_seats.proofs.{Between.IsAlternatingPath, Between.IsRow, Counting.pigeonhole, Counting.same_or_not}
 use Rattle.kcr_seats.proofs.Moves.{all_seated, given, set_at}
 
 -- a person fits one of the seats, or none

@@ -1,11 +1,8 @@
 -- Rows of people.
 use Rattle.std.proofs.Common.{◌≡◌, ℕ, ◌+◌, ◌<◌, inl, inr, true, false, List, [], ◌∷◌, ◌++◌, length, get_or, refl, arith}
-use Rattle.std.proofs.lemmas.List.{get_or_past, get_or_push, get_or_append_left}
-use Rattle.std.proofs.lemmas.Nat.Bits.{bit_at-zero}
-use Rattle.kcr_seats.specs.People.{contains, nobody}
-use Rattle.kcr_seats.specs.declared.people.People.{People}
-use Rattle.kcr_seats.proofs.Counting.{same_or_not}
-use Rattle.kcr_seats.proofs.Least.{below_or_not}
+use Rattle.std.proofs.lemmas.{List.get_or_past, List.get_or_push, List.get_or_append_left, Nat.Bits.bit_at-zero}
+use Rattle.kcr_seats.specs.{People.contains, People.nobody, declared.people.People.People}
+use Rattle.kcr_seats.proofs.{Counting.same_or_not, Least.below_or_not}
 
 -- nobody is in the empty set
 nobody_in : (person : ℕ) → contains nobody person ≡ false

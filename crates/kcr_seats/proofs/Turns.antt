@@ -1,7 +1,6 @@
 -- The sums of the steps.
 use Rattle.std.proofs.Common.{◌≡◌, ℕ, ◌+◌, ◌*◌, ◌<◌, ◌≤◌, Bool, List, length, get_or, arith}
-use Rattle.std.proofs.Math.Nat.{mul-le-mul_left, mul-le-mul_right}
-use Rattle.std.proofs.lemmas.Grind.{get_or_default_zero}
+use Rattle.std.proofs.{Math.Nat.mul-le-mul_left, Math.Nat.mul-le-mul_right, lemmas.Grind.get_or_default_zero}
 use Rattle.kcr_seats.specs.Search.{IsSeatedBut, all_steps, lower_steps, search_steps}
 use Rattle.kcr_seats.specs.Seating.{IsSeating}
 use Rattle.kcr_seats.proofs.Moves.{seats_few}

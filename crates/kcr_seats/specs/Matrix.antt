@@ -1,7 +1,6 @@
 -- What a table of the people who fit the seats says.
 use Rattle.std.specs.Prelude.{◌≡◌, ℕ, ◌<◌, Bool, length, slice_index_or}
-use Rattle.kcr_seats.specs.People.{contains, nobody}
-use Rattle.kcr_seats.specs.declared.matrix.FitsMatrix.{FitsMatrix}
+use Rattle.kcr_seats.specs.{People.contains, People.nobody, declared.matrix.FitsMatrix.FitsMatrix}
 
 -- whether the person fits the seat, by the table
 unfoldable pub fits_of : FitsMatrix → ℕ → ℕ → Bool

@@ -2,8 +2,7 @@
 use Rattle.std.specs.Prelude.{◌≡◌, ℕ, ◌<◌, Bool, List, length, slice_index}
 use Rattle.kcr_seats.specs.Seating.{IsSeating}
 use Rattle.kcr_seats.specs.Search.{IsSeatedBut, IsReached, IsMarked, IsStuck}
-use Rattle.kcr_seats.specs.declared.search.Placement.{Placement}
-use Rattle.kcr_seats.specs.declared.search.Placement.TheVariants.{Placed, Stuck}
+use Rattle.kcr_seats.specs.declared.search.Placement.{Placement, TheVariants.Placed, TheVariants.Stuck}
 
 -- all seats have people now, and those before `fixed` have theirs
 pub record IsPlaced (fits : ℕ → ℕ → Bool) (people fixed : ℕ) (old new : List ℕ) : Type 0 where

@@ -1,10 +1,7 @@
 -- What the search knows in between.
 use Rattle.std.specs.Prelude.{◌≡◌, ◌≢◌, ℕ, ◌+◌, ◌*◌, ◌<◌, ◌≤◌, Bool, true, false, IsTrue, List, [], ◌∷◌, ◌++◌, length}
 use Rattle.std.specs.Prelude.{replicate, slice_index, slice_index_or, slice_set, SomeIndex}
-use Rattle.kcr_seats.specs.Seating.{IsSeating}
-use Rattle.kcr_seats.specs.People.{contains}
-use Rattle.kcr_seats.specs.declared.people.People.{People}
-use Rattle.kcr_seats.specs.declared.search.Reached.{Reached}
+use Rattle.kcr_seats.specs.{Seating.IsSeating, People.contains, declared.people.People.People, declared.search.Reached.Reached}
 use Rattle.std.specs.List.Sorted.{IsStrictlyIncreasing}
 
 -- each seat of the list but the root has a person who fits it, and nobody has two of them

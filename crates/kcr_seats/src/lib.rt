@@ -6,8 +6,7 @@
 #![tactic(auto)]
 
 ghost use Rattle.std.specs.Prelude.{◌≡◌, ℕ, ◌+◌, ◌*◌, ◌<◌, ◌≤◌, Bool, IfOk};
-ghost use Rattle.kcr_seats.specs.Answer.{IsAnswer};
-ghost use Rattle.kcr_seats.specs.declared.TheConstants.{MAX_PEOPLE};
+ghost use Rattle.kcr_seats.specs.{Answer.IsAnswer, declared.TheConstants.MAX_PEOPLE};
 
 mod check;
 mod matrix;

@@ -1,7 +1,6 @@
 //! Which people fit which seats, asked for once.
 ghost use Rattle.std.specs.Prelude.{◌≡◌, ℕ, ◌+◌, ◌*◌, ◌<◌, ◌≤◌, IfOk, true, slice_index_or};
-ghost use Rattle.kcr_seats.specs.People.{contains, nobody};
-ghost use Rattle.kcr_seats.specs.declared.TheConstants.{MAX_PEOPLE};
+ghost use Rattle.kcr_seats.specs.{People.contains, People.nobody, declared.TheConstants.MAX_PEOPLE};
 
 use crate::Fits;
 use crate::people::People;

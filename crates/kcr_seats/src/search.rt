@@ -1,14 +1,10 @@
 //! The search: one seat after the other gets a person, along alternating paths; then the seating is made the first one.
 ghost use Rattle.std.specs.Prelude.{◌≡◌, ◌≢◌, ℕ, ◌+◌, ◌*◌, ◌<◌, ◌≤◌, IsTrue, IfOk, OnOk, IfNone, IfSome, MatchBool};
 ghost use Rattle.std.specs.Prelude.{EachIndex, length, slice_index, true, false, vec_len};
-ghost use Rattle.kcr_seats.specs.Seating.{IsSeating, IsFirst};
-ghost use Rattle.kcr_seats.specs.People.{contains};
-ghost use Rattle.kcr_seats.specs.Matrix.{fits_of, seats_of, people_of};
-ghost use Rattle.kcr_seats.specs.Placement.{IsPlacement};
-ghost use Rattle.kcr_seats.specs.Answer.{IsAnswer};
+ghost use Rattle.kcr_seats.specs.{Seating.IsSeating, Seating.IsFirst, declared.TheConstants.MAX_PEOPLE};
+ghost use Rattle.kcr_seats.specs.{People.contains, Answer.IsAnswer, Placement.IsPlacement, Matrix.fits_of, Matrix.seats_of, Matrix.people_of};
 ghost use Rattle.kcr_seats.specs.Search.{IsSeatedBut, IsRootAlone, IsPut, IsReached, IsMarked, IsClosed, IsBusy};
 ghost use Rattle.kcr_seats.specs.Search.{IsListed, IsReassigned, IsNotReassigned, IsLowered, all_steps, lower_steps, search_steps};
-ghost use Rattle.kcr_seats.specs.declared.TheConstants.{MAX_PEOPLE};
 
 use crate::Answer;
 use crate::matrix::FitsMatrix;

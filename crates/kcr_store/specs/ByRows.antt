@@ -1,30 +1,15 @@
 -- What a command comes to by the rows that the tables hold, whoever wrote them.
 use Rattle.std.specs.Prelude.{◌≡◌, ◌⊎◌, ◌↔◌, ⊤, ℕ, false, length, None, Result, Ok, Err, MatchOption, IfOk, IsTrue}
-use Rattle.sqlite.specs.Effect.{Database}
-use Rattle.sqlite.specs.State.{State}
-use Rattle.sqlite.specs.Store.{Ghosts}
-use Rattle.sqlite.specs.declared.transaction.Transaction.{Transaction}
-use Rattle.kcr_base.specs.declared.refusal.Refusal.{Refusal}
-use Rattle.kcr_base.specs.declared.refusal.Refusal.TheVariants.{Broken, Disk}
-use Rattle.kcr_history.specs.AsksByKind.{asks_of}
-use Rattle.kcr_history.specs.Changes.{all_changed}
-use Rattle.kcr_history.specs.Early.{early_asks}
-use Rattle.kcr_history.specs.History.{History}
-use Rattle.kcr_history.specs.Machine.{IsRegister}
-use Rattle.kcr_history.specs.Tables.{Tables, tables}
-use Rattle.kcr_history.specs.Views.{IsViewOf, row_of_key}
-use Rattle.kcr_history.specs.declared.commands.Command.{Command}
-use Rattle.kcr_history.specs.declared.commands.Reply.{Reply}
-use Rattle.kcr_history.specs.declared.views.Verdict.{Verdict}
-use Rattle.kcr_history.specs.declared.views.View.{View}
+use Rattle.sqlite.specs.{Effect.Database, State.State, Store.Ghosts, declared.transaction.Transaction.Transaction}
+use Rattle.kcr_base.specs.declared.refusal.Refusal.{Refusal, TheVariants.Broken, TheVariants.Disk}
+use Rattle.kcr_history.specs.{AsksByKind.asks_of, Machine.IsRegister, Changes.all_changed, Tables.Tables, Tables.tables}
+use Rattle.kcr_history.specs.{Early.early_asks, History.History, Views.IsViewOf, Views.row_of_key}
+use Rattle.kcr_history.specs.declared.{commands.Command.Command, commands.Reply.Reply, views.Verdict.Verdict, views.View.View}
 use Rattle.kcr_rules.specs.ByRows.{IsCheckResult, IsCleared}
-use Rattle.kcr_machine.specs.NewDecision.{IsRowDecision}
-use Rattle.kcr_machine.specs.RowDecision.{IsRowRepeat, RepeatsRow, is_full_by}
+use Rattle.kcr_machine.specs.{NewDecision.IsRowDecision, RowDecision.IsRowRepeat, RowDecision.RepeatsRow, RowDecision.is_full_by}
 use Rattle.kcr_rows.specs.Frame.{IfClean}
-use Rattle.kcr_tables.specs.MachineTables.{HoldsTables}
-use Rattle.kcr_tables.specs.Refusals.{IsFault}
-use Rattle.kcr_store.specs.Commands.{AppliesCommand, number_after}
-use Rattle.kcr_store.specs.Register.{HasRows, RegisterRows}
+use Rattle.kcr_tables.specs.{MachineTables.HoldsTables, Refusals.IsFault}
+use Rattle.kcr_store.specs.{Commands.AppliesCommand, Commands.number_after, Register.HasRows, Register.RegisterRows}
 use Rattle.kcr_store.specs.TransactionResult.{ends_with, is_in_doubt, last_number_after, result_of}
 use Rattle.kcr_store.specs.declared.transaction.TransactionResult.{TransactionResult}
 

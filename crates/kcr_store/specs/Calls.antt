@@ -1,13 +1,8 @@
 -- What a call of a register says of its history, and what it leaves.
-use Rattle.std.specs.Prelude.{◌≡◌, ◌↔◌, Bool, true, false, if◌then◌else◌, Some, IsTrue, Result, Err, IfErr, unwrap_or}
-use Rattle.std.specs.Prelude.{◌⊎◌}
-use Rattle.sqlite.specs.Store.{Ghosts}
-use Rattle.sqlite.specs.State.{HasCleanDisk, Survives}
-use Rattle.sqlite.specs.Held.{state}
-use Rattle.kcr_base.specs.declared.refusal.Refusal.{Refusal}
-use Rattle.kcr_base.specs.declared.refusal.Refusal.TheVariants.{Broken, Disk}
-use Rattle.kcr_history.specs.History.{History}
-use Rattle.kcr_history.specs.Tables.{Tables}
+use Rattle.std.specs.Prelude.{◌≡◌, ◌↔◌, Bool, true, false, if◌then◌else◌, Some, IsTrue, Result, Err, IfErr, unwrap_or, ◌⊎◌}
+use Rattle.sqlite.specs.{Store.Ghosts, Held.state, State.HasCleanDisk, State.Survives}
+use Rattle.kcr_base.specs.declared.refusal.Refusal.{Refusal, TheVariants.Broken, TheVariants.Disk}
+use Rattle.kcr_history.specs.{History.History, Tables.Tables}
 use Rattle.kcr_store.specs.Register.{HasRows, RegisterRows, RegisterState, RegisterHistory, IsConsistent, ShowsAt, StandsAt, whole}
 
 -- whatever its database holds, nothing was committed: a crash leaves nothing that it would not have left before, and

@@ -1,25 +1,17 @@
 -- What a command makes of a register, and what a question is answered.
 use Rattle.std.specs.Prelude.{◌≡◌, ◌≢◌, ◌⊎◌, ◌↔◌, unwrap_or, ℕ, true, Option, Some, None, Result, Ok, Err, MatchResult, IsSome}
 use Rattle.kcr_base.specs.Same.{same_text}
-use Rattle.kcr_base.specs.declared.refusal.Refusal.{Refusal}
-use Rattle.kcr_base.specs.declared.refusal.Refusal.TheVariants.{Memory, Disk, Broken}
-use Rattle.kcr_history.specs.declared.commands.ReplyData.{ReplyData}
-use Rattle.kcr_history.specs.declared.commands.Command.{Command}
-use Rattle.kcr_history.specs.declared.commands.Reply.{Reply}
-use Rattle.kcr_history.specs.History.{History}
-use Rattle.kcr_history.specs.declared.row_types.KeyRow.{KeyRow}
-use Rattle.kcr_history.specs.Texts.{reply_text, command_text}
+use Rattle.kcr_base.specs.declared.refusal.Refusal.{Refusal, TheVariants.Memory, TheVariants.Disk, TheVariants.Broken}
+use Rattle.kcr_history.specs.declared.commands.{ReplyData.ReplyData, Command.Command, Reply.Reply}
+use Rattle.kcr_history.specs.{History.History, Tables.tables, Texts.reply_text, Texts.command_text}
+use Rattle.kcr_history.specs.declared.{row_types.KeyRow.KeyRow, questions.Question.Question, questions.Shown.Shown}
 use Rattle.kcr_history.specs.Machine.{machine, Accepts, Refuses, with_command}
 use Rattle.kcr_machine.specs.RowDecision.{IsReplyOf, MayBeRefused}
 use Rattle.kcr_tables.specs.Refusals.{IsFault}
-use Rattle.kcr_store.specs.Register.{RegisterHistory}
+use Rattle.kcr_store.specs.{Register.RegisterHistory, FullView.IsListed}
 use Rattle.kcr_history.specs.Questions.{IsShown, NamesAsked, IsMissing}
-use Rattle.kcr_history.specs.Tables.{tables}
-use Rattle.kcr_history.specs.declared.questions.Question.{Question}
 use Rattle.kcr_history.specs.declared.questions.Question.TheVariants as asked
-use Rattle.kcr_history.specs.declared.questions.Shown.{Shown}
 use Rattle.kcr_history.specs.declared.questions.Shown.TheVariants as shown
-use Rattle.kcr_store.specs.FullView.{IsListed}
 
 -- The register went from A to A' by the command, and gave this result: the machine's reply as its text, or the
 -- machine's refusal. Out of memory and an I/O error say nothing of the command, and leave the list.

@@ -1,23 +1,15 @@
 -- What a reading of a database of any version gives.
 use Rattle.std.specs.Prelude.{◌≡◌, ◌+◌, ◌⊎◌, [], pos, Result, Err, IfOk, IfErr, MatchResult}
-use Rattle.sqlite.specs.Effect.{Database}
-use Rattle.sqlite.specs.Tree.{Trees}
-use Rattle.kcr_history.specs.History.{History}
-use Rattle.kcr_history.specs.Tables.{tables}
-use Rattle.kcr_history.specs.declared.views.FullView.{FullView}
-use Rattle.kcr_older.specs.Migrated.{migrated_tables}
+use Rattle.sqlite.specs.{Effect.Database, Tree.Trees}
+use Rattle.kcr_history.specs.{History.History, Tables.tables, declared.views.FullView.FullView}
+use Rattle.kcr_older.specs.{Migrated.migrated_tables, Kind.no_schema, Versions.number_of}
 use Rattle.kcr_older.specs.OldFiles.{HoldsHistoryAs, HoldsFirst, numbered}
-use Rattle.kcr_older.specs.Kind.{no_schema}
-use Rattle.kcr_older.specs.Versions.{number_of}
-use Rattle.kcr_older.specs.declared.migration.OldVersion.{OldVersion}
+use Rattle.kcr_older.specs.declared.{migration.OldVersion.OldVersion, kind.DatabaseKind.DatabaseKind}
 use Rattle.kcr_older.specs.declared.migration.OldVersion.TheVariants as older
-use Rattle.kcr_older.specs.declared.kind.DatabaseKind.{DatabaseKind}
 use Rattle.kcr_older.specs.declared.kind.DatabaseKind.TheVariants.{Empty, Current, Version2, Version1, Versioned, Foreign}
-use Rattle.kcr_store.specs.FullView.{IsListed, Lists}
-use Rattle.kcr_store.specs.declared.«open».OpenFault.{OpenFault}
+use Rattle.kcr_store.specs.{FullView.IsListed, FullView.Lists, Opening.IsAnswerBy}
+use Rattle.kcr_store.specs.declared.«open».OpenFault.{OpenFault, TheVariants.Memory, TheVariants.Disk, TheVariants.Version}
 use Rattle.kcr_store.specs.declared.«open».OpenFault.TheVariants as foreign
-use Rattle.kcr_store.specs.declared.«open».OpenFault.TheVariants.{Memory, Disk, Version}
-use Rattle.kcr_store.specs.Opening.{IsAnswerBy}
 use Rattle.kcr_tables.specs.Creation.{schema_prefix}
 use Rattle.kcr_tables.specs.StoredTables as held
 

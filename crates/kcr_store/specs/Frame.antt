@@ -1,12 +1,8 @@
 -- What a call over a connection says and leaves.
 use Rattle.std.specs.Prelude.{◌≡◌, false, Result, IfErr, IsTrue, OnOk}
-use Rattle.sqlite.specs.Store.{Ghosts}
-use Rattle.sqlite.specs.Tree.{Trees}
+use Rattle.sqlite.specs.{Store.Ghosts, Tree.Trees, Held.Held, Held.state, declared.transaction.Transaction.Transaction}
 use Rattle.sqlite.specs.State.{State, HasCleanDisk, Survives}
-use Rattle.sqlite.specs.Held.{Held, state}
-use Rattle.sqlite.specs.declared.transaction.Transaction.{Transaction}
-use Rattle.kcr_history.specs.History.{History}
-use Rattle.kcr_history.specs.Tables.{Tables}
+use Rattle.kcr_history.specs.{History.History, Tables.Tables}
 use Rattle.kcr_rows.specs.Frame.{IfClean}
 use Rattle.kcr_tables.specs.MachineTables.{HoldsTables}
 use Rattle.kcr_store.specs.Register.{HasRows, IsDurable}

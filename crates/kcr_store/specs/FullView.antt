@@ -2,10 +2,7 @@
 use Rattle.std.specs.Prelude.{◌≡◌, List, Option, IsPermutation}
 use Rattle.sqlite.specs.Tree.{Trees}
 use Rattle.kcr_audit.specs.Views.{tables_of}
-use Rattle.kcr_history.specs.Audit.{IsAudit}
-use Rattle.kcr_history.specs.Tables.{Tables, SameTables}
-use Rattle.kcr_history.specs.declared.views.Finding.{Finding}
-use Rattle.kcr_history.specs.declared.views.FullView.{FullView}
+use Rattle.kcr_history.specs.{Audit.IsAudit, Tables.Tables, Tables.SameTables, declared.views.Finding.Finding, declared.views.FullView.FullView}
 use Rattle.kcr_tables.specs.NewTables.{as_held}
 use Rattle.kcr_tables.specs.StoredTables as held
 

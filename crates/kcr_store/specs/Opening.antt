@@ -1,22 +1,15 @@
 -- What an opening finds and makes.
 use Rattle.std.specs.Prelude.{◌≡◌, ◌⊎◌, ◌≢◌, ◌+◌, ℕ, ℤ, pos, [], length, IsTrue, Some, Result, MatchResult, unwrap_or}
-use Rattle.sqlite.specs.Effect.{Database}
+use Rattle.sqlite.specs.{Effect.Database, Store.Ghosts, Tree.Trees, State.State, State.HasCleanDisk, State.IsLive}
 use Rattle.sqlite.specs.Files.{HoldsDatabase, AreFoundIn, IsEmpty}
-use Rattle.sqlite.specs.State.{State, HasCleanDisk, IsLive}
-use Rattle.sqlite.specs.Store.{Ghosts}
-use Rattle.sqlite.specs.Tree.{Trees}
 use Rattle.sqlite_wal.specs.Recovery.{Image}
 use Rattle.kcr_history.specs.History.{History}
-use Rattle.kcr_tables.specs.Creation.{schema_prefix}
-use Rattle.kcr_tables.specs.StoredTables.{StoredTables, Holds, TreesHold}
+use Rattle.kcr_tables.specs.{Creation.schema_prefix, StoredTables.StoredTables, StoredTables.Holds, StoredTables.TreesHold}
 use Rattle.kcr_older.specs.OldFiles.{AreTablesAs, HoldsFirst, HoldsHistoryAs, TreesHoldFirst, numbered}
 use Rattle.kcr_older.specs.Kind.{IsForeign, IsOfOtherVersion, IsTaken, no_schema, version_in}
-use Rattle.kcr_older.specs.Migrated.{migrated_tables}
-use Rattle.kcr_older.specs.Versions.{number_of}
-use Rattle.kcr_older.specs.declared.migration.OldVersion.{OldVersion}
-use Rattle.kcr_older.specs.declared.migration.OldVersion.TheVariants.{V1, V2}
-use Rattle.kcr_store.specs.declared.«open».OpenFault.{OpenFault}
-use Rattle.kcr_store.specs.declared.«open».OpenFault.TheVariants.{Foreign, Version}
+use Rattle.kcr_older.specs.{Migrated.migrated_tables, Versions.number_of}
+use Rattle.kcr_older.specs.declared.migration.OldVersion.{OldVersion, TheVariants.V1, TheVariants.V2}
+use Rattle.kcr_store.specs.declared.«open».OpenFault.{OpenFault, TheVariants.Foreign, TheVariants.Version}
 use Rattle.kcr_store.specs.Register.{IsSynced, RegisterHistory, RegisterState, StandsAt, whole}
 use Rattle.kcr_store.specs.Stored.{IsTables}
 

@@ -1,12 +1,8 @@
 -- What a register is between two calls.
 use Rattle.std.specs.Prelude.{◌≡◌, ◌⊎◌, ℕ, Bool, false, length, Option, None, IsTrue, is_some, unwrap_or, refl}
 use Rattle.std.specs.Coded.{Coded, code_by, coded×, coded_ℕ, coded_bool}
-use Rattle.sqlite.specs.Store.{Ghosts}
-use Rattle.sqlite.specs.Tree.{Trees}
-use Rattle.sqlite.specs.State.{State, HasCleanDisk}
-use Rattle.sqlite.specs.Held.{Held, held_code, state}
-use Rattle.kcr_history.specs.History.{History}
-use Rattle.kcr_history.specs.Tables.{Tables}
+use Rattle.sqlite.specs.{Store.Ghosts, Tree.Trees, State.State, State.HasCleanDisk, Held.Held, Held.held_code, Held.state}
+use Rattle.kcr_history.specs.{History.History, Tables.Tables}
 use Rattle.kcr_tables.specs.MachineTables.{HoldsTables}
 use Rattle.kcr_store.specs.Stored.{IsTables, Stores}
 

@@ -1,22 +1,17 @@
 -- What a register gives one row at a time, and the row of one ceremony.
 use Rattle.std.specs.Prelude.{◌≡◌, ◌⊎◌, ℕ, false, IsTrue, List, Option, Result, IfOk}
 use Rattle.std.specs.Borrow.{Fml, RattleType, MutBor, LendsIfOk}
-use Rattle.sqlite.specs.Store.{Ghosts}
-use Rattle.sqlite.specs.Held.{Held}
+use Rattle.sqlite.specs.{Store.Ghosts, Held.Held}
 use Rattle.kcr_base.specs.declared.refusal.Refusal.{Refusal}
 use Rattle.kcr_base.specs.declared.refusal.Refusal.TheVariants as Refusals
 use Rattle.kcr_base.specs.declared.refusal.Thing.TheVariants as Things
-use Rattle.kcr_history.specs.Ceremonies.{is_ceremony}
-use Rattle.kcr_history.specs.History.{History}
+use Rattle.kcr_history.specs.{Ceremonies.is_ceremony, History.History, Tables.ceremony_row, declared.row_types.CeremonyRow.CeremonyRow}
 use Rattle.kcr_history.specs.Tables as machine
-use Rattle.kcr_history.specs.Tables.{ceremony_row}
-use Rattle.kcr_history.specs.declared.row_types.CeremonyRow.{CeremonyRow}
 use Rattle.kcr_reading.specs.Remaining.{IsNextOf}
 use Rattle.kcr_tables.specs.Refusals.{IsFault}
-use Rattle.kcr_store.specs.Register.{RegisterState}
+use Rattle.kcr_store.specs.{Register.RegisterState, declared.rows.Rows.Rows}
 use Rattle.kcr_store.specs.contracts.register.Register as register
 use Rattle.kcr_store.specs.contracts.unbroken.Unbroken as unbroken
-use Rattle.kcr_store.specs.declared.rows.Rows.{Rows}
 
 -- ROWS
 

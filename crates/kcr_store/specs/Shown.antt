@@ -2,23 +2,15 @@
 use Rattle.std.specs.Prelude.{◌≡◌, false, List, All, AllPairs, IsPermutation, IsTrue, map, filter, Some, ℕ, ⊤}
 use Rattle.std.specs.List.{list_any}
 use Rattle.kcr_audit.specs.Views.{tables_of}
-use Rattle.kcr_people.specs.declared.Training.{Training}
-use Rattle.kcr_people.specs.declared.Withdrawal.{Withdrawal}
-use Rattle.kcr_people.specs.People.{holder_by}
+use Rattle.kcr_people.specs.{declared.Training.Training, declared.Withdrawal.Withdrawal, People.holder_by}
 use Rattle.kcr_custody.specs.Custody.{spot_by, lies_in}
 use Rattle.kcr_room.specs.Stays.{present_in_by}
 use Rattle.kcr_history.specs.Questions.{is_role_before, roles_of, person_of, holders_from}
-use Rattle.kcr_history.specs.Tables.{Tables}
-use Rattle.kcr_history.specs.Views.{is_of_number}
-use Rattle.kcr_history.specs.declared.questions.Question.{Question}
+use Rattle.kcr_history.specs.{Tables.Tables, Views.is_of_number}
+use Rattle.kcr_history.specs.declared.questions.{Question.Question, Shown.Shown, CustodiansShown.CustodiansShown}
 use Rattle.kcr_history.specs.declared.questions.Question.TheVariants as asked
-use Rattle.kcr_history.specs.declared.questions.Shown.{Shown}
 use Rattle.kcr_history.specs.declared.questions.Shown.TheVariants as shown
-use Rattle.kcr_history.specs.declared.questions.RoleShown.{RoleShown}
-use Rattle.kcr_history.specs.declared.questions.PersonShown.{PersonShown}
-use Rattle.kcr_history.specs.declared.questions.CustodiansShown.{CustodiansShown}
-use Rattle.kcr_history.specs.declared.questions.BagShown.{BagShown}
-use Rattle.kcr_history.specs.declared.questions.RoomShown.{RoomShown}
+use Rattle.kcr_history.specs.declared.questions.{RoleShown.RoleShown, BagShown.BagShown, PersonShown.PersonShown, RoomShown.RoomShown}
 
 -- these are the person's trainings as the rows say, and none stands behind one that it stands before
 pub record AreRolesOf (taught : List Training) (withdrawn : List Withdrawal) (who : List ℕ)

@@ -1,29 +1,18 @@
 -- What the rows of the tables show to a question, exactly: whoever wrote them, and in whatever order they are. Over the
 -- tables of a history it is what the history shows.
-use Rattle.std.specs.Prelude.{◌≡◌, ◌⊎◌, ℕ, List, map, filter, Some, None, All, AllPairs, IsPermutation, IsSome, IsTrue}
-use Rattle.std.specs.Prelude.{Result, MatchResult}
-use Rattle.kcr_base.specs.Same.{is_before}
-use Rattle.kcr_base.specs.declared.refusal.Refusal.{Refusal}
-use Rattle.kcr_base.specs.declared.refusal.Refusal.TheVariants.{Unknown}
+use Rattle.std.specs.Prelude.{◌≡◌, ◌⊎◌, ℕ, List, map, filter, Some, None, All, AllPairs, IsPermutation, IsSome, IsTrue, Result, MatchResult}
+use Rattle.kcr_base.specs.{Same.is_before, declared.refusal.Refusal.Refusal, declared.refusal.Refusal.TheVariants.Unknown}
 use Rattle.kcr_base.specs.declared.refusal.Thing.TheVariants as Things
-use Rattle.kcr_people.specs.declared.Appointment.{Appointment}
-use Rattle.kcr_people.specs.People.{holder_by, lasts_beyond}
+use Rattle.kcr_people.specs.{declared.Appointment.Appointment, People.holder_by, People.lasts_beyond}
 use Rattle.kcr_custody.specs.Custody.{spot_by, lies_in}
 use Rattle.kcr_room.specs.Stays.{present_in_by}
 use Rattle.kcr_history.specs.Questions.{IsByInitials, holders_from, is_role_before, person_of, roles_of}
-use Rattle.kcr_history.specs.Tables.{Tables}
-use Rattle.kcr_history.specs.declared.questions.Question.{Question}
+use Rattle.kcr_history.specs.{Tables.Tables, declared.questions.PersonShown.PersonShown, declared.questions.StepsShown.StepsShown}
+use Rattle.kcr_history.specs.declared.questions.{Question.Question, Shown.Shown, CustodyShown.CustodyShown}
 use Rattle.kcr_history.specs.declared.questions.Question.TheVariants as asked
-use Rattle.kcr_history.specs.declared.questions.Shown.{Shown}
 use Rattle.kcr_history.specs.declared.questions.Shown.TheVariants as shown
-use Rattle.kcr_history.specs.declared.questions.PersonShown.{PersonShown}
-use Rattle.kcr_history.specs.declared.questions.CustodiansShown.{CustodiansShown}
-use Rattle.kcr_history.specs.declared.questions.BagShown.{BagShown}
-use Rattle.kcr_history.specs.declared.questions.RoomShown.{RoomShown}
-use Rattle.kcr_history.specs.declared.questions.StepsShown.{StepsShown}
-use Rattle.kcr_history.specs.declared.questions.CustodyShown.{CustodyShown}
-use Rattle.kcr_history.specs.declared.report_rows.StayWithName.{StayWithName}
-use Rattle.kcr_history.specs.declared.row_types.CeremonyRow.{CeremonyRow}
+use Rattle.kcr_history.specs.declared.questions.{CustodiansShown.CustodiansShown, BagShown.BagShown, RoomShown.RoomShown}
+use Rattle.kcr_history.specs.declared.{report_rows.StayWithName.StayWithName, row_types.CeremonyRow.CeremonyRow}
 use Rattle.kcr_rules.specs.CeremonyStatus.{ceremony_by}
 use Rattle.kcr_reading.specs.Remaining.{exceptions_of, loose_items, named_stays, packed_bags, safes_in_order, seated_steps}
 use Rattle.kcr_tables.specs.Refusals.{IsFault}

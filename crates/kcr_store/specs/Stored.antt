@@ -1,15 +1,9 @@
 -- What a file holds of a history.
 use Rattle.std.specs.Prelude.{◌≡◌, IsTrue}
-use Rattle.sqlite.specs.Tree.{Trees}
-use Rattle.sqlite.specs.Effect.{Database}
-use Rattle.sqlite.specs.Store.{Ghosts}
-use Rattle.sqlite.specs.declared.transaction.Transaction.{Transaction}
-use Rattle.kcr_history.specs.History.{History}
-use Rattle.kcr_history.specs.Tables.{Tables, tables}
-use Rattle.kcr_history.specs.Machine.{IsRegister}
+use Rattle.sqlite.specs.{Tree.Trees, Store.Ghosts, Effect.Database, declared.transaction.Transaction.Transaction}
+use Rattle.kcr_history.specs.{History.History, Machine.IsRegister, Tables.Tables, Tables.tables}
 use Rattle.kcr_rows.specs.Frame.{IfClean}
-use Rattle.kcr_tables.specs.Schema.{register_schema}
-use Rattle.kcr_tables.specs.MachineTables.{HoldsTables, TreesHoldTables}
+use Rattle.kcr_tables.specs.{Schema.register_schema, MachineTables.HoldsTables, MachineTables.TreesHoldTables}
 
 -- the history is a register's, and the file holds the machine's tables of it
 pub record IsTables (accepted : History) (db : Trees) : Type 0 where

@@ -1,20 +1,12 @@
 -- What the end of a command says.
 use Rattle.std.specs.Prelude.{◌≡◌, ℕ, Bool, true, false, length, Result, Ok, Err}
-use Rattle.sqlite.specs.Store.{Ghosts}
-use Rattle.sqlite.specs.State.{State}
-use Rattle.sqlite.specs.declared.transaction.Transaction.{Transaction}
-use Rattle.kcr_base.specs.declared.refusal.Refusal.{Refusal}
-use Rattle.kcr_base.specs.declared.refusal.Refusal.TheVariants.{Disk}
-use Rattle.kcr_history.specs.declared.commands.Command.{Command}
-use Rattle.kcr_history.specs.declared.commands.Reply.{Reply}
-use Rattle.kcr_history.specs.declared.views.Verdict.{Verdict}
-use Rattle.kcr_history.specs.History.{History}
+use Rattle.sqlite.specs.{Store.Ghosts, State.State, declared.transaction.Transaction.Transaction}
+use Rattle.kcr_base.specs.declared.refusal.Refusal.{Refusal, TheVariants.Disk}
+use Rattle.kcr_history.specs.{declared.commands.Command.Command, declared.commands.Reply.Reply, declared.views.Verdict.Verdict, History.History}
 use Rattle.kcr_rows.specs.Frame.{StaysInTransaction}
 use Rattle.kcr_store.specs.Commands.{AppliesCommand, IsSameOrNext, number_after}
-use Rattle.kcr_store.specs.Register.{IsDurableWith, AfterCrash}
-use Rattle.kcr_store.specs.Stored.{OfStored}
-use Rattle.kcr_store.specs.declared.transaction.TransactionResult.{TransactionResult}
-use Rattle.kcr_store.specs.declared.transaction.TransactionResult.TheVariants.{Accepted, Refused, InDoubt}
+use Rattle.kcr_store.specs.{Register.IsDurableWith, Register.AfterCrash, Stored.OfStored}
+use Rattle.kcr_store.specs.declared.transaction.TransactionResult.{TransactionResult, TheVariants.Accepted, TheVariants.Refused, TheVariants.InDoubt}
 
 -- what a decision is answered
 abbrev pub ends_with : Result Verdict Refusal → Result Reply Refusal

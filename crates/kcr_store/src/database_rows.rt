@@ -1,22 +1,13 @@
 //! All rows of a database of any version, which stays as it is.
-ghost use Rattle.std.specs.Prelude.{◌≡◌, ◌≢◌, ◌+◌, ◌⊎◌, [], false, Ok, IfOk, IfErr, IsTrue};
-ghost use Rattle.std.specs.Prelude.{OnOk};
-ghost use Rattle.sqlite.specs.State.{IsLive};
-ghost use Rattle.sqlite.specs.Held.{state};
-ghost use Rattle.kcr_history.specs.History.{History};
-ghost use Rattle.kcr_history.specs.Tables.{Tables, tables};
+ghost use Rattle.std.specs.Prelude.{◌≡◌, ◌≢◌, ◌+◌, ◌⊎◌, [], false, Ok, IfOk, IfErr, IsTrue, OnOk};
+ghost use Rattle.sqlite.specs.{State.IsLive, Held.state};
+ghost use Rattle.kcr_history.specs.{History.History, Tables.Tables, Tables.tables};
 ghost use Rattle.kcr_older.specs.OldFiles.{HoldsHistoryAs, HoldsFirst, numbered};
-ghost use Rattle.kcr_older.specs.Kind.{IsForeignSchema, no_schema};
-ghost use Rattle.kcr_older.specs.Migrated.{migrated_tables};
-ghost use Rattle.kcr_older.specs.Versions.{number_of};
+ghost use Rattle.kcr_older.specs.{Kind.IsForeignSchema, Kind.no_schema, Migrated.migrated_tables, Versions.number_of};
 ghost use Rattle.kcr_rows.specs.Frame.{IfClean, StaysInTransaction};
-ghost use Rattle.kcr_store.specs.Frame.{IfCleanOver, NeedsOpen, StaysOutside};
+ghost use Rattle.kcr_store.specs.{Frame.IfCleanOver, Frame.NeedsOpen, Frame.StaysOutside, Opening.IsAnswer, Opening.IsGenuine, FullView.IsListed};
 ghost use Rattle.kcr_store.specs.DatabaseRows.{Gives, GivesCurrent, GivesOlder, GivesOr, IsBroughtView, IsKeptView, IsNumberedView, IsUnread};
-ghost use Rattle.kcr_store.specs.Opening.{IsAnswer, IsGenuine};
-ghost use Rattle.kcr_store.specs.FullView.{IsListed};
-ghost use Rattle.kcr_tables.specs.StoredTables.{StoredTables as Held, Holds};
-ghost use Rattle.kcr_tables.specs.MachineTables.{HoldsTables};
-ghost use Rattle.kcr_tables.specs.Refusals.{IsFault};
+ghost use Rattle.kcr_tables.specs.{StoredTables.StoredTables as Held, StoredTables.Holds, MachineTables.HoldsTables, Refusals.IsFault};
 
 use crate::full_view::read_full_view;
 use crate::open::{OpenFault, VERSION, expect_number, fault_of, inspect, unknown_database_fault};

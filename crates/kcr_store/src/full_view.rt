@@ -1,12 +1,8 @@
 //! All rows of a register's tables, and what an audit finds in them.
 ghost use Rattle.std.specs.Prelude.{◌≡◌, false, None, IfOk};
-ghost use Rattle.kcr_history.specs.Machine.{IsRegister};
-ghost use Rattle.kcr_history.specs.Tables.{Tables, tables};
-ghost use Rattle.kcr_tables.specs.StoredTables.{StoredTables as Held};
-ghost use Rattle.kcr_tables.specs.MachineTables.{HoldsTables};
-ghost use Rattle.kcr_tables.specs.Refusals.{IsFault};
+ghost use Rattle.kcr_history.specs.{Machine.IsRegister, Tables.Tables, Tables.tables};
+ghost use Rattle.kcr_tables.specs.{StoredTables.StoredTables as Held, Frame.OfTables, Frame.Reads, MachineTables.HoldsTables, Refusals.IsFault};
 ghost use Rattle.kcr_rows.specs.Frame.{ImpliesOpen};
-ghost use Rattle.kcr_tables.specs.Frame.{OfTables, Reads};
 ghost use Rattle.kcr_store.specs.Frame.{IfCleanOver, OfDurable, OnlyReads};
 ghost use Rattle.kcr_store.specs.FullView.{FindsIn, IsListed, AreRows, Lists};
 

@@ -2,13 +2,10 @@
 ghost use Rattle.std.specs.Prelude.{IfOk, MatchResult};
 ghost use Rattle.kcr_history.specs.Questions.{AreStepsShown, IsSheetShown, IsCustodyShown};
 ghost use Rattle.kcr_rows.specs.Frame.{ImpliesOpen, StaysInTransaction};
-ghost use Rattle.kcr_tables.specs.Frame.{ChangesMachineTables};
-ghost use Rattle.kcr_tables.specs.Refusals.{IsFault};
+ghost use Rattle.kcr_tables.specs.{Frame.ChangesMachineTables, Refusals.IsFault};
 ghost use Rattle.kcr_store.specs.Commands.{IsQuestionRefusal, MayRefuseQuestion};
-ghost use Rattle.kcr_store.specs.Rows.{IsRowOf, HasNoRow, MayHaveNoRow};
-ghost use Rattle.kcr_store.specs.ShownBy.{AreStepsShownBy, IsSheetShownBy, IsCustodyShownBy};
-ghost use Rattle.kcr_store.specs.ShownBy.{HasNoRowBy, IsQuestionRefusalBy, IsRowBy};
-ghost use Rattle.kcr_store.specs.Stored.{OfStoredRows, OfStored};
+ghost use Rattle.kcr_store.specs.{Rows.IsRowOf, Rows.HasNoRow, Rows.MayHaveNoRow, Stored.OfStoredRows, Stored.OfStored};
+ghost use Rattle.kcr_store.specs.ShownBy.{AreStepsShownBy, IsSheetShownBy, IsCustodyShownBy, HasNoRowBy, IsQuestionRefusalBy, IsRowBy};
 
 use kcr_base::{CeremonyNumber, Refusal, Thing};
 use kcr_custody::SafeRow;

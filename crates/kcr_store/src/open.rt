@@ -1,27 +1,13 @@
 //! Taking a database over.
-ghost use Rattle.std.specs.Prelude.{◌≡◌, ◌≢◌, ◌↔◌, ◌⊎◌, false, length, [], pos, IsTrue, is_some, IfOk, IfErr};
-ghost use Rattle.std.specs.Prelude.{OnOk};
+ghost use Rattle.std.specs.Prelude.{◌≡◌, ◌≢◌, ◌↔◌, ◌⊎◌, false, length, [], pos, IsTrue, is_some, IfOk, IfErr, OnOk};
 ghost use Rattle.sqlite.specs.State.{HasCleanDisk, IsLive, IsUnchanged, Survives};
-ghost use Rattle.sqlite.specs.Files.{file_state};
-ghost use Rattle.sqlite.specs.Files.{IsOpened as IsNewlyOpened};
-ghost use Rattle.sqlite.specs.Held.{state};
-ghost use Rattle.sqlite.specs.Start.{FindsIn};
-ghost use Rattle.sqlite.specs.WalFiles.{image_at};
-ghost use Rattle.kcr_history.specs.History.{History};
-ghost use Rattle.kcr_history.specs.Tables.{tables};
+ghost use Rattle.sqlite.specs.{Files.file_state, Files.IsOpened as IsNewlyOpened, Held.state, Start.FindsIn, WalFiles.image_at};
+ghost use Rattle.kcr_history.specs.{History.History, Tables.tables};
 ghost use Rattle.kcr_rows.specs.Frame.{IfClean, ImpliesOpen, StaysInTransaction};
-ghost use Rattle.kcr_tables.specs.Frame.{Reads};
-ghost use Rattle.kcr_tables.specs.MachineTables.{HoldsTables};
-ghost use Rattle.kcr_older.specs.OldFiles.{HoldsHistoryAs};
-ghost use Rattle.kcr_older.specs.Kind.{IsOfOtherVersion, IsOtherNumber, IsForeignSchema, IsOfKind, no_schema};
-ghost use Rattle.kcr_older.specs.Kind.{numbered_table};
-ghost use Rattle.kcr_older.specs.Migrated.{migrated_tables};
-ghost use Rattle.kcr_older.specs.Versions.{number_of};
-ghost use Rattle.kcr_tables.specs.Refusals.{IsFault};
-ghost use Rattle.kcr_tables.specs.StoredTables.{StoredTables, Holds};
-ghost use Rattle.kcr_store.specs.Frame.{IfCleanOver, StaysOutside};
-ghost use Rattle.kcr_store.specs.Stored.{IsTables, OfStored};
-ghost use Rattle.kcr_store.specs.Register.{IsSynced};
+ghost use Rattle.kcr_tables.specs.{Frame.Reads, Refusals.IsFault, MachineTables.HoldsTables, StoredTables.StoredTables, StoredTables.Holds};
+ghost use Rattle.kcr_older.specs.{OldFiles.HoldsHistoryAs, Versions.number_of, Migrated.migrated_tables};
+ghost use Rattle.kcr_older.specs.Kind.{IsOfOtherVersion, IsOtherNumber, IsForeignSchema, IsOfKind, no_schema, numbered_table};
+ghost use Rattle.kcr_store.specs.{Frame.IfCleanOver, Frame.StaysOutside, Stored.IsTables, Stored.OfStored, Register.IsSynced};
 ghost use Rattle.kcr_store.specs.Opening.{IsGenuine, FilesHoldHistory, IsMigrated, IsOpeningOf, IsOpened, IsAnswer, IsAnswerBy};
 ghost use Rattle.kcr_store.specs.Opening.{GoesByNumber, HoldsRowsAs, MigratesRows, ShowsRows};
 

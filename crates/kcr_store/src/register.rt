@@ -1,7 +1,6 @@
 //! The register itself.
 ghost use Rattle.std.specs.Prelude.{[], false, ◌≡◌, ◌↔◌, IsTrue, IfOk, IfErr, OnOk, Ok, Err, None, is_some};
-ghost use Rattle.sqlite.specs.State.{HasCleanDisk};
-ghost use Rattle.sqlite.specs.Held.{state};
+ghost use Rattle.sqlite.specs.{State.HasCleanDisk, Held.state};
 ghost use Rattle.kcr_history.specs.History.{History};
 ghost use Rattle.kcr_store.specs.ByRows.{RepliesBy, TakesStepByRows};
 ghost use Rattle.kcr_store.specs.Commands.{IsQuestionResult, MayBeReplied, MayRefuseQuestion, TakesStep};
@@ -52,10 +51,8 @@ impl<S: Alter> Model for Register<S> {
 
 impl<S: Alter + Drop> Register<S> {
     ghost use Rattle.std.specs.Prelude.{MatchResult, ◌⊎◌, ◌≢◌};
-    ghost use Rattle.sqlite.specs.Held.{Held};
-    ghost use Rattle.sqlite.specs.State.{Survives};
-    ghost use Rattle.kcr_older.specs.Kind.{IsForeignSchema, IsTaken, no_schema};
-    ghost use Rattle.kcr_older.specs.declared.migration.OldVersion.{OldVersion};
+    ghost use Rattle.sqlite.specs.{Held.Held, State.Survives};
+    ghost use Rattle.kcr_older.specs.{Kind.IsForeignSchema, Kind.IsTaken, Kind.no_schema, declared.migration.OldVersion.OldVersion};
     ghost use Rattle.kcr_store.specs.Register.{IsConsistent, StandsAt, whole};
     ghost use Rattle.kcr_store.specs.Opening.{IsGenuine, IsOpeningOf, MigratesRows, RefusesAs};
 
@@ -150,11 +147,8 @@ impl Register<MemStore> {
 }
 
 impl<F: Start> Register<FileStore<FileFrom<F>>> {
-    ghost use Rattle.sqlite.specs.Files.{over_files};
-    ghost use Rattle.sqlite.specs.WalFiles.{image_at};
-    ghost use Rattle.sqlite.specs.Held.{state};
-    ghost use Rattle.kcr_older.specs.Migrated.{migrated_tables};
-    ghost use Rattle.kcr_older.specs.declared.migration.OldVersion.{OldVersion};
+    ghost use Rattle.sqlite.specs.{Files.over_files, Held.state, WalFiles.image_at};
+    ghost use Rattle.kcr_older.specs.{Migrated.migrated_tables, declared.migration.OldVersion.OldVersion};
     ghost use Rattle.kcr_tables.specs.StoredTables.{StoredTables};
     ghost use Rattle.kcr_store.specs.Opening.{FilesHoldHistory, FilesHoldRowsAs, ShowsRows};
     ghost use Rattle.kcr_store.specs.Register.{IsConsistent, StandsAt, whole};
@@ -187,8 +181,7 @@ impl<D: Disk + Drop> Register<FileStore<D>> {
     ghost use Rattle.sqlite_store.specs.FileStore.{view, state as stored};
     ghost use Rattle.sqlite_trees.specs.View.{IsClean};
     ghost use Rattle.sqlite_wal.specs.Recovery.{Image};
-    ghost use Rattle.kcr_store.specs.Opening.{LeavesEither, OpensAtEither};
-    ghost use Rattle.kcr_store.specs.Register.{RegisterHistory, StandsAt};
+    ghost use Rattle.kcr_store.specs.{Opening.LeavesEither, Opening.OpensAtEither, Register.RegisterHistory, Register.StandsAt};
 
     /// Lets go of its files, as a stop between two calls does: nothing is written to them. What they are after a crash,
     /// and where the register stands that is opened from that, is what the register's history says. `N` is the store of
@@ -208,19 +201,12 @@ impl<D: Disk + Drop> Register<FileStore<D>> {
 }
 
 impl<S: Alter> Register<S> {
-    ghost use Rattle.std.specs.Borrow.{sem};
-    ghost use Rattle.std.specs.Prelude.{MatchResult};
-    ghost use Rattle.kcr_history.specs.Machine.{IsRegister};
-    ghost use Rattle.kcr_history.specs.Tables.{Tables, tables};
-    ghost use Rattle.kcr_store.specs.Rows.{LendsConnection};
-    ghost use Rattle.kcr_store.specs.FullView.{FindsIn, AreRows, IsListed};
-    ghost use Rattle.kcr_tables.specs.MachineTables.{HoldsTables};
-    ghost use Rattle.kcr_tables.specs.Refusals.{IsFault};
-    ghost use Rattle.kcr_store.specs.Register.{IsConsistent};
+    ghost use Rattle.std.specs.{Borrow.sem, Prelude.MatchResult};
+    ghost use Rattle.kcr_history.specs.{Machine.IsRegister, Tables.Tables, Tables.tables};
+    ghost use Rattle.kcr_store.specs.{Rows.LendsConnection, Register.IsConsistent, FullView.FindsIn, FullView.AreRows, FullView.IsListed};
+    ghost use Rattle.kcr_tables.specs.{MachineTables.HoldsTables, Refusals.IsFault};
     ghost use Rattle.kcr_store.specs.Calls.{Leads, OfHistory, ReadsHistory, RowsLead, BreaksOnFault, after_fault};
-    ghost use Rattle.kcr_store.specs.Frame.{OfRowsOver};
-    ghost use Rattle.kcr_store.specs.Shown.{IsShownByRows};
-    ghost use Rattle.kcr_store.specs.ShownBy.{IsQuestionResultBy};
+    ghost use Rattle.kcr_store.specs.{Frame.OfRowsOver, Shown.IsShownByRows, ShownBy.IsQuestionResultBy};
 
     /// Decides a command as one transaction. Where the machine accepts it, its reply comes only once it is durable.
     /// A repeat gets the reply that was kept, and changes nothing. A refusal changes nothing; out of memory (33)

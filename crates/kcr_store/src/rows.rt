@@ -29,8 +29,7 @@ impl<S: Alter, R: Cursor> Drop for Rows<'_, S, R> {
 }
 
 impl<'a, S: Alter, R: Cursor> Rows<'a, S, R> {
-    ghost use Rattle.kcr_store.specs.Frame.{OfDurable, OfRowsOver, OnlyReads};
-    ghost use Rattle.kcr_store.specs.Rows.{GivesNext};
+    ghost use Rattle.kcr_store.specs.{Frame.OfDurable, Frame.OfRowsOver, Frame.OnlyReads, Rows.GivesNext};
 
     pub(crate) fn new(unbroken: &'a mut Unbroken<S>, reading: R) -> Rows<'a, S, R>
         ensures same_reference { result.unbroken.ghost_name ≡ unbroken.entry.ghost_name }

@@ -4,8 +4,7 @@ ghost use Rattle.kcr_base.specs.Place.{IsPlaceNumber};
 ghost use Rattle.kcr_base.specs.Same;
 ghost use Rattle.kcr_people.specs.People.{holder_by};
 ghost use Rattle.kcr_history.specs.Questions;
-ghost use Rattle.kcr_history.specs.Questions.{person_of};
-ghost use Rattle.kcr_history.specs.Seating.{one_to_seven};
+ghost use Rattle.kcr_history.specs.{Questions.person_of, Seating.one_to_seven};
 ghost use Rattle.kcr_store.specs.Shown.{AreRolesOf};
 
 use kcr_base::{Day, Facility, Initials, Place, PlaceNumber, Role};

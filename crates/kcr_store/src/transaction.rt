@@ -1,28 +1,19 @@
 //! One command as one transaction, and one question or one row of a report as one that changes nothing.
 ghost use Rattle.std.specs.Prelude.{◌≡◌, false, length, Ok, IsTrue, IfErr, IfOk, OnOk, MatchResult, ⊤};
-ghost use Rattle.sqlite.specs.State.{HasCleanDisk, Survives};
-ghost use Rattle.sqlite.specs.Held.{state};
-ghost use Rattle.kcr_history.specs.History.{History};
-ghost use Rattle.kcr_history.specs.AsksByKind.{asks_of};
-ghost use Rattle.kcr_history.specs.Tables.{Tables};
-ghost use Rattle.kcr_history.specs.Views.{IsViewOf};
+ghost use Rattle.sqlite.specs.{State.HasCleanDisk, State.Survives, Held.state};
+ghost use Rattle.kcr_history.specs.{History.History, AsksByKind.asks_of, Tables.Tables, Views.IsViewOf};
 ghost use Rattle.kcr_machine.specs.RowDecision.{MayBeRefused, is_full_by};
 ghost use Rattle.kcr_rules.specs.ByRows.{IsCleared};
-ghost use Rattle.kcr_tables.specs.Frame.{ChangesMachineTables, OfMachineTables};
-ghost use Rattle.kcr_tables.specs.MachineTables.{HoldsTables};
-ghost use Rattle.kcr_tables.specs.Refusals.{IsFault};
+ghost use Rattle.kcr_tables.specs.{Frame.ChangesMachineTables, Frame.OfMachineTables, MachineTables.HoldsTables, Refusals.IsFault};
 ghost use Rattle.kcr_rows.specs.Frame.{IfClean, StaysInTransaction};
 ghost use Rattle.kcr_store.specs.Frame.{IfCleanOver, OfDurable, OfRowsOver, OnlyReads};
-ghost use Rattle.kcr_store.specs.Stored.{Stores, OfStoredRows, OfStored};
+ghost use Rattle.kcr_store.specs.{Stored.Stores, Stored.OfStoredRows, Stored.OfStored, Register.HasRows, Register.IsDurableWith, Shown.IsShownByRows};
 ghost use Rattle.kcr_history.specs.Questions.{ArePeopleShown, AreCustodiansShown, IsBagShown, IsRoomShown};
 ghost use Rattle.kcr_store.specs.Commands as steps;
 ghost use Rattle.kcr_store.specs.Commands.{AppliesCommand, with_reply, IsQuestionResult, IsQuestionRefusal, MayBeReplied, MayRefuseQuestion};
 ghost use Rattle.kcr_store.specs.ByRows.{DecidesBy, EndsByRows, RefusesNew, RepliesBy};
-ghost use Rattle.kcr_store.specs.TransactionResult.{ends_with};
-ghost use Rattle.kcr_store.specs.Register.{HasRows, IsDurableWith};
+ghost use Rattle.kcr_store.specs.TransactionResult.{ends_with, EndsCommand, RefusesAsMachine, result_of};
 ghost use Rattle.kcr_store.specs.Rows.{GivesNext, IsRowOf, HasNoRow, MayHaveNoRow};
-ghost use Rattle.kcr_store.specs.TransactionResult.{EndsCommand, RefusesAsMachine, result_of};
-ghost use Rattle.kcr_store.specs.Shown.{IsShownByRows};
 ghost use Rattle.kcr_store.specs.ShownBy.{ArePeopleShownBy, AreCustodiansShownBy, IsBagShownBy, IsRoomShownBy};
 ghost use Rattle.kcr_store.specs.ShownBy.{HasNoRowBy, IsQuestionRefusalBy, IsQuestionResultBy, IsRowBy};
 

@@ -1,8 +1,7 @@
 //! A register that nothing has broken, as it is read row by row.
 ghost use Rattle.std.specs.Prelude.{◌≡◌, ◌++◌, false, MatchResult};
 ghost use Rattle.kcr_reading.specs.Remaining.{bags_past, exceptions_of, exceptions_past, loose_items, loose_past};
-ghost use Rattle.kcr_reading.specs.Remaining.{named_stays, packed_bags, read_ahead, safes_in_order, safes_past};
-ghost use Rattle.kcr_reading.specs.Remaining.{seated_steps, stays_past, steps_past};
+ghost use Rattle.kcr_reading.specs.Remaining.{named_stays, packed_bags, read_ahead, safes_in_order, safes_past, seated_steps, stays_past, steps_past};
 
 use crate::rows::Rows;
 use crate::transaction::run_query;
@@ -37,9 +36,8 @@ impl<S: Alter> Model for Unbroken<S> {
 }
 
 impl<S: Alter> Unbroken<S> {
-    ghost use Rattle.kcr_store.specs.Frame.{OfDurable, OfRowsOver, OnlyReads};
+    ghost use Rattle.kcr_store.specs.{Frame.OfDurable, Frame.OfRowsOver, Frame.OnlyReads, ShownBy.HasNoRowBy, ShownBy.IsRowBy};
     ghost use Rattle.kcr_store.specs.Rows.{BeginsAll, HasNoRow, IsRowOf, MayHaveNoRow};
-    ghost use Rattle.kcr_store.specs.ShownBy.{HasNoRowBy, IsRowBy};
 
     /// The row of a ceremony. One that was never planned is refused as unknown (12). Beside that and out of memory
     /// (33) it meets only an I/O error (34).

@@ -2,13 +2,11 @@
 -- What the table appointments proves of its texts, and of its place among the others.
 use Rattle.std.proofs.Common.{◌≡◌, pos, [], ◌∷◌, map, codes, true, refl, ap}
 use Rattle.std.specs.Bool.{⊤}
-use Rattle.sqlite.specs.declared.types.Value.TheVariants.{Text}
-use Rattle.sqlite.specs.Order.{Row, column}
+use Rattle.sqlite.specs.{declared.types.Value.TheVariants.Text, Order.Row, Order.column}
 use Rattle.kcr_base.specs.Place.{place_text}
 use Rattle.kcr_rows.specs.Rows.{appointment_row}
 use Rattle.kcr_people.specs.declared.Appointment.{Appointment}
-use Rattle.kcr_tables.specs.Schema.{appointments}
-use Rattle.kcr_tables.specs.StoredTables.{appointments_place}
+use Rattle.kcr_tables.specs.{Schema.appointments, StoredTables.appointments_place}
 use Rattle.kcr_tables.specs.TableTexts.{shows, inserts_row, updates_row, cast_all, cast_int, cast_or_null, each_is}
 use Rattle.kcr_tables.specs.TableTexts.{everything, number_in, one_number, one_place, still_at, text_in, InsertsRow}
 use Rattle.kcr_tables.specs.TableTexts.{IsTable, SelectsRows, TableSpec, UpdatesRow}

@@ -3,12 +3,9 @@
 use Rattle.std.proofs.Common.{◌≡◌, ℕ, List, [], ◌∷◌, map, codes, true, refl, sym, ap, ◌∙◌}
 use Rattle.sqlite.specs.declared.types.Value.TheVariants.{Text}
 use Rattle.kcr_history.specs.Views.{is_of_serial}
-use Rattle.kcr_custody.specs.Spots.{spot_text}
-use Rattle.kcr_rows.specs.Rows.{bag_row}
-use Rattle.kcr_custody.specs.declared.Bag.{Bag}
-use Rattle.kcr_rows.specs.States.{HasBoxNumber}
-use Rattle.kcr_tables.specs.Schema.{bags}
-use Rattle.kcr_tables.specs.StoredTables.{bags_place}
+use Rattle.kcr_custody.specs.{Spots.spot_text, declared.Bag.Bag}
+use Rattle.kcr_rows.specs.{Rows.bag_row, States.HasBoxNumber}
+use Rattle.kcr_tables.specs.{Schema.bags, StoredTables.bags_place}
 use Rattle.kcr_tables.specs.TableTexts.{shows, is_given, inserts_row, updates_row, cast_all, everything, one_spot}
 use Rattle.kcr_tables.specs.TableTexts.{still_at, text_in, text_ties, value_is, InsertsRow, IsLookup, IsTable}
 use Rattle.kcr_tables.specs.TableTexts.{LookupSpec, SelectsRows, TableSpec, UpdatesRow}

@@ -3,15 +3,12 @@
 use Rattle.std.proofs.Common.{◌≡◌, pos, [], ◌∷◌, map, codes, true, refl, ap}
 use Rattle.std.specs.Bool.{⊤}
 use Rattle.sqlite.specs.declared.types.Value.TheVariants.{Text}
-use Rattle.kcr_base.specs.Facility.{facility_text}
-use Rattle.kcr_base.specs.Place.{place_text}
+use Rattle.kcr_base.specs.{Facility.facility_text, Place.place_text}
 use Rattle.kcr_rows.specs.Rows.{box_row}
 use Rattle.kcr_custody.specs.declared.BoxRow.{BoxRow}
-use Rattle.kcr_tables.specs.Schema.{boxes}
-use Rattle.kcr_tables.specs.StoredTables.{boxes_place}
-use Rattle.kcr_tables.specs.TableTexts.{shows, inserts_row, cast_all, cast_int, each_is, everything, number_in}
+use Rattle.kcr_tables.specs.{Schema.boxes, StoredTables.boxes_place}
+use Rattle.kcr_tables.specs.TableTexts.{shows, inserts_row, cast_all, cast_int, each_is, everything, number_in, TableSpec}
 use Rattle.kcr_tables.specs.TableTexts.{one_facility, one_place, still_at, text_in, InsertsRow, IsTable, SelectsRows}
-use Rattle.kcr_tables.specs.TableTexts.{TableSpec}
 
 abbrev pub table : TableSpec BoxRow
 table = record {

@@ -2,15 +2,11 @@
 -- What the table ceremonies proves of its texts, and of its place among the others.
 use Rattle.std.proofs.Common.{◌≡◌, ℕ, pos, [], ◌∷◌, map, codes, true, refl, sym, ap, ◌∙◌}
 use Rattle.std.specs.Bool.{⊤}
-use Rattle.sqlite.specs.declared.types.Value.TheVariants.{Int, Text}
-use Rattle.sqlite.specs.Order.{Row, column}
-use Rattle.kcr_history.specs.Views.{is_of_number}
+use Rattle.sqlite.specs.{declared.types.Value.TheVariants.Int, declared.types.Value.TheVariants.Text, Order.Row, Order.column}
+use Rattle.kcr_history.specs.{Views.is_of_number, declared.row_types.CeremonyRow.CeremonyRow}
 use Rattle.kcr_base.specs.Facility.{facility_text}
-use Rattle.kcr_rows.specs.States.{ceremony_number}
-use Rattle.kcr_rows.specs.Rows.{ceremony_row}
-use Rattle.kcr_history.specs.declared.row_types.CeremonyRow.{CeremonyRow}
-use Rattle.kcr_tables.specs.Schema.{ceremonies}
-use Rattle.kcr_tables.specs.StoredTables.{ceremonies_place}
+use Rattle.kcr_rows.specs.{States.ceremony_number, Rows.ceremony_row}
+use Rattle.kcr_tables.specs.{Schema.ceremonies, StoredTables.ceremonies_place}
 use Rattle.kcr_tables.specs.TableTexts.{shows, is_given, inserts_row, updates_row, cast_all, cast_int, cast_or_null}
 use Rattle.kcr_tables.specs.TableTexts.{each_is, everything, number_in, number_ties, one_ceremony_state, one_facility}
 use Rattle.kcr_tables.specs.TableTexts.{one_number, still_at, text_in, value_is, InsertsRow, IsLookup, IsTable}

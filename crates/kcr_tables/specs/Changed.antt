@@ -2,16 +2,14 @@
 -- What a change makes of the tables.
 use Rattle.std.specs.Prelude.{List, fold}
 use Rattle.kcr_rows.specs.Keyed.{put_in}
-use Rattle.kcr_rows.specs.Rows.{person_row, training_row, appointment_row, box_row, safe_row, bag_row, item_row}
+use Rattle.kcr_rows.specs.Rows.{person_row, training_row, appointment_row, box_row, safe_row, bag_row, item_row, stay_row, withdrawal_row}
 use Rattle.kcr_rows.specs.Rows.{ceremony_row, mark_row, step_row, seating_row, sheet_row, exception_row, key_row}
-use Rattle.kcr_rows.specs.Rows.{stay_row, withdrawal_row}
 use Rattle.kcr_history.specs.Tables as machine
 use Rattle.kcr_tables.specs.StoredTables.{StoredTables}
 use Rattle.kcr_history.specs.declared.views.Change.{Change}
 use Rattle.kcr_history.specs.declared.views.Change.TheVariants.{PutPerson, PutTraining, PutAppointment, PutBox, PutSafe}
-use Rattle.kcr_history.specs.declared.views.Change.TheVariants.{PutBag, PutItem, PutCeremony, PutMark, PutStep}
+use Rattle.kcr_history.specs.declared.views.Change.TheVariants.{PutBag, PutItem, PutCeremony, PutMark, PutStep, PutWithdrawal}
 use Rattle.kcr_history.specs.declared.views.Change.TheVariants.{PutSeating, PutSheet, PutException, PutKey, PutStay}
-use Rattle.kcr_history.specs.declared.views.Change.TheVariants.{PutWithdrawal}
 
 -- the rows after a change: its row is put into its table, under its key
 abbrev pub rows_after : Change → machine.Tables → machine.Tables

@@ -1,8 +1,7 @@
 -- Written by tools/tables.py from tools/table_list.py: do not edit.
 -- How an empty database becomes one of a register.
 use Rattle.std.specs.Prelude.{◌≡◌, ℕ, List, [], ◌∷◌, take, codes, slice_index_or}
-use Rattle.sqlite.specs.Effect.{Database}
-use Rattle.sqlite.specs.Schema.{Schema}
+use Rattle.sqlite.specs.{Effect.Database, Schema.Schema}
 use Rattle.kcr_rows.specs.Columns.{AreEmpty, schema_of}
 use Rattle.kcr_tables.specs.Schema.{all_tables}
 

@@ -1,40 +1,25 @@
 -- Of the rows that a decision asks for none is strange: each is the row of a value that is shown, whatever else the
 -- tables have.
 use Rattle.std.specs.Prelude.{◌≡◌, ◌⊎◌, ◌&&◌, ◌||◌, not, ℕ, pos, Bool, List, [], ◌∷◌, ◌++◌, map, filter, slice_get, IsPermutation, Option, Some, None}
-use Rattle.std.specs.List.{AllByRecursion, list_any}
-use Rattle.std.specs.Ordering.{is_ge, is_gt}
-use Rattle.sqlite.specs.Ops.{is_null}
-use Rattle.sqlite.specs.Order.{Row, column, value_cmp}
-use Rattle.sqlite.specs.Tree.{Trees}
-use Rattle.sqlite.specs.declared.types.Value.{Value}
-use Rattle.sqlite.specs.declared.types.Value.TheVariants.{Int, Text}
+use Rattle.std.specs.{List.AllByRecursion, List.list_any, Ordering.is_ge, Ordering.is_gt}
+use Rattle.sqlite.specs.{Ops.is_null, Tree.Trees, Order.Row, Order.column, Order.value_cmp}
+use Rattle.sqlite.specs.declared.types.Value.{Value, TheVariants.Int, TheVariants.Text}
 use Rattle.sqlite_rules.specs.Lists.{Has}
-use Rattle.kcr_base.specs.Place.{place_text}
-use Rattle.kcr_base.specs.declared.place.Place.{Place as Custodian}
+use Rattle.kcr_base.specs.{Place.place_text, declared.place.Place.Place as Custodian}
 use Rattle.kcr_people.specs.declared.Appointment.{Appointment}
-use Rattle.kcr_history.specs.declared.row_types.StepRow.{StepRow}
-use Rattle.kcr_history.specs.declared.row_types.SeatingRow.{SeatingRow}
-use Rattle.kcr_history.specs.declared.views.AppointmentFilter.{AppointmentFilter}
+use Rattle.kcr_history.specs.{declared.row_types.StepRow.StepRow, declared.row_types.SeatingRow.SeatingRow, Views.step_asked}
+use Rattle.kcr_history.specs.declared.views.{AppointmentFilter.AppointmentFilter, TrainingFilter.TrainingFilter}
 use Rattle.kcr_history.specs.declared.views.AppointmentFilter.TheVariants as Appointments
-use Rattle.kcr_history.specs.declared.views.Asks.{Asks}
-use Rattle.kcr_history.specs.declared.views.ItemFilter.{ItemFilter}
+use Rattle.kcr_history.specs.declared.views.{Asks.Asks, View.View, ItemFilter.ItemFilter, StayFilter.StayFilter, StepFilter.StepFilter}
 use Rattle.kcr_history.specs.declared.views.ItemFilter.TheVariants as Items
-use Rattle.kcr_history.specs.declared.views.Selection.{Selection}
-use Rattle.kcr_history.specs.declared.views.Selection.TheVariants.{Nothing, Matching, All}
-use Rattle.kcr_history.specs.declared.views.StayFilter.{StayFilter}
-use Rattle.kcr_history.specs.declared.views.StepFilter.{StepFilter}
-use Rattle.kcr_history.specs.declared.views.TrainingFilter.{TrainingFilter}
+use Rattle.kcr_history.specs.declared.views.Selection.{Selection, TheVariants.Nothing, TheVariants.Matching, TheVariants.All}
 use Rattle.kcr_history.specs.declared.views.TrainingFilter.TheVariants as Trainings
-use Rattle.kcr_history.specs.declared.views.View.{View}
-use Rattle.kcr_history.specs.Views.{step_asked}
 use Rattle.kcr_rows.specs.Keyed.{TableLayout, cells}
 use Rattle.kcr_rows.proofs.FilterLemmas.{has_value}
 use Rattle.kcr_rows.specs.Rows.{person_row, training_row, appointment_row, box_row, safe_row, bag_row, item_row}
 use Rattle.kcr_rows.specs.Rows.{ceremony_row, mark_row, step_row, seating_row, exception_row, stay_row, withdrawal_row}
 use Rattle.kcr_tables.specs.Selected.{asked_of, asked_all}
-use Rattle.kcr_tables.specs.declared.view.StaffRows.{StaffRows}
-use Rattle.kcr_tables.specs.declared.view.CustodyRows.{CustodyRows}
-use Rattle.kcr_tables.specs.declared.view.CeremonyRows.{CeremonyRows}
+use Rattle.kcr_tables.specs.declared.view.{StaffRows.StaffRows, CustodyRows.CustodyRows, CeremonyRows.CeremonyRows}
 use Rattle.kcr_tables.specs.StoredTables.{people_place, trainings_place, appointments_place, boxes_place, safes_place}
 use Rattle.kcr_tables.specs.StoredTables.{bags_place, items_place, ceremonies_place, marks_place, steps_place, exceptions_place}
 use Rattle.kcr_tables.specs.StoredTables.{seatings_place, stays_place, withdrawals_place}

@@ -2,13 +2,10 @@
 -- What the table exceptions proves of its texts, and of its place among the others.
 use Rattle.std.proofs.Common.{◌≡◌, ℕ, pos, [], ◌∷◌, map, codes, true, refl, sym, ap, ◌∙◌}
 use Rattle.std.specs.Bool.{⊤}
-use Rattle.sqlite.specs.declared.types.Value.TheVariants.{Int, Text}
-use Rattle.sqlite.specs.Order.{Row, column}
-use Rattle.kcr_history.specs.Views.{is_exception_of}
+use Rattle.sqlite.specs.{declared.types.Value.TheVariants.Int, declared.types.Value.TheVariants.Text, Order.Row, Order.column}
+use Rattle.kcr_history.specs.{Views.is_exception_of, declared.row_types.ExceptionRow.ExceptionRow}
 use Rattle.kcr_rows.specs.Rows.{exception_row}
-use Rattle.kcr_history.specs.declared.row_types.ExceptionRow.{ExceptionRow}
-use Rattle.kcr_tables.specs.Schema.{exceptions}
-use Rattle.kcr_tables.specs.StoredTables.{exceptions_place}
+use Rattle.kcr_tables.specs.{Schema.exceptions, StoredTables.exceptions_place}
 use Rattle.kcr_tables.specs.TableTexts.{shows, is_given, inserts_row, cast_all, cast_int, cast_or_null, each_is}
 use Rattle.kcr_tables.specs.TableTexts.{everything, number_in, number_ties, one_number, still_at, text_in, value_is}
 use Rattle.kcr_tables.specs.TableTexts.{InsertsRow, IsLookup, IsTable, LookupSpec, SelectsRows, TableSpec}

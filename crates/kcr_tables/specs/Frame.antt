@@ -1,15 +1,10 @@
 -- What a call inside a transaction says of the tables, and what it leaves.
 use Rattle.std.specs.Prelude.{◌≡◌, Result, IfOk, OnOk}
-use Rattle.sqlite.specs.Store.{Ghosts}
-use Rattle.sqlite.specs.Tree.{Trees}
-use Rattle.sqlite.specs.declared.transaction.Transaction.{Transaction}
+use Rattle.sqlite.specs.{Store.Ghosts, Tree.Trees, declared.transaction.Transaction.Transaction}
 use Rattle.kcr_base.specs.declared.refusal.Refusal.{Refusal}
 use Rattle.kcr_history.specs.Tables as machine
-use Rattle.kcr_rows.specs.Refusals.{IsFault}
-use Rattle.kcr_rows.specs.Frame.{IfClean, StaysInTransaction}
-use Rattle.kcr_tables.specs.Schema.{register_schema}
-use Rattle.kcr_tables.specs.StoredTables.{StoredTables, Holds}
-use Rattle.kcr_tables.specs.MachineTables.{HoldsTables}
+use Rattle.kcr_rows.specs.{Refusals.IsFault, Frame.IfClean, Frame.StaysInTransaction}
+use Rattle.kcr_tables.specs.{Schema.register_schema, MachineTables.HoldsTables, StoredTables.StoredTables, StoredTables.Holds}
 
 -- ---- what a call says, if the disk is clean after it
 

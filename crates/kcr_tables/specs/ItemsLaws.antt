@@ -2,18 +2,15 @@
 -- What the table items proves of its texts, and of its place among the others.
 use Rattle.std.proofs.Common.{◌≡◌, ℕ, List, [], ◌∷◌, map, codes, true, refl, sym, ap, ◌∙◌}
 use Rattle.std.specs.Bool.{⊤}
-use Rattle.sqlite.specs.declared.types.Value.TheVariants.{Text}
-use Rattle.sqlite.specs.Order.{Row, column}
+use Rattle.sqlite.specs.{declared.types.Value.TheVariants.Text, Order.Row, Order.column}
 use Rattle.kcr_history.specs.Views.{is_item_of}
 use Rattle.kcr_history.specs.declared.views.ItemFilter.TheVariants as Wanted
 use Rattle.kcr_rows.specs.Rows.{item_row}
 use Rattle.kcr_custody.specs.declared.Item.{Item}
-use Rattle.kcr_tables.specs.Schema.{items}
-use Rattle.kcr_tables.specs.StoredTables.{items_place}
+use Rattle.kcr_tables.specs.{Schema.items, StoredTables.items_place}
 use Rattle.kcr_tables.specs.TableTexts.{shows, is_given, inserts_row, updates_row, cast_all, cast_loose, cast_within}
-use Rattle.kcr_tables.specs.TableTexts.{each_is, everything, one_rest, same_text, still_at, text_in, text_ties}
+use Rattle.kcr_tables.specs.TableTexts.{each_is, everything, one_rest, same_text, still_at, text_in, text_ties, TableSpec, UpdatesRow}
 use Rattle.kcr_tables.specs.TableTexts.{value_is, within_is, InsertsRow, IsLookup, IsTable, LookupSpec, SelectsRows}
-use Rattle.kcr_tables.specs.TableTexts.{TableSpec, UpdatesRow}
 
 abbrev pub table : TableSpec Item
 table = record {

@@ -4,11 +4,9 @@ use Rattle.std.proofs.Common.{◌≡◌, ℕ, pos, List, [], ◌∷◌, map, cod
 use Rattle.std.specs.Bool.{⊤}
 use Rattle.sqlite.specs.declared.types.Value.TheVariants.{Null, Int, Text}
 use Rattle.sqlite.specs.Term.{lit, col}
-use Rattle.kcr_history.specs.Views.{is_of_key}
+use Rattle.kcr_history.specs.{Views.is_of_key, declared.row_types.KeyRow.KeyRow}
 use Rattle.kcr_rows.specs.Rows.{key_row}
-use Rattle.kcr_history.specs.declared.row_types.KeyRow.{KeyRow}
-use Rattle.kcr_tables.specs.Schema.{keys}
-use Rattle.kcr_tables.specs.StoredTables.{keys_place}
+use Rattle.kcr_tables.specs.{Schema.keys, StoredTables.keys_place}
 use Rattle.kcr_tables.specs.TableTexts.{shows, is_given, inserts_as, cast_int, cast_null, each_is, everything}
 use Rattle.kcr_tables.specs.TableTexts.{number_in, still_at, text_in, text_ties, value_is, InsertsRow, IsLookup}
 use Rattle.kcr_tables.specs.TableTexts.{IsTable, LookupSpec, SelectsRows, TableSpec}

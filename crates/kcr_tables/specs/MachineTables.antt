@@ -2,12 +2,9 @@
 -- The database holds the tables of the machine. The machine has the rows of a table in any order, the database in the
 -- order of their keys.
 use Rattle.std.specs.Prelude.{◌≡◌}
-use Rattle.sqlite.specs.Tree.{Trees}
-use Rattle.sqlite.specs.Effect.{Database}
+use Rattle.sqlite.specs.{Tree.Trees, Effect.Database}
 use Rattle.kcr_history.specs.Tables as machine
-use Rattle.kcr_tables.specs.Schema.{register_schema}
-use Rattle.kcr_tables.specs.StoredTables.{StoredTables, TreesHold}
-use Rattle.kcr_tables.specs.NewTables.{new_tables}
+use Rattle.kcr_tables.specs.{Schema.register_schema, NewTables.new_tables, StoredTables.StoredTables, StoredTables.TreesHold}
 
 -- the same rows, in any order; the version is that of a new register
 pub record SameRows (m : machine.Tables) (t : StoredTables) : Type 0 where

@@ -3,11 +3,9 @@
 use Rattle.std.proofs.Common.{◌≡◌, ℕ, pos, [], ◌∷◌, map, codes, true, refl, sym, ◌∙◌}
 use Rattle.std.specs.Bool.{⊤}
 use Rattle.sqlite.specs.declared.types.Value.TheVariants.{Int}
-use Rattle.kcr_history.specs.Views.{is_mark_of}
+use Rattle.kcr_history.specs.{Views.is_mark_of, declared.row_types.MarkRow.MarkRow}
 use Rattle.kcr_rows.specs.Rows.{mark_row}
-use Rattle.kcr_history.specs.declared.row_types.MarkRow.{MarkRow}
-use Rattle.kcr_tables.specs.Schema.{marks}
-use Rattle.kcr_tables.specs.StoredTables.{marks_place}
+use Rattle.kcr_tables.specs.{Schema.marks, StoredTables.marks_place}
 use Rattle.kcr_tables.specs.TableTexts.{shows, is_given, inserts_row, updates_row, cast_all, cast_int, each_is}
 use Rattle.kcr_tables.specs.TableTexts.{everything, number_in, number_ties, still_at, value_is, InsertsRow, IsLookup}
 use Rattle.kcr_tables.specs.TableTexts.{IsTable, LookupSpec, SelectsRows, TableSpec, UpdatesRow}

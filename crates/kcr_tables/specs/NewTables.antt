@@ -2,8 +2,7 @@
 -- The tables of a new register.
 use Rattle.std.specs.Prelude.{[], ◌∷◌, false}
 use Rattle.kcr_base.specs.declared.place.Facility.{Facility}
-use Rattle.kcr_custody.specs.declared.SafeNumber.{SafeNumber}
-use Rattle.kcr_custody.specs.declared.SafeRow.{SafeRow}
+use Rattle.kcr_custody.specs.declared.{SafeNumber.SafeNumber, SafeRow.SafeRow}
 use Rattle.kcr_history.specs.Tables as machine
 use Rattle.kcr_tables.specs.StoredTables.{StoredTables}
 

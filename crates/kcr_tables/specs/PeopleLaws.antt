@@ -5,11 +5,9 @@ use Rattle.std.specs.Bool.{⊤}
 use Rattle.sqlite.specs.declared.types.Value.TheVariants.{Text}
 use Rattle.kcr_rows.specs.Rows.{person_row}
 use Rattle.kcr_people.specs.declared.Person.{Person}
-use Rattle.kcr_tables.specs.Schema.{people}
-use Rattle.kcr_tables.specs.StoredTables.{people_place}
+use Rattle.kcr_tables.specs.{Schema.people, StoredTables.people_place}
 use Rattle.kcr_tables.specs.TableTexts.{shows, is_given, inserts_row, cast_all, each_is, everything, same_text}
-use Rattle.kcr_tables.specs.TableTexts.{still_at, text_in, text_ties, value_is, InsertsRow, IsLookup, IsTable}
-use Rattle.kcr_tables.specs.TableTexts.{LookupSpec, SelectsRows, TableSpec}
+use Rattle.kcr_tables.specs.TableTexts.{still_at, text_in, text_ties, value_is, InsertsRow, IsLookup, IsTable, LookupSpec, SelectsRows, TableSpec}
 
 abbrev pub table : TableSpec Person
 table = record {

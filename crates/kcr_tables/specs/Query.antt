@@ -1,27 +1,15 @@
 -- What a text shows of a table, and what a call that runs it says.
 use Rattle.std.specs.Prelude.{◌≡◌, ℕ, pos, Bool, true, List, [], ◌∷◌, map, filter, IsPermutation, Result, Vec}
 use Rattle.std.specs.Global.{Global}
-use Rattle.sqlite.specs.declared.types.Value.TheVariants.{Int}
-use Rattle.sqlite.specs.Collation.TheVariants.{Binary}
-use Rattle.sqlite.specs.Order.{Row, column}
-use Rattle.sqlite.specs.Command.TheVariants.{Select}
+use Rattle.sqlite.specs.declared.{types.Value.TheVariants.Int, transaction.Transaction.Transaction}
+use Rattle.sqlite.specs.{Collation.TheVariants.Binary, Order.Row, Order.column, Query.key_cmp, Command.TheVariants.Select, Store.Ghosts, Term.Term}
 use Rattle.sqlite_resolve.specs.Compile.{compiled}
-use Rattle.kcr_rows.specs.Texts.{Means}
-use Rattle.sqlite.specs.Query.{key_cmp}
-use Rattle.sqlite.specs.Store.{Ghosts}
-use Rattle.sqlite.specs.Term.{Term}
-use Rattle.sqlite.specs.declared.transaction.Transaction.{Transaction}
+use Rattle.kcr_rows.specs.{Texts.Means, Frame.ImpliesOpen, Greatest.IsGreatest, Keyed.TableLayout}
 use Rattle.kcr_base.specs.declared.refusal.Refusal.{Refusal}
-use Rattle.kcr_rows.specs.Frame.{ImpliesOpen}
-use Rattle.kcr_rows.specs.Greatest.{IsGreatest}
-use Rattle.kcr_rows.specs.Keyed.{TableLayout}
 use Rattle.kcr_rows.proofs.GreatestLemmas.{greatest}
-use Rattle.kcr_tables.specs.Exact.{rows_at, IsOneOf}
-use Rattle.kcr_tables.specs.Frame.{OfTables, OfTrees, Reads}
-use Rattle.kcr_tables.specs.Schema.{register_schema}
+use Rattle.kcr_tables.specs.{Exact.rows_at, Exact.IsOneOf, Unordered.SelectsUnordered}
+use Rattle.kcr_tables.specs.{Frame.OfTables, Frame.OfTrees, Frame.Reads, Schema.register_schema, Table.TableSpec}
 use Rattle.kcr_tables.specs.Statements.{Choice, SelectsRows, showing, wanted_showing}
-use Rattle.kcr_tables.specs.Table.{TableSpec}
-use Rattle.kcr_tables.specs.Unordered.{SelectsUnordered}
 
 -- which of the rows that pass a test are shown: all in the order of their keys, all in an order that is not told, or
 -- one with the greatest number

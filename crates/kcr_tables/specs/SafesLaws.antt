@@ -4,12 +4,9 @@ use Rattle.std.proofs.Common.{◌≡◌, pos, [], ◌∷◌, map, codes, true, r
 use Rattle.std.specs.Bool.{⊤}
 use Rattle.sqlite.specs.declared.types.Value.TheVariants.{Text}
 use Rattle.kcr_base.specs.Facility.{facility_text}
-use Rattle.kcr_rows.specs.States.{safe_digit}
-use Rattle.kcr_rows.specs.Values.{truth_number}
-use Rattle.kcr_rows.specs.Rows.{safe_row}
+use Rattle.kcr_rows.specs.{States.safe_digit, Rows.safe_row, Values.truth_number}
 use Rattle.kcr_custody.specs.declared.SafeRow.{SafeRow}
-use Rattle.kcr_tables.specs.Schema.{safes}
-use Rattle.kcr_tables.specs.StoredTables.{safes_place}
+use Rattle.kcr_tables.specs.{Schema.safes, StoredTables.safes_place}
 use Rattle.kcr_tables.specs.TableTexts.{shows, inserts_row, updates_row, cast_all, cast_int, each_is, everything}
 use Rattle.kcr_tables.specs.TableTexts.{number_in, one_facility, one_safe, one_truth, still_at, text_in, InsertsRow}
 use Rattle.kcr_tables.specs.TableTexts.{IsTable, SelectsRows, TableSpec, UpdatesRow}

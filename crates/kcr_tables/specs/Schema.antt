@@ -1,8 +1,7 @@
 -- Written by tools/tables.py from tools/table_list.py: do not edit.
 -- The schema: a table for each kind of row, with the index that its key gets.
 use Rattle.std.specs.Prelude.{List, [], ◌∷◌, codes}
-use Rattle.sqlite.specs.Table.{Table}
-use Rattle.sqlite.specs.Schema.{Schema}
+use Rattle.sqlite.specs.{Table.Table, Schema.Schema}
 use Rattle.kcr_rows.specs.Columns.{words, number, words_or_null, number_or_null, keyed, aliased, schema_of}
 
 -- a person under their initials

@@ -5,8 +5,7 @@ use Rattle.std.specs.Bool.{⊤}
 use Rattle.sqlite.specs.declared.types.Value.TheVariants.{Text}
 use Rattle.kcr_rows.specs.Rows.{seating_row}
 use Rattle.kcr_history.specs.declared.row_types.SeatingRow.{SeatingRow}
-use Rattle.kcr_tables.specs.Schema.{seatings}
-use Rattle.kcr_tables.specs.StoredTables.{seatings_place}
+use Rattle.kcr_tables.specs.{Schema.seatings, StoredTables.seatings_place}
 use Rattle.kcr_tables.specs.TableTexts.{shows, inserts_row, cast_all, cast_int, each_is, everything, number_in}
 use Rattle.kcr_tables.specs.TableTexts.{still_at, text_in, InsertsRow, IsTable, SelectsRows, TableSpec}
 

@@ -1,8 +1,7 @@
 -- The rows of a table that are asked for.
 use Rattle.std.specs.Prelude.{Bool, true, false, List, [], filter, if◌then◌else◌}
 use Rattle.std.specs.List.{list_any}
-use Rattle.kcr_history.specs.declared.views.Selection.{Selection}
-use Rattle.kcr_history.specs.declared.views.Selection.TheVariants.{Nothing, Matching, All}
+use Rattle.kcr_history.specs.declared.views.Selection.{Selection, TheVariants.Nothing, TheVariants.Matching, TheVariants.All}
 
 abbrev pub asked_of : {X K : Type 0} → (K → X → Bool) → Selection K → List X → List X
 asked_of is_under Nothing rows = []

@@ -3,11 +3,9 @@
 use Rattle.std.proofs.Common.{◌≡◌, pos, [], ◌∷◌, map, codes, true, refl, ap}
 use Rattle.std.specs.Bool.{⊤}
 use Rattle.sqlite.specs.declared.types.Value.TheVariants.{Text}
-use Rattle.kcr_rows.specs.States.{way_number}
-use Rattle.kcr_rows.specs.Rows.{sheet_row}
+use Rattle.kcr_rows.specs.{States.way_number, Rows.sheet_row}
 use Rattle.kcr_room.specs.declared.SheetRow.{SheetRow}
-use Rattle.kcr_tables.specs.Schema.{sheet}
-use Rattle.kcr_tables.specs.StoredTables.{sheet_place}
+use Rattle.kcr_tables.specs.{Schema.sheet, StoredTables.sheet_place}
 use Rattle.kcr_tables.specs.TableTexts.{shows, inserts_row, cast_all, cast_int, each_is, everything, number_in, one_way}
 use Rattle.kcr_tables.specs.TableTexts.{still_at, text_in, InsertsRow, IsTable, SelectsRows, TableSpec}
 

@@ -1,35 +1,22 @@
 -- What a table proves of its SQL texts, on which the general calls stand.
 use Rattle.std.specs.Prelude.{◌≡◌, ◌&&◌, not, ℕ, ℤ, pos, negsuc, suc, ◌/◌, ◌^◌, nat_le, Bool, true, false}
 use Rattle.std.specs.Prelude.{List, [], ◌∷◌, ◌++◌, map, take, length, slice_get, Option, Some}
-use Rattle.std.specs.List.{list_all, range_with_len}
-use Rattle.std.specs.declared.cmp.Ordering.{Ordering}
+use Rattle.std.specs.{List.list_all, List.range_with_len, declared.cmp.Ordering.Ordering}
 use Rattle.sqlite.specs.declared.types.Value.TheVariants.{Null, Int}
-use Rattle.sqlite.specs.Order.{Row}
+use Rattle.sqlite.specs.{Order.Row, Tree.rowid, Effect.value_rows, Cast.cast_all, Cast.cast_row}
 use Rattle.sqlite.specs.Term.{Term, lit, col, op2, holds, eval_all}
 use Rattle.sqlite.specs.Query.{Query, Output, key_cmp, output, output_cmp}
-use Rattle.sqlite.specs.Collation.TheVariants.{Binary}
-use Rattle.sqlite.specs.Cast.{cast_all, cast_row}
-use Rattle.sqlite.specs.Tree.{rowid}
-use Rattle.sqlite.specs.Source.TheVariants.{Values}
+use Rattle.sqlite.specs.{Collation.TheVariants.Binary, Source.TheVariants.Values}
 use Rattle.sqlite.specs.Command.TheVariants.{Insert, Select, Update}
-use Rattle.sqlite.specs.Effect.{value_rows}
-use Rattle.sqlite_schema.specs.Rules.{guards, clashes}
-use Rattle.sqlite_schema.specs.declared.schema.Keys.TheVariants.{Enforced}
-use Rattle.sqlite_schema.specs.declared.schema.Table.{Table}
-use Rattle.sqlite_sql.specs.declared.ops.BinaryOp.TheVariants.{Compare}
-use Rattle.sqlite_sql.specs.declared.ops.CompareOp.TheVariants.{Eq}
-use Rattle.sqlite_value.specs.declared.keys.Key.{Key}
-use Rattle.sqlite_value.specs.Keys.{plain, rising, ascending}
+use Rattle.sqlite_schema.specs.{Rules.guards, Rules.clashes, declared.schema.Keys.TheVariants.Enforced, declared.schema.Table.Table}
+use Rattle.sqlite_sql.specs.declared.ops.{BinaryOp.TheVariants.Compare, CompareOp.TheVariants.Eq}
+use Rattle.sqlite_value.specs.{declared.keys.Key.Key, Keys.plain, Keys.rising, Keys.ascending}
 use Rattle.sqlite_trees.specs.View.{is_int}
 use Rattle.sqlite_resolve.specs.Compile.{compiled}
 use Rattle.sqlite_rules.specs.Action.{Work, works}
-use Rattle.kcr_rows.specs.Columns.{simple_as}
+use Rattle.kcr_rows.specs.{Columns.simple_as, Texts.Means}
 use Rattle.kcr_rows.specs.Keyed.{TableLayout, cells, by_key, is_full}
-use Rattle.kcr_rows.specs.Texts.{Means}
-use Rattle.kcr_rows.proofs.ReadLemmas.{asking}
-use Rattle.kcr_rows.proofs.KeyLemmas.{places_from, full, same_from}
-use Rattle.kcr_rows.proofs.WriteLemmas.{entered}
-use Rattle.kcr_rows.proofs.OverLemmas.{finding}
+use Rattle.kcr_rows.proofs.{ReadLemmas.asking, OverLemmas.finding, WriteLemmas.entered, KeyLemmas.places_from, KeyLemmas.full, KeyLemmas.same_from}
 use Rattle.kcr_tables.specs.Schema.{register_schema}
 
 -- ---- texts that show rows of a table

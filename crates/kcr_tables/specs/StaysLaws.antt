@@ -2,15 +2,12 @@
 -- What the table stays proves of its texts, and of its place among the others.
 use Rattle.std.proofs.Common.{◌≡◌, pos, [], ◌∷◌, map, codes, true, refl, ap}
 use Rattle.std.specs.Bool.{⊤}
-use Rattle.sqlite.specs.declared.types.Value.TheVariants.{Text}
-use Rattle.sqlite.specs.Order.{Row, column}
+use Rattle.sqlite.specs.{declared.types.Value.TheVariants.Text, Order.Row, Order.column}
 use Rattle.kcr_rows.specs.Rows.{stay_row}
 use Rattle.kcr_room.specs.declared.Stay.{Stay}
-use Rattle.kcr_tables.specs.Schema.{stays}
-use Rattle.kcr_tables.specs.StoredTables.{stays_place}
+use Rattle.kcr_tables.specs.{Schema.stays, StoredTables.stays_place}
 use Rattle.kcr_tables.specs.TableTexts.{shows, inserts_row, updates_row, cast_all, cast_int, cast_or_null, each_is}
-use Rattle.kcr_tables.specs.TableTexts.{everything, number_in, one_number, still_at, text_in, InsertsRow, IsTable}
-use Rattle.kcr_tables.specs.TableTexts.{SelectsRows, TableSpec, UpdatesRow}
+use Rattle.kcr_tables.specs.TableTexts.{everything, number_in, one_number, still_at, text_in, InsertsRow, IsTable, SelectsRows, TableSpec, UpdatesRow}
 
 abbrev pub table : TableSpec Stay
 table = record {

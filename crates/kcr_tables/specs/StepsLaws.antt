@@ -1,15 +1,11 @@
 -- Written by tools/tables.py from tools/table_list.py: do not edit.
 -- What the table steps proves of its texts, and of its place among the others.
 use Rattle.std.proofs.Common.{◌≡◌, pos, [], ◌∷◌, map, codes, true, refl, ap}
-use Rattle.sqlite.specs.declared.types.Value.TheVariants.{Text}
-use Rattle.sqlite.specs.Order.{Row, column}
+use Rattle.sqlite.specs.{declared.types.Value.TheVariants.Text, Order.Row, Order.column}
 use Rattle.kcr_script.specs.Seats.{written}
-use Rattle.kcr_rows.specs.States.{step_number}
-use Rattle.kcr_rows.specs.Rows.{step_row}
+use Rattle.kcr_rows.specs.{States.step_number, States.HasOnlyTheseSeats, States.HasSeatsText, Rows.step_row}
 use Rattle.kcr_history.specs.declared.row_types.StepRow.{StepRow}
-use Rattle.kcr_rows.specs.States.{HasOnlyTheseSeats, HasSeatsText}
-use Rattle.kcr_tables.specs.Schema.{steps}
-use Rattle.kcr_tables.specs.StoredTables.{steps_place}
+use Rattle.kcr_tables.specs.{Schema.steps, StoredTables.steps_place}
 use Rattle.kcr_tables.specs.TableTexts.{shows, inserts_row, updates_row, cast_all, cast_int, cast_or_null, everything}
 use Rattle.kcr_tables.specs.TableTexts.{number_in, one_number, one_seats, one_step_state, still_at, text_in, InsertsRow}
 use Rattle.kcr_tables.specs.TableTexts.{IsTable, SelectsRows, TableSpec, UpdatesRow}

@@ -4,16 +4,12 @@ use Rattle.std.proofs.Common.{◌≡◌, ◌≢◌, ℕ, zero, suc, Bool, true, 
 use Rattle.std.specs.Bool.{⊤}
 use Rattle.std.specs.List.{AllByRecursion, list_all}
 use Rattle.std.proofs.lemmas.Bool.{and_parts, not-true}
-use Rattle.sqlite.specs.Edit.{IsNoIndex}
-use Rattle.sqlite.specs.Order.{Row}
-use Rattle.sqlite.specs.Tree.{Trees}
+use Rattle.sqlite.specs.{Edit.IsNoIndex, Order.Row, Tree.Trees}
 use Rattle.sqlite_catalog.specs.Listing.{IsSound}
-use Rattle.kcr_rows.specs.Keyed.{TableLayout, TreeHolds}
+use Rattle.kcr_rows.specs.{Keyed.TableLayout, Keyed.TreeHolds, States.HasBoxNumber, States.HasSeatsText}
 use Rattle.kcr_rows.proofs.TableLemmas.{keeps_still}
-use Rattle.kcr_rows.specs.Rows.{person_row, training_row, appointment_row, box_row, safe_row, bag_row, item_row}
+use Rattle.kcr_rows.specs.Rows.{person_row, training_row, appointment_row, box_row, safe_row, bag_row, item_row, key_row, stay_row, withdrawal_row}
 use Rattle.kcr_rows.specs.Rows.{ceremony_row, mark_row, step_row, seating_row, sheet_row, exception_row, version_row}
-use Rattle.kcr_rows.specs.Rows.{key_row, stay_row, withdrawal_row}
-use Rattle.kcr_rows.specs.States.{HasBoxNumber, HasSeatsText}
 use Rattle.kcr_tables.specs.Schema.{register_schema}
 use Rattle.kcr_tables.specs.StoredTables.{StoredTables, TreesHold, people_place, trainings_place, appointments_place}
 use Rattle.kcr_tables.specs.StoredTables.{boxes_place, safes_place, bags_place, items_place, ceremonies_place}

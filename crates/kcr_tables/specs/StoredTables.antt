@@ -2,17 +2,13 @@
 -- The database holds the tables of a register.
 use Rattle.std.specs.Prelude.{◌≡◌, List, [], ◌∷◌, map}
 use Rattle.std.specs.List.{AllByRecursion}
-use Rattle.sqlite.specs.Effect.{Database}
+use Rattle.sqlite.specs.{Effect.Database, Tree.Trees}
 use Rattle.sqlite_catalog.specs.Listing.{IsSound}
-use Rattle.sqlite.specs.Tree.{Trees}
 use Rattle.kcr_history.specs.Tables as machine
 use Rattle.kcr_tables.specs.Schema.{register_schema}
-use Rattle.kcr_rows.specs.Keyed.{TableLayout, TreeHolds}
-use Rattle.kcr_rows.specs.Rows.{person_row, training_row, appointment_row, box_row, safe_row, bag_row, item_row}
+use Rattle.kcr_rows.specs.{Keyed.TableLayout, Keyed.TreeHolds, declared.row_impls.Version.Version, States.HasBoxNumber, States.HasSeatsText}
+use Rattle.kcr_rows.specs.Rows.{person_row, training_row, appointment_row, box_row, safe_row, bag_row, item_row, key_row, stay_row, withdrawal_row}
 use Rattle.kcr_rows.specs.Rows.{ceremony_row, mark_row, step_row, seating_row, sheet_row, exception_row, version_row}
-use Rattle.kcr_rows.specs.Rows.{key_row, stay_row, withdrawal_row}
-use Rattle.kcr_rows.specs.States.{HasBoxNumber, HasSeatsText}
-use Rattle.kcr_rows.specs.declared.row_impls.Version.{Version}
 
 -- where each table lies
 

@@ -1,19 +1,13 @@
 -- What a table is, and what a table proves of it and of its texts.
 use Rattle.std.specs.Prelude.{◌≡◌, ◌≢◌, ℕ, Bool, true, List, [], ◌∷◌, map, IsPermutation}
 use Rattle.std.specs.List.{AllByRecursion}
-use Rattle.sqlite.specs.declared.types.Value.{Value}
-use Rattle.sqlite.specs.Edit.{IsNoIndex}
-use Rattle.sqlite.specs.Order.{Row}
-use Rattle.sqlite.specs.Tree.{Trees}
+use Rattle.sqlite.specs.{declared.types.Value.Value, Edit.IsNoIndex, Order.Row, Tree.Trees}
 use Rattle.sqlite_catalog.specs.Listing.{IsSound}
 use Rattle.kcr_history.specs.Tables as machine
 use Rattle.kcr_rows.specs.Keyed.{TableLayout, TreeHolds, put_in}
 use Rattle.kcr_rows.proofs.FilterLemmas.{has_value}
-use Rattle.kcr_tables.specs.NewTables.{as_held}
+use Rattle.kcr_tables.specs.{NewTables.as_held, MachineTables.SameRows, Schema.register_schema, Statements.SelectsRows}
 use Rattle.kcr_tables.specs.StoredTables.{StoredTables, TreesHold}
-use Rattle.kcr_tables.specs.MachineTables.{SameRows}
-use Rattle.kcr_tables.specs.Schema.{register_schema}
-use Rattle.kcr_tables.specs.Statements.{SelectsRows}
 
 -- a table, by the values that its rows stand for
 pub record TableSpec (X : Type 0) : Type 1 where

@@ -1,33 +1,25 @@
 -- What is alike in the laws of all tables: what a text says follows from the table, from the parts that are told here, and
 -- from `refl` for all that is computed of the text.
 use Rattle.std.proofs.Common.{◌≡◌, ℕ, ℤ, suc, List, [], ◌∷◌, map, drop, length}
-use Rattle.sqlite.specs.declared.types.Value.TheVariants.{Null}
-use Rattle.sqlite.specs.Order.{Row}
-use Rattle.sqlite.specs.Term.{Term}
-use Rattle.sqlite.specs.Source.TheVariants.{Values}
+use Rattle.sqlite.specs.{declared.types.Value.TheVariants.Null, Order.Row, Term.Term, Source.TheVariants.Values}
 use Rattle.sqlite.specs.Command.TheVariants.{Insert, Select, Update}
 use Rattle.sqlite_resolve.specs.Compile.{compiled}
-use Rattle.kcr_rows.specs.Texts.{Means}
-use Rattle.kcr_rows.proofs.OverLemmas.{finding}
+use Rattle.kcr_rows.specs.{Texts.Means, Keyed.TableLayout}
+use Rattle.kcr_rows.proofs.{OverLemmas.finding, ReadLemmas.asking}
 pub use Rattle.sqlite.specs.Cast.{cast_all, cast_row}
 use Rattle.sqlite_schema.specs.declared.schema.Table.{Table}
 unfoldable pub use Rattle.sqlite_tied.specs.Compute.{everything}
 pub use Rattle.kcr_base.specs.Same.{same_text}
 pub use Rattle.kcr_rows.specs.Columns.{simple_as}
-use Rattle.kcr_rows.specs.Keyed.{TableLayout}
-pub use Rattle.kcr_rows.proofs.FilterLemmas.{has_value, value_is}
-use Rattle.kcr_rows.proofs.ReadLemmas.{asking}
+pub use Rattle.kcr_rows.proofs.{FilterLemmas.has_value, FilterLemmas.value_is, TableLemmas.each_is, WriteLemmas.cast_int, WriteLemmas.cast_null}
 pub use Rattle.kcr_rows.proofs.SameLemmas.{one_number, one_facility, one_role, one_place, text_ties, number_ties}
 pub use Rattle.kcr_rows.proofs.StateLemmas.{cast_loose, cast_or_null, cast_within, one_ceremony_state, one_rest, one_safe}
 pub use Rattle.kcr_rows.proofs.StateLemmas.{one_seats, one_spot, one_step_state, one_truth, one_way, within_is}
-pub use Rattle.kcr_rows.proofs.TableLemmas.{each_is}
-pub use Rattle.kcr_rows.proofs.WriteLemmas.{cast_int, cast_null}
-pub use Rattle.kcr_tables.specs.Parts.{number_in, text_in}
+pub use Rattle.kcr_tables.specs.{Parts.number_in, Parts.text_in, Still.still_at}
 use Rattle.kcr_tables.specs.Schema.{register_schema}
 use Rattle.kcr_tables.specs.Statements.{shown_columns, key_order, showing, wanted_showing, Choice, Selects}
 use Rattle.kcr_tables.specs.Statements.{new_terms, inserting, inserting_new, key_test, update_terms, updating, updating_by_key}
 pub use Rattle.kcr_tables.specs.Statements.{is_given, SelectsRows, InsertsRow, UpdatesRow}
-pub use Rattle.kcr_tables.specs.Still.{still_at}
 pub use Rattle.kcr_tables.specs.Table.{TableSpec, IsTable, LookupSpec, IsLookup}
 
 -- the names of a table's columns

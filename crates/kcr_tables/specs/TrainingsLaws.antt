@@ -7,8 +7,7 @@ use Rattle.kcr_history.specs.Views.{is_training_of}
 use Rattle.kcr_base.specs.Role.{role_text}
 use Rattle.kcr_rows.specs.Rows.{training_row}
 use Rattle.kcr_people.specs.declared.Training.{Training}
-use Rattle.kcr_tables.specs.Schema.{trainings}
-use Rattle.kcr_tables.specs.StoredTables.{trainings_place}
+use Rattle.kcr_tables.specs.{Schema.trainings, StoredTables.trainings_place}
 use Rattle.kcr_tables.specs.TableTexts.{shows, is_given, inserts_row, cast_all, cast_int, each_is, everything}
 use Rattle.kcr_tables.specs.TableTexts.{number_in, one_role, still_at, text_in, text_ties, value_is, InsertsRow}
 use Rattle.kcr_tables.specs.TableTexts.{IsLookup, IsTable, LookupSpec, SelectsRows, TableSpec}

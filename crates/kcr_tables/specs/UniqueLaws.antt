@@ -1,8 +1,7 @@
 -- Two rows with one value in their first column, which is their key.
 use Rattle.std.proofs.Common.{◌≡◌, ◌==◌, true, ℕ, pos, List, [], ◌∷◌, sym, ◌∙◌, arith}
 use Rattle.std.specs.Ordering.{is_eq}
-use Rattle.std.proofs.lemmas.Bool.Decides.{nat_tests}
-use Rattle.std.proofs.lemmas.Slice.Eq.{bytes_eq-Decides}
+use Rattle.std.proofs.lemmas.{Bool.Decides.nat_tests, Slice.Eq.bytes_eq-Decides}
 use Rattle.sqlite.specs.declared.types.Value.TheVariants.{Int, Text}
 use Rattle.kcr_base.specs.Same.{same_text}
 use Rattle.kcr_rows.specs.Keyed.{by_key}

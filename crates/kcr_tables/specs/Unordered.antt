@@ -1,14 +1,10 @@
 -- What a text shows whose order is of no account.
 use Rattle.std.specs.Prelude.{◌≡◌, ℕ, negsuc, ◌^◌, nat_le, Bool, false, List, [], ◌∷◌}
 use Rattle.std.specs.List.{list_all}
-use Rattle.sqlite.specs.Order.{Row}
-use Rattle.sqlite.specs.Term.{Term, holds}
-use Rattle.sqlite.specs.Query.{Query, output}
-use Rattle.sqlite.specs.Command.TheVariants.{Select}
+use Rattle.sqlite.specs.{Order.Row, Term.Term, Term.holds, Query.Query, Query.output, Command.TheVariants.Select}
 use Rattle.sqlite_resolve.specs.Compile.{compiled}
 use Rattle.sqlite_value.specs.declared.keys.Key.{Key}
-use Rattle.kcr_rows.specs.Keyed.{TableLayout, cells}
-use Rattle.kcr_rows.specs.Texts.{Means}
+use Rattle.kcr_rows.specs.{Keyed.TableLayout, Keyed.cells, Texts.Means}
 use Rattle.kcr_rows.proofs.ReadLemmas.{asking}
 use Rattle.kcr_tables.specs.Schema.{register_schema}
 

@@ -3,11 +3,8 @@
 use Rattle.std.proofs.Common.{◌≡◌, IsPermutation, pos, [], ◌∷◌, map, codes, true, refl, sym, subst}
 use Rattle.std.specs.Bool.{⊤}
 use Rattle.std.proofs.lemmas.List.Sorted.{IsPermutation-refl}
-use Rattle.kcr_rows.specs.Rows.{version_row}
-use Rattle.kcr_rows.specs.declared.row_impls.Version.{Version}
-use Rattle.kcr_tables.specs.Schema.{versions}
-use Rattle.kcr_tables.specs.StoredTables.{versions_place}
-use Rattle.kcr_tables.specs.NewTables.{new_tables}
+use Rattle.kcr_rows.specs.{Rows.version_row, declared.row_impls.Version.Version}
+use Rattle.kcr_tables.specs.{Schema.versions, NewTables.new_tables, StoredTables.versions_place}
 use Rattle.kcr_tables.specs.TableTexts.{shows, inserts_row, cast_all, cast_int, each_is, everything, number_in}
 use Rattle.kcr_tables.specs.TableTexts.{still_at, InsertsRow, IsTable, SelectsRows, TableSpec}
 

@@ -7,8 +7,7 @@ use Rattle.kcr_history.specs.Views.{is_withdrawal_of}
 use Rattle.kcr_base.specs.Role.{role_text}
 use Rattle.kcr_rows.specs.Rows.{withdrawal_row}
 use Rattle.kcr_people.specs.declared.Withdrawal.{Withdrawal}
-use Rattle.kcr_tables.specs.Schema.{withdrawals}
-use Rattle.kcr_tables.specs.StoredTables.{withdrawals_place}
+use Rattle.kcr_tables.specs.{Schema.withdrawals, StoredTables.withdrawals_place}
 use Rattle.kcr_tables.specs.TableTexts.{shows, is_given, inserts_row, updates_row, cast_all, cast_int, each_is}
 use Rattle.kcr_tables.specs.TableTexts.{everything, number_in, one_role, still_at, text_in, text_ties, value_is}
 use Rattle.kcr_tables.specs.TableTexts.{InsertsRow, IsLookup, IsTable, LookupSpec, SelectsRows, TableSpec, UpdatesRow}

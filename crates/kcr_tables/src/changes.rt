@@ -2,10 +2,8 @@
 
 ghost use Rattle.kcr_history.specs.Changes as Changes;
 ghost use Rattle.kcr_history.specs.Changes.{all_changed};
-ghost use Rattle.kcr_rows.specs.Refusals.{IsFault};
-ghost use Rattle.kcr_rows.specs.Frame.{StaysInTransaction};
-ghost use Rattle.kcr_tables.specs.Changed.{changed, changed_all};
-ghost use Rattle.kcr_tables.specs.Frame.{ChangesTables, ChangesMachineTables};
+ghost use Rattle.kcr_rows.specs.{Refusals.IsFault, Frame.StaysInTransaction};
+ghost use Rattle.kcr_tables.specs.{Changed.changed, Changed.changed_all, Frame.ChangesTables, Frame.ChangesMachineTables};
 
 use crate::table::{Put, PutAllocating};
 use kcr_base::Refusal;

@@ -3,16 +3,10 @@
 ghost use Rattle.std.specs.Prelude.{◌≡◌, ◌+◌, ◌<◌, [], OnOk};
 ghost use Rattle.sqlite_catalog.specs.Listing.{IsSound};
 ghost use Rattle.kcr_history.specs.Tables.{tables};
-ghost use Rattle.kcr_rows.specs.Refusals.{IsFault};
-ghost use Rattle.kcr_rows.specs.Keyed.{put_in};
-ghost use Rattle.kcr_rows.specs.Rows.{safe_row};
-ghost use Rattle.kcr_rows.specs.Frame.{IfClean, StaysInTransaction};
-ghost use Rattle.kcr_tables.specs.StoredTables.{Holds};
-ghost use Rattle.kcr_tables.specs.NewTables.{empty_tables, new_tables, shut};
-ghost use Rattle.kcr_tables.specs.MachineTables.{HoldsTables};
-ghost use Rattle.kcr_tables.specs.Creation.{schema_prefix, HasEmptyTables};
+ghost use Rattle.kcr_rows.specs.{Refusals.IsFault, Keyed.put_in, Rows.safe_row, Frame.IfClean, Frame.StaysInTransaction};
+ghost use Rattle.kcr_tables.specs.{StoredTables.Holds, Frame.ChangesTables, MachineTables.HoldsTables};
+ghost use Rattle.kcr_tables.specs.{NewTables.empty_tables, NewTables.new_tables, NewTables.shut, Creation.schema_prefix, Creation.HasEmptyTables};
 ghost use Rattle.kcr_custody.specs.declared.SafeNumber.TheVariants.{One, Two};
-ghost use Rattle.kcr_tables.specs.Frame.{ChangesTables};
 
 use crate::create_sql::{TABLE_COUNT, create_table_sql};
 use crate::table::Put;

@@ -1,16 +1,11 @@
 //! The row with the greatest number.
 
 ghost use Rattle.std.specs.Prelude.{map, filter};
-ghost use Rattle.kcr_base.specs.Place.{place_text};
-ghost use Rattle.kcr_base.specs.Same.{same_text};
+ghost use Rattle.kcr_base.specs.{Place.place_text, Same.same_text};
 ghost use Rattle.kcr_history.specs.Views.{is_appointment_to, is_appointment_of};
-ghost use Rattle.kcr_rows.specs.Frame.{ImpliesOpen};
-ghost use Rattle.kcr_rows.specs.Greatest.{IsGreatest};
-ghost use Rattle.kcr_rows.specs.Rows.{key_row, stay_row, appointment_row};
-ghost use Rattle.kcr_tables.specs.Exact.{rows_at, has_text, IsOneOf};
-ghost use Rattle.kcr_tables.specs.Frame.{OfTables, OfTrees, Reads};
-ghost use Rattle.kcr_tables.specs.Query.{Tells, Last};
-ghost use Rattle.kcr_tables.specs.StoredTables.{keys_place, stays_place};
+ghost use Rattle.kcr_rows.specs.{Frame.ImpliesOpen, Greatest.IsGreatest, Rows.key_row, Rows.stay_row, Rows.appointment_row};
+ghost use Rattle.kcr_tables.specs.{Exact.rows_at, Exact.has_text, Exact.IsOneOf, StoredTables.keys_place, StoredTables.stays_place};
+ghost use Rattle.kcr_tables.specs.{Frame.OfTables, Frame.OfTrees, Frame.Reads, Query.Tells, Query.Last};
 ghost use Rattle.kcr_tables.specs.AppointmentsLaws as appointments;
 
 use crate::table::{AsCell, shown_rows};

@@ -6,11 +6,9 @@ ghost use Rattle.kcr_people.specs.People.{lasts_beyond};
 ghost use Rattle.kcr_history.specs.Views.{IncludesAppointments};
 ghost use Rattle.kcr_history.specs.declared.views.AppointmentFilter.TheVariants as Wanted;
 ghost use Rattle.kcr_history.specs.declared.views.Selection.TheVariants as Selections;
-ghost use Rattle.kcr_rows.specs.Rows.{appointment_row};
+ghost use Rattle.kcr_rows.specs.{Rows.appointment_row, Frame.ImpliesOpen};
 ghost use Rattle.kcr_tables.specs.Exact.{rows_at, is_beyond_row, AppointmentsAreShown};
-ghost use Rattle.kcr_tables.specs.StoredTables.{appointments_place};
-ghost use Rattle.kcr_rows.specs.Frame.{ImpliesOpen};
-ghost use Rattle.kcr_tables.specs.Frame.{OfTables, OfTrees, Reads};
+ghost use Rattle.kcr_tables.specs.{StoredTables.appointments_place, Frame.OfTables, Frame.OfTrees, Frame.Reads};
 
 use crate::last::{last_appointment_of, last_appointment_to};
 use crate::table::{all_rows, shown_rows};

@@ -2,15 +2,13 @@
 
 ghost use Rattle.std.specs.Prelude.{◌≡◌, Bool, true, IsPermutation, filter};
 ghost use Rattle.std.specs.List.{list_any};
-ghost use Rattle.std.proofs.Common.{ap};
-ghost use Rattle.std.proofs.lemmas.Slice.Eq.{bytes_eq-Decides};
+ghost use Rattle.std.proofs.{Common.ap, lemmas.Slice.Eq.bytes_eq-Decides};
 ghost use Rattle.kcr_base.specs.Same.{same_text};
 ghost use Rattle.kcr_history.specs.Views.{Includes, is_of_people, is_item_of};
 ghost use Rattle.kcr_rows.specs.Rows.{person_row, item_row};
 ghost use Rattle.kcr_tables.specs.Selected.{asked_once, is_under_any, asked_of};
 ghost use Rattle.kcr_tables.specs.Exact.{rows_at, has_key, has_any, is_item_row, AreShown};
-ghost use Rattle.kcr_tables.specs.StoredTables.{people_place, items_place};
-ghost use Rattle.kcr_tables.specs.Frame.{OfTables, OfTrees, Reads};
+ghost use Rattle.kcr_tables.specs.{StoredTables.people_place, StoredTables.items_place, Frame.OfTables, Frame.OfTrees, Frame.Reads};
 
 use crate::table::{AsCell, LookupBy, all_rows, find_rows};
 use kcr_base::{Initials, ItemCode, Refusal, is_among};

@@ -4,15 +4,10 @@
 ghost use Rattle.std.specs.Prelude.{◌≡◌, not, List, filter, map, IsPermutation};
 ghost use Rattle.kcr_history.specs.Views.{HasStayCount, IncludesStays, ShowsStaysOf};
 ghost use Rattle.kcr_base.specs.Same.{same_text};
-ghost use Rattle.kcr_room.specs.declared.Stay.{Stay as AnyStay};
-ghost use Rattle.kcr_room.specs.Requests.{stay_count};
-ghost use Rattle.kcr_room.specs.Stays.{stay_reaches};
-ghost use Rattle.kcr_rows.specs.Greatest.{IsGreatest};
-ghost use Rattle.kcr_rows.specs.Rows.{stay_row};
-ghost use Rattle.kcr_tables.specs.Selected.{asked_of};
+ghost use Rattle.kcr_room.specs.{declared.Stay.Stay as AnyStay, Requests.stay_count, Stays.stay_reaches};
+ghost use Rattle.kcr_rows.specs.{Greatest.IsGreatest, Rows.stay_row};
+ghost use Rattle.kcr_tables.specs.{Selected.asked_of, StoredTables.stays_place, Frame.OfTables, Frame.OfTrees, Frame.Reads};
 ghost use Rattle.kcr_tables.specs.Exact.{rows_at, is_lasting_row, is_stay_row, AreShown};
-ghost use Rattle.kcr_tables.specs.StoredTables.{stays_place};
-ghost use Rattle.kcr_tables.specs.Frame.{OfTables, OfTrees, Reads};
 
 use crate::last::last_stay_of;
 use crate::table::{all_rows, shown_rows};

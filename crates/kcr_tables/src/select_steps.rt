@@ -3,8 +3,7 @@
 
 ghost use Rattle.std.specs.Prelude.{◌≡◌, MatchOption, ◌<◌};
 ghost use Rattle.kcr_history.specs.Views.{step_asked, IncludesStep, ShowsStepOf};
-ghost use Rattle.kcr_tables.specs.Exact.{OneSeatingIsShown, StepIsShown, StepsAreShown};
-ghost use Rattle.kcr_tables.specs.Frame.{OfTables, OfTrees, Reads};
+ghost use Rattle.kcr_tables.specs.{Exact.OneSeatingIsShown, Exact.StepIsShown, Exact.StepsAreShown, Frame.OfTables, Frame.OfTrees, Frame.Reads};
 
 use crate::table::shown_rows;
 use kcr_base::Refusal;

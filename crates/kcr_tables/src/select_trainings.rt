@@ -2,10 +2,8 @@
 
 ghost use Rattle.kcr_history.specs.Views.{Includes, is_training_asked};
 ghost use Rattle.kcr_rows.specs.Rows.{training_row};
-ghost use Rattle.kcr_tables.specs.Selected.{asked_of};
+ghost use Rattle.kcr_tables.specs.{Selected.asked_of, StoredTables.trainings_place, Frame.OfTables, Frame.OfTrees, Frame.Reads};
 ghost use Rattle.kcr_tables.specs.Exact.{rows_at, is_training_row, AreShown};
-ghost use Rattle.kcr_tables.specs.StoredTables.{trainings_place};
-ghost use Rattle.kcr_tables.specs.Frame.{OfTables, OfTrees, Reads};
 
 use crate::table::{all_rows, find_rows, shown_rows};
 use kcr_base::Refusal;

@@ -1,20 +1,13 @@
 //! What a table of the register is, and the calls that read and change any of them inside a transaction.
 
-ghost use Rattle.std.specs.Prelude.{◌≡◌, length, map, take, filter, IsPermutation};
-ghost use Rattle.sqlite.specs.declared.types.Value.{Value as Cell};
-ghost use Rattle.sqlite.specs.declared.types.Value.TheVariants.{Int, Text};
-ghost use Rattle.std.specs.Prelude.{pos};
-ghost use Rattle.sqlite.specs.Values.{bound, bound_value};
-ghost use Rattle.sqlite.specs.Value.{owned};
-ghost use Rattle.kcr_rows.specs.Cells.{cell_value};
-ghost use Rattle.kcr_rows.specs.Refusals.{IsFault};
+ghost use Rattle.std.specs.Prelude.{◌≡◌, length, map, take, filter, IsPermutation, pos};
+ghost use Rattle.sqlite.specs.declared.types.Value.{Value as Cell, TheVariants.Int, TheVariants.Text};
+ghost use Rattle.sqlite.specs.{Values.bound, Values.bound_value, Value.owned};
+ghost use Rattle.kcr_rows.specs.{Cells.cell_value, Refusals.IsFault, Frame.ImpliesOpen, Frame.StaysInTransaction};
 ghost use Rattle.kcr_rows.proofs.FilterLemmas.{has_value};
-ghost use Rattle.kcr_rows.specs.Frame.{ImpliesOpen, StaysInTransaction};
 ghost use Rattle.kcr_tables.specs.Frame.{OfTables, OfMachineTables, OfTrees, ChangesTables, Reads};
-ghost use Rattle.kcr_tables.specs.Selected.{asked_of, asked_all};
-ghost use Rattle.kcr_tables.specs.Exact.{rows_at, AreShown};
-ghost use Rattle.kcr_tables.specs.Query.{Query, Tells};
-ghost use Rattle.kcr_tables.specs.Statements.{InsertsRow, UpdatesRow};
+ghost use Rattle.kcr_tables.specs.{Selected.asked_of, Selected.asked_all, Statements.InsertsRow, Statements.UpdatesRow};
+ghost use Rattle.kcr_tables.specs.{Exact.rows_at, Exact.AreShown, Query.Query, Query.Tells};
 ghost use Rattle.kcr_tables.specs.Table.{TableSpec, IsTable, LookupSpec, IsLookup, with_put, machine_rows};
 
 use kcr_base::serial::Tag;

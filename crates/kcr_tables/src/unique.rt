@@ -2,13 +2,10 @@
 
 ghost use Rattle.std.specs.Prelude.{◌≡◌, filter, find, true};
 ghost use Rattle.std.specs.Ordering.{is_eq};
-ghost use Rattle.kcr_rows.specs.Frame.{ImpliesOpen};
+ghost use Rattle.kcr_rows.specs.{Frame.ImpliesOpen, Keyed.by_key};
 ghost use Rattle.kcr_rows.proofs.FilterLemmas.{has_value};
-ghost use Rattle.kcr_rows.specs.Keyed.{by_key};
-ghost use Rattle.kcr_tables.specs.Exact.{rows_at, IsFirstShown};
-ghost use Rattle.kcr_tables.specs.Frame.{OfMachineTables, OfTrees, Reads};
-ghost use Rattle.kcr_tables.specs.Table.{machine_rows};
-ghost use Rattle.kcr_tables.specs.UniqueLaws.{one_number, one_text};
+ghost use Rattle.kcr_tables.specs.{Exact.rows_at, Exact.IsFirstShown, Table.machine_rows};
+ghost use Rattle.kcr_tables.specs.{Frame.OfMachineTables, Frame.OfTrees, Frame.Reads, UniqueLaws.one_number, UniqueLaws.one_text};
 
 use crate::table::{AsCell, LookupBy, find_rows};
 use kcr_base::{Initials, Key, Refusal, Serial};

@@ -2,9 +2,8 @@
 
 ghost use Rattle.std.specs.Prelude.{◌≡◌, IfOk};
 ghost use Rattle.kcr_history.specs.Early.{early_asks, Completes};
-ghost use Rattle.kcr_history.specs.Views.{IsViewOf, Includes, is_training_asked, is_withdrawal_of};
+ghost use Rattle.kcr_history.specs.Views.{IsViewOf, Includes, is_training_asked, is_withdrawal_of, IncludesStep, is_exception_of};
 ghost use Rattle.kcr_history.specs.Views.{IncludesAppointments, is_of_serial, is_item_of, is_of_number, is_mark_of};
-ghost use Rattle.kcr_history.specs.Views.{IncludesStep, is_exception_of};
 ghost use Rattle.kcr_tables.specs.Selected.{asked_of, asked_all};
 ghost use Rattle.kcr_tables.specs.Exact.{StaffIsShown, CustodyIsShown, CeremoniesAreShown, HasNoInvalidRow};
 ghost use Rattle.kcr_tables.specs.Frame.{OfTables, OfMachineTables, OfTrees, Reads};

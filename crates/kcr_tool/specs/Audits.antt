@@ -2,8 +2,7 @@
 use Rattle.std.specs.Prelude.{◌≡◌, ◌⊎◌, ℕ, List, Option, Some, None, Result, MatchResult}
 use Rattle.kcr_desk.specs.Streams.{Writing, WritesNothing, WritesPart, WritesText}
 use Rattle.kcr_history.specs.declared.views.Finding.{Finding}
-use Rattle.kcr_fault.specs.Lines.{clean_line, finding_line}
-use Rattle.kcr_fault.specs.declared.fault.Fault.{Fault}
+use Rattle.kcr_fault.specs.{Lines.clean_line, Lines.finding_line, declared.fault.Fault.Fault}
 
 -- what was found is told in a line: with status 0 if it is nothing, and 1 if it is a finding
 abbrev pub WritesAudit : {W : Type 0} → Option Finding → Writing W → ℕ → Type 0

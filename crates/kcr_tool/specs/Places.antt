@@ -1,11 +1,8 @@
 -- What becomes of a file that a task was to make.
 use Rattle.std.specs.Prelude.{ℕ, Bool, if◌then◌else◌, Result, Ok, Err}
-use Rattle.kcr_fault.specs.declared.fault.Fault.{Fault}
-use Rattle.kcr_fault.specs.declared.fault.Fault.TheVariants.{IntoFile}
-use Rattle.kcr_fault.specs.declared.fault.Step.TheVariants.{Locking}
+use Rattle.kcr_fault.specs.declared.fault.{Fault.Fault, Fault.TheVariants.IntoFile, Step.TheVariants.Locking}
 use Rattle.kcr_tool.specs.declared.place.Place.{Place}
-use Rattle.kcr_tool.specs.declared.place.Removal.{Removal}
-use Rattle.kcr_tool.specs.declared.place.Removal.TheVariants.{Nothing, File, FileAndLog}
+use Rattle.kcr_tool.specs.declared.place.Removal.{Removal, TheVariants.Nothing, TheVariants.File, TheVariants.FileAndLog}
 
 -- what was not there before
 abbrev pub new_at : Place → Removal

@@ -1,19 +1,12 @@
 -- What a task leaves on the output.
-use Rattle.std.specs.Prelude.{◌≡◌, ◌≤◌, ◌⊎◌, ⊤, ℕ, false, List, String, length, Some, Result, Err, MatchResult, IfErr}
-use Rattle.std.specs.Prelude.{IsTrue, OnErr, OnOk}
+use Rattle.std.specs.Prelude.{◌≡◌, ◌≤◌, ◌⊎◌, ⊤, ℕ, false, List, String, length, Some, Result, Err, MatchResult, IfErr, IsTrue, OnErr, OnOk}
 use Rattle.sqlite.specs.Store.{Ghosts}
 use Rattle.kcr_base.specs.declared.refusal.Refusal.TheVariants.{Disk}
-use Rattle.kcr_history.specs.Ceremonies.{is_ceremony}
-use Rattle.kcr_history.specs.History.{History}
-use Rattle.kcr_history.specs.Prints.{annotated, attendance, custody}
-use Rattle.kcr_store.specs.Calls.{OfHistory}
-use Rattle.kcr_store.specs.Register.{RegisterState}
-use Rattle.kcr_desk.specs.Run.{Request, IsServed, IsServedInPart}
+use Rattle.kcr_history.specs.{Ceremonies.is_ceremony, History.History, Prints.annotated, Prints.attendance, Prints.custody}
+use Rattle.kcr_store.specs.{Calls.OfHistory, Register.RegisterState}
+use Rattle.kcr_desk.specs.{Run.Request, Run.IsServed, Run.IsServedInPart, Connections.Connects, Connections.Leads, Texts.ResponseValue}
 use Rattle.kcr_desk.specs.Answers.{RegisterHistory, whole, IsAnswer, IsReply}
-use Rattle.kcr_desk.specs.Connections.{Connects, Leads}
-use Rattle.kcr_desk.specs.Streams.{Streams, Writing, WritesNothing, WritesPart, WritesText, bytes_after, bytes_before}
-use Rattle.kcr_desk.specs.Streams.{input_of}
-use Rattle.kcr_desk.specs.Texts.{ResponseValue}
+use Rattle.kcr_desk.specs.Streams.{Streams, Writing, WritesNothing, WritesPart, WritesText, bytes_after, bytes_before, input_of}
 use Rattle.kcr_forms.specs.Values.{AreValues}
 use Rattle.kcr_journal.specs.Journal.{journal}
 use Rattle.kcr_print.specs.Requests.{requests_between}
@@ -21,13 +14,10 @@ use Rattle.kcr_fault.specs.Faults.{MayMeet, MeetsOver, StopsOpening, StopsReadin
 use Rattle.kcr_fault.specs.Lines.{clean_line, listening_line, verified_head, rebuilt_head, packed_head, whole_line}
 use Rattle.kcr_tool.specs.Audits.{WritesFinding, WritesAuditPrefix}
 use Rattle.kcr_tool.specs.Verifications.{WritesVerified, TellsWholeFront, WritesDifference, WritesVerificationPrefix}
-use Rattle.kcr_fault.specs.declared.fault.Fault.{Fault}
-use Rattle.kcr_fault.specs.declared.fault.Fault.TheVariants.{Invalid, Refused}
+use Rattle.kcr_fault.specs.declared.fault.Fault.{Fault, TheVariants.Invalid, TheVariants.Refused}
 use Rattle.kcr_verify.specs.declared.invalid.InvalidRow.{InvalidRow}
-use Rattle.kcr_arguments.specs.Tasks.{said, task_of}
-use Rattle.kcr_arguments.specs.declared.words.Report.{Report}
+use Rattle.kcr_arguments.specs.{Tasks.said, Tasks.task_of, declared.words.Report.Report, declared.words.Task.Task}
 use Rattle.kcr_arguments.specs.declared.words.Report.TheVariants.{Print, Attendance, Custody, Export, Journal, Audit}
-use Rattle.kcr_arguments.specs.declared.words.Task.{Task}
 use Rattle.kcr_arguments.specs.declared.words.Task.TheVariants.{Run, Serve, Write, Verify, Rebuild, Pack}
 
 -- all of the input was answered by such steps: from a register that was like this before

@@ -1,11 +1,9 @@
 -- What a verification of a register, or its rebuilding, leaves on the output.
 use Rattle.std.specs.Prelude.{◌≡◌, ◌<◌, ◌⊎◌, ℕ, List, Result, MatchResult}
 use Rattle.kcr_desk.specs.Streams.{Writing, WritesNothing, WritesPart, WritesText}
-use Rattle.kcr_fault.specs.Lines.{whole_line, difference_line}
-use Rattle.kcr_fault.specs.declared.fault.Fault.{Fault}
+use Rattle.kcr_fault.specs.{Lines.whole_line, Lines.difference_line, declared.fault.Fault.Fault}
 use Rattle.kcr_verify.specs.declared.verification.Difference.{Difference}
-use Rattle.kcr_verify.specs.declared.verification.Verification.{Verification}
-use Rattle.kcr_verify.specs.declared.verification.Verification.TheVariants.{Verified, Differs}
+use Rattle.kcr_verify.specs.declared.verification.Verification.{Verification, TheVariants.Verified, TheVariants.Differs}
 
 -- the line of what it came to
 abbrev pub verified_line : List ℕ → Verification → List ℕ

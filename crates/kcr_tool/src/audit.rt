@@ -1,16 +1,12 @@
 //! The audit of a register, as lines.
 ghost use Rattle.std.specs.Prelude.{◌≡◌, ◌⊎◌, false, IfOk, IfErr, OnErr, string_bytes};
-ghost use Rattle.sqlite.specs.Held.{state};
-ghost use Rattle.sqlite.specs.State.{HasCleanDisk};
+ghost use Rattle.sqlite.specs.{Held.state, State.HasCleanDisk};
 ghost use Rattle.kcr_desk.specs.Streams.{WritesNothing, writing};
 ghost use Rattle.kcr_history.specs.Tables.{Tables};
-ghost use Rattle.kcr_store.specs.Calls.{OfHistory};
-ghost use Rattle.kcr_store.specs.FullView.{FindsIn};
-ghost use Rattle.kcr_tables.specs.MachineTables.{HoldsTables};
+ghost use Rattle.kcr_store.specs.{Calls.OfHistory, FullView.FindsIn};
+ghost use Rattle.kcr_tables.specs.{MachineTables.HoldsTables, Refusals.IsFault};
 ghost use Rattle.kcr_tool.specs.Audits.{EndsAudit, WritesAudit, WritesAuditPrefix};
-ghost use Rattle.kcr_tables.specs.Refusals.{IsFault};
-ghost use Rattle.kcr_fault.specs.Faults.{MeetsOver, StopsReport};
-ghost use Rattle.kcr_fault.specs.Lines.{finding_line};
+ghost use Rattle.kcr_fault.specs.{Faults.MeetsOver, Faults.StopsReport, Lines.finding_line};
 
 use itoa::Buffer;
 use kcr_base::{Counted, Refusal};

@@ -1,16 +1,11 @@
 //! Answering requests on a port.
 ghost use Rattle.std.specs.Prelude.{◌≡◌, ◌⊎◌, IfOk, IfErr, OnOk, OnErr, false};
-ghost use Rattle.sqlite.specs.Files.{over_files};
-ghost use Rattle.sqlite.specs.Held.{state};
-ghost use Rattle.sqlite.specs.State.{HasCleanDisk};
-ghost use Rattle.sqlite.specs.WalFiles.{image_at};
+ghost use Rattle.sqlite.specs.{Files.over_files, Held.state, State.HasCleanDisk, WalFiles.image_at};
 ghost use Rattle.kcr_desk.specs.Connections.{Connects};
 ghost use Rattle.kcr_desk.specs.Streams.{WritesNothing, WritesPart, WritesText, writing};
-ghost use Rattle.kcr_fault.specs.Faults.{StopsListening, StopsOpening, StopsServing};
-ghost use Rattle.kcr_fault.specs.Lines.{listening_line};
+ghost use Rattle.kcr_fault.specs.{Faults.StopsListening, Faults.StopsOpening, Faults.StopsServing, Lines.listening_line};
 ghost use Rattle.kcr_history.specs.History.{History};
-ghost use Rattle.kcr_store.specs.Opening.{FilesHoldHistory};
-ghost use Rattle.kcr_store.specs.Register.{RegisterHistory, StandsAt, whole};
+ghost use Rattle.kcr_store.specs.{Opening.FilesHoldHistory, Register.RegisterHistory, Register.StandsAt, Register.whole};
 ghost use Rattle.kcr_tool.specs.Runs.{ConnectsUpTo, ServesTo};
 
 use crate::opening::{open_file, watch_over};

@@ -2,9 +2,8 @@
 ghost use Rattle.std.specs.Prelude.{IfErr};
 ghost use Rattle.kcr_desk.specs.Streams.{writing};
 ghost use Rattle.kcr_fault.specs.Faults.{StopsMaking, StopsOpening, StopsReading, StopsRebuild};
-ghost use Rattle.kcr_tool.specs.Runs.{Finishes};
+ghost use Rattle.kcr_tool.specs.{Runs.Finishes, Verifications.WritesVerified, Verifications.TellsWholeFront};
 ghost use Rattle.kcr_fault.specs.Lines.{packed_head};
-ghost use Rattle.kcr_tool.specs.Verifications.{WritesVerified, TellsWholeFront};
 
 use crate::opening::{copy_named, fault_of_reading, files_at, take_copied};
 use crate::place::{place_at, remove_log, take_back};

@@ -1,14 +1,10 @@
 //! The tasks over a register that end by themselves.
 ghost use Rattle.std.specs.Prelude.{◌≡◌, false, IfErr, IfOk};
-ghost use Rattle.sqlite.specs.Files.{over_files};
-ghost use Rattle.sqlite.specs.Held.{state};
-ghost use Rattle.sqlite.specs.State.{HasCleanDisk};
-ghost use Rattle.sqlite.specs.WalFiles.{image_at};
+ghost use Rattle.sqlite.specs.{Files.over_files, Held.state, State.HasCleanDisk, WalFiles.image_at};
 ghost use Rattle.kcr_desk.specs.Streams.{streams, writing};
 ghost use Rattle.kcr_fault.specs.Faults.{StopsOpening, StopsTask};
 ghost use Rattle.kcr_history.specs.History.{History};
-ghost use Rattle.kcr_store.specs.Calls.{Leads, OfHistory};
-ghost use Rattle.kcr_store.specs.Opening.{FilesHoldHistory};
+ghost use Rattle.kcr_store.specs.{Calls.Leads, Calls.OfHistory, Opening.FilesHoldHistory};
 ghost use Rattle.kcr_store.specs.Register.{RegisterHistory, StandsAt, whole};
 ghost use Rattle.kcr_tool.specs.Runs.{EndsTask, EndsTaskBy, Reports, RunsTo};
 ghost use Rattle.kcr_arguments.specs.declared.words.Report.TheVariants as report;

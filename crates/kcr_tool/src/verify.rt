@@ -1,24 +1,16 @@
 //! The verification of a register and its rebuilding, as lines.
 ghost use Rattle.std.specs.Prelude.{◌≡◌, ◌⊎◌, ◌++◌, false, length, IfOk, IfErr, OnErr};
-ghost use Rattle.sqlite.specs.Files.{over_files};
-ghost use Rattle.sqlite.specs.Held.{state};
-ghost use Rattle.sqlite.specs.State.{HasCleanDisk};
+ghost use Rattle.sqlite.specs.{Files.over_files, Held.state, State.HasCleanDisk, WalFiles.image_at};
 ghost use Rattle.kcr_edges.specs.Image.{image};
 ghost use Rattle.kcr_desk.specs.Streams.{HasFailed, WritesNothing, WritesPart, WritesText, writing};
-ghost use Rattle.kcr_history.specs.History.{History};
-ghost use Rattle.kcr_history.specs.Machine.{IsOfMachine};
-ghost use Rattle.kcr_history.specs.Tables.{tables};
-ghost use Rattle.kcr_store.specs.FullView.{IsListed};
-ghost use Rattle.kcr_store.specs.Opening.{FilesHoldHistory};
+ghost use Rattle.kcr_history.specs.{History.History, Tables.tables, Machine.IsOfMachine};
+ghost use Rattle.kcr_store.specs.{FullView.IsListed, Opening.FilesHoldHistory};
 ghost use Rattle.kcr_fault.specs.Faults.{StopsMaking, StopsReading, StopsReplay, StopsRebuild};
-ghost use Rattle.kcr_fault.specs.Lines.{difference_line, found_line, judged_line, rebuilt_head, verified_head};
-ghost use Rattle.kcr_fault.specs.Lines.{seating_word as word_on, whole_line};
+ghost use Rattle.kcr_fault.specs.Lines.{difference_line, found_line, judged_line, rebuilt_head, verified_head, seating_word as word_on, whole_line};
 ghost use Rattle.kcr_tool.specs.Runs.{StopsVerification};
 ghost use Rattle.kcr_tool.specs.Verifications.{EndsVerification, WritesVerification, verified_line};
 ghost use Rattle.kcr_forms.specs.Values.{AreValues};
-ghost use Rattle.sqlite.specs.WalFiles.{image_at};
-ghost use Rattle.kcr_verify.specs.Fresh.{IsMadeOn};
-ghost use Rattle.kcr_verify.specs.Verification.{EndsAt, IsFresh, IsVerification};
+ghost use Rattle.kcr_verify.specs.{Fresh.IsMadeOn, Verification.EndsAt, Verification.IsFresh, Verification.IsVerification};
 
 use crate::invalid::fault_of_disk;
 use crate::opening::{connect_to, fault_of_reading, fault_of_taking};

@@ -1,29 +1,16 @@
 -- Which cells are values of their column.
 use Rattle.std.specs.Prelude.{◌≡◌, ◌≢◌, ◌⊎◌, ⊤, ℕ, ◌<◌, ◌^◌, pos, List, IsTrue, IsUtf8}
 use Rattle.sqlite.specs.Order.{Row, column}
-use Rattle.sqlite.specs.declared.types.Value.{Value}
-use Rattle.sqlite.specs.declared.types.Value.TheVariants.{Null, Int, Text}
-use Rattle.kcr_base.specs.Day.{IsDay}
-use Rattle.kcr_base.specs.Facility.{facility_text}
-use Rattle.kcr_base.specs.Initials.{IsInitials}
-use Rattle.kcr_base.specs.Key.{IsKey}
-use Rattle.kcr_base.specs.Line.{IsLine}
-use Rattle.kcr_base.specs.Moment.{IsMoment}
-use Rattle.kcr_base.specs.Number.{IsNumber}
-use Rattle.kcr_base.specs.Place.{IsPlace, place_text}
-use Rattle.kcr_base.specs.Role.{role_text}
-use Rattle.kcr_base.specs.Serial.{IsSerial}
-use Rattle.kcr_base.specs.declared.limits.TheConstants.{MAX_BOX, MAX_CEREMONY, MAX_COMMANDS, MAX_EXCEPTIONS, MAX_REMARK}
-use Rattle.kcr_base.specs.declared.limits.TheConstants.{MAX_STEPS}
-use Rattle.kcr_base.specs.declared.place.Facility.{Facility}
-use Rattle.kcr_custody.specs.Custody.{is_co_place_of}
-use Rattle.kcr_custody.specs.Spots.{IsSpot, spot_text}
+use Rattle.sqlite.specs.declared.types.Value.{Value, TheVariants.Null, TheVariants.Int, TheVariants.Text}
+use Rattle.kcr_base.specs.{Day.IsDay, Key.IsKey, Facility.facility_text, Initials.IsInitials, Serial.IsSerial}
+use Rattle.kcr_base.specs.{Line.IsLine, Role.role_text, Place.IsPlace, Place.place_text}
+use Rattle.kcr_base.specs.{Moment.IsMoment, Number.IsNumber, declared.place.Facility.Facility}
+use Rattle.kcr_base.specs.declared.limits.TheConstants.{MAX_BOX, MAX_CEREMONY, MAX_COMMANDS, MAX_EXCEPTIONS, MAX_REMARK, MAX_STEPS}
+use Rattle.kcr_custody.specs.{Custody.is_co_place_of, Spots.IsSpot, Spots.spot_text}
 use Rattle.kcr_rows.specs.States.{ceremony_number, safe_digit, step_number, way_number}
-use Rattle.kcr_rows.specs.Values.{truth_number}
-use Rattle.kcr_rows.specs.declared.kinds.Kind.{Kind}
+use Rattle.kcr_rows.specs.{Values.truth_number, declared.kinds.Kind.Kind}
 use Rattle.kcr_rows.specs.declared.kinds.Kind.TheVariants as Kinds
-use Rattle.kcr_script.specs.Seats.{StandsFor, written}
-use Rattle.kcr_script.specs.declared.seat.Seat.{Seat}
+use Rattle.kcr_script.specs.{Seats.StandsFor, Seats.written, declared.seat.Seat.Seat}
 
 -- the text of some value
 abbrev pub HasTextOf : {V : Type 0} → (V → Type 0) → (V → List ℕ) → Value → Type 0

@@ -2,8 +2,7 @@
 //! reader tells it.
 
 ghost use Rattle.std.specs.Prelude.{◌≡◌, ◌≢◌, ◌<◌, List, ℕ, length, true, false, Ok, Err, IfErr, MatchOption};
-ghost use Rattle.sqlite.specs.Order.{column};
-ghost use Rattle.sqlite.specs.declared.types.Value.TheVariants.{Null, Text as Chars};
+ghost use Rattle.sqlite.specs.{Order.column, declared.types.Value.TheVariants.Null, declared.types.Value.TheVariants.Text as Chars};
 ghost use Rattle.kcr_base.specs.Number.{IsNumber};
 ghost use Rattle.kcr_custody.specs.Spots.{IsSpot, spot_text};
 ghost use Rattle.kcr_script.specs.Seats.{written};

@@ -2,10 +2,8 @@
 
 ghost use Rattle.std.specs.Prelude.{map, IfErr, IfOk, IfSome, IsPermutation};
 ghost use Rattle.kcr_rows.specs.Refusals.{IsFault};
-ghost use Rattle.kcr_tables.specs.Exact.{rows_at};
-ghost use Rattle.kcr_tables.specs.Frame.{OfTrees, Reads};
-ghost use Rattle.kcr_validity.specs.Rows.{IsInvalidOf};
-ghost use Rattle.kcr_validity.specs.Stored.{cells_of};
+ghost use Rattle.kcr_tables.specs.{Exact.rows_at, Frame.OfTrees, Frame.Reads};
+ghost use Rattle.kcr_validity.specs.{Rows.IsInvalidOf, Stored.cells_of};
 
 use crate::cells::is_invalid;
 use kcr_base::Refusal;

@@ -6,8 +6,7 @@ use Rattle.kcr_history.specs.Tables.{Tables}
 use Rattle.kcr_rows.specs.declared.kinds.Kind.{Kind}
 use Rattle.kcr_store.specs.FullView.{AreRows}
 use Rattle.kcr_tables.specs.StoredTables.{StoredTables}
-use Rattle.kcr_verify.specs.Quoted.{row_text}
-use Rattle.kcr_verify.specs.declared.compare.RowDifference.{RowDifference}
+use Rattle.kcr_verify.specs.{Quoted.row_text, declared.compare.RowDifference.RowDifference}
 
 -- before this position the rows are the same, and there they are not; one of them may have no more rows
 pub record IsFirstOtherRow {X : Type 0} (own rows : List X) (position : ℕ) : Type 0 where

@@ -1,12 +1,7 @@
 -- What making a new register leaves of the files that it is made in.
 use Rattle.std.specs.Prelude.{◌≡◌, []}
-use Rattle.sqlite.specs.Effect.{Database}
-use Rattle.sqlite.specs.Held.{Held, state}
-use Rattle.sqlite.specs.Recovery.{Image}
-use Rattle.sqlite.specs.Start.{FindsIn}
+use Rattle.sqlite.specs.{Effect.Database, Held.Held, Held.state, Recovery.Image, Start.FindsIn, Store.Ghosts, Tree.Trees}
 use Rattle.sqlite.specs.State.{HasCleanDisk, IsLive, Opens, Survives}
-use Rattle.sqlite.specs.Store.{Ghosts}
-use Rattle.sqlite.specs.Tree.{Trees}
 use Rattle.kcr_older.specs.Kind.{no_schema}
 use Rattle.kcr_store.specs.Stored.{IsTables}
 

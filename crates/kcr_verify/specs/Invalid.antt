@@ -1,26 +1,20 @@
 -- An invalid row of a register, by its table and its key.
 use Rattle.std.specs.Prelude.{◌≡◌, ℕ, List, length, map, take}
-use Rattle.std.specs.List.{range_with_len}
-use Rattle.std.specs.Str.Lossy.{utf8_lossy}
-use Rattle.sqlite.specs.Order.{Row, column}
-use Rattle.sqlite.specs.Tree.{Trees}
-use Rattle.kcr_rows.specs.Keyed.{TableLayout}
+use Rattle.std.specs.{List.range_with_len, Str.Lossy.utf8_lossy}
+use Rattle.sqlite.specs.{Order.Row, Order.column, Tree.Trees}
+use Rattle.kcr_rows.specs.{Keyed.TableLayout, declared.kinds.Kind.Kind}
 use Rattle.kcr_rows.specs.Kinds.{person_kinds, training_kinds, withdrawal_kinds, appointment_kinds, box_kinds}
 use Rattle.kcr_rows.specs.Kinds.{safe_kinds, bag_kinds, item_kinds, ceremony_kinds, mark_kinds, step_kinds}
 use Rattle.kcr_rows.specs.Kinds.{seating_kinds, sheet_kinds, stay_kinds, exception_kinds, key_kinds}
-use Rattle.kcr_rows.specs.declared.kinds.Kind.{Kind}
 use Rattle.kcr_tables.specs.Exact.{rows_at}
 use Rattle.kcr_tables.specs.StoredTables.{people_place, trainings_place, appointments_place, boxes_place, safes_place}
-use Rattle.kcr_tables.specs.StoredTables.{bags_place, items_place, ceremonies_place, marks_place, steps_place}
+use Rattle.kcr_tables.specs.StoredTables.{bags_place, items_place, ceremonies_place, marks_place, steps_place, withdrawals_place}
 use Rattle.kcr_tables.specs.StoredTables.{seatings_place, sheet_place, exceptions_place, keys_place, stays_place}
-use Rattle.kcr_tables.specs.StoredTables.{withdrawals_place}
 use Rattle.kcr_validity.specs.Rows.{IsInvalidOf}
-use Rattle.kcr_verify.specs.Quoted.{row_text}
-use Rattle.kcr_verify.specs.declared.compare.TableName.{TableName}
+use Rattle.kcr_verify.specs.{Quoted.row_text, declared.compare.TableName.TableName, declared.invalid.InvalidRow.InvalidRow}
 use Rattle.kcr_verify.specs.declared.compare.TableName.TheVariants.{People, Trainings, Withdrawals, Appointments, Boxes}
 use Rattle.kcr_verify.specs.declared.compare.TableName.TheVariants.{Safes, Bags, Items, Ceremonies, Marks, Steps, Seatings}
 use Rattle.kcr_verify.specs.declared.compare.TableName.TheVariants.{Sheet, Stays, Exceptions, Keys}
-use Rattle.kcr_verify.specs.declared.invalid.InvalidRow.{InvalidRow}
 
 -- the first cells of a row
 abbrev pub first_cells : ℕ → Row → Row

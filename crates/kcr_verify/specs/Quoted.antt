@@ -1,13 +1,9 @@
 -- A row as sqlite3 prints it in its mode `quote`, with the dates of days and moments.
 use Rattle.std.specs.Prelude.{if◌then◌else◌, ◌&&◌, ℕ, ℤ, pos, nat_eq, nat_le, nat_lt, List, [], ◌∷◌, ◌++◌, codes}
 use Rattle.std.specs.Prelude.{Option, Some, None, option_map, unwrap_or}
-use Rattle.std.specs.Fmt.{signed_decimal}
-use Rattle.std.specs.List.{flat_map, join_with_byte}
-use Rattle.sqlite.specs.Order.{Row}
-use Rattle.sqlite.specs.declared.types.Value.{Value}
-use Rattle.sqlite.specs.declared.types.Value.TheVariants.{Int, Text}
-use Rattle.kcr_base.specs.Day.{day_text}
-use Rattle.kcr_base.specs.Moment.{moment_text}
+use Rattle.std.specs.{Fmt.signed_decimal, List.flat_map, List.join_with_byte}
+use Rattle.sqlite.specs.{Order.Row, declared.types.Value.Value, declared.types.Value.TheVariants.Int, declared.types.Value.TheVariants.Text}
+use Rattle.kcr_base.specs.{Day.day_text, Moment.moment_text}
 use Rattle.kcr_rows.specs.declared.kinds.Kind.{Kind}
 use Rattle.kcr_rows.specs.declared.kinds.Kind.TheVariants.{Day, DayOrNull, Moment, MomentOrNull}
 use Rattle.kcr_verify.specs.declared.compare.RowDifference.{RowDifference}

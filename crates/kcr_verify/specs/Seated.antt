@@ -1,12 +1,8 @@
 -- Whether the people of a stored reply fill the seats of its command.
 use Rattle.std.specs.Prelude.{◌≡◌, ◌≢◌, ℕ, Bool, List, [], Option, Some, None, option_map, if◌then◌else◌}
-use Rattle.kcr_history.specs.Audit.{ceremony_in, is_seating_by}
-use Rattle.kcr_history.specs.Ceremonies.{is_ceremony}
-use Rattle.kcr_history.specs.History.{History}
-use Rattle.kcr_history.specs.Machine.{SeatRequest, seat_request}
-use Rattle.kcr_history.specs.Seating.{is_seating}
-use Rattle.kcr_history.specs.declared.commands.Act.{Act}
-use Rattle.kcr_history.specs.declared.views.FullView.{FullView}
+use Rattle.kcr_history.specs.{Audit.ceremony_in, Audit.is_seating_by, Machine.SeatRequest, Machine.seat_request}
+use Rattle.kcr_history.specs.{Ceremonies.is_ceremony, History.History, Seating.is_seating}
+use Rattle.kcr_history.specs.declared.{commands.Act.Act, views.FullView.FullView}
 use Rattle.kcr_journal.specs.Replies.{seated_in}
 
 -- whether the people fill the seats that a command asks for in a planned ceremony; `None` if it asks for none

@@ -1,45 +1,28 @@
 -- What a verification of a register's tables says.
 use Rattle.std.specs.Prelude.{◌≡◌, ◌≢◌, ◌⊎◌, ℕ, ◌+◌, List, [], ◌∷◌, ◌++◌, Result, false, Option, None, Some, IfOk, IfErr}
 use Rattle.std.specs.Prelude.{IsPermutation, MatchOption, length, map, reverse, codes}
-use Rattle.std.specs.declared.cmp.Ordering.{Ordering}
-use Rattle.std.specs.Ordering.{nat_cmp}
-use Rattle.std.specs.List.{AllByRecursion}
-use Rattle.std.specs.List.Sorted.{IsSorted}
-use Rattle.sqlite.specs.Held.{state}
-use Rattle.sqlite.specs.State.{HasCleanDisk}
-use Rattle.sqlite.specs.Store.{Ghosts}
+use Rattle.std.specs.{declared.cmp.Ordering.Ordering, Ordering.nat_cmp, List.AllByRecursion, List.Sorted.IsSorted}
+use Rattle.sqlite.specs.{Held.state, Store.Ghosts, State.HasCleanDisk}
 use Rattle.kcr_forms.specs.Acts.{IsAct}
 pub use Rattle.kcr_forms.specs.Values.{AreValues}
-use Rattle.kcr_base.specs.Rows.{IsIn}
-use Rattle.kcr_base.specs.declared.refusal.Refusal.{Refusal}
-use Rattle.kcr_history.specs.History.{History}
-use Rattle.kcr_history.specs.Laws.{IsSeatedFirst, HasFirstSeatings}
+use Rattle.kcr_base.specs.{Rows.IsIn, declared.refusal.Refusal.Refusal}
+use Rattle.kcr_history.specs.{History.History, Texts.reply_text, Texts.command_text}
+use Rattle.kcr_history.specs.{Laws.IsSeatedFirst, Laws.HasFirstSeatings, Tables.Tables, Tables.tables, Tables.key_row}
 use Rattle.kcr_history.specs.Machine.{machine, Accepts, Refuses, IsOfMachine, IsRegister, seat_request}
-use Rattle.kcr_history.specs.Tables.{Tables, tables, key_row}
-use Rattle.kcr_history.specs.Texts.{reply_text, command_text}
-use Rattle.kcr_history.specs.declared.commands.Act.{Act}
-use Rattle.kcr_history.specs.declared.commands.ReplyData.{ReplyData}
-use Rattle.kcr_history.specs.declared.commands.Command.{Command}
-use Rattle.kcr_history.specs.declared.commands.Entry.{Entry}
-use Rattle.kcr_history.specs.declared.row_types.KeyRow.{KeyRow}
-use Rattle.kcr_history.specs.declared.views.FullView.{FullView}
-use Rattle.kcr_store.specs.Calls.{left_at}
-use Rattle.kcr_store.specs.FullView.{AreRows, IsListed}
+use Rattle.kcr_history.specs.declared.commands.{Act.Act, Entry.Entry, ReplyData.ReplyData, Command.Command}
+use Rattle.kcr_history.specs.declared.{row_types.KeyRow.KeyRow, views.FullView.FullView}
+use Rattle.kcr_store.specs.{Calls.left_at, FullView.AreRows, FullView.IsListed}
 use Rattle.kcr_store.specs.Register.{RegisterHistory, RegisterState, IsConsistent, StandsAt, whole}
 use Rattle.kcr_tables.specs.Refusals.{IsFault}
 use Rattle.kcr_rows.specs.Kinds as kinds
 use Rattle.kcr_rows.specs.Rows as stored
-use Rattle.kcr_verify.specs.FirstRow.{DiffersAt, IsFirstRow}
-use Rattle.kcr_verify.specs.Seated.{TellsSeating}
-use Rattle.kcr_verify.specs.declared.compare.RowDifference.{RowDifference}
-use Rattle.kcr_verify.specs.declared.compare.TableName.{TableName}
+use Rattle.kcr_verify.specs.{FirstRow.DiffersAt, FirstRow.IsFirstRow, Seated.TellsSeating}
+use Rattle.kcr_verify.specs.declared.{compare.RowDifference.RowDifference, compare.TableName.TableName, verification.Difference.Difference}
 use Rattle.kcr_verify.specs.declared.compare.TableName.TheVariants.{People, Trainings, Withdrawals, Appointments, Boxes}
 use Rattle.kcr_verify.specs.declared.compare.TableName.TheVariants.{Safes, Bags, Items, Ceremonies, Marks, Steps, Seatings}
 use Rattle.kcr_verify.specs.declared.compare.TableName.TheVariants.{Sheet, Stays, Exceptions, Keys}
-use Rattle.kcr_verify.specs.declared.verification.Difference.{Difference}
 use Rattle.kcr_verify.specs.declared.verification.Difference.TheVariants as Differences
-use Rattle.kcr_verify.specs.declared.verification.Verification.{Verification}
-use Rattle.kcr_verify.specs.declared.verification.Verification.TheVariants.{Verified, Differs}
+use Rattle.kcr_verify.specs.declared.verification.Verification.{Verification, TheVariants.Verified, TheVariants.Differs}
 
 -- begin: written by tools/tables.py
 

@@ -1,19 +1,13 @@
 //! Rows that are compared with those of a register.
-ghost use Rattle.std.specs.Prelude.{◌≡◌, ◌≢◌, ◌↔◌, IsTrue, None, IfOk, IfErr, IfSome, IsPermutation, MatchOption, map};
-ghost use Rattle.std.specs.Prelude.{string_bytes, unwrap_or};
-ghost use Rattle.std.specs.List.{AllByRecursion};
-ghost use Rattle.std.specs.List.Sorted.{IsSorted};
-ghost use Rattle.kcr_history.specs.Machine.{IsRegister};
+ghost use Rattle.std.specs.Prelude.{◌≡◌, ◌≢◌, ◌↔◌, IsTrue, None, IfOk, IfErr, IfSome, IsPermutation, MatchOption, map, string_bytes, unwrap_or};
+ghost use Rattle.std.specs.List.{AllByRecursion, Sorted.IsSorted};
+ghost use Rattle.kcr_history.specs.{Machine.IsRegister, Tables.key_row};
 ghost use Rattle.kcr_history.specs.Tables as machine;
-ghost use Rattle.kcr_history.specs.Tables.{key_row};
-ghost use Rattle.kcr_store.specs.Calls.{OfHistory};
-ghost use Rattle.kcr_store.specs.FullView.{AreRows};
+ghost use Rattle.kcr_store.specs.{Calls.OfHistory, FullView.AreRows};
 ghost use Rattle.kcr_tables.specs.Refusals.{IsFault};
-ghost use Rattle.kcr_verify.specs.declared.compare.TableName.{TableName as Named};
+ghost use Rattle.kcr_verify.specs.{declared.compare.TableName.TableName as Named, Quoted.no_row, Quoted.row_line};
 ghost use Rattle.kcr_verify.specs.FirstRow.{DiffersAt, IsFirstOtherRow, IsFirstRow, text_at};
-ghost use Rattle.kcr_verify.specs.Quoted.{no_row, row_line};
-ghost use Rattle.kcr_verify.specs.Verification.{HasRows, IsCompared, IsFirst, IsFirstCommand, IsIntact, OnlyLooks};
-ghost use Rattle.kcr_verify.specs.Verification.{by_number, compared, name_of};
+ghost use Rattle.kcr_verify.specs.Verification.{HasRows, IsCompared, IsFirst, IsFirstCommand, IsIntact, OnlyLooks, by_number, compared, name_of};
 
 use crate::quoted::quoted;
 use crate::sort::sort_by_number;

@@ -1,10 +1,8 @@
 //! The first invalid row of a register, by its table and its key.
 ghost use Rattle.std.specs.Prelude.{◌≡◌, ◌≤◌, IfOk, IfSome, false, length};
-ghost use Rattle.sqlite.specs.Order.{column};
-ghost use Rattle.sqlite.specs.Value.{owned};
+ghost use Rattle.sqlite.specs.{Order.column, Value.owned};
 ghost use Rattle.kcr_store.specs.Frame.{IfCleanOver, StaysOutside};
-ghost use Rattle.kcr_tables.specs.Frame.{OfTrees, Reads};
-ghost use Rattle.kcr_tables.specs.Schema.{register_schema};
+ghost use Rattle.kcr_tables.specs.{Frame.OfTrees, Frame.Reads, Schema.register_schema};
 ghost use Rattle.kcr_verify.specs.Invalid.{IsInvalidIn, key_text, searched};
 
 use crate::compare::TableName;

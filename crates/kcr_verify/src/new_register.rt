@@ -1,10 +1,8 @@
 //! A new register, to rebuild another in.
 ghost use Rattle.std.specs.Prelude.{◌≡◌, ◌≢◌, false, IfOk, IfErr, MatchResult};
-ghost use Rattle.sqlite.specs.Held.{state};
-ghost use Rattle.sqlite.specs.State.{Survives};
+ghost use Rattle.sqlite.specs.{Held.state, State.Survives};
 ghost use Rattle.kcr_older.specs.Kind.{no_schema};
-ghost use Rattle.kcr_verify.specs.Fresh.{IsNewOf};
-ghost use Rattle.kcr_verify.specs.Verification.{IsFresh};
+ghost use Rattle.kcr_verify.specs.{Fresh.IsNewOf, Verification.IsFresh};
 
 use kcr_base::Refusal;
 use kcr_older::{DatabaseKind, database_kind};

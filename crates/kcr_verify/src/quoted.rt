@@ -1,8 +1,7 @@
 //! Rows as sqlite3 prints them in its mode `quote`: the values with commas between them, a text in single quotes. Behind
 //! the number of a day or of a moment stands its date, in brackets.
 ghost use Rattle.std.specs.Prelude.{◌≡◌, ◌++◌, IfOk, IfErr, OnOk, Some, length};
-ghost use Rattle.sqlite.specs.Values.{bound, bound_value};
-ghost use Rattle.sqlite.specs.Value.{owned};
+ghost use Rattle.sqlite.specs.{Values.bound, Values.bound_value, Value.owned};
 ghost use Rattle.kcr_tables.specs.Refusals.{IsFault};
 ghost use Rattle.kcr_verify.specs.Quoted.{behind, date_behind, day_in, doubled, moment_in, row_text, value_text};
 

@@ -2,8 +2,7 @@
 ghost use Rattle.std.specs.Prelude.{◌≡◌, Some, IfOk};
 ghost use Rattle.kcr_rules.specs.ByRows.{seat_request_by};
 ghost use Rattle.kcr_store.specs.Calls.{OfHistory};
-ghost use Rattle.kcr_verify.specs.Seated.{TellsSeating, fill_by};
-ghost use Rattle.kcr_verify.specs.Verification.{IsIntact, OnlyLooks};
+ghost use Rattle.kcr_verify.specs.{Seated.TellsSeating, Seated.fill_by, Verification.IsIntact, Verification.OnlyLooks};
 
 use kcr_audit::{ceremony_in, is_seating};
 use kcr_base::{Initials, Moment, Refusal, Text};

@@ -1,6 +1,5 @@
 //! The accepted commands in the order of their numbers.
-ghost use Rattle.std.specs.Prelude.{IsPermutation};
-ghost use Rattle.std.specs.List.Sorted.{IsSorted};
+ghost use Rattle.std.specs.{Prelude.IsPermutation, List.Sorted.IsSorted};
 ghost use Rattle.kcr_verify.specs.Verification.{by_number};
 
 use kcr_history::KeyRow;

@@ -1,13 +1,10 @@
 //! The verification of a register.
 ghost use Rattle.std.specs.Prelude.{◌≡◌, IfOk, IfErr, length};
 ghost use Rattle.sqlite.specs.Steps.{over_memory};
-ghost use Rattle.kcr_history.specs.History.{History};
-ghost use Rattle.kcr_history.specs.Machine.{IsOfMachine, IsRegister};
-ghost use Rattle.kcr_history.specs.Tables.{tables};
+ghost use Rattle.kcr_history.specs.{History.History, Tables.tables, Machine.IsOfMachine, Machine.IsRegister};
 ghost use Rattle.kcr_store.specs.FullView.{IsListed};
 ghost use Rattle.kcr_tables.specs.Refusals.{IsFault};
-ghost use Rattle.kcr_verify.specs.Verification.{AreValues, EndsAt, IsFresh, IsToldOf, IsVerification};
-ghost use Rattle.kcr_verify.specs.Verification.{Rebuilds, StaysIntact};
+ghost use Rattle.kcr_verify.specs.Verification.{AreValues, EndsAt, IsFresh, IsToldOf, IsVerification, Rebuilds, StaysIntact};
 
 use crate::compare::{RowDifference, TableName, first_difference};
 use crate::replay::replay;

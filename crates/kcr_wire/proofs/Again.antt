@@ -3,11 +3,9 @@ use Rattle.kcr_wire.proofs.Common.{◌≡◌, ◌≤◌, ℕ, List, [], ◌∷�
 use Rattle.kcr_wire.proofs.Common.{append_assoc, arith, fold, cond_some, option_and_then_some, same_text, Member, same-itself, Act, MemberValue}
 use Rattle.kcr_wire.proofs.Common.{path_text, members_of, value_text, with_line, command_text, IsAct, Form, shape, cut-again, lines_text, lines-told}
 use Rattle.kcr_wire.proofs.Common.{post_of, AllGiven, told, members_in, is_shape, shaped, if_told}
-use Rattle.std.specs.Cmp.Lexicographic.{same_text as equal_texts}
-use Rattle.std.specs.Result.{result_ok}
+use Rattle.std.specs.{Cmp.Lexicographic.same_text as equal_texts, Result.result_ok}
 use Rattle.kcr_wire.specs.ActTexts.{act_told, act_of}
-use Rattle.kcr_wire.proofs.Paths.{path-feed}
-use Rattle.kcr_wire.proofs.Targets.{act-path, act-target}
+use Rattle.kcr_wire.proofs.{Paths.path-feed, Targets.act-path, Targets.act-target}
 
 some-told : (members : List (Member × Form)) (given : AllGiven members) → is_shape members ≡ true → 1 ≤ length (told members given)
 some-told [] given e = absurd (true≢false (sym e))

@@ -6,13 +6,10 @@ use Rattle.kcr_wire.proofs.Common.{next, last, posted_act, Form, Text, Number, T
 use Rattle.kcr_wire.proofs.Common.{AllGiven, told_as, told, members_in, names_of, shape-parts, shaped, key_at, posted_command, body, json_members}
 use Rattle.serde_json.proofs.Views.{get_member-put, get_member-put_other}
 use Rattle.kcr_base.specs.declared.refusal.Member.TheVariants as name
-use Rattle.kcr_forms.specs.Lines.{each_of}
-use Rattle.kcr_forms.specs.Reading.{formed}
+use Rattle.kcr_forms.specs.{Lines.each_of, Reading.formed}
 use Rattle.kcr_forms.proofs.FormLemmas.{number-new}
-use Rattle.kcr_wire.specs.Members.{json_of as json_in, each_in}
-use Rattle.kcr_wire.proofs.Json.{json-some}
-use Rattle.kcr_wire.specs.Bodies.{json_of, body_text}
-use Rattle.kcr_wire.proofs.Bytes.{word-utf8}
+use Rattle.kcr_wire.specs.{Members.json_of as json_in, Members.each_in, Bodies.json_of, Bodies.body_text}
+use Rattle.kcr_wire.proofs.{Json.json-some, Bytes.word-utf8}
 use Rattle.kcr_wire.proofs.Sent.{IsSent, AreSent, kept, object-read, object-utf8}
 
 -- ---- a member of an object is found by its name

@@ -4,12 +4,10 @@ use Rattle.kcr_wire.proofs.Common.{Some, None, refl, arith, All, AllByRecursion,
 use Rattle.kcr_wire.proofs.Common.{cond_some, All-nil, All-take, All-drop, All-weaker, recursion_from_All, AllPass-from_list_all}
 use Rattle.kcr_wire.proofs.Common.{list_all-from_AllPass, IsUtf8-from_ascii, IsAscii-from_all, AllText, part_of, walk, RouteOf, RowsOf, param_token}
 use Rattle.kcr_wire.proofs.Common.{catch_all_token, first, has_slash, longest_suffix, or_else, own, segment, step, with_suffix, parts_in, Route}
-use Rattle.std.specs.Char.{is_ascii}
-use Rattle.std.specs.Option.{IfSome}
+use Rattle.std.specs.{Char.is_ascii, Option.IfSome}
 use Rattle.matchit.specs.Seek.{param_step, same_text, seek}
 use Rattle.matchit.proofs.OnLiterals.{matchit_on_literals}
-use Rattle.kcr_wire.specs.Endpoints.{ascii_in}
-use Rattle.kcr_wire.specs.Routes.{add, add_all, table}
+use Rattle.kcr_wire.specs.{Endpoints.ascii_in, Routes.add, Routes.add_all, Routes.table}
 
 -- ---- bytes that are ASCII
 

@@ -3,8 +3,7 @@ use Rattle.kcr_wire.proofs.Common.{map, ◌≡◌, ℕ, ◌+◌, ◌*◌, Bool, 
 use Rattle.kcr_wire.proofs.Common.{inr, refl, length-append, arith, All, ⊤, list_all, IsUtf8, and_parts, leb-true, nat_tests, All-append, All-cons}
 use Rattle.kcr_wire.proofs.Common.{All-weaker, AllPass-from_list_all, IsKeyByte, is_key_byte, Lacks, lacks-by, nowhere, ascii-utf8, path_of}
 use Rattle.kcr_wire.specs.Endpoints.{ascii_in}
-use Rattle.kcr_wire.proofs.PartLemmas.{ascii_in-some}
-use Rattle.kcr_wire.proofs.Bytes.{IsWord}
+use Rattle.kcr_wire.proofs.{PartLemmas.ascii_in-some, Bytes.IsWord}
 
 -- a letter, a digit, `-` or a slash
 abbrev pub IsPathByte : ℕ → Type 0

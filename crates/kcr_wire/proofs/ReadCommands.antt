@@ -4,14 +4,12 @@ use Rattle.kcr_wire.proofs.Common.{ok_or, and_parts, option_and_then_some, IfOk-
 use Rattle.kcr_wire.proofs.Common.{as_array, IsListed, are_apart, IsNumber, member_text, MAX_CEREMONY, Member, Refusal, within-from, Command, IsAct}
 use Rattle.kcr_wire.proofs.Common.{is_between, next, last, posted_act, Form, Text, Number, Truth, Codes, Post, IsPost, IsRead, IsReadBy}
 use Rattle.kcr_wire.proofs.Common.{posted-values, any, tested, mapped, chained, key_at, posted_command, posted, text_at, whole_at, truth_at}
-use Rattle.kcr_wire.proofs.Common.{values_at, body, Endpoint}
+use Rattle.kcr_wire.proofs.{Common.values_at, Common.body, Common.Endpoint, Targets.IsEndpoint}
 use Rattle.std.proofs.Common.{option_map}
 use Rattle.kcr_base.specs.declared.refusal.Refusal.TheVariants as refusal
-use Rattle.kcr_forms.specs.Forms.{number_to, listed_of}
-use Rattle.kcr_forms.specs.OrMemory.{and_then}
+use Rattle.kcr_forms.specs.{Forms.number_to, Forms.listed_of, OrMemory.and_then}
 use Rattle.kcr_wire.specs.Members.{json_of, each_in}
 use Rattle.kcr_wire.specs.declared.endpoint.Endpoint.TheVariants as target
-use Rattle.kcr_wire.proofs.Targets.{IsEndpoint}
 
 -- ---- the members of a body
 

@@ -3,10 +3,9 @@ use Rattle.kcr_wire.proofs.Common.{◌||◌, if◌then◌else◌, nat_eq, ◌≡
 use Rattle.kcr_wire.proofs.Common.{◌++◌, length, Option, Some, None, refl, ap, ◌∙◌, arith, length-append, drop, All, cond_some, option_map, All-head}
 use Rattle.kcr_wire.proofs.Common.{All-tail, drop-append_seam, and_parts, eqb-true, ne_eqb, lt-ltb, nat_tests, list_all, list_any, nil_from_length}
 use Rattle.kcr_wire.proofs.Common.{RowsOf, param_token, catch_all_token, segment, better, cuts, step, or_else, longest_from, longest_suffix}
-use Rattle.kcr_wire.proofs.Common.{with_suffix, IsKeyByte}
+use Rattle.kcr_wire.proofs.{Common.with_suffix, Common.IsKeyByte, Paths.Leg, Paths.path_on, Paths.AreLegs}
 use Rattle.std.specs.Option.{option_and_then}
 use Rattle.matchit.specs.Seek.{param_step, seek}
-use Rattle.kcr_wire.proofs.Paths.{Leg, path_on, AreLegs}
 use Rattle.kcr_wire.proofs.Bytes.{IsWord, word-below, word-slash}
 
 abbrev pub slash_or_end : List ℕ → Bool

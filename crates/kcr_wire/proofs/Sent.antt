@@ -6,16 +6,12 @@ use Rattle.kcr_wire.proofs.Common.{outline, items_outline, members_outline, comm
 use Rattle.kcr_wire.proofs.Common.{MemberValue, Word, Whole, Several, json_members}
 use Rattle.std.specs.Prelude.{⊤, decimal}
 use Rattle.std.specs.Option.{option_and_then}
-use Rattle.json.specs.Token.{Token}
-use Rattle.json.specs.Lex.{tokens}
+use Rattle.json.specs.{Token.Token, Lex.tokens}
 use Rattle.json.specs.Json as json
 use Rattle.json.specs.Tree as tree
-use Rattle.json.proofs.Printed.Decimals.{IsNumber-decimal}
-use Rattle.json.proofs.Printed.Tokens.{tokens-print}
-use Rattle.json.proofs.Printed.Trees.{value-json_tokens, ArePrintable-json_tokens}
+use Rattle.json.proofs.Printed.{Decimals.IsNumber-decimal, Tokens.tokens-print, Trees.value-json_tokens, Trees.ArePrintable-json_tokens}
 use Rattle.json.proofs.Printed.Utf8.{IsUtf8-are_ascii, IsUtf8-quoted, IsUtf8-boolean}
-use Rattle.serde_json.proofs.Numbers.{number_of-decimal}
-use Rattle.serde_json.proofs.Texts.{print-outline}
+use Rattle.serde_json.proofs.{Numbers.number_of-decimal, Texts.print-outline}
 use Rattle.kcr_history.specs.Texts.{Truth}
 use Rattle.kcr_wire.proofs.Bytes.{name-word, word-utf8}
 use Rattle.kcr_wire.specs.Bodies.{json_of}

@@ -1,8 +1,6 @@
 -- What is shown has no float, so its text is exact.
 use Rattle.kcr_wire.proofs.Common.{◌≡◌, ℕ, false, List, refl, Option, Some, None, Data, string, has_float, members_have_float, compact_text}
-use Rattle.kcr_history.specs.declared.questions.RoleShown.{RoleShown}
-use Rattle.kcr_history.specs.declared.questions.PersonShown.{PersonShown}
-use Rattle.kcr_history.specs.declared.questions.Shown.{Shown}
+use Rattle.kcr_history.specs.declared.questions.{RoleShown.RoleShown, Shown.Shown, PersonShown.PersonShown}
 use Rattle.kcr_history.specs.declared.questions.Shown.TheVariants as shown
 use Rattle.kcr_wire.specs.ShownJson.{withdrawn_member, role_json, person_json, holder_json, shown_json, shown_text}
 use Rattle.kcr_wire.proofs.BodyPieces.{each-whole}

@@ -1,9 +1,8 @@
 -- What an insert leaves, and that over these routes only memory can be wanting.
 use Rattle.kcr_wire.proofs.Common.{◌≡◌, ◌<◌, ◌≤◌, ◌+◌, ℕ, Ok, Err, List, [], true, refl, length, drop, get_or, arith, and_parts, drop_more, drop_all}
 use Rattle.kcr_wire.proofs.Common.{InsertsRead, OutOfMemory, Route, CodeRow, row_of, rows_of, RouterState, all_routes}
-use Rattle.matchit.specs.Route.{parse_route}
+use Rattle.matchit.specs.{Route.parse_route, declared.error.InsertError.InsertError}
 use Rattle.matchit.proofs.OnLiterals.{matchit_on_literals}
-use Rattle.matchit.specs.declared.error.InsertError.{InsertError}
 use Rattle.kcr_wire.specs.Routes.{add, add_all, can_add, can_add_all}
 
 -- an insert of a route that answers `Ok` adds this route

@@ -10,31 +10,23 @@ use Rattle.kcr_wire.proofs.Common.{endpoint_of, target_at, with_parts, Route, En
 use Rattle.std.specs.Option.{option_and_then}
 use Rattle.matchit.proofs.OnLiterals.{matchit_on_literals}
 use Rattle.kcr_base.specs.declared.refusal.Refusal.TheVariants as refusal
-use Rattle.kcr_custody.specs.declared.SafeNumber.{SafeNumber}
-use Rattle.kcr_custody.specs.declared.SafeNumber.TheVariants.{One, Two}
+use Rattle.kcr_custody.specs.declared.SafeNumber.{SafeNumber, TheVariants.One, TheVariants.Two}
 use Rattle.kcr_history.specs.declared.commands.Act.TheVariants as act
 use Rattle.kcr_history.specs.declared.commands.Deed.TheVariants as deed
 use Rattle.kcr_forms.specs.declared.post.Post.TheVariants as post
-use Rattle.kcr_forms.specs.declared.post.CollectionPath.{CollectionPath}
+use Rattle.kcr_forms.specs.declared.post.{CollectionPath.CollectionPath, CeremonyPath.CeremonyPath, BagPath.BagPath}
 use Rattle.kcr_forms.specs.declared.post.CollectionPath.TheVariants.{People, Custodians, Boxes, Items, Ceremonies}
-use Rattle.kcr_forms.specs.declared.post.PersonPath.{PersonPath}
-use Rattle.kcr_forms.specs.declared.post.PersonPath.TheVariants.{Roles, Withdrawals}
-use Rattle.kcr_forms.specs.declared.post.PlacePath.{PlacePath}
-use Rattle.kcr_forms.specs.declared.post.PlacePath.TheVariants.{Replacement, Release}
-use Rattle.kcr_forms.specs.declared.post.CeremonyPath.{CeremonyPath}
+use Rattle.kcr_forms.specs.declared.post.PersonPath.{PersonPath, TheVariants.Roles, TheVariants.Withdrawals}
+use Rattle.kcr_forms.specs.declared.post.PlacePath.{PlacePath, TheVariants.Replacement, TheVariants.Release}
 use Rattle.kcr_forms.specs.declared.post.CeremonyPath.TheVariants.{Opening, Closing, Sheet, Exceptions}
-use Rattle.kcr_forms.specs.declared.post.BagPath.{BagPath}
 use Rattle.kcr_forms.specs.declared.post.BagPath.TheVariants.{Seal, Take, Put, Cut}
-use Rattle.kcr_wire.specs.Routes.{table, add_all, add}
-use Rattle.kcr_wire.specs.Endpoints.{ascii_in, target_of}
-use Rattle.kcr_wire.specs.declared.route.PostRoute.{PostRoute}
+use Rattle.kcr_wire.specs.{Routes.table, Routes.add_all, Routes.add, Endpoints.ascii_in, Endpoints.target_of, declared.route.PostRoute.PostRoute}
 use Rattle.kcr_wire.specs.declared.route.PostRoute.TheVariants as posted
 use Rattle.kcr_wire.specs.declared.route.Route.TheVariants as route
 use Rattle.kcr_wire.specs.declared.endpoint.Endpoint.TheVariants as target
 use Rattle.kcr_wire.proofs.Bytes.{IsWord, literal, initials-word, serial-word, number-word, place-word}
 use Rattle.kcr_wire.proofs.Paths.{Leg, path_on, tokens_on, names_on, parts_on, short_literal, AreLegs, whole-on, IsPath, whole-path}
-use Rattle.kcr_wire.proofs.Seeking.{slash_or_end, found_on, route-on}
-use Rattle.kcr_wire.proofs.Walking.{names_in, walk-on}
+use Rattle.kcr_wire.proofs.{Seeking.slash_or_end, Seeking.found_on, Seeking.route-on, Walking.names_in, Walking.walk-on}
 
 -- what a walk along a path needs of its route: its tokens and the names of its parts
 abbrev Sight : Type 0

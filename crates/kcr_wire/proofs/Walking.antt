@@ -2,10 +2,8 @@
 use Rattle.kcr_wire.proofs.Common.{◌≡◌, ℕ, get_or, cond, length-drop, ◌+◌, ◌-◌, ◌<◌, ◌≤◌, true, false, eqb, ltb, leb, List, [], ◌∷◌, ◌++◌, length}
 use Rattle.kcr_wire.proofs.Common.{drop, refl, sym, ap, ◌∙◌, arith, map, length-append, All, drop-append_seam, take-append_seam, lt-ltb, le-ltb}
 use Rattle.kcr_wire.proofs.Common.{eqb-true, drop-drop, get_or-drop, nat_tests, All-head, All-tail, after_token, part_of, walk, wild_from, wild_stop}
-use Rattle.kcr_wire.proofs.Common.{segment}
+use Rattle.kcr_wire.proofs.{Common.segment, Bytes.word-slash, Seeking.segment-piece, Seeking.slash_or_end}
 use Rattle.kcr_wire.proofs.Paths.{Leg, path_on, tokens_on, names_on, parts_on, AreLegs, front-below}
-use Rattle.kcr_wire.proofs.Seeking.{segment-piece, slash_or_end}
-use Rattle.kcr_wire.proofs.Bytes.{word-slash}
 
 -- bytes of a route before its next parameter
 wild-after : (bytes rest : List ℕ) (len token at : ℕ) → All (λ b. b < 256) bytes → at + length bytes ≤ len

@@ -2,13 +2,9 @@
 use Rattle.std.specs.Prelude.{ℕ, List, Option, Some, None, option_and_then, if◌then◌else◌}
 use Rattle.std.specs.Result.{result_ok}
 use Rattle.kcr_base.specs.Same.{same_text}
-use Rattle.kcr_forms.specs.Lines.{lines}
-use Rattle.kcr_forms.specs.Posts.{posted_act}
-use Rattle.kcr_forms.specs.Split.{Reader, split_at_byte}
-use Rattle.kcr_history.specs.Texts.{command_text}
-use Rattle.kcr_history.specs.declared.commands.Act.{Act}
-use Rattle.kcr_wire.specs.Endpoints.{target_of}
-use Rattle.kcr_wire.specs.declared.endpoint.Endpoint.{Endpoint}
+use Rattle.kcr_forms.specs.{Lines.lines, Posts.posted_act, Split.Reader, Split.split_at_byte}
+use Rattle.kcr_history.specs.{Texts.command_text, declared.commands.Act.Act}
+use Rattle.kcr_wire.specs.{Endpoints.target_of, declared.endpoint.Endpoint.Endpoint}
 use Rattle.kcr_wire.specs.declared.endpoint.Endpoint.TheVariants as target
 
 -- the act of these lines at a path that takes commands

@@ -1,11 +1,9 @@
 -- The body of a command: its key, and the members of its act in their order.
 use Rattle.std.specs.Prelude.{ℕ, List, [], ◌∷◌, ◌++◌, map, codes}
 use Rattle.serde_json.specs.Data.{Data, unsigned, boolean, number, string, array, object, Members, no_members, member}
-use Rattle.serde_json.specs.View.{items_of}
-use Rattle.serde_json.specs.Written.{compact_text}
+use Rattle.serde_json.specs.{View.items_of, Written.compact_text}
 use Rattle.json.specs.Print.{quoted}
-use Rattle.kcr_base.specs.Refusal.{member_text}
-use Rattle.kcr_base.specs.declared.refusal.Member.{Member}
+use Rattle.kcr_base.specs.{Refusal.member_text, declared.refusal.Member.Member}
 use Rattle.kcr_history.specs.Texts.{MemberValue, Word, Whole, Truth, Several, members_of}
 use Rattle.kcr_history.specs.declared.commands.Command.{Command}
 

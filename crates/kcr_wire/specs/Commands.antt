@@ -5,15 +5,9 @@ use Rattle.serde_json.specs.Data.{Data}
 use Rattle.kcr_base.specs.declared.refusal.Member.TheVariants as member
 use Rattle.kcr_base.specs.declared.refusal.Refusal.{Refusal}
 use Rattle.kcr_base.specs.declared.refusal.Refusal.TheVariants as refusal
-use Rattle.kcr_forms.specs.Forms.{key_of}
-use Rattle.kcr_forms.specs.OrMemory.{and_then}
-use Rattle.kcr_forms.specs.Posts.{posted_act}
-use Rattle.kcr_forms.specs.Reading.{formed}
-use Rattle.kcr_forms.specs.declared.post.Post.{Post}
+use Rattle.kcr_forms.specs.{Forms.key_of, Reading.formed, declared.post.Post.Post, OrMemory.and_then, Posts.posted_act}
 use Rattle.kcr_history.specs.declared.commands.Command.{Command}
-use Rattle.kcr_wire.specs.Endpoints.{target_of}
-use Rattle.kcr_wire.specs.Members.{json_of, text_at, body}
-use Rattle.kcr_wire.specs.declared.endpoint.Endpoint.{Endpoint}
+use Rattle.kcr_wire.specs.{Endpoints.target_of, declared.endpoint.Endpoint.Endpoint, Members.json_of, Members.text_at, Members.body}
 use Rattle.kcr_wire.specs.declared.endpoint.Endpoint.TheVariants as target
 
 -- the key of the command

@@ -1,38 +1,22 @@
 -- What a target asks for: the route of its path, and its parts in braces.
-use Rattle.std.specs.Prelude.{ℕ, ◌==◌, List, take, codes, Option, Some, None, option_and_then}
-use Rattle.std.specs.Prelude.{option_map, Result, if◌then◌else◌}
-use Rattle.std.specs.Char.{is_ascii}
-use Rattle.std.specs.Fmt.{decimal}
-use Rattle.std.specs.List.{list_all, position}
-use Rattle.std.specs.Option.{ok_or, option_map_or}
-use Rattle.std.specs.Result.{result_map_both, result_ok}
-use Rattle.matchit.specs.Params.{named, walk}
-use Rattle.matchit.specs.Router.{RouteOf}
-use Rattle.matchit.specs.Seek.{first}
-use Rattle.matchit.specs.declared.params.Params.{Params}
-use Rattle.kcr_base.specs.declared.limits.TheConstants.{MAX_COMMANDS}
-use Rattle.kcr_base.specs.declared.refusal.Refusal.{Refusal}
+use Rattle.std.specs.Prelude.{ℕ, ◌==◌, List, take, codes, Option, Some, None, option_and_then, option_map, Result, if◌then◌else◌}
+use Rattle.std.specs.{Char.is_ascii, Fmt.decimal, List.list_all, List.position}
+use Rattle.std.specs.{Option.ok_or, Option.option_map_or, Result.result_map_both, Result.result_ok}
+use Rattle.matchit.specs.{Params.named, Params.walk, Router.RouteOf, Seek.first, declared.params.Params.Params}
+use Rattle.kcr_base.specs.declared.{limits.TheConstants.MAX_COMMANDS, refusal.Refusal.Refusal}
 use Rattle.kcr_base.specs.declared.refusal.Refusal.TheVariants as refusal
-use Rattle.kcr_forms.specs.Forms.{number_by_text, initials_of, day_of, moment_of, serial_of, ceremony_of, step_of}
-use Rattle.kcr_forms.specs.Forms.{safe_of, place_of}
-use Rattle.kcr_forms.specs.declared.post.CollectionPath.TheVariants.{People}
-use Rattle.kcr_forms.specs.declared.post.Post.{Post}
+use Rattle.kcr_forms.specs.Forms.{number_by_text, initials_of, day_of, moment_of, serial_of, ceremony_of, step_of, safe_of, place_of}
+use Rattle.kcr_forms.specs.declared.post.{CollectionPath.TheVariants.People, Post.Post}
 use Rattle.kcr_forms.specs.declared.post.Post.TheVariants as post
 use Rattle.kcr_history.specs.declared.questions.Question.TheVariants as question
-use Rattle.kcr_wire.specs.Routes.{table}
-use Rattle.kcr_wire.specs.declared.allow.Allow.{Allow}
+use Rattle.kcr_wire.specs.{Routes.table, declared.route.AskRoute.AskRoute, declared.route.Route.Route, declared.route.PostRoute.PostRoute}
+use Rattle.kcr_wire.specs.declared.{allow.Allow.Allow, unread.Unread.Unread, endpoint.Endpoint.Endpoint, question.Inquiry.Inquiry}
 use Rattle.kcr_wire.specs.declared.allow.Allow.TheVariants as allow
-use Rattle.kcr_wire.specs.declared.endpoint.Endpoint.{Endpoint}
 use Rattle.kcr_wire.specs.declared.endpoint.Endpoint.TheVariants as target
-use Rattle.kcr_wire.specs.declared.question.Inquiry.{Inquiry}
 use Rattle.kcr_wire.specs.declared.question.Inquiry.TheVariants as inquiry
-use Rattle.kcr_wire.specs.declared.route.AskRoute.{AskRoute}
 use Rattle.kcr_wire.specs.declared.route.AskRoute.TheVariants as asked
-use Rattle.kcr_wire.specs.declared.route.PostRoute.{PostRoute}
 use Rattle.kcr_wire.specs.declared.route.PostRoute.TheVariants as posted
-use Rattle.kcr_wire.specs.declared.route.Route.{Route}
 use Rattle.kcr_wire.specs.declared.route.Route.TheVariants as route
-use Rattle.kcr_wire.specs.declared.unread.Unread.{Unread}
 
 -- the target up to the first question mark, or all of it
 abbrev pub path_of : List ℕ → List ℕ

@@ -4,10 +4,8 @@ use Rattle.std.specs.Str.{is_utf8}
 use Rattle.serde_json.specs.Data.{Data, Items, no_items, item}
 use Rattle.serde_json.specs.Read.{read}
 use Rattle.serde_json.specs.Find.{get, as_str, as_bool, as_number, as_u64, as_array}
-use Rattle.kcr_base.specs.Refusal.{member_text}
-use Rattle.kcr_base.specs.declared.refusal.Member.{Member}
-use Rattle.kcr_forms.specs.Forms.{number_to}
-use Rattle.kcr_forms.specs.Reading.{Reading}
+use Rattle.kcr_base.specs.{Refusal.member_text, declared.refusal.Member.Member}
+use Rattle.kcr_forms.specs.{Forms.number_to, Reading.Reading}
 
 -- the bytes, if they are UTF-8
 unfoldable pub text_in : List ℕ → Option (List ℕ)

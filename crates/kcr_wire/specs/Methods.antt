@@ -3,10 +3,8 @@ use Rattle.std.specs.Prelude.{ℕ, ◌||◌, List, codes, Result, Ok, Err, if◌
 use Rattle.std.specs.Str.{bytes_eq}
 use Rattle.kcr_base.specs.declared.refusal.Refusal.{Refusal}
 use Rattle.kcr_base.specs.declared.refusal.Refusal.TheVariants as refusal
-use Rattle.kcr_wire.specs.Endpoints.{target_of}
-use Rattle.kcr_wire.specs.declared.endpoint.Endpoint.{Endpoint}
-use Rattle.kcr_wire.specs.declared.method.Method.{Method}
-use Rattle.kcr_wire.specs.declared.method.Method.TheVariants.{Ask, Post, Other}
+use Rattle.kcr_wire.specs.{Endpoints.target_of, declared.endpoint.Endpoint.Endpoint}
+use Rattle.kcr_wire.specs.declared.method.Method.{Method, TheVariants.Ask, TheVariants.Post, TheVariants.Other}
 
 -- the method that a token names, in capitals
 unfoldable pub method_of : List ℕ → Method

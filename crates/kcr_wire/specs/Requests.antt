@@ -1,8 +1,7 @@
 -- A command as an HTTP request: its path and its body.
 use Rattle.std.specs.Prelude.{ℕ, List, [], ◌∷◌, ◌++◌, length, codes}
 use Rattle.std.specs.Fmt.{decimal}
-use Rattle.kcr_history.specs.Texts.{path_text}
-use Rattle.kcr_history.specs.declared.commands.Command.{Command}
+use Rattle.kcr_history.specs.{Texts.path_text, declared.commands.Command.Command}
 use Rattle.kcr_wire.specs.Bodies.{body_text}
 
 -- the end of a line of a head

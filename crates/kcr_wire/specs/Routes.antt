@@ -1,13 +1,9 @@
 -- The routes, and what a router that took them in their order holds.
 use Rattle.std.specs.Prelude.{ℕ, List, [], ◌∷◌, map, Result, Ok, Err, Bool, true, false, ◌&&◌, Option, Some, None}
 use Rattle.std.specs.Borrow.{Bor}
-use Rattle.matchit.specs.Rows.{RowsOf}
-use Rattle.matchit.specs.Route.{parse_route, Scan}
-use Rattle.matchit.specs.Router.{RouteOf, route_from, nearest}
-use Rattle.matchit.specs.Order.{placed}
-use Rattle.matchit.specs.declared.error.InsertError.{InsertError}
-use Rattle.kcr_wire.specs.declared.route.Route.{Route}
-use Rattle.kcr_wire.specs.declared.route.TheConstants.{ROUTES}
+use Rattle.matchit.specs.{Rows.RowsOf, Order.placed, Route.parse_route, Route.Scan}
+use Rattle.matchit.specs.{Router.RouteOf, Router.route_from, Router.nearest, declared.error.InsertError.InsertError}
+use Rattle.kcr_wire.specs.declared.route.{Route.Route, TheConstants.ROUTES}
 
 -- a route as `matchit` reads it, and what it stands for
 abbrev pub Row : Type 0

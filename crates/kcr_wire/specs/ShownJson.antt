@@ -1,20 +1,11 @@
 -- The JSON of answers to questions.
 use Rattle.std.specs.Prelude.{ℕ, List, Option, Some, None, codes, map}
 use Rattle.serde_json.specs.Data.{Data, Members, string, array, object, no_members, member}
-use Rattle.serde_json.specs.View.{items_of}
-use Rattle.serde_json.specs.Written.{compact_text}
-use Rattle.kcr_base.specs.Day.{day_text}
-use Rattle.kcr_base.specs.Moment.{moment_text}
-use Rattle.kcr_base.specs.Place.{place_text}
-use Rattle.kcr_base.specs.Role.{role_text}
+use Rattle.serde_json.specs.{View.items_of, Written.compact_text}
+use Rattle.kcr_base.specs.{Day.day_text, Role.role_text, Moment.moment_text, Place.place_text}
 use Rattle.kcr_custody.specs.Spots.{spot_text}
-use Rattle.kcr_history.specs.declared.questions.RoleShown.{RoleShown}
-use Rattle.kcr_history.specs.declared.questions.PersonShown.{PersonShown}
-use Rattle.kcr_history.specs.declared.questions.HolderShown.{HolderShown}
-use Rattle.kcr_history.specs.declared.questions.CustodiansShown.{CustodiansShown}
-use Rattle.kcr_history.specs.declared.questions.BagShown.{BagShown}
-use Rattle.kcr_history.specs.declared.questions.RoomShown.{RoomShown}
-use Rattle.kcr_history.specs.declared.questions.Shown.{Shown}
+use Rattle.kcr_history.specs.declared.questions.{RoleShown.RoleShown, RoomShown.RoomShown, PersonShown.PersonShown, HolderShown.HolderShown}
+use Rattle.kcr_history.specs.declared.questions.{CustodiansShown.CustodiansShown, BagShown.BagShown, Shown.Shown}
 use Rattle.kcr_history.specs.declared.questions.Shown.TheVariants as shown
 
 -- the member `withdrawn`, if a training is withdrawn

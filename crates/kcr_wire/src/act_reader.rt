@@ -1,7 +1,6 @@
 //! Acts, by the texts that tell them.
 ghost use Rattle.std.specs.Prelude.{◌≡◌, IfOk, IfSome, Some};
-ghost use Rattle.kcr_history.specs.Texts.{command_text};
-ghost use Rattle.kcr_history.specs.declared.commands.Act.{Act};
+ghost use Rattle.kcr_history.specs.{Texts.command_text, declared.commands.Act.Act};
 ghost use Rattle.kcr_forms.specs.Acts.{IsAct};
 ghost use Rattle.kcr_wire.specs.ActTexts.{told_at, act_told, act_of};
 ghost use Rattle.kcr_base.specs.Same.{same_text};

@@ -1,10 +1,7 @@
 //! The body of a request as JSON, and its members.
 ghost use Rattle.std.specs.Prelude.{◌≡◌, ◌≢◌, None, Some, option_map, option_and_then, IfOk, IfErr};
-ghost use Rattle.serde_json.specs.Find.{as_str, as_array};
-ghost use Rattle.serde_json.specs.View.{view, items_view};
-ghost use Rattle.kcr_forms.specs.Forms.{listed_of};
-ghost use Rattle.kcr_forms.specs.OrMemory.{OrMemory};
-ghost use Rattle.kcr_forms.specs.Reading.{formed};
+ghost use Rattle.serde_json.specs.{Find.as_str, Find.as_array, View.view, View.items_view};
+ghost use Rattle.kcr_forms.specs.{Forms.listed_of, Reading.formed, OrMemory.OrMemory};
 ghost use Rattle.kcr_wire.specs.Members.{json_of, text_at, whole_at, truth_at, each_in, body};
 
 use kcr_base::lists::{DistinctList, ListElement};

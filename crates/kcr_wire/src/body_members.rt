@@ -1,8 +1,6 @@
 //! The members of a body, one after another. Each stands behind another, so a comma comes before it.
 ghost use Rattle.std.specs.Prelude.{◌≡◌, ◌++◌, IfOk, OnOk, false, map, string_bytes};
-ghost use Rattle.serde_json.specs.Data.{string, array};
-ghost use Rattle.serde_json.specs.View.{view, items_of};
-ghost use Rattle.serde_json.specs.Written.{has_float};
+ghost use Rattle.serde_json.specs.{Data.string, Data.array, Written.has_float, View.view, View.items_of};
 ghost use Rattle.kcr_base.specs.Refusal.{member_text};
 ghost use Rattle.kcr_wire.specs.Bodies.{next_member};
 

@@ -1,7 +1,6 @@
 //! The body of a command's request.
 ghost use Rattle.std.specs.Prelude.{◌≡◌, ◌++◌, IfOk, codes, string_bytes};
-ghost use Rattle.serde_json.specs.Data.{string};
-ghost use Rattle.serde_json.specs.Written.{compact_text};
+ghost use Rattle.serde_json.specs.{Data.string, Written.compact_text};
 ghost use Rattle.kcr_wire.specs.Bodies.{body_text};
 
 use crate::body_members::{BodyText, text_value};

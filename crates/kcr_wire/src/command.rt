@@ -1,8 +1,7 @@
 //! Commands, read off the target and the body of a POST.
 ghost use Rattle.std.specs.Prelude.{◌≡◌, IfErr, IfOk};
 ghost use Rattle.serde_json.specs.View.{view};
-ghost use Rattle.kcr_forms.specs.Acts.{IsAct};
-ghost use Rattle.kcr_forms.specs.OrMemory.{OrMemory};
+ghost use Rattle.kcr_forms.specs.{Acts.IsAct, OrMemory.OrMemory};
 ghost use Rattle.kcr_wire.specs.Commands.{command_of, posted, posted_command};
 ghost use Rattle.kcr_wire.specs.Endpoints.{allow_of, if_method, refusal_alone};
 

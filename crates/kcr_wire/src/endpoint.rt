@@ -3,8 +3,7 @@
 
 ghost use Rattle.std.specs.Prelude.{◌≡◌, ◌==◌, ◌<◌, length, position, option_map, IfErr, IfSome};
 ghost use Rattle.matchit.specs.Params.{AllText};
-ghost use Rattle.kcr_wire.specs.Endpoints.{path_of, ascii_in, parts_of, post_at, inquiry_at, endpoint_of, target_of};
-ghost use Rattle.kcr_wire.specs.Endpoints.{allow_of_endpoint};
+ghost use Rattle.kcr_wire.specs.Endpoints.{path_of, ascii_in, parts_of, post_at, inquiry_at, endpoint_of, target_of, allow_of_endpoint};
 
 use crate::allow::Allow;
 use crate::path_part::in_path;

@@ -1,7 +1,6 @@
 //! Methods of requests.
 ghost use Rattle.std.specs.Prelude.{◌≡◌};
-ghost use Rattle.kcr_wire.specs.Endpoints.{allow_of, if_method};
-ghost use Rattle.kcr_wire.specs.Methods.{method_of, refused_of};
+ghost use Rattle.kcr_wire.specs.{Endpoints.allow_of, Endpoints.if_method, Methods.method_of, Methods.refused_of};
 
 use crate::endpoint::RouteTable;
 use crate::unread::Unread;

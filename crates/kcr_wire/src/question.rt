@@ -1,7 +1,6 @@
 //! Inquiries, read off the target of a GET or a HEAD.
 ghost use Rattle.std.specs.Prelude.{◌≡◌, IfErr};
-ghost use Rattle.kcr_wire.specs.Endpoints.{allow_of, if_method, refusal_alone};
-ghost use Rattle.kcr_wire.specs.Questions.{inquiry_of, question_of};
+ghost use Rattle.kcr_wire.specs.{Endpoints.allow_of, Endpoints.if_method, Endpoints.refusal_alone, Questions.inquiry_of, Questions.question_of};
 
 use crate::after::After;
 use crate::endpoint::{Endpoint, RouteTable};

@@ -1,7 +1,6 @@
 //! Answers as JSON: compact, with the members of an object in byte order.
 ghost use Rattle.std.specs.Prelude.{◌≡◌, IfOk, OnOk, map};
-ghost use Rattle.serde_json.specs.Data.{string, put as with_member};
-ghost use Rattle.serde_json.specs.View.{view, members_view};
+ghost use Rattle.serde_json.specs.{Data.string, Data.put as with_member, View.view, View.members_view};
 ghost use Rattle.kcr_history.specs.Refusals.{refusal_text};
 ghost use Rattle.kcr_wire.specs.ShownJson.{shown_text};
 
@@ -16,8 +15,7 @@ use std::alloc::{AllocError, Global};
 /// What is shown as JSON.
 trait ToJson {
     ghost use Rattle.std.specs.Prelude.{◌≡◌, IfOk};
-    ghost use Rattle.serde_json.specs.Data.{Data};
-    ghost use Rattle.serde_json.specs.View.{view};
+    ghost use Rattle.serde_json.specs.{Data.Data, View.view};
 
     /// The data that it is shown as.
     ghost json: { Self → Data };

@@ -4,18 +4,13 @@ use Rattle.std.specs.Prelude.{◌≡◌, [], ◌∷◌, codes, Some, None}
 use Rattle.std.proofs.Common.{refl, List, ℕ, ap}
 use Rattle.std.proofs.lemmas.Bool.{false≢true, true≢false}
 use Rattle.kcr_base.specs.Day.{day_text}
-use Rattle.kcr_history.specs.declared.commands.Act.TheVariants.{Ceremony}
-use Rattle.kcr_history.specs.declared.commands.Deed.TheVariants.{Sign}
-use Rattle.kcr_history.specs.History.{History}
-use Rattle.kcr_history.specs.Ceremonies.{steps_of}
-use Rattle.kcr_history.specs.Seating.{IsFirst, IsLeast}
-use Rattle.kcr_history.specs.Tables.{seats_at}
+use Rattle.kcr_history.specs.declared.commands.{Act.TheVariants.Ceremony, Deed.TheVariants.Sign}
+use Rattle.kcr_history.specs.{History.History, Tables.seats_at, Ceremonies.steps_of, Seating.IsFirst, Seating.IsLeast}
 use Rattle.kcr_laws.specs.Runs.{AreAnswered}
 use Rattle.kcr_laws.proofs.Trials.{same_people, least_by_trial}
 use Rattle.kcr_worked.specs.Examples.{AA, BB, CC, EA, EB, EE, new_year, that_day, clock, come, leave, with_act, accepted_from, script_of_one}
 use Rattle.kcr_worked.specs.Examples.{opening_acts, opened_with, opened_with_people, signed_by_two}
-use Rattle.kcr_worked.proofs.OnLiterals.{rows_on_literals}
-use Rattle.kcr_worked.proofs.Played.{answered, Seated, Lacking}
+use Rattle.kcr_worked.proofs.{OnLiterals.rows_on_literals, Played.answered, Played.Seated, Played.Lacking}
 
 -- The days of the examples, and the commands with which they begin.
 pub opening-new_year : day_text new_year ≡ codes "2025-01-01"

@@ -3,17 +3,11 @@ use Rattle.std.proofs.Common.{◌≡◌, ◌≢◌, ℕ, suc, Bool, true, false,
 use Rattle.std.proofs.Common.{Some, None, MatchOption, is_none, inl, inr, refl, sym, ap, subst, arith}
 use Rattle.std.specs.Prelude.{if◌then◌else◌, IsTrue, option_and_then}
 use Rattle.std.proofs.lemmas.Bool.{and_parts}
-use Rattle.kcr_base.specs.Same.{same_text}
-use Rattle.kcr_base.specs.declared.refusal.Refusal.{Refusal}
-use Rattle.kcr_base.specs.declared.refusal.Refusal.TheVariants.{Short}
+use Rattle.kcr_base.specs.{Same.same_text, declared.refusal.Refusal.Refusal, declared.refusal.Refusal.TheVariants.Short}
 use Rattle.kcr_base.proofs.SameLemmas.{same-is}
 use Rattle.kcr_script.specs.declared.seat.Seat.{Seat}
-use Rattle.kcr_history.specs.declared.commands.Act.{Act}
-use Rattle.kcr_history.specs.declared.commands.Entry.{Entry}
-use Rattle.kcr_history.specs.History.{History, entry_of}
-use Rattle.kcr_history.specs.Room.{present}
-use Rattle.kcr_history.specs.Seating.{is_seating, comes_first, IsFirst}
-use Rattle.kcr_history.specs.Conditions.{fault}
+use Rattle.kcr_history.specs.{declared.commands.Act.Act, declared.commands.Entry.Entry, Seating.is_seating, Seating.comes_first, Seating.IsFirst}
+use Rattle.kcr_history.specs.{History.History, History.entry_of, Room.present, Conditions.fault}
 use Rattle.kcr_history.specs.Machine.{Outcome, Accepts, Refuses, SeatRequest, seat_request, reply_to, seats, DecidesNew, DecidesRepeat, machine}
 use Rattle.kcr_laws.specs.Runs.{outcome_text, new_command, AreSteps, AreAnswered}
 use Rattle.kcr_laws.proofs.Trials.{every, every_holds, is_least_by_trial, least_by_trial, people-are, same_people, seated_inside}

@@ -1,15 +1,11 @@
 -- Histories of the examples that the machine reaches are registers.
 use Rattle.std.proofs.Common.{ℕ, List, [], ◌∷◌, codes, refl}
-use Rattle.kcr_history.specs.declared.commands.Act.{Act}
-use Rattle.kcr_history.specs.declared.commands.Act.TheVariants.{Ceremony}
+use Rattle.kcr_history.specs.{declared.commands.Act.Act, declared.commands.Act.TheVariants.Ceremony, Machine.IsRegister}
 use Rattle.kcr_history.specs.declared.commands.Deed.TheVariants.{AddItem, Cut, Seal, Sign}
-use Rattle.kcr_history.specs.Machine.{IsRegister}
 use Rattle.kcr_laws.proofs.Accepted.{answers_keep}
-use Rattle.kcr_worked.specs.Examples.{AA, BB, HSM4, bag_7, bag_8, clock, come, leave, script_of_one}
-use Rattle.kcr_worked.specs.Examples.{opened_with, signed_by_two, bag_on_table}
+use Rattle.kcr_worked.specs.Examples.{AA, BB, HSM4, bag_7, bag_8, clock, come, leave, script_of_one, opened_with, signed_by_two, bag_on_table}
 use Rattle.kcr_worked.proofs.Commands.{opening-one_seat, opening-two_seats, signature_of_a_step}
-use Rattle.kcr_worked.proofs.OnLiterals.{rows_on_literals}
-use Rattle.kcr_worked.proofs.Played.{Seated, answered}
+use Rattle.kcr_worked.proofs.{OnLiterals.rows_on_literals, Played.Seated, Played.answered}
 
 -- the history after two people signed a step is that of a register
 pub two_signed : IsRegister signed_by_two

@@ -3,17 +3,13 @@ use Rattle.std.specs.Prelude.{[], ◌∷◌, codes, Some, None}
 use Rattle.std.proofs.Common.{refl}
 use Rattle.std.proofs.lemmas.Bool.{false≢true}
 use Rattle.kcr_custody.specs.declared.Destination.TheVariants.{DepositBox}
-use Rattle.kcr_history.specs.declared.commands.Act.TheVariants.{Ceremony}
+use Rattle.kcr_history.specs.{declared.commands.Act.TheVariants.Ceremony, Laws.IsBalanced, Laws.IsSound}
 use Rattle.kcr_history.specs.declared.commands.Deed.TheVariants.{AddItem, Close, Cut, Put, Seal, Sign}
-use Rattle.kcr_history.specs.Laws.{IsBalanced, IsSound}
 use Rattle.kcr_laws.specs.Runs.{AreAnswered}
-use Rattle.kcr_laws.proofs.Alone.{rooms}
-use Rattle.kcr_laws.proofs.Balance.{balanced}
+use Rattle.kcr_laws.proofs.{Alone.rooms, Balance.balanced}
 use Rattle.kcr_worked.specs.Examples.{AA, BB, HSM4, bag_7, bag_8, clock, come, leave, with_act, with_acts, script_of_one, opened_with}
 use Rattle.kcr_worked.specs.Examples.{opened_with_people, signed_by_two, bag_on_table}
-use Rattle.kcr_worked.proofs.OnLiterals.{rows_on_literals}
-use Rattle.kcr_worked.proofs.Reached.{bag_lies, two_signed}
-use Rattle.kcr_worked.proofs.Played.{Seated, answered}
+use Rattle.kcr_worked.proofs.{OnLiterals.rows_on_literals, Played.Seated, Played.answered, Reached.bag_lies, Reached.two_signed}
 
 -- A register is sound. A history is not, if somebody was alone in the room, or if BB, who is no IW, sits as IW.
 pub sound_register-sound : IsSound signed_by_two

@@ -2,17 +2,13 @@
 use Rattle.std.specs.Prelude.{◌≡◌, ◌++◌, ℕ, List, [], ◌∷◌, codes, Some}
 use Rattle.std.specs.Global.{Vec}
 use Rattle.std.proofs.Common.{refl}
-use Rattle.kcr_base.specs.declared.place.Facility.TheVariants.{East}
-use Rattle.kcr_base.specs.declared.place.Role.TheVariants.{Ca, Iw}
+use Rattle.kcr_base.specs.declared.place.{Facility.TheVariants.East, Role.TheVariants.Ca, Role.TheVariants.Iw}
 use Rattle.kcr_custody.specs.declared.Spot.TheVariants as Spots
 use Rattle.kcr_custody.specs.declared.Rest.TheVariants as Rests
 use Rattle.kcr_script.specs.declared.seat.Seat.TheVariants.{Staff}
-use Rattle.kcr_history.specs.declared.questions.PersonShown.{PersonShown}
-use Rattle.kcr_history.specs.declared.questions.RoleShown.{RoleShown}
+use Rattle.kcr_history.specs.{declared.questions.PersonShown.PersonShown, declared.questions.RoleShown.RoleShown, Prints.custody, Tables.tables}
 use Rattle.kcr_history.specs.declared.questions.Shown.TheVariants as Shown
 use Rattle.kcr_history.specs.declared.row_types.StepState.TheVariants as StepStates
-use Rattle.kcr_history.specs.Prints.{custody}
-use Rattle.kcr_history.specs.Tables.{tables}
 use Rattle.kcr_wire.specs.ShownJson.{shown_text}
 use Rattle.kcr_worked.specs.Examples.{AA, BB, HSM4, bag_7, bag_8, bag_on_table, clock, entered, lines, new_year, signed_by_two, that_day}
 use Rattle.kcr_worked.proofs.OnLiterals.{rows_on_literals, answers_on_literals}

@@ -2,14 +2,11 @@
 use Rattle.std.specs.Prelude.{ℕ, suc, ◌+◌, ◌*◌, List, [], ◌∷◌, ◌++◌, codes, Option, Some, None}
 use Rattle.std.specs.Fmt.{decimal}
 use Rattle.kcr_base.specs.declared.place.Facility.TheVariants.{East, West}
-use Rattle.kcr_base.specs.declared.place.Place.TheVariants.{Co}
-use Rattle.kcr_base.specs.declared.place.Role.TheVariants.{Ca, Iw}
+use Rattle.kcr_base.specs.declared.place.{Place.TheVariants.Co, Role.TheVariants.Ca, Role.TheVariants.Iw}
 use Rattle.kcr_room.specs.declared.Way.TheVariants as Ways
-use Rattle.kcr_history.specs.declared.commands.Act.{Act}
+use Rattle.kcr_history.specs.{declared.commands.Act.Act, History.History, Machine.reply_to, Machine.with_command}
 use Rattle.kcr_history.specs.declared.commands.Act.TheVariants.{Enter, Train, Appoint, Plan, Ceremony}
 use Rattle.kcr_history.specs.declared.commands.Deed.TheVariants.{AddItem, Open, RecordSheet, Sign, Seal, Cut}
-use Rattle.kcr_history.specs.History.{History}
-use Rattle.kcr_history.specs.Machine.{reply_to, with_command}
 use Rattle.kcr_laws.specs.Runs.{new_command}
 
 -- PEOPLE, DAYS AND MOMENTS

@@ -1,7 +1,5 @@
-use Rattle.std.proofs.Common.{ap, arith}
-use Rattle.std.proofs.lemmas.Result.{IfOk-weaker}
-use Rattle.kcr_seats.proofs.Agree.{answer_taken}
-use Rattle.kcr_seats.proofs.Turns.{in_all}
+use Rattle.std.proofs.{Common.ap, Common.arith, lemmas.Result.IfOk-weaker}
+use Rattle.kcr_seats.proofs.{Agree.answer_taken, Turns.in_all}
 use Rattle.kcr_seats.proofs.seat.Goals as goal
 
 pub returns-clause-answer : goal.returns-clause-answer

@@ -1,7 +1,6 @@
 use Rattle.std.proofs.Common.{◌≡◌, false, take}
 use Rattle.std.specs.Prelude.{fold}
-use Rattle.clap.specs.Words.{app_of, new_app, with_rule}
-use Rattle.clap.specs.declared.builder.command.Command.TheViews.{out-Command}
+use Rattle.clap.specs.{Words.app_of, Words.new_app, Words.with_rule, declared.builder.command.Command.TheViews.out-Command}
 use Rattle.kcr_arguments.specs.Commands.{file_rule, with_option}
 use Rattle.kcr_arguments.proofs.commands.command_of.Given as goal
 

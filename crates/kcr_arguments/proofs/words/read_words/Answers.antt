@@ -1,7 +1,6 @@
 use Rattle.std.proofs.Common.{sym}
 use Rattle.kcr_arguments.specs.Tasks.{task_of, file_of, into_of, is_existing, is_explained}
-use Rattle.kcr_arguments.proofs.Parses.{met_is}
-use Rattle.kcr_arguments.proofs.Taken.{never_none, never_other}
+use Rattle.kcr_arguments.proofs.{Parses.met_is, Taken.never_none, Taken.never_other}
 use Rattle.kcr_arguments.proofs.words.read_words.Goals as goal
 
 pub unreachable-requires : goal.unreachable-requires

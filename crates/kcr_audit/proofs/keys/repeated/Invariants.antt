@@ -1,5 +1,4 @@
-use Rattle.kcr_audit.proofs.Common.{take, contains, same_text}
-use Rattle.kcr_audit.proofs.Seen.{Seen}
+use Rattle.kcr_audit.proofs.{Common.take, Common.contains, Common.same_text, Seen.Seen}
 use Rattle.kcr_audit.proofs.keys.repeated.Given as goal
 
 -- the keys of the rows so far were seen, each once

@@ -1,6 +1,5 @@
 use Rattle.kcr_audit.proofs.Common.{eqb, sym, subst, Contains, Contains-permutation}
-use Rattle.std.proofs.lemmas.List.Filters.{dedup_is}
-use Rattle.std.proofs.lemmas.List.Kept.{Contains-dedup_nat}
+use Rattle.std.proofs.lemmas.List.{Filters.dedup_is, Kept.Contains-dedup_nat}
 use Rattle.kcr_audit.proofs.rooms.each_once.Goals as goal
 
 pub returns : goal.returns

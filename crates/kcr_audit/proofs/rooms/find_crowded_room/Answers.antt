@@ -1,5 +1,4 @@
-use Rattle.kcr_audit.proofs.Common.{is_crowd}
-use Rattle.kcr_audit.proofs.Crowds.{none-listed, none-crowd}
+use Rattle.kcr_audit.proofs.{Common.is_crowd, Crowds.none-listed, Crowds.none-crowd}
 use Rattle.kcr_audit.proofs.rooms.find_crowded_room.Goals as goal
 
 pub returns : goal.returns

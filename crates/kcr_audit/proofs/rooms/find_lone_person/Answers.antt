@@ -1,5 +1,4 @@
-use Rattle.kcr_audit.proofs.Common.{is_lone}
-use Rattle.kcr_audit.proofs.Crowds.{none-listed, none-lone}
+use Rattle.kcr_audit.proofs.{Common.is_lone, Crowds.none-listed, Crowds.none-lone}
 use Rattle.kcr_audit.proofs.rooms.find_lone_person.Goals as goal
 
 pub returns : goal.returns

@@ -1,5 +1,4 @@
-use Rattle.kcr_history.proofs.Common.{sym, rules, append_assoc}
-use Rattle.kcr_history.proofs.Listed.{listed_more, separator_more}
+use Rattle.kcr_history.proofs.{Common.sym, Common.rules, Common.append_assoc, Listed.listed_more, Listed.separator_more}
 use Rattle.kcr_history.proofs.comma_lists.push_codes.Goals as goal
 
 pub loop-code-preserved : goal.loop-code-preserved

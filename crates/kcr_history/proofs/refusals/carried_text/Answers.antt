@@ -1,5 +1,4 @@
-use Rattle.kcr_history.proofs.Common.{refl}
-use Rattle.kcr_history.proofs.Listed.{carried}
+use Rattle.kcr_history.proofs.{Common.refl, Listed.carried}
 use Rattle.kcr_history.proofs.refusals.carried_text.Goals as goal
 
 pub returns-in-Turn : goal.returns-in-Turn

@@ -1,6 +1,4 @@
-use Rattle.kcr_history.proofs.Common.{sym, rules}
-use Rattle.kcr_history.proofs.Listed.{separator_more}
-use Rattle.kcr_history.proofs.Listed.{quoted_more}
+use Rattle.kcr_history.proofs.{Common.sym, Common.rules, Listed.separator_more, Listed.quoted_more}
 use Rattle.kcr_history.proofs.replies.people_array.Goals as goal
 
 pub loop-who-preserved : goal.loop-who-preserved

@@ -1,5 +1,4 @@
-use Rattle.kcr_older.proofs.Common.{state, on_ok_then, clean_before}
-use Rattle.kcr_older.proofs.Grown.{grown_from_1, grown_from_2}
+use Rattle.kcr_older.proofs.{Common.state, Common.on_ok_then, Common.clean_before, Grown.grown_from_1, Grown.grown_from_2}
 use Rattle.kcr_older.proofs.missing_tables.create_missing_tables.Goals as goal
 
 pub returns-in_ok-create_stays-in-V1-clause-holds : goal.returns-in_ok-create_stays-in-V1-clause-holds

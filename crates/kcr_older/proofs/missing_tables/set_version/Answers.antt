@@ -1,5 +1,4 @@
-use Rattle.kcr_older.proofs.Common.{state, on_ok_then}
-use Rattle.kcr_older.proofs.Update.{sets}
+use Rattle.kcr_older.proofs.{Common.state, Common.on_ok_then, Update.sets}
 use Rattle.kcr_older.proofs.missing_tables.set_version.Goals as goal
 
 pub returns-clause-holds : goal.returns-clause-holds

@@ -1,7 +1,6 @@
 use Rattle.kcr_older.proofs.Common.{◌∙◌, ap, map, sym, ◌∷◌, [], subst, state, Shown, Value, map-map, only_number}
 use Rattle.kcr_older.specs.declared.number.Cell.{Cell}
-use Rattle.kcr_older.proofs.NumberText.{text}
-use Rattle.kcr_older.proofs.NumberLemmas.{is_there, number_read, number_same}
+use Rattle.kcr_older.proofs.{NumberText.text, NumberLemmas.is_there, NumberLemmas.number_read, NumberLemmas.number_same}
 use Rattle.kcr_older.proofs.number.version_in.Goals as goal
 
 pub returns-clause-number : goal.returns-clause-number

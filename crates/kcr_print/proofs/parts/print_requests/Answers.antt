@@ -1,6 +1,5 @@
 use Rattle.kcr_print.proofs.Common.{ℕ, List, ap, ◌∙◌, subst, take, Appends, flat_map, take-map, flat_map-map, inner_of, commands_within, row_request}
-use Rattle.kcr_print.proofs.Common.{row_requests}
-use Rattle.kcr_print.proofs.PartLemmas.{puts_text}
+use Rattle.kcr_print.proofs.{Common.row_requests, PartLemmas.puts_text}
 use Rattle.kcr_print.proofs.parts.print_requests.Goals as goal
 
 pub returns-clause-prints : goal.returns-clause-prints

@@ -1,6 +1,4 @@
-use Rattle.kcr_print.proofs.Common.{annotated}
-use Rattle.kcr_print.proofs.PartLemmas.{planned_told}
-use Rattle.kcr_print.proofs.ReportLemmas.{annotated_text}
+use Rattle.kcr_print.proofs.{Common.annotated, PartLemmas.planned_told, ReportLemmas.annotated_text}
 use Rattle.kcr_print.proofs.reports.annotated.Goals as goal
 
 pub returns : goal.returns

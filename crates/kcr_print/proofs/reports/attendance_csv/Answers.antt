@@ -1,6 +1,4 @@
-use Rattle.kcr_print.proofs.Common.{inr, attendance}
-use Rattle.kcr_print.proofs.PartLemmas.{planned_told}
-use Rattle.kcr_print.proofs.ReportLemmas.{register_attendance}
+use Rattle.kcr_print.proofs.{Common.inr, Common.attendance, PartLemmas.planned_told, ReportLemmas.register_attendance}
 use Rattle.kcr_print.proofs.reports.attendance_csv.Goals as goal
 
 pub returns : goal.returns

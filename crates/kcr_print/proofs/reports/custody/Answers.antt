@@ -1,6 +1,4 @@
-use Rattle.kcr_print.proofs.Common.{custody}
-use Rattle.kcr_print.proofs.PartLemmas.{rows_told, text_told}
-use Rattle.kcr_print.proofs.ReportLemmas.{custody_text}
+use Rattle.kcr_print.proofs.{Common.custody, ReportLemmas.custody_text, PartLemmas.rows_told, PartLemmas.text_told}
 use Rattle.kcr_print.proofs.reports.custody.Goals as goal
 
 pub returns : goal.returns

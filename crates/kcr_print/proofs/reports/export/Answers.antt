@@ -1,6 +1,5 @@
 use Rattle.kcr_print.proofs.Common.{refl, rules, tables, row_requests}
-use Rattle.kcr_print.proofs.PartLemmas.{rows_told, text_told}
-use Rattle.kcr_print.proofs.RequestLemmas.{export_requests}
+use Rattle.kcr_print.proofs.{PartLemmas.rows_told, PartLemmas.text_told, RequestLemmas.export_requests}
 use Rattle.kcr_print.proofs.reports.export.Goals as goal
 
 pub returns-in_err-unbroken : goal.returns-in_err-unbroken

@@ -1,6 +1,5 @@
 use Rattle.kcr_print.proofs.Common.{refl, rules, tables, row_journal}
-use Rattle.kcr_print.proofs.JournalLemmas.{journal_lines}
-use Rattle.kcr_print.proofs.PartLemmas.{rows_told, text_told}
+use Rattle.kcr_print.proofs.{JournalLemmas.journal_lines, PartLemmas.rows_told, PartLemmas.text_told}
 use Rattle.kcr_print.proofs.reports.journal.Goals as goal
 
 pub returns-in_err-unbroken : goal.returns-in_err-unbroken

@@ -1,6 +1,5 @@
 use Rattle.kcr_print.proofs.Common.{◌≡◌, ◌-◌, ◌≤◌, length, take, drop, subst, sym, arith, ◌∙◌, length-drop, add-zero, take_all, ne_eqb, Appends}
-use Rattle.kcr_print.proofs.Common.{take-add}
-use Rattle.kcr_print.proofs.WrittenLemmas.{appends_both}
+use Rattle.kcr_print.proofs.{Common.take-add, WrittenLemmas.appends_both}
 use Rattle.kcr_print.proofs.writing.write_whole.Goals as goal
 
 pub loop-at-preserved : goal.loop-at-preserved

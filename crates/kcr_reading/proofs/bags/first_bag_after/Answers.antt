@@ -1,6 +1,5 @@
 use Rattle.kcr_reading.proofs.Common.{◌∷◌, [], Some, None, ◌∙◌, ap, Text}
-use Rattle.kcr_reading.proofs.ChoiceLemmas.{shown_by, by_tables}
-use Rattle.kcr_reading.proofs.CustodyLemmas.{bags_shown, first_bag}
+use Rattle.kcr_reading.proofs.{ChoiceLemmas.shown_by, ChoiceLemmas.by_tables, CustodyLemmas.bags_shown, CustodyLemmas.first_bag}
 use Rattle.kcr_reading.proofs.bags.first_bag_after.Goals as goal
 
 pub returns-in-Some-clause-first : goal.returns-in-Some-clause-first

@@ -1,6 +1,5 @@
 use Rattle.kcr_reading.proofs.Common.{◌∙◌}
-use Rattle.kcr_reading.proofs.ChoiceLemmas.{by_tables}
-use Rattle.kcr_reading.proofs.CustodyLemmas.{within}
+use Rattle.kcr_reading.proofs.{ChoiceLemmas.by_tables, CustodyLemmas.within}
 use Rattle.kcr_reading.proofs.bags.items_within.Goals as goal
 
 pub returns-clause-rows : goal.returns-clause-rows

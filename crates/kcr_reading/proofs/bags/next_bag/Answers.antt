@@ -1,7 +1,5 @@
-use Rattle.kcr_reading.proofs.Common.{rules}
-use Rattle.kcr_reading.proofs.CustodyLemmas.{next_bag}
+use Rattle.kcr_reading.proofs.{Common.rules, CustodyLemmas.next_bag, bags.next_bag.Goals.in-Some, bags.next_bag.Goals.in_default}
 use Rattle.kcr_reading.proofs.bags.next_bag.Goals as goal
-use Rattle.kcr_reading.proofs.bags.next_bag.Goals.{in-Some, in_default}
 
 pub returns-clause-gives : goal.returns-clause-gives
 returns-clause-gives g c clean m h =

@@ -1,6 +1,5 @@
 use Rattle.kcr_reading.proofs.Common.{IsSome, true≢false, sym, subst, into_iter_items, IsNextOf, read_ahead}
-use Rattle.kcr_reading.proofs.AheadLemmas.{gives_taken}
-use Rattle.kcr_reading.proofs.FirstLemmas.{no_rows}
+use Rattle.kcr_reading.proofs.{AheadLemmas.gives_taken, FirstLemmas.no_rows}
 use Rattle.kcr_reading.proofs.batched.take_first.Goals as goal
 
 pub returns-in-Some : goal.returns-in-Some

@@ -1,6 +1,5 @@
 use Rattle.kcr_reading.proofs.Common.{◌∷◌, [], rules, fails_as, reads_to, held_of}
-use Rattle.kcr_reading.proofs.ChoiceLemmas.{shown_by}
-use Rattle.kcr_reading.proofs.CeremonyLemmas.{exceptions_shown, next_exception}
+use Rattle.kcr_reading.proofs.{ChoiceLemmas.shown_by, CeremonyLemmas.exceptions_shown, CeremonyLemmas.next_exception}
 use Rattle.kcr_reading.proofs.exceptions.next_exception.Goals as goal
 use Rattle.kcr_reading.proofs.exceptions.next_exception.Goals.{in-Some, in_default}
 

@@ -1,6 +1,5 @@
 use Rattle.kcr_reading.proofs.Common.{◌∷◌, [], Some, None, ◌∙◌, ap, Text}
-use Rattle.kcr_reading.proofs.ChoiceLemmas.{shown_by, by_tables}
-use Rattle.kcr_reading.proofs.CustodyLemmas.{loose_shown, first_loose}
+use Rattle.kcr_reading.proofs.{ChoiceLemmas.shown_by, ChoiceLemmas.by_tables, CustodyLemmas.loose_shown, CustodyLemmas.first_loose}
 use Rattle.kcr_reading.proofs.loose_items.first_loose_after.Goals as goal
 
 pub returns-in-Some-clause-first : goal.returns-in-Some-clause-first

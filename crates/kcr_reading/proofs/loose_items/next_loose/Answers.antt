@@ -1,7 +1,5 @@
-use Rattle.kcr_reading.proofs.Common.{rules}
-use Rattle.kcr_reading.proofs.CustodyLemmas.{next_loose}
+use Rattle.kcr_reading.proofs.{Common.rules, CustodyLemmas.next_loose, loose_items.next_loose.Goals.in-Some, loose_items.next_loose.Goals.in_default}
 use Rattle.kcr_reading.proofs.loose_items.next_loose.Goals as goal
-use Rattle.kcr_reading.proofs.loose_items.next_loose.Goals.{in-Some, in_default}
 
 pub returns-clause-gives : goal.returns-clause-gives
 returns-clause-gives g c clean m h =

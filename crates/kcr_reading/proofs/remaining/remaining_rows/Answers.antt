@@ -1,5 +1,4 @@
-use Rattle.kcr_reading.proofs.Common.{clean_before, reads_to, reads_on}
-use Rattle.kcr_reading.proofs.RemainingLemmas.{one_taken, none_left}
+use Rattle.kcr_reading.proofs.{Common.clean_before, Common.reads_to, Common.reads_on, RemainingLemmas.one_taken, RemainingLemmas.none_left}
 use Rattle.kcr_reading.proofs.remaining.remaining_rows.Goals as goal
 
 pub loop-preserved : goal.loop-preserved

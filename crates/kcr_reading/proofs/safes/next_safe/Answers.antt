@@ -1,7 +1,6 @@
 use Rattle.kcr_reading.proofs.Common.{◌∙◌, ap, sym, rules, find, slice_get-filter, held_of, is_past, safe_place, SafeRow}
-use Rattle.kcr_reading.proofs.CustodyLemmas.{next_safe}
+use Rattle.kcr_reading.proofs.{CustodyLemmas.next_safe, safes.next_safe.Goals.in-Some, safes.next_safe.Goals.in_default}
 use Rattle.kcr_reading.proofs.safes.next_safe.Goals as goal
-use Rattle.kcr_reading.proofs.safes.next_safe.Goals.{in-Some, in_default}
 
 pub returns-clause-gives : goal.returns-clause-gives
 returns-clause-gives g c clean m h =

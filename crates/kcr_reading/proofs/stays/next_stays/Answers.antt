@@ -1,7 +1,6 @@
 use Rattle.kcr_reading.proofs.Common.{◌∙◌, ◌-◌, List, length, slice_get, ap, rules, option_copied, Stay}
-use Rattle.kcr_reading.proofs.StayLemmas.{next_listed}
+use Rattle.kcr_reading.proofs.{StayLemmas.next_listed, stays.next_stays.Goals.in-Some, stays.next_stays.Goals.in_default}
 use Rattle.kcr_reading.proofs.stays.next_stays.Goals as goal
-use Rattle.kcr_reading.proofs.stays.next_stays.Goals.{in-Some, in_default}
 
 pub returns-clause-gives : goal.returns-clause-gives
 returns-clause-gives g c clean m h =

@@ -1,9 +1,7 @@
 use Rattle.kcr_reading.proofs.Common.{◌∷◌, [], ◌∙◌, ◌-◌, List, length, slice_get, ap, rules, arith, option_copied, StepRow, fails_as, reads_to}
-use Rattle.kcr_reading.proofs.Common.{held_of}
-use Rattle.kcr_reading.proofs.ChoiceLemmas.{shown_by}
+use Rattle.kcr_reading.proofs.{Common.held_of, ChoiceLemmas.shown_by, steps.next_steps.Goals.in-Some, steps.next_steps.Goals.in_default}
 use Rattle.kcr_reading.proofs.CeremonyLemmas.{steps_shown, next_steps, steps_within}
 use Rattle.kcr_reading.proofs.steps.next_steps.Goals as goal
-use Rattle.kcr_reading.proofs.steps.next_steps.Goals.{in-Some, in_default}
 
 pub returns-in_err-rows-clause-frame : goal.returns-in_err-rows-clause-frame
 returns-in_err-rows-clause-frame g c =

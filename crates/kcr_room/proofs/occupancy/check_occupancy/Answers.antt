@@ -1,5 +1,4 @@
-use Rattle.kcr_room.proofs.Common.{rules}
-use Rattle.kcr_room.proofs.Counting.{told-crowded, told-lone}
+use Rattle.kcr_room.proofs.{Common.rules, Counting.told-crowded, Counting.told-lone}
 use Rattle.kcr_room.proofs.occupancy.check_occupancy.Goals as goal
 
 pub returns-clause-crowded : goal.returns-clause-crowded

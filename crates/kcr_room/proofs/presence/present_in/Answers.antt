@@ -1,5 +1,4 @@
-use Rattle.kcr_room.proofs.Common.{arith, common_steps}
-use Rattle.kcr_room.proofs.Orders.{present-more}
+use Rattle.kcr_room.proofs.{Common.arith, Common.common_steps, Orders.present-more}
 use Rattle.kcr_room.proofs.presence.present_in.Goals as goal
 
 pub loop-stay-preserved : goal.loop-stay-preserved

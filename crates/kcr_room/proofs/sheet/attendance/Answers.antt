@@ -1,6 +1,5 @@
-use Rattle.kcr_room.proofs.Common.{arith, common_steps}
+use Rattle.kcr_room.proofs.{Common.arith, Common.common_steps, Listed.onto-none, Listed.onto-last}
 use Rattle.std.proofs.lemmas.Bool.Decides.{nat_tests}
-use Rattle.kcr_room.proofs.Listed.{onto-none, onto-last}
 use Rattle.kcr_room.proofs.sheet.attendance.Goals as goal
 
 pub loop-stay-init : goal.loop-stay-init

@@ -1,5 +1,4 @@
-use Rattle.kcr_room.proofs.Common.{arith, common_steps}
-use Rattle.kcr_room.proofs.Agreement.{same-present}
+use Rattle.kcr_room.proofs.{Common.arith, Common.common_steps, Agreement.same-present}
 use Rattle.kcr_room.proofs.sheet.present.Goals as goal
 
 pub returns : goal.returns

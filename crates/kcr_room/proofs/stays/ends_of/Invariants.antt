@@ -1,5 +1,4 @@
-use Rattle.kcr_room.proofs.Common.{length, get, same_text}
-use Rattle.kcr_room.proofs.Steps.{Told}
+use Rattle.kcr_room.proofs.{Common.length, Common.get, Common.same_text, Steps.Told}
 use Rattle.kcr_room.proofs.stays.ends_of.Given as goal
 
 abbrev pub invariant-loop-step : goal.invariant-loop-step

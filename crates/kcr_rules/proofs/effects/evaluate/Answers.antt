@@ -1,6 +1,4 @@
-use Rattle.kcr_rules.proofs.Common.{rules}
-use Rattle.kcr_rules.proofs.OwnRefusals.{effect-kind}
-use Rattle.kcr_rules.proofs.NotFull.{not-full-result}
+use Rattle.kcr_rules.proofs.{Common.rules, OwnRefusals.effect-kind, NotFull.not-full-result}
 use Rattle.kcr_rules.proofs.effects.evaluate.Goals as goal
 
 pub returns-clause-not_full : goal.returns-clause-not_full

@@ -1,6 +1,5 @@
 use Rattle.kcr_script.proofs.Common.{map, sym, ap, ◌∙◌, fields_of}
-use Rattle.kcr_script.proofs.RowLemmas.{are_rows_same}
-use Rattle.kcr_script.proofs.ScriptReading.{script_is}
+use Rattle.kcr_script.proofs.{RowLemmas.are_rows_same, ScriptReading.script_is}
 use Rattle.kcr_script.proofs.reader.read_script.Goals as goal
 
 pub returns-in-Ok-clause-only : goal.returns-in-Ok-clause-only

@@ -1,9 +1,7 @@
-use Rattle.std.proofs.Common.{sym, arith}
-use Rattle.std.proofs.lemmas.Bool.Decides.{nat_tests}
+use Rattle.std.proofs.{Common.sym, Common.arith, lemmas.Bool.Decides.nat_tests}
 use Rattle.kcr_seats.specs.Seating.{can_take}
-use Rattle.kcr_seats.proofs.Counting.{count_none, count_next}
+use Rattle.kcr_seats.proofs.{Counting.count_none, Counting.count_next, check.able_count.Goals.then-can_sit, check.able_count.Goals.else-can_sit}
 use Rattle.kcr_seats.proofs.check.able_count.Goals as goal
-use Rattle.kcr_seats.proofs.check.able_count.Goals.{then-can_sit, else-can_sit}
 
 pub loop-person-init : goal.loop-person-init
 loop-person-init g c = (sym (count_none (can_take (g.F.Fits.relation c.args.fits.now) c.args.seats.now)), omega arith)

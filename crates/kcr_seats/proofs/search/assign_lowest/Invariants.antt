@@ -1,7 +1,5 @@
 use Rattle.std.proofs.Common.{◌≡◌, ℕ, ◌<◌, ◌≤◌, List, get_or, ◌+◌, ◌*◌}
-use Rattle.kcr_seats.specs.Search.{search_steps}
-use Rattle.kcr_seats.specs.Seating.{IsSeating}
-use Rattle.kcr_seats.specs.Matrix.{fits_of, seats_of, people_of}
+use Rattle.kcr_seats.specs.{Search.search_steps, Seating.IsSeating, Matrix.fits_of, Matrix.seats_of, Matrix.people_of}
 use Rattle.kcr_seats.proofs.search.assign_lowest.Given as goal
 
 abbrev pub invariant-loop-person : goal.invariant-loop-person

@@ -1,6 +1,5 @@
 use Rattle.std.proofs.Common.{◌≡◌, ℕ, ◌+◌, ◌<◌, ◌≤◌, true, get_or}
-use Rattle.kcr_seats.specs.People.{contains}
-use Rattle.kcr_seats.specs.Matrix.{fits_of}
+use Rattle.kcr_seats.specs.{People.contains, Matrix.fits_of}
 use Rattle.kcr_seats.proofs.search.free_person.Given as goal
 
 abbrev pub invariant-loop-index : goal.invariant-loop-index

@@ -1,8 +1,6 @@
 use Rattle.std.proofs.Common.{◌+◌, arith}
-use Rattle.kcr_seats.specs.Matrix.{people_of, seats_of}
-use Rattle.kcr_seats.specs.Search.{lower_steps}
-use Rattle.kcr_seats.proofs.First.{first_more}
-use Rattle.kcr_seats.proofs.Turns.{in_loop}
+use Rattle.kcr_seats.specs.{Matrix.people_of, Matrix.seats_of, Search.lower_steps}
+use Rattle.kcr_seats.proofs.{First.first_more, Turns.in_loop}
 use Rattle.kcr_seats.proofs.search.make_first.Goals as goal
 
 pub loop-seat-preserved : goal.loop-seat-preserved

@@ -1,7 +1,6 @@
 use Rattle.std.proofs.Common.{◌+◌, ◌*◌, ◌≤◌}
-use Rattle.kcr_seats.specs.Search.{lower_steps}
+use Rattle.kcr_seats.specs.{Search.lower_steps, Matrix.fits_of, Matrix.seats_of, Matrix.people_of}
 use Rattle.kcr_seats.proofs.Between.{IsFirstBelow}
-use Rattle.kcr_seats.specs.Matrix.{fits_of, seats_of, people_of}
 use Rattle.kcr_seats.proofs.search.make_first.Given as goal
 
 abbrev pub invariant-loop-seat : goal.invariant-loop-seat

@@ -1,6 +1,5 @@
 use Rattle.std.proofs.Common.{◌≡◌, ◌+◌, ◌≤◌, ◌∙◌, false, get_or, arith, length, ap, sym}
-use Rattle.std.proofs.lemmas.List.{get_or_read}
-use Rattle.std.proofs.Math.Nat.{mul-le-mul_right}
+use Rattle.std.proofs.{lemmas.List.get_or_read, Math.Nat.mul-le-mul_right}
 use Rattle.kcr_seats.proofs.SearchLemmas.{order_short, root_reached, root_marked, not_root, row_start, row_closed, row_more, row_less}
 use Rattle.kcr_seats.proofs.Turns.{in_row}
 use Rattle.kcr_seats.proofs.search.reach.Goals as goal

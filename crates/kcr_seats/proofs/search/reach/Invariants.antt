@@ -1,7 +1,6 @@
 use Rattle.std.proofs.Common.{◌+◌, ◌-◌, ◌≤◌, length, ◌*◌}
-use Rattle.kcr_seats.specs.Search.{IsReached, IsMarked, IsClosed}
+use Rattle.kcr_seats.specs.{Search.IsReached, Search.IsMarked, Search.IsClosed, Matrix.fits_of}
 use Rattle.kcr_seats.proofs.Between.{IsRow}
-use Rattle.kcr_seats.specs.Matrix.{fits_of}
 use Rattle.kcr_seats.proofs.search.reach.Given as goal
 
 abbrev pub invariant-row : goal.invariant-row

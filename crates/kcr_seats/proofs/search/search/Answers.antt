@@ -1,6 +1,5 @@
 use Rattle.std.proofs.Common.{ap, length, arith, length-append}
-use Rattle.kcr_seats.proofs.Least.{least}
-use Rattle.kcr_seats.proofs.Turns.{in_improve, in_turn}
+use Rattle.kcr_seats.proofs.{Least.least, Turns.in_improve, Turns.in_turn}
 use Rattle.kcr_seats.specs.Matrix.{seats_of, people_of}
 use Rattle.kcr_seats.proofs.search.search.Goals as goal
 

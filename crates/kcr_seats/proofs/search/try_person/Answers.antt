@@ -1,5 +1,4 @@
-use Rattle.kcr_seats.proofs.SearchLemmas.{restored}
-use Rattle.kcr_seats.proofs.First.{refused_stuck}
+use Rattle.kcr_seats.proofs.{SearchLemmas.restored, First.refused_stuck}
 use Rattle.kcr_seats.proofs.search.try_person.Goals as goal
 
 pub returns-in-Stuck-clause-tried : goal.returns-in-Stuck-clause-tried

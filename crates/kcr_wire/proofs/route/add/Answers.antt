@@ -1,7 +1,6 @@
 use Rattle.kcr_wire.proofs.Common.{◌≡◌, rules, OutOfMemory}
-use Rattle.kcr_wire.proofs.Tables.{add-inserted, only-memory}
+use Rattle.kcr_wire.proofs.{Tables.add-inserted, Tables.only-memory, route.add.Goals.in-OutOfMemory, route.add.Goals.in_default}
 use Rattle.kcr_wire.proofs.route.add.Goals as goal
-use Rattle.kcr_wire.proofs.route.add.Goals.{in-OutOfMemory, in_default}
 
 pub prove-unreachable-requires : goal.prove-unreachable-requires
 prove-unreachable-requires c =

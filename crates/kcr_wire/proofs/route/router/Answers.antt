@@ -1,6 +1,5 @@
-use Rattle.kcr_wire.proofs.Common.{rules}
+use Rattle.kcr_wire.proofs.{Common.rules, Tables.all-can}
 use Rattle.kcr_wire.specs.Routes.{table}
-use Rattle.kcr_wire.proofs.Tables.{all-can}
 use Rattle.kcr_wire.proofs.route.router.Goals as goal
 
 pub router_of-requires : goal.router_of-requires

@@ -1,5 +1,4 @@
-use Rattle.kcr_reading.proofs.Common.{subst, IsNextOf, read_ahead}
-use Rattle.kcr_reading.proofs.AheadLemmas.{gives_ready, gives_read}
+use Rattle.kcr_reading.proofs.{Common.subst, Common.IsNextOf, Common.read_ahead, AheadLemmas.gives_ready, AheadLemmas.gives_read}
 use Rattle.kcr_reading.proofs.batched.BatchedCursor.next.Goals as goal
 
 pub returns-in-Some-clause-gives : goal.returns-in-Some-clause-gives

@@ -1,6 +1,5 @@
 use Rattle.kcr_reading.proofs.Common.{◌≡◌, ◌∙◌, [], List, map, sym, ap, eqb-true, nil_from_length, SeatingRow, with_seated, clean_before, with_people}
-use Rattle.kcr_reading.proofs.CeremonyLemmas.{people_are}
-use Rattle.kcr_reading.proofs.ChoiceLemmas.{several_made}
+use Rattle.kcr_reading.proofs.{CeremonyLemmas.people_are, ChoiceLemmas.several_made}
 use Rattle.kcr_reading.proofs.steps.StepBatchesBatchSource.next_batch.Goals as goal
 
 pub returns-then-is_empty-clause-gives : goal.returns-then-is_empty-clause-gives

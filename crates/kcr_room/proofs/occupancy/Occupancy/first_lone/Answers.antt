@@ -1,5 +1,4 @@
-use Rattle.kcr_room.proofs.Common.{rules}
-use Rattle.kcr_room.proofs.Counting.{found-least}
+use Rattle.kcr_room.proofs.{Common.rules, Counting.found-least}
 use Rattle.kcr_room.proofs.occupancy.Occupancy.first_lone.Goals as goal
 
 pub returns : goal.returns

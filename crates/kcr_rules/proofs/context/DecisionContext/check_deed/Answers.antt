@@ -1,6 +1,4 @@
-use Rattle.kcr_rules.proofs.Common.{rules, refl, RecordSheet}
-use Rattle.kcr_rules.proofs.Checked.{checked-steps}
-use Rattle.kcr_rules.proofs.OwnRefusals.{check_kind}
+use Rattle.kcr_rules.proofs.{Common.rules, Common.refl, Common.RecordSheet, Checked.checked-steps, OwnRefusals.check_kind}
 use Rattle.kcr_rules.proofs.context.DecisionContext.check_deed.Goals as goal
 
 pub returns-in-RecordException-clause-told : goal.returns-in-RecordException-clause-told

@@ -1,5 +1,4 @@
-use Rattle.kcr_rules.proofs.Common.{rules}
-use Rattle.kcr_rules.proofs.Plain.{plain_acts}
+use Rattle.kcr_rules.proofs.{Common.rules, Plain.plain_acts}
 use Rattle.kcr_rules.proofs.context.DecisionContext.deed_effect.Goals as goal
 
 pub returns-in-Open : goal.returns-in-Open

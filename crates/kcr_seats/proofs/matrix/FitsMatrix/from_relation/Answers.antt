@@ -1,8 +1,6 @@
 use Rattle.std.proofs.Common.{◌≡◌, ◌+◌, ◌*◌, ◌<◌, ◌≤◌, true, arith, length-append}
-use Rattle.kcr_seats.specs.People.{contains}
-use Rattle.kcr_seats.specs.Matrix.{fits_of, people_of, seats_of}
-use Rattle.kcr_seats.proofs.TableLemmas.{any_row, row_more}
-use Rattle.kcr_seats.proofs.Turns.{in_loop}
+use Rattle.kcr_seats.specs.{People.contains, Matrix.fits_of, Matrix.people_of, Matrix.seats_of}
+use Rattle.kcr_seats.proofs.{TableLemmas.any_row, TableLemmas.row_more, Turns.in_loop}
 use Rattle.kcr_seats.proofs.matrix.FitsMatrix.from_relation.Goals as goal
 
 pub invariant_of-result-clause-in_range : goal.invariant_of-result-clause-in_range

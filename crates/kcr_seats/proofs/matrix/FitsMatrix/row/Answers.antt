@@ -1,6 +1,5 @@
 use Rattle.std.proofs.Common.{◌≡◌, ◌<◌, ◌∙◌, ap, subst, arith, length, true}
-use Rattle.kcr_seats.specs.People.{contains, nobody}
-use Rattle.kcr_seats.specs.Matrix.{fits_of, people_of, seats_of}
+use Rattle.kcr_seats.specs.{People.contains, People.nobody, Matrix.fits_of, Matrix.people_of, Matrix.seats_of}
 use Rattle.std.proofs.lemmas.List.{get_or_default}
 use Rattle.kcr_seats.proofs.matrix.FitsMatrix.row.Goals as goal
 

@@ -1,6 +1,5 @@
 use Rattle.std.proofs.Common.{arith, tests}
-use Rattle.std.proofs.lemmas.Nat.{one_shl, pow_pos}
-use Rattle.std.proofs.lemmas.Nat.Bits.{and_pow, bit_at-lt}
+use Rattle.std.proofs.lemmas.Nat.{one_shl, pow_pos, Bits.and_pow, Bits.bit_at-lt}
 use Rattle.kcr_seats.specs.People.{contains}
 use Rattle.kcr_seats.proofs.people.People.contains.Goals as goal
 

@@ -1,5 +1,4 @@
-use Rattle.std.proofs.Common.{refl}
-use Rattle.std.proofs.lemmas.Nat.Bits.{bit_at-zero}
+use Rattle.std.proofs.{Common.refl, lemmas.Nat.Bits.bit_at-zero}
 use Rattle.kcr_seats.specs.People.{contains}
 use Rattle.kcr_seats.proofs.people.People.none.Goals as goal
 

@@ -1,5 +1,4 @@
-use Rattle.kcr_wire.proofs.Common.{string_bytes, view}
-use Rattle.kcr_wire.proofs.BodyPieces.{value_told}
+use Rattle.kcr_wire.proofs.{Common.string_bytes, Common.view, BodyPieces.value_told}
 use Rattle.kcr_wire.proofs.body_members.BodyText.push.Goals as goal
 
 pub returns : goal.returns

@@ -1,5 +1,4 @@
-use Rattle.kcr_wire.proofs.Common.{refl, string}
-use Rattle.kcr_wire.proofs.BodyPieces.{each-whole}
+use Rattle.kcr_wire.proofs.{Common.refl, Common.string, BodyPieces.each-whole}
 use Rattle.kcr_wire.proofs.body_members.BodyTextTeller.list.Goals as goal
 
 pub push-requires : goal.push-requires

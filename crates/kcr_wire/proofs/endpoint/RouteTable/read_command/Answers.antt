@@ -1,6 +1,5 @@
-use Rattle.kcr_wire.proofs.Common.{IfOk, sym, subst}
+use Rattle.kcr_wire.proofs.{Common.IfOk, Common.sym, Common.subst, Targets.IsEndpoint, Targets.target-is}
 use Rattle.kcr_wire.proofs.ReadCommands.{OfValues, posted-is}
-use Rattle.kcr_wire.proofs.Targets.{IsEndpoint, target-is}
 use Rattle.kcr_wire.proofs.endpoint.RouteTable.read_command.Goals as goal
 
 pub returns-in-Ok-posted-clause-values : goal.returns-in-Ok-posted-clause-values

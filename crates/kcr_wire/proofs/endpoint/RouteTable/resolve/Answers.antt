@@ -1,5 +1,4 @@
-use Rattle.kcr_wire.proofs.Common.{sym}
-use Rattle.kcr_wire.proofs.PartLemmas.{parts-text}
+use Rattle.kcr_wire.proofs.{Common.sym, PartLemmas.parts-text}
 use Rattle.kcr_wire.proofs.endpoint.RouteTable.resolve.Goals as goal
 
 pub read_parts-requires : goal.read_parts-requires
