@@ -172,15 +172,13 @@ shut facility safe = record { facility = facility; safe = safe; is_open = false 
 
 def spec_still():
     """The other tables stay if the rows of one are changed: said of a list of tables, each by its place and its rows."""
-    held = "".join(f"(pair k.{t.name} " for t in TABLES)[1:] + "tt" + ")" * (len(TABLES) - 1)
     stored = [t for t in TABLES if t.is_stored]
     facts = "".join(f" → AllByRecursion {t.is_stored} {t.rows_of('t')}" for t in stored)
     names = " ".join(t.stored_fact for t in stored)
-    fields = "".join(f"  {t.name} = h{'.1' * at}.0;\n" for at, t in enumerate(TABLES))
-    fields += "".join(f"  {t.stored_fact} = {t.stored_fact};\n" for t in stored)
+    given = ", ".join(["sound", "h", *names.split()])
     rows = "\n    ∷ ".join(f"({t.place}, map {t.row_of} {t.rows_of('t')})" for t in TABLES)
     out = "-- If the rows of one table are changed, the other tables stay: said of all tables as a list.\n"
-    out += """use Rattle.std.proofs.Common.{◌≡◌, ◌≢◌, ℕ, zero, suc, Bool, true, false, not, ◌&&◌, ◌==◌, List, [], ◌∷◌, map, subst, sym}
+    out += """use Rattle.std.proofs.Common.{◌≡◌, ◌≢◌, ℕ, zero, suc, Bool, true, false, not, ◌&&◌, ◌==◌, List, [], ◌∷◌, map, subst, sym, rules}
 use Rattle.std.specs.Bool.{⊤}
 use Rattle.std.specs.List.{AllByRecursion, list_all}
 use Rattle.std.proofs.lemmas.Bool.{and_parts, not-true}
@@ -246,16 +244,11 @@ one_changed tree old new others zero rows (table ∷ tables) apart changed held 
 one_changed tree old new others (suc at) rows (table ∷ tables) apart changed held =
     let parts = and_parts _ _ apart in (stays tree old new others table parts.0 held.0, one_changed tree old new others at rows tables parts.1 changed held.1)
 
-pair : {{A B : Type 0}} → A → B → A × B
-pair a b = (a, b)
-
 as_list : (db : Trees) (t : StoredTables) → TreesHold db t → AllHold db (placed_rows t)
-as_list db t k = {held}
+as_list db t k = search (rules, k)
 
 as_record : (db : Trees) (t : StoredTables) → IsSound register_schema db → AllHold db (placed_rows t){facts} → TreesHold db t
-as_record db t sound h {names} = record {{
-  sound = sound;
-{fields}}}
+as_record db t sound h {names} = search (rules, {given})
 
 -- table N has new rows, and the other tables have their own as before
 pub still_at : (at tree : ℕ) (old new : Trees) (before t : StoredTables) (rows : List Row) → with_rows_at at rows (placed_rows before) ≡ placed_rows t

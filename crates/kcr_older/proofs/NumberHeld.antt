@@ -2,7 +2,7 @@
 use Rattle.kcr_older.proofs.Common.{inl, inr, take, ◌≡◌, ◌⊎◌, ◌∙◌, ap, sym, subst₂, refl, ℕ, ◌+◌, pos, ℤ, List, [], ◌∷◌, map, Option, Some, None}
 use Rattle.kcr_older.proofs.Common.{IsPermutation, IsPermutation-map, KeepsRows, Database, Row, Int, Trees, map-map, TreeHolds, cells, version_row}
 use Rattle.kcr_older.proofs.Common.{Version, keeps_on, StoredTables, versions_place, schema_prefix, all_tables, versions, HoldsFirst, numbered}
-use Rattle.kcr_older.proofs.Common.{numbered_table, numbers_in, only_number, version_in}
+use Rattle.kcr_older.proofs.Common.{rules, numbered_table, numbers_in, only_number, version_in}
 use Rattle.sqlite.specs.Order.{column}
 use Rattle.sqlite_schema.specs.Names.{same_name}
 use Rattle.kcr_older.proofs.NumberLemmas.{same_number}
@@ -42,9 +42,9 @@ held_version version known db rows schema keeps =
     (rw there refl) ∙ sym (same_number (map number rows) (numbers_in versions db.trees) (subst₂ IsPermutation mine theirs same)) ∙ by_number rows
 
 shares_versions : (version : ℕ) → IsKnown version → (old new : Trees) → KeepsRows (take (14 + version) all_tables) old new → new 28 ≡ old 28
-shares_versions version (inl one) old new s = (rw one at s).1.1.1.1.1.1.1.1.1.1.1.1.1.0
-shares_versions version (inr (inl two)) old new s = (rw two at s).1.1.1.1.1.1.1.1.1.1.1.1.1.0
-shares_versions version (inr (inr three)) old new s = (rw three at s).1.1.1.1.1.1.1.1.1.1.1.1.1.0
+shares_versions version (inl one) old new s = let keeps = rw one at s in search (rules, keeps)
+shares_versions version (inr (inl two)) old new s = let keeps = rw two at s in search (rules, keeps)
+shares_versions version (inr (inr three)) old new s = let keeps = rw three at s in search (rules, keeps)
 
 -- the number of a file of a version that holds rows is that in the one row of its versions
 pub older_version : (version : ℕ) → IsKnown version → (db : Database) (t : StoredTables) → HoldsFirst (14 + version) db t → version_in db ≡ only_version t.versions

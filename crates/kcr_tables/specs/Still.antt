@@ -1,6 +1,6 @@
 -- Written by tools/tables.py from tools/table_list.py: do not edit.
 -- If the rows of one table are changed, the other tables stay: said of all tables as a list.
-use Rattle.std.proofs.Common.{◌≡◌, ◌≢◌, ℕ, zero, suc, Bool, true, not, ◌&&◌, ◌==◌, List, [], ◌∷◌, map, subst}
+use Rattle.std.proofs.Common.{◌≡◌, ◌≢◌, ℕ, zero, suc, Bool, true, not, ◌&&◌, ◌==◌, List, [], ◌∷◌, map, subst, rules}
 use Rattle.std.specs.Bool.{⊤}
 use Rattle.std.specs.List.{AllByRecursion, list_all}
 use Rattle.std.proofs.lemmas.Bool.{and_parts, not-true}
@@ -91,47 +91,12 @@ one_changed tree old new others (suc at) rows (table ∷ tables) apart changed h
     let parts = and_parts _ _ apart in
     (stays tree old new others table parts.0 held.0, one_changed tree old new others at rows tables parts.1 changed held.1)
 
-pair : {A B : Type 0} → A → B → A × B
-pair a b = (a, b)
-
 as_list : (db : Trees) (t : StoredTables) → TreesHold db t → AllHold db (placed_rows t)
-as_list db t k = pair k.people
-    (pair k.trainings
-    (pair k.appointments
-    (pair k.boxes
-    (pair k.safes
-    (pair k.bags
-    (pair k.items
-    (pair k.ceremonies
-    (pair k.marks
-    (pair k.steps
-    (pair k.seatings
-    (pair k.sheet (pair k.exceptions (pair k.versions (pair k.keys (pair k.stays (pair k.withdrawals tt))))))))))))))))
+as_list db t k = search (rules, k)
 
 as_record : (db : Trees) (t : StoredTables) → IsSound register_schema db → AllHold db (placed_rows t)
     → AllByRecursion HasBoxNumber t.rows.bags → AllByRecursion HasSeatsText t.rows.steps → TreesHold db t
-as_record db t sound h spot seats = record {
-  sound = sound;
-  people = h.0;
-  trainings = h.1.0;
-  appointments = h.1.1.0;
-  boxes = h.1.1.1.0;
-  safes = h.1.1.1.1.0;
-  bags = h.1.1.1.1.1.0;
-  items = h.1.1.1.1.1.1.0;
-  ceremonies = h.1.1.1.1.1.1.1.0;
-  marks = h.1.1.1.1.1.1.1.1.0;
-  steps = h.1.1.1.1.1.1.1.1.1.0;
-  seatings = h.1.1.1.1.1.1.1.1.1.1.0;
-  sheet = h.1.1.1.1.1.1.1.1.1.1.1.0;
-  exceptions = h.1.1.1.1.1.1.1.1.1.1.1.1.0;
-  versions = h.1.1.1.1.1.1.1.1.1.1.1.1.1.0;
-  keys = h.1.1.1.1.1.1.1.1.1.1.1.1.1.1.0;
-  stays = h.1.1.1.1.1.1.1.1.1.1.1.1.1.1.1.0;
-  withdrawals = h.1.1.1.1.1.1.1.1.1.1.1.1.1.1.1.1.0;
-  spot = spot;
-  seats = seats;
-}
+as_record db t sound h spot seats = search (rules, sound, h, spot, seats)
 
 -- table N has new rows, and the other tables have their own as before
 pub still_at : (at tree : ℕ) (old new : Trees) (before t : StoredTables) (rows : List Row)
