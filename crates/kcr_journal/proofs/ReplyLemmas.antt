@@ -1,6 +1,6 @@
 -- What is read from a reply's text is what the reply has.
-use Rattle.std.proofs.Common.{◌≡◌, ℕ, zero, suc, ◌+◌, ◌/◌, ◌%◌, ◌<◌, ◌==◌, ◌||◌, ◌&&◌, Bool, true, false, not, if◌then◌else◌, List, [], ◌∷◌, ◌++◌, length, map}
-use Rattle.std.proofs.Common.{take, drop, Option, Some, None, codes, refl, sym, ap, ◌∙◌, arith, append_assoc, append-nil, All, length-append}
+use Rattle.std.proofs.Common.{◌≡◌, ℕ, zero, suc, ◌+◌, ◌/◌, ◌%◌, ◌<◌, ◌==◌, ◌||◌, ◌&&◌, Bool, true, false, not, if◌then◌else◌, List, [], ◌∷◌, ◌++◌}
+use Rattle.std.proofs.Common.{length, map, take, drop, Option, Some, None, codes, refl, sym, ap, ◌∙◌, arith, append_assoc, append-nil, All, length-append}
 use Rattle.std.specs.Fmt.{decimal, digits, digits_onto, digit_glyph}
 use Rattle.std.specs.List.{position, position_or_len, list_all, filter_map, cons_option, join_with_byte, AllByRecursion}
 use Rattle.std.specs.Option.{option_map_or}
@@ -45,10 +45,11 @@ glyph n = let low : n % 10 < 10 = omega arith in rw (lt-ltb (n % 10) 10 low) (om
 onto : (k n : ℕ) (acc : List ℕ) → All IsDigit acc → All IsDigit (digits_onto k 10 false n acc)
 onto zero n acc h = h
 onto (suc k) n acc h =
-    let longer = All-cons IsDigit (digit_glyph false (n % 10)) acc (glyph n) h in
-    elim (n / 10 == 0) as (λ b. All IsDigit (if b then digit_glyph false (n % 10) ∷ acc else digits_onto k 10 false (n / 10) (digit_glyph false (n % 10) ∷ acc))) [
+    let more = digit_glyph false (n % 10) ∷ acc in
+    let longer : All IsDigit more = All-cons IsDigit (digit_glyph false (n % 10)) acc (glyph n) h in
+    elim (n / 10 == 0) as (λ b. All IsDigit (if b then more else digits_onto k 10 false (n / 10) more)) [
       | true ↦ longer
-      | false ↦ onto k (n / 10) (digit_glyph false (n % 10) ∷ acc) longer
+      | false ↦ onto k (n / 10) more longer
     ]
 
 number-lacks : (p : ℕ → Bool) (n : ℕ) → ((b : ℕ) → IsDigit b → p b ≡ false) → lacks p (decimal n) ≡ true
@@ -87,10 +88,11 @@ value-is n b rest here =
     ∙ take-append_seam (decimal n) (b ∷ rest)
 
 -- from the reply of an exception that passes no step its number is read
-pub stated-number : (n e : ℕ) → exception_in (object (member (codes "accepted") (decimal n) ∷ member (codes "exception") (decimal e) ∷ [])) ≡ decimal e
+pub stated-number : (n e : ℕ)
+    → exception_in (object (member (codes "accepted") (decimal n) ∷ member (codes "exception") (decimal e) ∷ [])) ≡ decimal e
 stated-number n e =
     ap (λ t. exception_in (codes "{\"accepted\":" ++ t)) (append_assoc (decimal n) (codes ",\"exception\":" ++ decimal e) (codes "}"))
-    ∙ ap (λ t. value_in (after_byte 58 t)) (after-colon [] (codes "{\"accepted\"") (decimal n ++ (codes ",\"exception\":" ++ decimal e ++ codes "}")) refl refl)
+    ∙ ap (λ t. value_in (after_byte 58 t)) (after-colon [] (codes "{\"accepted\"") _ refl refl)
     ∙ ap value_in (after-colon (decimal n) (codes ",\"exception\"") (decimal e ++ codes "}") (number-colon n) refl)
     ∙ value-is e 125 [] refl
 
@@ -133,11 +135,13 @@ quoted-more : (p j rest : List ℕ) → ((p ++ 34 ∷ []) ++ 44 ∷ j) ++ rest �
 quoted-more p j rest = simp append_assoc
 
 -- people between quotes, with commas between them
-people-in : (people : List (List ℕ)) (c : ℕ) (cs rest : List ℕ) → IsSkipped (c ∷ cs) → IsSkipped ((c ∷ cs) ++ codes "],") → AllByRecursion IsInitials people
+people-in : (people : List (List ℕ)) (c : ℕ) (cs rest : List ℕ) → IsSkipped (c ∷ cs) → IsSkipped ((c ∷ cs) ++ codes "],")
+    → AllByRecursion IsInitials people
     → seated_in ((c ∷ cs) ++ (join_with_byte 44 (map quoted people) ++ (codes "]," ++ 34 ∷ rest))) ≡ people ++ seated_in rest
 people-in [] c cs rest front all each = ap seated_in (sym (append_assoc (c ∷ cs) (codes "],") (34 ∷ rest))) ∙ skip ((c ∷ cs) ++ codes "],") rest all
 people-in (p ∷ []) c cs rest front all each =
-    skip (c ∷ cs) _ front ∙ ap seated_in (append_assoc p (34 ∷ []) (codes "]," ++ 34 ∷ rest)) ∙ keep p _ each.0 ∙ ap (λ ps. p ∷ ps) (skip (codes "],") rest refl)
+    skip (c ∷ cs) _ front ∙ ap seated_in (append_assoc p (34 ∷ []) (codes "]," ++ 34 ∷ rest))
+    ∙ keep p _ each.0 ∙ ap (λ ps. p ∷ ps) (skip (codes "],") rest refl)
 people-in (p ∷ q ∷ ps) c cs rest front all each =
     skip (c ∷ cs) _ front ∙ ap seated_in (quoted-more p (join_with_byte 44 (map quoted (q ∷ ps))) (codes "]," ++ 34 ∷ rest))
     ∙ keep p _ each.0 ∙ ap (λ ps. p ∷ ps) (people-in (q ∷ ps) 44 [] rest refl refl each.1)
@@ -176,16 +180,19 @@ module _ (people : List (List ℕ)) (each : AllByRecursion IsInitials people) wh
   -- who is listed before the step
   listed : (k : ℕ) → seated_in (codes ":" ++ (people_array people ++ (codes ",\"step\":" ++ decimal k ++ codes "}"))) ≡ people
   listed k =
-      ap (λ t. seated_in (codes ":[" ++ t)) (append_assoc (join_with_byte 44 (map quoted people)) (codes "]") (codes ",\"step\":" ++ decimal k ++ codes "}"))
+      ap (λ t. seated_in (codes ":[" ++ t))
+      (append_assoc (join_with_byte 44 (map quoted people)) (codes "]") (codes ",\"step\":" ++ decimal k ++ codes "}"))
       ∙ people-in people 58 (91 ∷ []) (codes "step\":" ++ decimal k ++ codes "}") refl refl each
       ∙ ap (λ rest. people ++ rest) (skip (codes "step") _ refl ∙ ends (58 ∷ (decimal k ++ 125 ∷ [])) (number k 125 refl))
       ∙ append-nil people
 
   -- from the reply of a signature those who are seated are read
   pub signed-people : (n k : ℕ)
-      → seated_in (object (member (codes "accepted") (decimal n) ∷ member (codes "seating") (people_array people) ∷ member (codes "step") (decimal k) ∷ [])) ≡ people
+      → seated_in (object (member (codes "accepted") (decimal n) ∷ member (codes "seating") (people_array people)
+      ∷ member (codes "step") (decimal k) ∷ [])) ≡ people
   signed-people n k =
-      ap (λ t. seated_in (codes "{\"accepted\":" ++ t)) (regrouped (decimal n) (codes ",\"seating\":") (people_array people) (codes ",\"step\":" ++ decimal k) (codes "}"))
+      ap (λ t. seated_in (codes "{\"accepted\":" ++ t))
+      (regrouped (decimal n) (codes ",\"seating\":") (people_array people) (codes ",\"step\":" ++ decimal k) (codes "}"))
       ∙ behind-first n _ ∙ skip (codes "seating") _ refl ∙ listed k
     where
       regrouped : (a s e k z : List ℕ) → (a ++ (s ++ (e ++ k))) ++ z ≡ a ++ (s ++ (e ++ (k ++ z)))
@@ -206,7 +213,8 @@ module _ (people : List (List ℕ)) (each : AllByRecursion IsInitials people) wh
     flat : passing ≡ codes "{\"accepted\":" ++ (decimal n ++ (codes ",\"exception\":" ++ (decimal e ++ behind)))
     flat =
         ap (λ t. codes "{\"accepted\":" ++ t)
-        (regrouped (decimal n) (codes ",\"exception\":") (decimal e) (codes ",\"seating\":") (people_array people) (codes ",\"step\":" ++ decimal k) (codes "}"))
+        (regrouped (decimal n) (codes ",\"exception\":") (decimal e) (codes ",\"seating\":") (people_array people)
+        (codes ",\"step\":" ++ decimal k) (codes "}"))
 
     two-colons : after_two passing ≡ decimal e ++ behind
     two-colons =

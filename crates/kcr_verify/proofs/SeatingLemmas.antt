@@ -28,7 +28,8 @@ IsThisOrOther A x this answer A' =
 module _ (A : History) (v : AreValues A) (x : Command) (s : SeatRequest) (exception step : Option ℕ) (asks : seat_request A x.act ≡ Some s)
     (replies : (people : List (List ℕ)) → reply_to A x.act (Some people) ≡ seated (length A + 1) exception step people)
     (free : (entry_of A x.key ≡ None) × (fault A x.act ≡ None))
-    (reads : (people : List (List ℕ)) → AllByRecursion IsInitials people → seated_in (reply_text (seated (length A + 1) exception step people)) ≡ people) where
+    (reads : (people : List (List ℕ)) → AllByRecursion IsInitials people
+    → seated_in (reply_text (seated (length A + 1) exception step people)) ≡ people) where
   abbrev with : List (List ℕ) → ReplyData
   with people = seated (length A + 1) exception step people
 
