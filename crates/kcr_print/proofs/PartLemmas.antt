@@ -31,6 +31,7 @@ not_named ceremony (Refused other) refusal (inl (inr disk)) names is = cc
 not_named ceremony (Refused other) refusal (inr none) names is = none
 not_named ceremony Write refusal h names is = cc
 
+-- a result that can only be this error has it
 pub err_is : (r : Result ⊤ PrintFault) (e f : PrintFault) → IsErrAnd r (λ fault. fault ≡ e) → r ≡ Err f → e ≡ f
 err_is (Ok v) e f is eq = absurd is
 err_is (Err g) e f is eq = let same : g ≡ f = cc in sym is ∙ same
@@ -66,6 +67,7 @@ printed_of : (D : Refusal → Type 0) (r : Result ⊤ PrintFault) (a b : Option 
 printed_of D (Ok v) a b x p q = p
 printed_of D (Err e) a b x p q = (p, stops_weaker D e q)
 
+-- failed writes are told of a text after one that was written whole, and so of both
 pub told_then : {W : Type 0} (x y z : Counted W) (r : Result ⊤ PrintFault) → CountsWriteFaults x y (Ok tt) → CountsWriteFaults y z r → CountsWriteFaults x z r
 told_then x y z r p q =
     let still : failures_of y ≡ failures_of x = p.calm (λ e. cc e) in

@@ -16,6 +16,7 @@ use Rattle.kcr_reading.specs.Commands.{commands_past}
 use Rattle.kcr_wire.proofs.Again.{act-again}
 use Rattle.kcr_print.specs.Requests.{commands_between}
 
+-- what stands for the row at a place past the last
 pub none : KeyRow
 none = record { key = []; accepted = 0; command = []; reply = [] }
 

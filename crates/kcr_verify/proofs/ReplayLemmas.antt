@@ -81,6 +81,7 @@ module _ (rows : List KeyRow) (index : ℕ) (A : History) (row : KeyRow) (on : G
         count = omega (arith, ap length is, had.count);
       }
 
+  -- the replay goes on by a row whose command gives it
   pub goes_on : row.accepted ≡ index + 1 → (B : History) → GivesRow row A B (Ok None) → GoesOn rows (index + 1) B
   goes_on number B gives = record {
     taken = λ own. taken_on own number B gives.told;

@@ -25,6 +25,7 @@ pub record IsRead (row : KeyRow) (act : Act) : Type 0 where
   pub text : command_text act ≡ row.command
   pub only : (told : Act) → IsAct told → command_text told ≡ row.command → told ≡ act
 
+-- a reader that answers the act of a text, and no other, reads the row's act
 pub read_of : {found : Option Act} {text : List ℕ} {act : Act} (row : KeyRow) → text ≡ row.command → found ≡ Some act → IfSome found (λ act. command_text act ≡ text)
     → ((told : Act) → IsAct told → command_text told ≡ text → found ≡ Some told) → IsRead row act
 read_of row bytes is means only = record {

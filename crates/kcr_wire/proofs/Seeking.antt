@@ -166,6 +166,7 @@ module _ {K : Type 0} where
   found_on [] end rs = seek 0 rs end
   found_on (l ∷ legs) end rs = option_and_then (found_on legs end) (after_piece (47 ∷ l.front) rs)
 
+  -- a search along the path of these legs finds it
   pub route-on : {V : Type 0} (f : K → V) (legs : List Leg) (end : List ℕ) (rs : RowsOf K) (v : V) → AreLegs legs → first_is 47 end ≡ true
       → option_map f (found_on legs end rs) ≡ Some v → option_map f (seek 0 rs (path_on legs end)) ≡ Some v
   route-on f [] end rs v are slash h = h
