@@ -13,6 +13,7 @@ import pathlib
 import re
 import sys
 
+CRATES = pathlib.Path(__file__).resolve().parent.parent / "crates"
 LONGEST_LINE = 150
 SHORTEST_PATH = 3  # Rattle, the crate and its part
 MOST_ITEMS = 3
@@ -26,6 +27,7 @@ def read(line):
 
 
 def written(one):
+    """The line of an import."""
     head, path, items, end = one
     return f"{head}{'.'.join(path)}.{{{', '.join(items)}}}{end}"
 
@@ -80,18 +82,19 @@ def with_joined(text):
 
 
 def main():
+    if sys.argv[1:] not in ([], ["--check"]):
+        sys.exit("usage: tools/imports.py [--check]")
     found = []
-    for path in sorted(pathlib.Path("crates").glob("*/*/**/*")):
-        if path.suffix in (".antt", ".rt") and path.parts[2] in ("src", "specs", "proofs"):
+    for part in ("src", "specs", "proofs"):
+        for path in sorted(it for it in CRATES.glob(f"*/{part}/**/*") if it.suffix in (".antt", ".rt")):
             text = path.read_text(encoding="utf-8")
-            if text != with_joined(text):
-                found.append(path)
-                if "--check" not in sys.argv[1:]:
-                    path.write_text(with_joined(text), encoding="utf-8")
-    if "--check" in sys.argv[1:]:
-        for path in found:
-            print(f"{path}: tools/imports.py joins its imports")
-        sys.exit(1 if found else 0)
+            joined_text = with_joined(text)
+            if text != joined_text:
+                found.append(path.relative_to(CRATES.parent))
+                if not sys.argv[1:]:
+                    path.write_text(joined_text, encoding="utf-8")
+    if sys.argv[1:] and found:
+        sys.exit("\n".join(f"{path}: tools/imports.py joins its imports" for path in found))
 
 
 if __name__ == "__main__":

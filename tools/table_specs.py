@@ -175,7 +175,7 @@ def spec_still():
     stored = [t for t in TABLES if t.is_stored]
     facts = "".join(f" → AllByRecursion {t.is_stored} {t.rows_of('t')}" for t in stored)
     names = " ".join(t.stored_fact for t in stored)
-    given = ", ".join(["sound", "h", *names.split()])
+    given = ", ".join(["sound", "h", *(t.stored_fact for t in stored)])
     rows = "\n    ∷ ".join(f"({t.place}, map {t.row_of} {t.rows_of('t')})" for t in TABLES)
     out = "-- If the rows of one table are changed, the other tables stay: said of all tables as a list.\n"
     out += """use Rattle.std.proofs.Common.{◌≡◌, ◌≢◌, ℕ, zero, suc, Bool, true, false, not, ◌&&◌, ◌==◌, List, [], ◌∷◌, map, subst, sym, rules}
